@@ -1,0 +1,4 @@
+pub mod ContentLemmas
+pub mod MemberLemmas
+pub mod RangeLemmas
+pub mod JoinLemmas

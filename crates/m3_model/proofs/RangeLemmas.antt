@@ -1,0 +1,148 @@
+-- What a range of a content has, by the content's value at each key.
+use Rattle.std.proofs.Common.{◌≡◌, ℕ, ◌<◌, ◌≤◌, ℤ, List, [], ◌∷◌, refl, sym, ap, ◌∙◌, subst, inl, inr, Bool, true, false, cond, ◌&&◌, T}
+use Rattle.std.specs.Prelude.{◌⊎◌, Option, Some, None, nat_eq, nat_le, nat_lt}
+use Rattle.std.specs.List.{filter_map, cons_option}
+use Rattle.std.specs.FinMap as map
+use Rattle.std.specs.FinMap.{find, is_sorted, entries, entries_sorted, get-entries}
+use Rattle.std.specs.FinMap.Entries.{below_all}
+use Rattle.std.specs.Ordering.{eq_by_cmp, is_eq, is_lt, ordering_reverse, ordering_then, nat_cmp}
+use Rattle.std.specs.Cmp.{tied_itself}
+use Rattle.std.specs.Cmp.Lexicographic.{pointwise, slice_cmp, nat_list_cmp_total}
+use Rattle.std.specs.declared.cmp.Ordering.{Ordering}
+use Rattle.std.specs.declared.cmp.Ordering.TheVariants.{Less, Equal, Greater}
+use Rattle.std.proofs.lemmas.Cmp.{nat_cmp_total, ranked}
+use Rattle.std.proofs.lemmas.Bool.{eqb-true, eq-eqb, leb-true, le-leb, ltb-true, lt-ltb}
+use Rattle.std.proofs.lemmas.Slice.Eq.{bytes_eq-Decides}
+use Rattle.m3_model.specs.declared.point.Key.{Key}
+use Rattle.m3_model.specs.Keys.{key_cmp, key_cmp_total}
+use Rattle.m3_model.specs.Contents.{Contents, pair_in, range_of}
+use Rattle.m3_model.specs.Members.{IsIn}
+use Rattle.m3_model.specs.Ascends.{Ascends}
+use Rattle.m3_model.proofs.ContentLemmas.{key_cmp-IsAntisymmetric, equal_of}
+use Rattle.m3_model.proofs.MemberLemmas.{IsIn-filter_map, filter_map-IsIn}
+
+pub both_true : (a b : Bool) → (a && b) ≡ true → (a ≡ true) × (b ≡ true)
+both_true true b e = (refl, e)
+both_true false b e = cc
+
+both_hold : (a b : Bool) → T (a && b) → T a × T b
+both_hold true b h = (tt, h)
+both_hold false b h = absurd h
+
+less_of : (o : Ordering) → T (is_lt o) → o ≡ Less
+less_of Less h = refl
+less_of Equal h = absurd h
+less_of Greater h = absurd h
+
+found_in : (q : Key) (x : Key × ℤ) (es : List (Key × ℤ)) (v : ℤ) → (find key_cmp q es ≡ Some v → IsIn es (q, v)) → (b : Bool) → eq_by_cmp key_cmp q x.0 ≡ b
+    → cond b (Some x.1) (find key_cmp q es) ≡ Some v → (x ≡ (q, v)) ⊎ IsIn es (q, v)
+found_in q x es v later true t f = let key : q ≡ x.0 = key_cmp-IsAntisymmetric q x.0 (equal_of _ t) in let value : x.1 ≡ v = cc in inl (λ i. (sym key i, value i))
+found_in q x es v later false t f = inr (later f)
+
+pub find-IsIn : (q : Key) (es : List (Key × ℤ)) (v : ℤ) → find key_cmp q es ≡ Some v → IsIn es (q, v)
+find-IsIn q [] v e = cc
+find-IsIn q (x ∷ es) v e = found_in q x es v (find-IsIn q es v) (eq_by_cmp key_cmp q x.0) refl e
+
+below_member : (x q : Key) (v : ℤ) (es : List (Key × ℤ)) → T (below_all key_cmp x es) → IsIn es (q, v) → key_cmp x q ≡ Less
+below_member x q v [] h m = absurd m
+below_member x q v (e ∷ es) h m =
+    let parts = both_hold (is_lt (key_cmp x e.0)) (below_all key_cmp x es) h in
+    elim m as (λ _. key_cmp x q ≡ Less) [
+      | inl same ↦ ap (λ p. key_cmp x p.0) (sym same) ∙ less_of _ parts.0
+      | inr rest ↦ below_member x q v es parts.1 rest
+    ]
+
+not_tied : (x q : Key) → key_cmp x q ≡ Less → eq_by_cmp key_cmp q x ≡ false
+not_tied x q e = ap is_eq (key_cmp_total.antisymm q x ∙ ap ordering_reverse e)
+
+pub IsIn-find : (q : Key) (es : List (Key × ℤ)) (v : ℤ) → T (is_sorted key_cmp es) → IsIn es (q, v) → find key_cmp q es ≡ Some v
+IsIn-find q [] v h m = absurd m
+IsIn-find q (e ∷ es) v h m =
+    let parts = both_hold (below_all key_cmp e.0 es) (is_sorted key_cmp es) h in
+    elim m as (λ _. cond (eq_by_cmp key_cmp q e.0) (Some e.1) (find key_cmp q es) ≡ Some v) [
+      | inl same ↦ ap (λ b. cond b (Some e.1) (find key_cmp q es)) (ap (λ p. eq_by_cmp key_cmp q p.0) same ∙ ap is_eq (tied_itself key_cmp_total q)) ∙ ap (λ p. Some p.1) same
+      | inr rest ↦ ap (λ b. cond b (Some e.1) (find key_cmp q es)) (not_tied e.0 q (below_member e.0 q v es parts.0 rest)) ∙ IsIn-find q es v parts.1 rest
+    ]
+
+-- what it says that an entry is in a range
+pub record IsPairIn (ns : ℕ) (id : List ℕ) (from to : ℕ) (e : Key × ℤ) (p : ℕ × ℤ) : Type 0 where
+  pub key : e.0 ≡ record { ns = ns; id = id; t = p.0 }
+  pub value : e.1 ≡ p.1
+  pub low : from ≤ p.0
+  pub high : p.0 < to
+
+pub pair_in-some : (ns : ℕ) (id : List ℕ) (from to : ℕ) (e : Key × ℤ) (p : ℕ × ℤ) → pair_in ns id from to e ≡ Some p → IsPairIn ns id from to e p
+pair_in-some ns id from to e p h = by_test ((nat_eq e.0.ns ns && pointwise nat_eq e.0.id id) && (nat_le from e.0.t && nat_lt e.0.t to)) refl h
+  where
+    by_test : (b : Bool) → ((nat_eq e.0.ns ns && pointwise nat_eq e.0.id id) && (nat_le from e.0.t && nat_lt e.0.t to)) ≡ b → cond b (Some (e.0.t, e.1)) None ≡ Some p → IsPairIn ns id from to e p
+    by_test false t f = cc
+    by_test true t f =
+        let outer = both_true (nat_eq e.0.ns ns && pointwise nat_eq e.0.id id) (nat_le from e.0.t && nat_lt e.0.t to) t in
+        let names = both_true (nat_eq e.0.ns ns) (pointwise nat_eq e.0.id id) outer.0 in
+        let times = both_true (nat_le from e.0.t) (nat_lt e.0.t to) outer.1 in
+        let same_ns : e.0.ns ≡ ns = eqb-true e.0.ns ns names.0 in
+        let same_id : e.0.id ≡ id = (bytes_eq-Decides e.0.id id).0 names.1 in
+        let pair : ◌≡◌ {A = ℕ × ℤ} (e.0.t, e.1) p = cc in
+        let time : e.0.t ≡ p.0 = ap (λ x. x.0) pair in
+        let low : from ≤ e.0.t = leb-true from e.0.t times.0 in
+        let high : e.0.t < to = ltb-true e.0.t to times.1 in
+        record {
+          key = λ i. record { ns = same_ns i; id = same_id i; t = time i };
+          value = ap (λ x. x.1) pair;
+          low = subst (λ n. from ≤ n) time low;
+          high = subst (λ n. n < to) time high;
+        }
+
+pub pair_in-here : (ns : ℕ) (id : List ℕ) (from to t : ℕ) (v : ℤ) → from ≤ t → t < to → pair_in ns id from to (record { ns = ns; id = id; t = t }, v) ≡ Some (t, v)
+pair_in-here ns id from to t v low high =
+    ap (λ b. cond b (Some (t, v)) None) (all_true (eq-eqb ns ns refl) ((bytes_eq-Decides id id).1 refl) (le-leb from t low) (lt-ltb t to high))
+  where
+    all_true : {a b c d : Bool} → a ≡ true → b ≡ true → c ≡ true → d ≡ true → ((a && b) && (c && d)) ≡ true
+    all_true p q r s = cc
+
+-- each pair of a range stands in the content
+pub range_stands : (c : Contents) (ns : ℕ) (id : List ℕ) (from to : ℕ) (p : ℕ × ℤ) → IsIn (range_of c ns id from to) p
+    → (map.get c (record { ns = ns; id = id; t = p.0 }) ≡ Some p.1) × (from ≤ p.0) × (p.0 < to)
+range_stands c ns id from to p h =
+    let found = IsIn-filter_map (pair_in ns id from to) (entries c) p h in
+    let pair = pair_in-some ns id from to found.0 p found.2 in
+    let entry : found.0 ≡ (record { ns = ns; id = id; t = p.0 }, p.1) = λ i. (pair.key i, pair.value i) in
+    (get-entries c _ ∙ IsIn-find _ (entries c) p.1 (entries_sorted c) (subst (IsIn (entries c)) entry found.1), pair.low, pair.high)
+
+-- each entry of the identifier in the range is one of its pairs
+pub stands_in_range : (c : Contents) (ns : ℕ) (id : List ℕ) (from to t : ℕ) (v : ℤ) → map.get c (record { ns = ns; id = id; t = t }) ≡ Some v → from ≤ t → t < to
+    → IsIn (range_of c ns id from to) (t, v)
+stands_in_range c ns id from to t v e low high =
+    filter_map-IsIn (pair_in ns id from to) (entries c) _ (t, v) (find-IsIn _ (entries c) v (sym (get-entries c _) ∙ e)) (pair_in-here ns id from to t v low high)
+
+-- of two keys of one identifier the lower one has the lower time
+time_below : (ns : ℕ) (id : List ℕ) (t u : ℕ) → key_cmp (record { ns = ns; id = id; t = t }) (record { ns = ns; id = id; t = u }) ≡ Less → t < u
+time_below ns id t u e =
+    let same_ns : nat_cmp ns ns ≡ Equal = tied_itself nat_cmp_total ns in
+    let same_id : slice_cmp nat_cmp id id ≡ Equal = tied_itself nat_list_cmp_total id in
+    let times : ordering_then (nat_cmp ns ns) (ordering_then (slice_cmp nat_cmp id id) (nat_cmp t u)) ≡ nat_cmp t u =
+    ap (λ o. ordering_then o (ordering_then (slice_cmp nat_cmp id id) (nat_cmp t u))) same_ns ∙ ap (λ o. ordering_then o (nat_cmp t u)) same_id in
+    ranked t u Less (sym e ∙ times)
+
+pair_below : (ns : ℕ) (id : List ℕ) (from to : ℕ) (e : Key × ℤ) (es : List (Key × ℤ)) (p q : ℕ × ℤ) → T (below_all key_cmp e.0 es) → IsPairIn ns id from to e p
+    → IsIn (filter_map (pair_in ns id from to) es) q → p.0 < q.0
+pair_below ns id from to e es p q h is m =
+    let found = IsIn-filter_map (pair_in ns id from to) es q m in
+    let later = pair_in-some ns id from to found.0 q found.2 in
+    let below : key_cmp e.0 found.0.0 ≡ Less = below_member e.0 found.0.0 found.0.1 es h found.1 in
+    time_below ns id p.0 q.0 (ap (λ k. key_cmp k (record { ns = ns; id = id; t = q.0 })) (sym is.key) ∙ ap (key_cmp e.0) (sym later.key) ∙ below)
+
+ascends_from : (ns : ℕ) (id : List ℕ) (from to : ℕ) (e : Key × ℤ) (es : List (Key × ℤ)) (o : Option (ℕ × ℤ)) → pair_in ns id from to e ≡ o → T (below_all key_cmp e.0 es)
+    → Ascends (λ a b. a.0 < b.0) (filter_map (pair_in ns id from to) es) → Ascends (λ a b. a.0 < b.0) (cons_option o (filter_map (pair_in ns id from to) es))
+ascends_from ns id from to e es None is h rest = rest
+ascends_from ns id from to e es (Some p) is h rest = ((λ q m. pair_below ns id from to e es p q h (pair_in-some ns id from to e p is) m), rest)
+
+pairs_ascend : (ns : ℕ) (id : List ℕ) (from to : ℕ) (es : List (Key × ℤ)) → T (is_sorted key_cmp es) → Ascends (λ a b. a.0 < b.0) (filter_map (pair_in ns id from to) es)
+pairs_ascend ns id from to [] h = tt
+pairs_ascend ns id from to (e ∷ es) h =
+    let parts = both_hold (below_all key_cmp e.0 es) (is_sorted key_cmp es) h in
+    ascends_from ns id from to e es (pair_in ns id from to e) refl parts.0 (pairs_ascend ns id from to es parts.1)
+
+-- the times of a range strictly ascend
+pub range_ascends : (c : Contents) (ns : ℕ) (id : List ℕ) (from to : ℕ) → Ascends (λ a b. a.0 < b.0) (range_of c ns id from to)
+range_ascends c ns id from to = pairs_ascend ns id from to (entries c) (entries_sorted c)

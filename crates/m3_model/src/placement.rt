@@ -1,0 +1,90 @@
+use crate::duplicate::Duplicate;
+use crate::memory::Memory;
+use crate::seq::Seq;
+use crate::text::Text;
+use std::alloc::Global;
+
+/// The state of a shard on a node.
+///
+/// See M3DB's page "Placement": shards are Initializing, Available or Leaving.
+#[derive(Clone, Copy, Debug, PartialEq, Eq)]
+pub enum ShardState {
+    Initializing,
+    Available,
+    Leaving,
+}
+
+/// One shard on one node.
+#[derive(Clone, Copy, Debug)]
+pub struct Assignment {
+    /// The place of the node in the placement's instances.
+    pub node: u8,
+    /// The placement version that assigned the shard to the node.
+    pub tenure: u64,
+    pub state: ShardState,
+    /// The node whose replica of the shard this one takes over.
+    pub source: Option<u8>,
+}
+
+/// A node. One that was removed stays, with `listed` false, so that node numbers last.
+#[derive(Drop)]
+pub struct Instance {
+    pub name: Text,
+    /// Its isolation group.
+    pub group: Text,
+    pub listed: bool,
+    /// Whether its shards were taken away, so that it takes no new ones.
+    pub drained: bool,
+}
+
+/// Which node has which shard.
+///
+/// See M3DB's page "Placement".
+#[derive(Drop)]
+pub struct Placement {
+    /// 1 for the first placement, one higher with each step.
+    pub version: u64,
+    /// The number of replicas of each shard, from 1 to 5.
+    pub rf: u32,
+    /// The nodes in the order in which they were first named.
+    pub instances: Seq<Instance>,
+    pub shards: Seq<Seq<Assignment>>,
+}
+
+impl Duplicate for ShardState {
+    fn copy(&self, _alloc: Global) -> Result<ShardState, Memory> {
+        Ok(*self)
+    }
+}
+
+impl Duplicate for Assignment {
+    fn copy(&self, _alloc: Global) -> Result<Assignment, Memory> {
+        Ok(*self)
+    }
+}
+
+impl Duplicate for Instance {
+    fn copy(&self, alloc: Global) -> Result<Instance, Memory> {
+        let name = self.name.copy(alloc)?;
+        let group = self.group.copy(alloc)?;
+        Ok(Instance {
+            name,
+            group,
+            listed: self.listed,
+            drained: self.drained,
+        })
+    }
+}
+
+impl Duplicate for Placement {
+    fn copy(&self, alloc: Global) -> Result<Placement, Memory> {
+        let instances = self.instances.copy(alloc)?;
+        let shards = self.shards.copy(alloc)?;
+        Ok(Placement {
+            version: self.version,
+            rf: self.rf,
+            instances,
+            shards,
+        })
+    }
+}

@@ -1,0 +1,76 @@
+use crate::duplicate::Duplicate;
+use crate::memory::Memory;
+use crate::text::Text;
+use std::alloc::Global;
+
+/// What is wrong with a file that counts.
+#[derive(Drop)]
+pub enum Damage {
+    /// Its SHA-256 isn't the one that was kept for it.
+    Digest {
+        file: Text,
+        kept: [u8; 32],
+        found: [u8; 32],
+    },
+    /// No file of its kind goes on as it does at this byte.
+    Form {
+        file: Text,
+        at: u64,
+    },
+}
+
+/// Why a replica didn't answer.
+#[derive(Drop)]
+pub enum Reason {
+    /// The message was lost, or is late.
+    Cut,
+    /// The replica is closed.
+    Down,
+    /// It was started and hasn't bootstrapped.
+    Boot,
+    /// It has no tenure of the shard, or one above the version used.
+    NotOwned,
+    /// Its fence is above the version used.
+    Stale { fence: u64 },
+    /// The write lies too far below the moment.
+    Past,
+    /// The write lies too far above the moment.
+    Future,
+    /// Its disk failed.
+    Disk,
+    Corrupt(Damage),
+    Memory,
+}
+
+impl Duplicate for Damage {
+    fn copy(&self, alloc: Global) -> Result<Damage, Memory> {
+        match self {
+            Damage::Digest { file, kept, found } => Ok(Damage::Digest {
+                file: file.copy(alloc)?,
+                kept: *kept,
+                found: *found,
+            }),
+            Damage::Form { file, at } => Ok(Damage::Form {
+                file: file.copy(alloc)?,
+                at: *at,
+            }),
+        }
+    }
+}
+
+impl Duplicate for Reason {
+    fn copy(&self, alloc: Global) -> Result<Reason, Memory> {
+        match self {
+            Reason::Cut => Ok(Reason::Cut),
+            Reason::Down => Ok(Reason::Down),
+            Reason::Boot => Ok(Reason::Boot),
+            Reason::NotOwned => Ok(Reason::NotOwned),
+            Reason::Stale { fence } => Ok(Reason::Stale { fence: *fence }),
+            Reason::Past => Ok(Reason::Past),
+            Reason::Future => Ok(Reason::Future),
+            Reason::Disk => Ok(Reason::Disk),
+            Reason::Corrupt(damage) => Ok(Reason::Corrupt(damage.copy(alloc)?)),
+            Reason::Memory => Ok(Reason::Memory),
+        }
+    }
+}
