@@ -1,4 +1,6 @@
-pub mod ContentLemmas
+pub mod Keyed
 pub mod MemberLemmas
+pub mod RaiseLemmas
 pub mod RangeLemmas
 pub mod JoinLemmas
+pub mod PlaceLemmas

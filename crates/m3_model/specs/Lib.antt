@@ -4,3 +4,14 @@ pub mod Names
 pub mod Limits
 pub mod Keys
 pub mod Contents
+pub mod Levels
+pub mod Hash
+pub mod Tags
+pub mod Record
+pub mod Rules
+pub mod Placements
+pub mod Points
+pub mod Reads
+pub mod Kept
+pub mod NotYet
+pub mod Caused

@@ -1,19 +1,22 @@
-ghost use Rattle.std.specs.Prelude.{◌≡◌, ◌++◌, [], ◌∷◌, true, false, IfOk, IfErr, OnErr, MatchResult, MatchBool};
-ghost use Rattle.std.specs.List.{filter_map};
-ghost use Rattle.std.specs.FinMap as map;
+ghost use Rattle.std.specs.Prelude.{◌≡◌, map, IfOk, IfErr, OnErr, MatchBool};
+ghost use Rattle.std.specs.FinMap as finite;
 ghost use Rattle.std.specs.FinMap.{find};
 ghost use Rattle.std.specs.BTreeMap.{insert_entry};
+ghost use Rattle.std.specs.BTreeMap.Range.{IsLtBy, entries_between};
+ghost use Rattle.std.specs.declared.ops.Bound.TheVariants.{Included, Excluded};
 ghost use Rattle.m3_model.specs.Keys.{key_cmp};
-ghost use Rattle.m3_model.specs.Contents.{raised, is_higher, key_of, pair_in, range_of};
+ghost use Rattle.m3_model.specs.Contents.{raised, is_higher, key_of, timed, range_of};
 
 use crate::memory::Memory;
 use crate::point::{Key, Point};
 use crate::seq::Seq;
+use crate::text::Text;
 use std::alloc::Global;
 use std::collections::BTreeMap;
 use std::marker::Model;
 
-/// A map from keys to values, of which the higher one stays at each key.
+/// A map from keys to values, of which the higher one stays at each key. A point is joined and looked up in
+/// logarithmic time.
 #[derive(Drop)]
 pub struct Content {
     entries: BTreeMap<Key, i64>,
@@ -57,50 +60,39 @@ fn raise_entry(entries: &mut BTreeMap<Key, i64>, key: Key, value: i64) -> Result
     }
 }
 
-// The time and the value of an entry of this identifier in this range.
-fn pair_of(key: &Key, value: &i64, ns: u8, id: &str, from: u64, to: u64) -> Option<(u64, i64)>
-    ensures { result ≡ pair_in ns id.now from to (key.now, value.now) }
-{
-    if key.ns == ns && key.id.as_str() == id && from <= key.t && key.t < to {
-        Some((key.t, *value))
-    } else {
-        None
-    }
-}
-
-fn pairs_in(
+// The times and values of the entries from one key up to another.
+fn pairs_between(
     alloc: Global,
     entries: &BTreeMap<Key, i64>,
-    ns: u8,
-    id: &str,
-    from: u64,
-    to: u64,
+    low: Key,
+    high: Key,
 ) -> Result<Vec<(u64, i64)>, Memory>
-    ensures { IfOk result (λ v. v.items ≡ filter_map (pair_in ns id.now from to) entries.now.entries) }
+    requires { IsLtBy key_cmp low high }
+    ensures { IfOk result (λ pairs. pairs.items
+        ≡ map timed (entries_between key_cmp (Included low) (Excluded high) entries.now.entries)) }
 {
     let mut pairs = Vec::new(alloc);
-    for (key, value) in entries {
-        match pair_of(key, value, ns, id, from, to) {
-            None => {}
-            Some(pair) => pairs.push(pair)?,
-        }
+    for (key, value) in entries.range(low..high) {
+        pairs.push((key.t, *value))?;
     }
     Ok(pairs)
 }
 
 impl Content {
+    /// The content without points. Takes no memory.
     pub fn new(alloc: Global) -> Content
-        ensures { result ≡ map.empty }
+        ensures { result ≡ finite.empty }
     {
         Content {
             entries: BTreeMap::new(alloc),
         }
     }
 
-    /// Joins the point. Answers whether the content changed; want of memory hands the point back.
+    /// Joins the point, and says whether that changed the content. Want of memory changes nothing and hands the
+    /// point back.
     pub fn raise(&mut self, point: Point) -> Result<bool, Point>
         ensures joined { IfOk result (λ b. self.new ≡ raised self.old point) }
-        ensures changed { IfOk result (λ b. b ≡ is_higher (map.get self.old (key_of point)) point.v) }
+        ensures changed { IfOk result (λ b. b ≡ is_higher (finite.get self.old (key_of point)) point.v) }
         ensures back { IfErr result (λ p. p ≡ point) }
         ensures err { OnErr result (self.new ≡ self.old) }
     {
@@ -114,7 +106,7 @@ impl Content {
         }
     }
 
-    /// The pairs of the identifier with `from <= t < to`, ascending.
+    /// The pairs of the identifier with `from <= t < to`, by ascending time.
     pub fn range(
         &self,
         alloc: Global,
@@ -123,8 +115,24 @@ impl Content {
         from: u64,
         to: u64,
     ) -> Result<Seq<(u64, i64)>, Memory>
-        ensures { IfOk result (λ s. s ≡ range_of self.now ns id.now from to) }
+        ensures { IfOk result (λ pairs. pairs ≡ range_of self.now ns id.now from to) }
     {
-        Ok(Seq::from_vec(pairs_in(alloc, &self.entries, ns, id, from, to)?))
+        if to <= from {
+            return Ok(Seq::new(alloc));
+        }
+        let low = key_at(alloc, ns, id, from)?;
+        let high = key_at(alloc, ns, id, to)?;
+        let pairs = pairs_between(alloc, &self.entries, low, high)?;
+        Ok(Seq::from_vec(pairs))
     }
+}
+
+fn key_at(alloc: Global, ns: u8, id: &str, t: u64) -> Result<Key, Memory>
+    ensures { IfOk result (λ key. key ≡ record { ns = ns; id = id.now; t = t }) }
+{
+    Ok(Key {
+        ns,
+        id: Text::from_str(alloc, id)?,
+        t,
+    })
 }

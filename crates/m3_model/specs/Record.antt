@@ -1,0 +1,91 @@
+-- What runs did: their turns, and what stands before and beside one of them.
+use Rattle.std.specs.Prelude.{◌≡◌, List, [], ◌∷◌, ◌++◌, Option, Some, None}
+use Rattle.std.specs.List.{flat_map}
+use Rattle.m3_model.specs.Members.{IsIn}
+use Rattle.m3_model.specs.declared.rules.MetaState.{MetaState}
+use Rattle.m3_model.specs.declared.act.Act.{Act}
+use Rattle.m3_model.specs.declared.answer.Answer.{Answer}
+use Rattle.m3_model.specs.declared.turn.Request.{Request}
+use Rattle.m3_model.specs.declared.turn.Request.TheVariants as request
+use Rattle.m3_model.specs.declared.turn.Reply.{Reply}
+use Rattle.m3_model.specs.declared.turn.Reply.TheVariants as reply
+use Rattle.m3_model.specs.declared.turn.Turn.{Turn}
+
+-- An act with its answer: the one of a line, or one of the many of a `par` line.
+pub record InnerTurn : Type 0 where
+  pub act : Act
+  pub answer : Answer
+
+-- acts with the answers in their places
+abbrev pub answered : List Act → List Answer → List InnerTurn
+answered [] answers = []
+answered (a ∷ acts) [] = []
+answered (a ∷ acts) (b ∷ answers) = record { act = a; answer = b } ∷ answered acts answers
+
+-- lists of acts with the lists of answers in their places
+abbrev pub answered_lists : List (List Act) → List (List Answer) → List (List InnerTurn)
+answered_lists [] answers = []
+answered_lists (a ∷ acts) [] = []
+answered_lists (a ∷ acts) (b ∷ answers) = answered a b ∷ answered_lists acts answers
+
+-- a request with its reply: one list for each client and for each worker
+abbrev pub lists_by : Request → Reply → List (List InnerTurn)
+lists_by (request.One act) (reply.One answer) = (record { act = act; answer = answer } ∷ []) ∷ []
+lists_by (request.One act) (reply.Par clients workers) = []
+lists_by (request.Par clients workers) (reply.One answer) = []
+lists_by (request.Par clients workers) (reply.Par for_clients for_workers) = answered_lists clients for_clients ++ answered_lists workers for_workers
+
+-- the lists of a line
+abbrev pub lists_of : Turn → List (List InnerTurn)
+lists_of turn = lists_by turn.request turn.reply
+
+-- lists one after the other
+abbrev pub joined : {X : Type 0} → List (List X) → List X
+joined lists = flat_map (λ list. list) lists
+
+-- all inner turns of these lines
+abbrev pub inner_turns : List Turn → List InnerTurn
+inner_turns turns = flat_map (λ turn. joined (lists_of turn)) turns
+
+-- all acts of a request, if there is one
+abbrev pub acts_of : Option Request → List Act
+acts_of None = []
+acts_of (Some (request.One act)) = act ∷ []
+acts_of (Some (request.Par clients workers)) = joined clients ++ joined workers
+
+-- A run: what the meta disk held at its start, its turns in order, and a request that was taken and got no reply.
+pub record Record : Type 0 where
+  pub start : Option MetaState
+  pub turns : List Turn
+  pub unanswered : Option Request
+
+-- The runs on the same disks, one after the other.
+pub record Life : Type 0 where
+  pub past : List Record
+  pub present : Record
+
+-- An inner turn of the present run, with what stands before and beside it.
+pub record TurnPlace : Type 0 where
+  pub lines : List Turn  -- the earlier lines of the run
+  pub earlier : List InnerTurn  -- earlier in its own list of its own line
+  pub beside : List InnerTurn  -- in the other lists of its own line
+  pub turn : InnerTurn
+
+-- a place of an inner turn in the turns of a run
+pub record IsTurnPlace (turns : List Turn) (p : TurnPlace) : Type 0 where
+  pub line : Turn
+  pub after : List Turn
+  pub front : List (List InnerTurn)
+  pub later : List InnerTurn
+  pub back : List (List InnerTurn)
+  pub in_run : turns ≡ p.lines ++ line ∷ after
+  pub in_line : lists_of line ≡ front ++ (p.earlier ++ p.turn ∷ later) ∷ back
+  pub others : p.beside ≡ joined front ++ joined back
+
+-- all that earlier runs, earlier lines and its own list did before an inner turn
+abbrev pub turns_before : List Record → TurnPlace → List InnerTurn
+turns_before past p = flat_map (λ run. inner_turns run.turns) past ++ (inner_turns p.lines ++ p.earlier)
+
+-- one inner turn is before another
+abbrev pub IsBefore : List Record → InnerTurn → TurnPlace → Type 0
+IsBefore past turn p = IsIn (turns_before past p) turn
