@@ -1,5 +1,6 @@
 pub mod Keyed
 pub mod MemberLemmas
+pub mod FindLemmas
 pub mod RaiseLemmas
 pub mod RangeLemmas
 pub mod JoinLemmas

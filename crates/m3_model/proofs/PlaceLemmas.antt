@@ -40,15 +40,21 @@ pub record IsLastTurnPlace (turns : List Turn) (line : Turn) (s : TurnPlace) : T
   pub in_line : lists_of line ≡ front ++ (s.earlier ++ s.turn ∷ later) ∷ back
   pub others : s.beside ≡ joined front ++ joined back
 
-pub kept_push : (past : List Record) (start : Option MetaState) (turns : List Turn) (line : Turn)
-    → ((s : TurnPlace) → IsTurnPlace turns s → KeptAt past start s) → ((s : TurnPlace) → IsLastTurnPlace turns line s → KeptAt past start s)
-    → (s : TurnPlace) → IsTurnPlace (turns ++ line ∷ []) s → KeptAt past start s
+-- what holds at the places of a run that goes on by one line: what held before, and what holds in the last line
+pub at_push : (Holds : TurnPlace → Type 0) (turns : List Turn) (line : Turn) → ((p : TurnPlace) → IsTurnPlace turns p → Holds p) → ((p : TurnPlace) → IsLastTurnPlace turns line p → Holds p)
+    → (p : TurnPlace) → IsTurnPlace (turns ++ line ∷ []) p → Holds p
 unfolding Splits
-kept_push past start turns line before last s h =
-    elim (split_push turns line s.lines h.line h.after h.in_run) as (λ _. KeptAt past start s) [
-      | inl here ↦ last s (record { front = h.front; later = h.later; back = h.back; lines_are = here.0; in_line = ap lists_of (sym here.1) ∙ h.in_line; others = h.others })
-      | inr there ↦ before s (record { line = h.line; after = there.0; front = h.front; later = h.later; back = h.back; in_run = there.1; in_line = h.in_line; others = h.others })
+at_push Holds turns line before last p h =
+    elim (split_push turns line p.lines h.line h.after h.in_run) as (λ _. Holds p) [
+      | inl here ↦ last p (record { front = h.front; later = h.later; back = h.back; lines_are = here.0; in_line = ap lists_of (sym here.1) ∙ h.in_line; others = h.others })
+      | inr there ↦ before p (record { line = h.line; after = there.0; front = h.front; later = h.later; back = h.back; in_run = there.1; in_line = h.in_line; others = h.others })
     ]
+
+-- a run that goes on by one line stays kept
+pub kept_push : (past : List Record) (start : Option MetaState) (turns : List Turn) (line : Turn)
+    → ((p : TurnPlace) → IsTurnPlace turns p → KeptAt past start p) → ((p : TurnPlace) → IsLastTurnPlace turns line p → KeptAt past start p)
+    → (p : TurnPlace) → IsTurnPlace (turns ++ line ∷ []) p → KeptAt past start p
+kept_push past start turns line = at_push (KeptAt past start) turns line
 
 -- a line outside `par` has one deed, and nothing stands beside it
 pub record IsOnly (turns : List Turn) (d : InnerTurn) (s : TurnPlace) : Type 0 where

@@ -22,51 +22,13 @@ use Rattle.m3_model.specs.Keys.{key_cmp, key_cmp_total}
 use Rattle.m3_model.specs.Contents.{Contents, timed, pair_in, range_of}
 use Rattle.m3_model.specs.Members.{IsIn}
 use Rattle.m3_model.specs.Ascends.{Ascends}
-use Rattle.m3_model.proofs.Keyed.{key_cmp-IsAntisymmetric, equal_of}
+use Rattle.m3_model.proofs.Keyed.{key_cmp-IsAntisymmetric}
+use Rattle.m3_model.proofs.FindLemmas.{both_hold, below_member, get-IsIn, IsIn-get}
 use Rattle.m3_model.proofs.MemberLemmas.{IsIn-filter_map, filter_map-IsIn}
 
 pub both_true : (a b : Bool) → (a && b) ≡ true → (a ≡ true) × (b ≡ true)
 both_true true b e = (refl, e)
 both_true false b e = cc
-
-both_hold : (a b : Bool) → T (a && b) → T a × T b
-both_hold true b h = (tt, h)
-both_hold false b h = absurd h
-
-less_of : (o : Ordering) → T (is_lt o) → o ≡ Less
-less_of Less h = refl
-less_of Equal h = absurd h
-less_of Greater h = absurd h
-
-found_in : (q : Key) (x : Key × ℤ) (es : List (Key × ℤ)) (v : ℤ) → (find key_cmp q es ≡ Some v → IsIn es (q, v)) → (b : Bool) → eq_by_cmp key_cmp q x.0 ≡ b
-    → cond b (Some x.1) (find key_cmp q es) ≡ Some v → (x ≡ (q, v)) ⊎ IsIn es (q, v)
-found_in q x es v later true t f = let key : q ≡ x.0 = key_cmp-IsAntisymmetric q x.0 (equal_of _ t) in let value : x.1 ≡ v = cc in inl (λ i. (sym key i, value i))
-found_in q x es v later false t f = inr (later f)
-
-pub find-IsIn : (q : Key) (es : List (Key × ℤ)) (v : ℤ) → find key_cmp q es ≡ Some v → IsIn es (q, v)
-find-IsIn q [] v e = cc
-find-IsIn q (x ∷ es) v e = found_in q x es v (find-IsIn q es v) (eq_by_cmp key_cmp q x.0) refl e
-
-below_member : (x q : Key) (v : ℤ) (es : List (Key × ℤ)) → T (below_all key_cmp x es) → IsIn es (q, v) → key_cmp x q ≡ Less
-below_member x q v [] h m = absurd m
-below_member x q v (e ∷ es) h m =
-    let parts = both_hold (is_lt (key_cmp x e.0)) (below_all key_cmp x es) h in
-    elim m as (λ _. key_cmp x q ≡ Less) [
-      | inl same ↦ ap (λ p. key_cmp x p.0) (sym same) ∙ less_of _ parts.0
-      | inr rest ↦ below_member x q v es parts.1 rest
-    ]
-
-not_tied : (x q : Key) → key_cmp x q ≡ Less → eq_by_cmp key_cmp q x ≡ false
-not_tied x q e = ap is_eq (key_cmp_total.antisymm q x ∙ ap ordering_reverse e)
-
-pub IsIn-find : (q : Key) (es : List (Key × ℤ)) (v : ℤ) → T (is_sorted key_cmp es) → IsIn es (q, v) → find key_cmp q es ≡ Some v
-IsIn-find q [] v h m = absurd m
-IsIn-find q (e ∷ es) v h m =
-    let parts = both_hold (below_all key_cmp e.0 es) (is_sorted key_cmp es) h in
-    elim m as (λ _. cond (eq_by_cmp key_cmp q e.0) (Some e.1) (find key_cmp q es) ≡ Some v) [
-      | inl same ↦ ap (λ b. cond b (Some e.1) (find key_cmp q es)) (ap (λ p. eq_by_cmp key_cmp q p.0) same ∙ ap is_eq (tied_itself key_cmp_total q)) ∙ ap (λ p. Some p.1) same
-      | inr rest ↦ ap (λ b. cond b (Some e.1) (find key_cmp q es)) (not_tied e.0 q (below_member e.0 q v es parts.0 rest)) ∙ IsIn-find q es v parts.1 rest
-    ]
 
 -- what it says that an entry is in a range
 pub record IsPairIn (ns : ℕ) (id : List ℕ) (from to : ℕ) (e : Key × ℤ) (p : ℕ × ℤ) : Type 0 where
@@ -111,13 +73,13 @@ range_stands c ns id from to p h =
     let found = IsIn-filter_map (pair_in ns id from to) (entries c) p h in
     let pair = pair_in-some ns id from to found.0 p found.2 in
     let entry : found.0 ≡ (record { ns = ns; id = id; t = p.0 }, p.1) = λ i. (pair.key i, pair.value i) in
-    (get-entries c _ ∙ IsIn-find _ (entries c) p.1 (entries_sorted c) (subst (IsIn (entries c)) entry found.1), pair.low, pair.high)
+    (IsIn-get key_cmp key_cmp_total key_cmp-IsAntisymmetric c _ p.1 (subst (IsIn (entries c)) entry found.1), pair.low, pair.high)
 
 -- each entry of the identifier in the range is one of its pairs
 pub stands_in_range : (c : Contents) (ns : ℕ) (id : List ℕ) (from to t : ℕ) (v : ℤ) → finite.get c (record { ns = ns; id = id; t = t }) ≡ Some v → from ≤ t → t < to
     → IsIn (range_of c ns id from to) (t, v)
 stands_in_range c ns id from to t v e low high =
-    filter_map-IsIn (pair_in ns id from to) (entries c) _ (t, v) (find-IsIn _ (entries c) v (sym (get-entries c _) ∙ e)) (pair_in-here ns id from to t v low high)
+    filter_map-IsIn (pair_in ns id from to) (entries c) _ (t, v) (get-IsIn key_cmp key_cmp_total key_cmp-IsAntisymmetric c _ v e) (pair_in-here ns id from to t v low high)
 
 -- of two keys of one identifier the lower one has the lower time
 time_below : (ns : ℕ) (id : List ℕ) (t u : ℕ) → key_cmp (record { ns = ns; id = id; t = t }) (record { ns = ns; id = id; t = u }) ≡ Less → t < u
@@ -133,7 +95,7 @@ pair_below : (ns : ℕ) (id : List ℕ) (from to : ℕ) (e : Key × ℤ) (es : L
 pair_below ns id from to e es p q h is m =
     let found = IsIn-filter_map (pair_in ns id from to) es q m in
     let later = pair_in-some ns id from to found.0 q found.2 in
-    let below : key_cmp e.0 found.0.0 ≡ Less = below_member e.0 found.0.0 found.0.1 es h found.1 in
+    let below : key_cmp e.0 found.0.0 ≡ Less = below_member key_cmp key_cmp_total key_cmp-IsAntisymmetric e.0 found.0.0 found.0.1 es h found.1 in
     time_below ns id p.0 q.0 (ap (λ k. key_cmp k (record { ns = ns; id = id; t = q.0 })) (sym is.key) ∙ ap (key_cmp e.0) (sym later.key) ∙ below)
 
 ascends_from : (ns : ℕ) (id : List ℕ) (from to : ℕ) (e : Key × ℤ) (es : List (Key × ℤ)) (o : Option (ℕ × ℤ)) → pair_in ns id from to e ≡ o → T (below_all key_cmp e.0 es)

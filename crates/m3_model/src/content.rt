@@ -9,6 +9,7 @@ ghost use Rattle.m3_model.specs.Contents.{raised, is_higher, key_of, timed, rang
 
 use crate::memory::Memory;
 use crate::point::{Key, Point};
+use crate::raise::raise_entry;
 use crate::seq::Seq;
 use crate::text::Text;
 use std::alloc::Global;
@@ -35,29 +36,6 @@ impl Model for Content {
     ghost view = { λ c. from_sorted c.entries.entries };
 
     ghost invariant = { λ c. IsTrue (is_sorted key_cmp c.entries.entries) };
-}
-
-// Whether the value is now at the key; it isn't where one at least as high stands there.
-fn raise_entry(entries: &mut BTreeMap<Key, i64>, key: Key, value: i64) -> Result<bool, Key>
-    ensures ok { IfOk result (λ b. b ≡ is_higher (find key_cmp key entries.old.entries) value) }
-    ensures new { IfOk result (λ b. MatchBool b
-        (entries.new.entries ≡ insert_entry key_cmp entries.old.entries key value)
-        (entries.new.entries ≡ entries.old.entries)) }
-    ensures back { IfErr result (λ k. k ≡ key) }
-    ensures err { OnErr result (entries.new.entries ≡ entries.old.entries) }
-{
-    if let Some(&stands) = entries.get(&key) {
-        if value <= stands {
-            return Ok(false);
-        }
-    }
-    match entries.insert(key, value) {
-        Ok(_) => Ok(true),
-        Err(refused) => {
-            let (key, _) = refused.value;
-            Err(key)
-        }
-    }
 }
 
 // The times and values of the entries from one key up to another.

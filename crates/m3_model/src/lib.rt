@@ -8,6 +8,7 @@ pub mod duplicate;
 pub mod memory;
 pub mod placement;
 pub mod point;
+pub mod raise;
 pub mod reason;
 pub mod replica;
 pub mod rules;

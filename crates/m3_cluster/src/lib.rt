@@ -1,0 +1,9 @@
+//! The cluster: a request in, its reply out.
+#![tactic(auto)]
+
+pub mod cluster;
+pub mod first;
+pub mod joined;
+pub mod members;
+pub mod replica;
+pub mod session;
