@@ -20,7 +20,7 @@ use Rattle.m3_model.specs.Ascends.{Ascends}
 use Rattle.m3_model.specs.Hash.{murmur3, shard_of}
 use Rattle.m3_model.specs.Levels.{majority, needed_write}
 use Rattle.m3_model.specs.Limits.{MeetsLimits}
-use Rattle.m3_model.specs.NotYet.{IsBuilt}
+use Rattle.m3_model.specs.NotYet.{IsServedAct}
 use Rattle.m3_model.specs.Record.{InnerTurn, TurnPlace, inner_turns}
 use Rattle.m3_model.specs.Rules.{namespace_place, rules_at}
 use Rattle.m3_model.specs.Placements.{seed_after, IsCounted, IsFirstPlacement}
@@ -31,7 +31,7 @@ use Rattle.m3_cluster.specs.Quorums.{chosen}
 use Rattle.m3_cluster.specs.Steps.{Formed, spaces_in, IsWritten, IsFetched, IsNamed, IsMade, Answers}
 use Rattle.m3_cluster.specs.Serves.{place_of, rules_of, spaces_of, Stands}
 use Rattle.m3_cluster.proofs.ChosenLemmas.{acks-IsIn, acks_ascend}
-use Rattle.m3_cluster.proofs.FirstLemmas.{first_placement}
+use Rattle.m3_cluster.proofs.FirstLemmas.{first_placement, three_apart}
 
 -- the only turn of a line after these lines
 abbrev pub place_after : List Turn → Act → Answer → TurnPlace
@@ -131,12 +131,13 @@ named_due lines f g name block past future retention answer.Later h =
 named_due lines f g name block past future retention answer.Memory h = inl refl
 named_due lines f g name block past future retention _ h = absurd h
 
-made_due : (lines : List Turn) (old new : Option Formed) (rf shards seed : ℕ) (nodes : List (List ℕ × List ℕ)) (b : Answer) → MeetsLimits (act.Init rf shards seed nodes) → IsBuilt (act.Init rf shards seed nodes)
+made_due : (lines : List Turn) (old new : Option Formed) (rf shards seed : ℕ) (nodes : List (List ℕ × List ℕ)) (b : Answer) → MeetsLimits (act.Init rf shards seed nodes) → IsServedAct (act.Init rf shards seed nodes)
     → IsMade old rf seed nodes b new → Due (place_after lines (act.Init rf shards seed nodes) b) (place_of old) (spaces_of old)
 made_due lines old new rf shards seed nodes (answer.Placed place version) limits built h =
-    let size : rf ≡ length nodes = built.0 ∙ sym built.2 in
+    let three = three_apart nodes built.2 in
+    let size : rf ≡ length nodes = built.0 ∙ sym three.0 in
     let one : 1 ≡ shards = sym built.1 in
-    let own : IsFirstPlacement rf shards nodes place = subst (λ n. IsFirstPlacement rf n nodes place) one (subst (IsFirstPlacement rf 1 nodes) (sym h.1) (first_placement rf nodes limits.distinct built.3 size)) in
+    let own : IsFirstPlacement rf shards nodes place = subst (λ n. IsFirstPlacement rf n nodes place) one (subst (IsFirstPlacement rf 1 nodes) (sym h.1) (first_placement rf nodes limits.distinct three.1 size)) in
     let version_is : version ≡ place.version = h.2 ∙ sym (ap (λ (p : Placement). p.version) h.1) in
     inr (subst (λ c. IsDue None (place_after lines (act.Init rf shards seed nodes) (answer.Placed place version)) (refusal_by (place_of c) (spaces_of c) (act.Init rf shards seed nodes))) (sym h.0) (own, version_is))
 made_due lines None new rf shards seed nodes answer.Order limits built h = let no = h.0 in cc
@@ -144,7 +145,7 @@ made_due lines (Some f) new rf shards seed nodes answer.Order limits built h = i
 made_due lines old new rf shards seed nodes answer.Memory limits built h = inl refl
 made_due lines old new rf shards seed nodes _ limits built h = absurd h
 
-due : (lines : List Turn) (old new : Option Formed) (a : Act) (b : Answer) → MeetsLimits a → IsBuilt a → Stands (inner_turns lines) old → Answers old a b new → Due (place_after lines a b) (place_of old) (spaces_of old)
+due : (lines : List Turn) (old new : Option Formed) (a : Act) (b : Answer) → MeetsLimits a → IsServedAct a → Stands (inner_turns lines) old → Answers old a b new → Due (place_after lines a b) (place_of old) (spaces_of old)
 due lines old new (act.Init rf shards seed nodes) b limits built s h = made_due lines old new rf shards seed nodes b limits built h
 due lines None new (act.Namespace name block past future retention) b limits built s h = inr h.0
 due lines (Some f) new (act.Namespace name block past future retention) b limits built s h = named_due lines f h.0 name block past future retention b h.2
@@ -157,7 +158,7 @@ due lines (Some f) new (act.Fetch ns id from to level version) b limits built s 
 due lines old new a b limits built s h = absurd h
 
 -- each answer is caused
-pub answers_caused : (lines : List Turn) (old new : Option Formed) (a : Act) (b : Answer) → MeetsLimits a → IsBuilt a → Stands (inner_turns lines) old → Answers old a b new → CausedAt None (place_after lines a b)
+pub answers_caused : (lines : List Turn) (old new : Option Formed) (a : Act) (b : Answer) → MeetsLimits a → IsServedAct a → Stands (inner_turns lines) old → Answers old a b new → CausedAt None (place_after lines a b)
 answers_caused lines old new a b limits built s h =
     subst (λ p. (b ≡ answer.Memory) ⊎ IsDue None (place_after lines a b) (refusal_by p (rules_at None (place_after lines a b)).spaces a)) (sym s.place)
     (subst (λ (r : Rules). (b ≡ answer.Memory) ⊎ IsDue None (place_after lines a b) (refusal_by (place_of old) r.spaces a)) (sym s.rules) (due lines old new a b limits built s h))

@@ -1,9 +1,11 @@
 -- The nodes of `init`, by name.
-use Rattle.std.proofs.Common.{◌≡◌, ◌≢◌, ℕ, zero, suc, ◌+◌, ◌<◌, ◌≤◌, List, [], ◌∷◌, ◌++◌, map, take, length, get_or, refl, sym, ap, ap₂, ◌∙◌, subst, inl, inr, arith, length-append, append_assoc, Bool, true, false, cond}
-use Rattle.std.specs.Prelude.{◌⊎◌, Option, Some, None, slice_get, is_some}
+use Rattle.std.proofs.Common.{◌≡◌, ◌≢◌, ℕ, zero, suc, ◌+◌, ◌<◌, ◌≤◌, List, [], ◌∷◌, ◌++◌, map, take, length, get_or, refl, sym, ap, ap₂, ◌∙◌, subst, inl, inr, arith, length-append, append_assoc, Bool, true, false, not, cond, ◌&&◌}
+use Rattle.std.specs.Prelude.{◌⊎◌, Option, Some, None, slice_get, is_some, nat_eq}
 use Rattle.std.specs.Ordering.{nat_cmp, eq_by_cmp, is_eq}
 use Rattle.std.specs.Cmp.{tied_itself}
-use Rattle.std.specs.Cmp.Lexicographic.{slice_cmp, nat_list_cmp_total}
+use Rattle.std.specs.Cmp.Lexicographic.{slice_cmp, nat_list_cmp_total, pointwise}
+use Rattle.std.proofs.lemmas.Slice.Eq.{bytes_eq-Decides}
+use Rattle.m3_model.specs.NotYet.{are_three_groups}
 use Rattle.std.specs.FinMap.{FinMap, IsAntisymmetric, nat_cmp-IsAntisymmetric, slice_cmp-IsAntisymmetric, empty, insert, entries, get, len, get-insert, get-empty, len-insert, len-entries, len-empty, contains_key}
 use Rattle.m3_model.specs.declared.placement.Instance.{Instance}
 use Rattle.m3_model.specs.Members.{IsIn}
@@ -235,3 +237,30 @@ first_placement rf nodes names groups size =
       shards_are = refl;
       each_shard = λ assignments m. elim m as (λ _. IsFirstShard rf is assignments) [ inl same ↦ subst (IsFirstShard rf is) same first | inr none ↦ absurd none ];
     }
+
+apart_test : (x y : List ℕ) → not (pointwise nat_eq x y) ≡ true → x ≢ y
+apart_test x y t e = let same : pointwise nat_eq x y ≡ true = (bytes_eq-Decides x y).1 e in let bad : false ≡ true = ap not (sym same) ∙ t in cc
+
+all_true : (a b c : Bool) → ((a && b) && c) ≡ true → (a ≡ true) × (b ≡ true) × (c ≡ true)
+all_true true true true e = (refl, refl, refl)
+all_true true true false e = cc
+all_true true false c e = cc
+all_true false b c e = cc
+
+-- three nodes in groups of their own
+pub three_apart : (nodes : List (List ℕ × List ℕ)) → are_three_groups nodes ≡ true → (length nodes ≡ 3) × Ascends (λ a b. a.1 ≢ b.1) nodes
+three_apart (a ∷ b ∷ c ∷ []) t =
+    let tests = all_true (not (pointwise nat_eq a.1 b.1)) (not (pointwise nat_eq a.1 c.1)) (not (pointwise nat_eq b.1 c.1)) t in
+    let ab = apart_test a.1 b.1 tests.0 in
+    let ac = apart_test a.1 c.1 tests.1 in
+    let bc = apart_test b.1 c.1 tests.2 in (
+      refl,
+      (
+        (λ y m. elim m as (λ _. a.1 ≢ y.1) [ inl e ↦ subst (λ (n : List ℕ × List ℕ). a.1 ≢ n.1) e ab | inr r ↦ elim r as (λ _. a.1 ≢ y.1) [ inl e ↦ subst (λ (n : List ℕ × List ℕ). a.1 ≢ n.1) e ac | inr none ↦ absurd none ] ]),
+        ((λ y m. elim m as (λ _. b.1 ≢ y.1) [ inl e ↦ subst (λ (n : List ℕ × List ℕ). b.1 ≢ n.1) e bc | inr none ↦ absurd none ]), ((λ y m. absurd m), tt)),
+      ),
+    )
+three_apart [] t = cc
+three_apart (a ∷ []) t = cc
+three_apart (a ∷ b ∷ []) t = cc
+three_apart (a ∷ b ∷ c ∷ d ∷ nodes) t = cc

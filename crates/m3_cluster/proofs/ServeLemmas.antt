@@ -16,7 +16,7 @@ use Rattle.m3_model.specs.declared.turn.Request.TheVariants as request
 use Rattle.m3_model.specs.declared.turn.Reply.TheVariants as reply
 use Rattle.m3_model.specs.declared.turn.Turn.{Turn}
 use Rattle.m3_model.specs.Limits.{MeetsLimits}
-use Rattle.m3_model.specs.NotYet.{IsBuilt}
+use Rattle.m3_model.specs.NotYet.{IsServedAct}
 use Rattle.m3_model.specs.Record.{InnerTurn, TurnPlace, IsTurnPlace, inner_turns}
 use Rattle.m3_model.specs.Rules.{rules_at, namespace_place}
 use Rattle.m3_model.specs.Placements.{replicas_of}
@@ -88,7 +88,7 @@ place_is : (lines : List Turn) (a : Act) (b : Answer) (p : TurnPlace) → IsOnly
 place_is lines a b p h = λ i. record { lines = sym h.lines_are i; earlier = sym h.earlier_is i; beside = sym h.beside_is i; turn = sym h.turn_is i }
 
 -- the turn that was served goes to the record
-pub answers_serve : (lines : List Turn) (old new : Option Formed) (a : Act) (b : Answer) → MeetsLimits a → IsBuilt a → Serves lines old → Answers old a b new
+pub answers_serve : (lines : List Turn) (old new : Option Formed) (a : Act) (b : Answer) → MeetsLimits a → IsServedAct a → Serves lines old → Answers old a b new
     → Serves (lines ++ record { request = request.One a; reply = reply.One b } ∷ []) new
 answers_serve lines old new a b limits built s h = record {
   stands = subst (λ ts. Stands ts new) (sym (inner_turns-push lines a b)) (stands_push (inner_turns lines) old (record { act = a; answer = b }) new s.stands (step_goes (inner_turns lines) old a b new limits built s.stands h));

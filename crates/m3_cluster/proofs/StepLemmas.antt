@@ -20,7 +20,7 @@ use Rattle.m3_model.specs.Caused.{IsNamedBelow}
 use Rattle.std.proofs.lemmas.List.{length-map}
 use Rattle.m3_model.specs.Contents.{Holds, point_at, raised}
 use Rattle.m3_model.specs.Limits.{MeetsLimits}
-use Rattle.m3_model.specs.NotYet.{IsBuilt}
+use Rattle.m3_model.specs.NotYet.{IsServedAct}
 use Rattle.m3_model.specs.Record.{InnerTurn}
 use Rattle.m3_model.specs.Rules.{rules_by, namespace_place}
 use Rattle.m3_model.specs.Placements.{printed, later_placement, first_instances}
@@ -33,7 +33,7 @@ use Rattle.m3_cluster.specs.First.{first_place, first_state, nodes_by_name, empt
 use Rattle.m3_cluster.specs.Steps.{Formed, spaces_in, with_space, IsTaken, IsWritten, IsFetched, IsNamed, IsMade, OnFormed, Answers}
 use Rattle.m3_cluster.specs.Serves.{place_of, rules_of, spaces_of, IsStaffed, IsWellFormed, IsHeld, Stands}
 use Rattle.m3_cluster.proofs.ChosenLemmas.{length-chosen_taken, length_taken, nodes_taken, chosen-taken, taken-IsIn, chosen_took}
-use Rattle.m3_cluster.proofs.FirstLemmas.{names_apart, first_staffed}
+use Rattle.m3_cluster.proofs.FirstLemmas.{names_apart, first_staffed, three_apart}
 use Rattle.m3_cluster.proofs.StandLemmas.{Grows, Goes}
 
 -- a turn that changes nothing
@@ -75,7 +75,7 @@ stays_later turns old new a s e = subst (Goes old (record { act = a; answer = an
 
 -- ---- init
 
-init_goes : (rf shards seed : ℕ) (nodes : List (List ℕ × List ℕ)) (place : Placement) (version : ℕ) (old new : Option Formed) → MeetsLimits (act.Init rf shards seed nodes) → IsBuilt (act.Init rf shards seed nodes)
+init_goes : (rf shards seed : ℕ) (nodes : List (List ℕ × List ℕ)) (place : Placement) (version : ℕ) (old new : Option Formed) → MeetsLimits (act.Init rf shards seed nodes) → IsServedAct (act.Init rf shards seed nodes)
     → IsMade old rf seed nodes (answer.Placed place version) new → Goes old (record { act = act.Init rf shards seed nodes; answer = answer.Placed place version }) new
 init_goes rf shards seed nodes place version old new limits built h =
     let made : Formed = record { state = first_state rf seed (first_instances nodes); replicas = map empty_replica (nodes_by_name (first_instances nodes)) } in
@@ -86,7 +86,7 @@ init_goes rf shards seed nodes place version old new limits built h =
       well = λ g is. subst IsWellFormed (same g is) (record {
         no_moment = refl;
         retained = λ s m. absurd m;
-        staffed = first_staffed rf (first_instances nodes) (names_apart nodes limits.distinct) (built.0 ∙ sym (length_instances nodes ∙ built.2));
+        staffed = first_staffed rf (first_instances nodes) (names_apart nodes limits.distinct) (built.0 ∙ sym (length_instances nodes ∙ (three_apart nodes built.2).0));
       });
       grows = λ f is. let bad : None ≡ Some f = sym h.0 ∙ is in cc;
       fresh = λ was g is r m k.
@@ -273,14 +273,14 @@ fetched_goes turns f g ns id from to a answer.Memory rules s h e = stays_memory 
 fetched_goes turns f g ns id from to a answer.Later rules s h e = stays_later turns (Some f) (Some g) a s (ap Some e)
 fetched_goes turns f g ns id from to a _ rules s h e = absurd h
 
-made_goes : (turns : List InnerTurn) (rf shards seed : ℕ) (nodes : List (List ℕ × List ℕ)) (b : Answer) (old new : Option Formed) → MeetsLimits (act.Init rf shards seed nodes) → IsBuilt (act.Init rf shards seed nodes) → Stands turns old
+made_goes : (turns : List InnerTurn) (rf shards seed : ℕ) (nodes : List (List ℕ × List ℕ)) (b : Answer) (old new : Option Formed) → MeetsLimits (act.Init rf shards seed nodes) → IsServedAct (act.Init rf shards seed nodes) → Stands turns old
     → IsMade old rf seed nodes b new → Goes old (record { act = act.Init rf shards seed nodes; answer = b }) new
 made_goes turns rf shards seed nodes (answer.Placed place version) old new limits built s h = init_goes rf shards seed nodes place version old new limits built h
 made_goes turns rf shards seed nodes answer.Order old new limits built s h = stays_order turns old new _ answer.Order s refl h.1
 made_goes turns rf shards seed nodes answer.Memory old new limits built s h = stays_memory turns old new _ s h.1
 made_goes turns rf shards seed nodes _ old new limits built s h = absurd h
 
-pub step_goes : (turns : List InnerTurn) (old : Option Formed) (a : Act) (b : Answer) (new : Option Formed) → MeetsLimits a → IsBuilt a → Stands turns old → Answers old a b new → Goes old (record { act = a; answer = b }) new
+pub step_goes : (turns : List InnerTurn) (old : Option Formed) (a : Act) (b : Answer) (new : Option Formed) → MeetsLimits a → IsServedAct a → Stands turns old → Answers old a b new → Goes old (record { act = a; answer = b }) new
 step_goes turns old (act.Init rf shards seed nodes) b new limits built s h = made_goes turns rf shards seed nodes b old new limits built s h
 step_goes turns None (act.Namespace name block past future retention) b new limits built s h = stays_order turns None new _ b s h.0 h.1
 step_goes turns (Some f) (act.Namespace name block past future retention) b new limits built s h =

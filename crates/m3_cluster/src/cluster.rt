@@ -1,8 +1,8 @@
 ghost use Rattle.std.specs.Prelude.{◌≡◌, ◌≤◌, [], ◌∷◌, ◌++◌, List, map, length, IfOk};
 ghost use Rattle.std.specs.Option.{option_copied};
 ghost use Rattle.m3_model.specs.declared.turn.Turn.{Turn};
-ghost use Rattle.m3_model.specs.Limits.{MeetsLimits};
-ghost use Rattle.m3_model.specs.NotYet.{IsBuilt, IsServed};
+ghost use Rattle.m3_model.specs.Limits.{MeetsLimits, KeepsLimits};
+ghost use Rattle.m3_model.specs.NotYet.{IsServedAct, IsServed};
 ghost use Rattle.m3_model.specs.Placements.{first_instances};
 ghost use Rattle.m3_cluster.specs.First.{first_place, first_state, nodes_by_name, empty_replica};
 ghost use Rattle.m3_cluster.specs.Steps.{Answers, IsMade};
@@ -82,7 +82,7 @@ impl Cluster {
 
     fn answer(&mut self, alloc: Global, act: Act) -> Answer
         requires limits { MeetsLimits act }
-        requires built { IsBuilt act }
+        requires served { IsServedAct act }
         ensures { Answers self.old act result self.new }
     {
         match act {
@@ -136,7 +136,8 @@ impl Cluster {
 
     /// Answers one request. What was kept and caused in the turns so far is so in them and this one.
     pub fn serve(&mut self, alloc: Global, request: Request) -> Reply
-        requires { IsServed request }
+        requires limits { KeepsLimits request }
+        requires served { IsServed request }
         ensures serves { (turns : List Turn) → Serves turns self.old
             → Serves (turns ++ record { request = request; reply = result } ∷ []) self.new }
     {

@@ -15,11 +15,10 @@ not_empty [] y zs e = cc
 not_empty (w ∷ ys) y zs e = cc
 
 -- where an element of a list that was pushed to stands
-pub Splits : {X : Type 0} → List X → X → List X → X → List X → Type 0
+abbrev pub Splits : {X : Type 0} → List X → X → List X → X → List X → Type 0
 Splits {X} xs x ys y zs = ((ys ≡ xs) × (y ≡ x)) ⊎ ((rest : List X) × (xs ≡ ys ++ y ∷ rest))
 
 pub split_push : {X : Type 0} (xs : List X) (x : X) (ys : List X) (y : X) (zs : List X) → xs ++ x ∷ [] ≡ ys ++ y ∷ zs → Splits xs x ys y zs
-unfolding Splits
 split_push [] x [] y zs e = let same : x ≡ y = cc in inl (refl, sym same)
 split_push [] x (w ∷ ys) y zs e = let rest : [] ≡ ys ++ y ∷ zs = cc in absurd (not_empty ys y zs rest)
 split_push (v ∷ xs) x [] y zs e = let same : v ≡ y = cc in inr (xs, ap (λ z. z ∷ xs) same)
@@ -43,7 +42,6 @@ pub record IsLastTurnPlace (turns : List Turn) (line : Turn) (s : TurnPlace) : T
 -- what holds at the places of a run that goes on by one line: what held before, and what holds in the last line
 pub at_push : (Holds : TurnPlace → Type 0) (turns : List Turn) (line : Turn) → ((p : TurnPlace) → IsTurnPlace turns p → Holds p) → ((p : TurnPlace) → IsLastTurnPlace turns line p → Holds p)
     → (p : TurnPlace) → IsTurnPlace (turns ++ line ∷ []) p → Holds p
-unfolding Splits
 at_push Holds turns line before last p h =
     elim (split_push turns line p.lines h.line h.after h.in_run) as (λ _. Holds p) [
       | inl here ↦ last p (record { front = h.front; later = h.later; back = h.back; lines_are = here.0; in_line = ap lists_of (sym here.1) ∙ h.in_line; others = h.others })

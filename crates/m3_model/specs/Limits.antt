@@ -5,6 +5,8 @@ use Rattle.m3_model.specs.Members.{IsIn}
 use Rattle.m3_model.specs.Names.{is_name, has_identifier_length}
 use Rattle.m3_model.specs.declared.act.Act.{Act}
 use Rattle.m3_model.specs.declared.act.Act.TheVariants as act
+use Rattle.m3_model.specs.declared.turn.Request.{Request}
+use Rattle.m3_model.specs.declared.turn.Request.TheVariants as request
 use Rattle.m3_model.specs.declared.act.Fate.{Fate}
 use Rattle.m3_model.specs.declared.act.Fate.TheVariants.{Deliver}
 
@@ -81,3 +83,10 @@ MeetsLimits act.Flush = ⊤
 MeetsLimits act.Snapshot = ⊤
 MeetsLimits act.Repair = ⊤
 MeetsLimits act.Status = ⊤
+
+-- each act of the request keeps to the limits
+abbrev pub KeepsLimits : Request → Type 0
+KeepsLimits (request.One one) = MeetsLimits one
+KeepsLimits (request.Par clients workers) =
+    ((acts : List Act) → IsIn clients acts → (one : Act) → IsIn acts one → MeetsLimits one)
+    × ((acts : List Act) → IsIn workers acts → (one : Act) → IsIn acts one → MeetsLimits one)

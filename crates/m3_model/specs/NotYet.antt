@@ -1,7 +1,6 @@
 -- What no part of the program serves yet. It goes away with the last part.
-use Rattle.std.specs.Prelude.{◌≡◌, ◌≢◌, ℕ, List, length, Option, None, Bool, true, false, ◌&&◌, is_some, is_none, nat_lt, ⊤}
-use Rattle.m3_model.specs.Ascends.{Ascends}
-use Rattle.m3_model.specs.Limits.{MeetsLimits}
+use Rattle.std.specs.Prelude.{◌≡◌, ℕ, List, [], ◌∷◌, length, Option, None, Bool, true, false, not, ◌&&◌, is_some, is_none, nat_lt, nat_eq, IsTrue, ⊤}
+use Rattle.std.specs.Cmp.Lexicographic.{pointwise}
 use Rattle.m3_model.specs.Rules.{namespace_place}
 use Rattle.m3_model.specs.declared.placement.Placement.{Placement}
 use Rattle.m3_model.specs.declared.rules.Space.{Space}
@@ -12,17 +11,22 @@ use Rattle.m3_model.specs.declared.act.WriteLevel.TheVariants as write
 use Rattle.m3_model.specs.declared.turn.Request.{Request}
 use Rattle.m3_model.specs.declared.turn.Request.TheVariants as request
 
--- what is served by its form alone: one shard on three nodes in groups of their own, and calls at majority and the present version
-abbrev pub IsBuilt : Act → Type 0
-IsBuilt (act.Init rf shards seed nodes) = (rf ≡ 3) × (shards ≡ 1) × (length nodes ≡ 3) × Ascends (λ a b. a.1 ≢ b.1) nodes
-IsBuilt (act.Namespace name block past future retention) = ⊤
-IsBuilt (act.Write ns id t v level version) = (level ≡ write.Majority) × (version ≡ None)
-IsBuilt (act.Fetch ns id from to level version) = (level ≡ read.Majority) × (version ≡ None)
-IsBuilt _ = ⊥
+-- three nodes, each in a group of its own
+abbrev pub are_three_groups : List (List ℕ × List ℕ) → Bool
+are_three_groups (a ∷ b ∷ c ∷ []) = (not (pointwise nat_eq a.1 b.1) && not (pointwise nat_eq a.1 c.1)) && not (pointwise nat_eq b.1 c.1)
+are_three_groups _ = false
 
--- a request within the limits that is served by its form
+-- an act of a kind that is served: three replicas of one shard in groups of their own, and calls at majority and the present version
+abbrev pub IsServedAct : Act → Type 0
+IsServedAct (act.Init rf shards seed nodes) = (rf ≡ 3) × (shards ≡ 1) × IsTrue (are_three_groups nodes)
+IsServedAct (act.Namespace name block past future retention) = ⊤
+IsServedAct (act.Write ns id t v level version) = (level ≡ write.Majority) × (version ≡ None)
+IsServedAct (act.Fetch ns id from to level version) = (level ≡ read.Majority) × (version ≡ None)
+IsServedAct _ = ⊥
+
+-- one act of such a kind
 abbrev pub IsServed : Request → Type 0
-IsServed (request.One a) = MeetsLimits a × IsBuilt a
+IsServed (request.One one) = IsServedAct one
 IsServed (request.Par clients workers) = ⊥
 
 -- the act is put off: a second namespace, a call on a namespace that isn't there, or an act of another kind than these four

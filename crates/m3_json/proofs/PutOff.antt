@@ -1,0 +1,196 @@
+-- Which objects are put off.
+use Rattle.std.proofs.Common.{◌≡◌, ◌≢◌, ℕ, List, refl, sym, ap, ◌∙◌, inl, inr, false, true}
+use Rattle.std.specs.Prelude.{Option, Some, None, Result, Ok, Err, IsTrue, Bool, nat_eq, ◌⊎◌, if◌then◌else◌, codes, option_and_then, ◌^◌}
+use Rattle.std.specs.Option.{option_map_or}
+use Rattle.std.specs.Cmp.Lexicographic.{pointwise, bytes_decides}
+use Rattle.std.proofs.lemmas.Bool.{both_ways, false_from_ne_true}
+use Rattle.serde_json.specs.Data.{Data, Items, no_items, item}
+use Rattle.serde_json.specs.Find.{get, as_str, as_number, as_u64, as_i64, as_array}
+use Rattle.m3_model.specs.declared.act.Act.{Act}
+use Rattle.m3_model.specs.declared.act.ReadLevel.{ReadLevel}
+use Rattle.m3_model.specs.declared.act.WriteLevel.{WriteLevel}
+use Rattle.m3_model.specs.declared.turn.Request.TheVariants as request
+use Rattle.m3_model.specs.Names.{is_name, has_identifier_length}
+use Rattle.m3_json.specs.declared.fault.LineErr.{LineErr}
+use Rattle.m3_json.specs.declared.fault.LineErr.TheVariants as errors
+use Rattle.m3_json.specs.Fields.{◌>>=◌, needed, tested, is_one_of, text_of, name_of, number_of, field, text_at, name_at, identifier_at, number_at, value_at, optional_at}
+use Rattle.m3_json.specs.Rows.{node_of_two, node_of_items, node_of, nodes_of_items, has_few_items, items_at, names_differ, nodes_at, init_of, namespace_of, write_level_named, read_level_named, write_level_at, read_level_at, version_at, write_of, fetch_of}
+use Rattle.m3_json.specs.NotYet.{later_ops, refusal_of, is_put_off}
+use Rattle.m3_json.specs.Requests.{act_of, request_of}
+use Rattle.m3_json.specs.Laws.{HasLaterOp, HasLaterForm, PutsOffExactly}
+
+-- reading doesn't end in `Later`
+abbrev pub Decided : {A : Type 0} → Result A LineErr → Type 0
+Decided r = r ≢ Err errors.Later
+
+Decided-steps : {A B : Type 0} (r : Result A LineErr) (f : A → Result B LineErr) → Decided r → ((x : A) → Decided (f x)) → Decided (r >>= f)
+Decided-steps (Ok x) f first next = next x
+Decided-steps (Err e) f first next = λ same. let later : e ≡ errors.Later = cc in first (ap Err later)
+
+Decided-needed : {A : Type 0} (o : Option A) → Decided (needed o)
+Decided-needed None = λ same. cc
+Decided-needed (Some x) = λ same. cc
+
+Decided-if : {A : Type 0} (b : Bool) (x : A) (r : Result A LineErr) → Decided r → Decided (if b then Ok x else r)
+Decided-if true x r other = λ same. cc
+Decided-if false x r other = other
+
+Decided-Form : (A : Type 0) → Decided {A = A} (Err errors.Form)
+Decided-Form A same = cc
+
+Decided-Ok : {A : Type 0} (x : A) → Decided (Ok x)
+Decided-Ok x same = cc
+
+Decided-tested : {A : Type 0} (test : A → Bool) (x : A) → Decided (tested test x)
+Decided-tested {A} test x = Decided-if (test x) x (Err errors.Form) (Decided-Form A)
+
+Decided-field : (key : List ℕ) (d : Data) → Decided (field key d)
+Decided-field key d = Decided-needed (get key d)
+
+Decided-text_of : (d : Data) → Decided (text_of d)
+Decided-text_of d = Decided-needed (as_str d)
+
+Decided-name_of : (d : Data) → Decided (name_of d)
+unfolding name_of
+Decided-name_of d = Decided-steps (text_of d) (tested is_name) (Decided-text_of d) (Decided-tested is_name)
+
+Decided-number_of : (from limit : ℕ) (d : Data) → Decided (number_of from limit d)
+unfolding number_of
+Decided-number_of from limit d = Decided-steps (needed (option_and_then as_u64 (as_number d))) (tested _) (Decided-needed (option_and_then as_u64 (as_number d))) (Decided-tested _)
+
+Decided-text_at : (key : List ℕ) (d : Data) → Decided (text_at key d)
+unfolding text_at
+Decided-text_at key d = Decided-steps (field key d) text_of (Decided-field key d) Decided-text_of
+
+Decided-name_at : (key : List ℕ) (d : Data) → Decided (name_at key d)
+unfolding name_at
+Decided-name_at key d = Decided-steps (field key d) name_of (Decided-field key d) Decided-name_of
+
+Decided-identifier_at : (key : List ℕ) (d : Data) → Decided (identifier_at key d)
+unfolding identifier_at
+Decided-identifier_at key d = Decided-steps (text_at key d) (tested has_identifier_length) (Decided-text_at key d) (Decided-tested has_identifier_length)
+
+Decided-number_at : (key : List ℕ) (from limit : ℕ) (d : Data) → Decided (number_at key from limit d)
+unfolding number_at
+Decided-number_at key from limit d = Decided-steps (field key d) (number_of from limit) (Decided-field key d) (Decided-number_of from limit)
+
+Decided-namespace_of : (d : Data) → Decided (namespace_of d)
+unfolding namespace_of
+Decided-namespace_of d = search (Decided-steps, Decided-Ok, Decided-tested, Decided-name_at, Decided-number_at) depth 20
+
+Decided-value_at : (key : List ℕ) (d : Data) → Decided (value_at key d)
+unfolding value_at
+Decided-value_at key d = Decided-steps _ _ (Decided-field key d) (λ v. Decided-needed (option_and_then as_i64 (as_number v)))
+
+Decided-optional_at : {A : Type 0} (absent : A) (key : List ℕ) (row : Data → Result A LineErr) (d : Data) → ((v : Data) → Decided (row v)) → Decided (optional_at absent key row d)
+Decided-optional_at {A} absent key row d each = by (get key d)
+  where
+    by : (o : Option Data) → Decided (option_map_or row o (Ok absent))
+    by None = λ same. cc
+    by (Some v) = each v
+
+Decided-write_level_at : (d : Data) → Decided (write_level_at d)
+unfolding write_level_at
+Decided-write_level_at d =
+    Decided-optional_at _ (codes "level") _ d (λ v. Decided-steps (text_of v) write_level_named (Decided-text_of v) (λ name.
+    Decided-if (pointwise nat_eq name (codes "one")) _ _ (Decided-if (pointwise nat_eq name (codes "majority")) _ _ (Decided-if (pointwise nat_eq name (codes "all")) _ _ (Decided-Form WriteLevel)))))
+
+Decided-read_level_at : (d : Data) → Decided (read_level_at d)
+unfolding read_level_at
+Decided-read_level_at d =
+    Decided-optional_at _ (codes "level") _ d (λ v. Decided-steps (text_of v) read_level_named (Decided-text_of v) (λ name.
+    Decided-if (pointwise nat_eq name (codes "one")) _ _ (Decided-if (pointwise nat_eq name (codes "unstrict")) _ _
+    (Decided-if (pointwise nat_eq name (codes "majority")) _ _ (Decided-if (pointwise nat_eq name (codes "all")) _ _ (Decided-Form ReadLevel))))))
+
+Decided-version_at : (d : Data) → Decided (version_at d)
+unfolding version_at
+Decided-version_at d = Decided-optional_at _ (codes "version") _ d (λ v. Decided-steps (number_of 0 (2 ^ 62) v) _ (Decided-number_of 0 (2 ^ 62) v) (λ n same. cc))
+
+Decided-node_of_two : (a b : Data) → Decided (node_of_two a b)
+Decided-node_of_two a b = Decided-steps (name_of a) _ (Decided-name_of a) (λ n. Decided-steps (name_of b) _ (Decided-name_of b) (λ g same. cc))
+
+Decided-node_of_items : (items : Items) → Decided (node_of_items items)
+Decided-node_of_items no_items = Decided-Form (List ℕ × List ℕ)
+Decided-node_of_items (item a no_items) = Decided-Form (List ℕ × List ℕ)
+Decided-node_of_items (item a (item b no_items)) = Decided-node_of_two a b
+Decided-node_of_items (item a (item b (item c ds))) = Decided-Form (List ℕ × List ℕ)
+
+Decided-node_of : (d : Data) → Decided (node_of d)
+unfolding node_of
+Decided-node_of d = Decided-steps (needed (as_array d)) node_of_items (Decided-needed (as_array d)) Decided-node_of_items
+
+Decided-nodes_of_items : (items : Items) → Decided (nodes_of_items items)
+Decided-nodes_of_items no_items = λ same. cc
+Decided-nodes_of_items (item d ds) = Decided-steps (node_of d) _ (Decided-node_of d) (λ node. Decided-steps (nodes_of_items ds) _ (Decided-nodes_of_items ds) (λ nodes same. cc))
+
+Decided-items_at : (key : List ℕ) (d : Data) → Decided (items_at key d)
+unfolding items_at
+Decided-items_at key d = Decided-steps (field key d) _ (Decided-field key d) (λ array. Decided-steps (needed (as_array array)) (tested has_few_items) (Decided-needed (as_array array)) (Decided-tested has_few_items))
+
+Decided-nodes_at : (key : List ℕ) (d : Data) → Decided (nodes_at key d)
+unfolding nodes_at
+Decided-nodes_at key d = Decided-steps (items_at key d) _ (Decided-items_at key d) (λ items. Decided-steps (nodes_of_items items) (tested names_differ) (Decided-nodes_of_items items) (Decided-tested names_differ))
+
+Decided-init_of : (d : Data) → Decided (init_of d)
+unfolding init_of
+Decided-init_of d = search (Decided-steps, Decided-Ok, Decided-tested, Decided-number_at, Decided-nodes_at) depth 20
+
+Decided-write_of : (d : Data) → Decided (write_of d)
+unfolding write_of
+Decided-write_of d = search (Decided-steps, Decided-Ok, Decided-tested, Decided-name_at, Decided-identifier_at, Decided-number_at, Decided-value_at, Decided-write_level_at, Decided-version_at) depth 20
+
+Decided-fetch_of : (d : Data) → Decided (fetch_of d)
+unfolding fetch_of
+Decided-fetch_of d = search (Decided-steps, Decided-Ok, Decided-tested, Decided-name_at, Decided-identifier_at, Decided-number_at, Decided-read_level_at, Decided-version_at) depth 20
+
+-- an op whose row is answered `Later` is one that is put off
+later_op : (op : List ℕ) (d : Data) → act_of op d ≡ Err errors.Later → IsTrue (is_one_of later_ops op)
+unfolding act_of refusal_of
+later_op op d e =
+    by (pointwise nat_eq op (codes "init")) (pointwise nat_eq op (codes "namespace")) (pointwise nat_eq op (codes "write")) (pointwise nat_eq op (codes "fetch")) (is_one_of later_ops op) e
+  where
+    by : (i n w f later : Bool) → (if i then init_of d else (if n then namespace_of d else (if w then write_of d else (if f then fetch_of d else Err (if later then errors.Later else errors.Form))))) ≡ Err errors.Later → IsTrue later
+    by true n w f later e = absurd (Decided-init_of d e)
+    by false true w f later e = absurd (Decided-namespace_of d e)
+    by false false true f later e = absurd (Decided-write_of d e)
+    by false false false true later e = absurd (Decided-fetch_of d e)
+    by false false false false true e = refl
+    by false false false false false e = absurd (Decided-Form Act e)
+
+-- a text that is put off is none that isn't
+is_other_op : (op row : List ℕ) → IsTrue (is_one_of later_ops op) → is_one_of later_ops row ≡ false → pointwise nat_eq op row ≡ false
+is_other_op op row later not_later =
+    false_from_ne_true (pointwise nat_eq op row) (λ same. both_ways (is_one_of later_ops row) not_later (ap (is_one_of later_ops) (sym ((bytes_decides op row).0 same)) ∙ later))
+
+-- an op that is put off is answered `Later`
+op_later : (op : List ℕ) (d : Data) → IsTrue (is_one_of later_ops op) → act_of op d ≡ Err errors.Later
+unfolding act_of refusal_of
+op_later op d later =
+    simp (is_other_op op (codes "init") later refl, is_other_op op (codes "namespace") later refl, is_other_op op (codes "write") later refl, is_other_op op (codes "fetch") later refl, later)
+
+put_off : (d : Data) → request_of d ≡ Err errors.Later → HasLaterOp d ⊎ HasLaterForm d
+unfolding request_of
+put_off d e = by (text_at (codes "op") d) refl e
+  where
+    end : (op : List ℕ) (one : Act) → text_at (codes "op") d ≡ Ok op → act_of op d ≡ Ok one → (b : Bool) → is_put_off d one ≡ b → (if b then Err errors.Later else Ok (request.One one)) ≡ Err errors.Later → HasLaterOp d ⊎ HasLaterForm d
+    end op one is_op is_row true later same = inr (op, one, is_op, is_row, later)
+    end op one is_op is_row false later same = absurd (Decided-Ok (request.One one) same)
+
+    row : (op : List ℕ) → text_at (codes "op") d ≡ Ok op → (r : Result Act LineErr) → act_of op d ≡ r → (r >>= λ one. if is_put_off d one then Err errors.Later else Ok (request.One one)) ≡ Err errors.Later → HasLaterOp d ⊎ HasLaterForm d
+    row op is_op (Ok one) is_row same = end op one is_op is_row (is_put_off d one) refl same
+    row op is_op (Err error) is_row same = let later : error ≡ errors.Later = cc in inl (op, is_op, later_op op d (is_row ∙ ap Err later))
+
+    by : (r : Result (List ℕ) LineErr) → text_at (codes "op") d ≡ r → (r >>= λ op. act_of op d >>= λ one. if is_put_off d one then Err errors.Later else Ok (request.One one)) ≡ Err errors.Later → HasLaterOp d ⊎ HasLaterForm d
+    by (Ok op) is_op same = row op is_op (act_of op d) refl same
+    by (Err error) is_op same = let later : error ≡ errors.Later = cc in absurd (Decided-text_at (codes "op") d (is_op ∙ ap Err later))
+
+op_put_off : (d : Data) → HasLaterOp d → request_of d ≡ Err errors.Later
+unfolding request_of
+op_put_off d (op, is_op, later) = simp (is_op, op_later op d later)
+
+form_put_off : (d : Data) → HasLaterForm d → request_of d ≡ Err errors.Later
+unfolding request_of
+form_put_off d (op, one, is_op, is_row, later) = simp (is_op, is_row, later)
+
+pub puts_off_exactly : (d : Data) → PutsOffExactly d
+puts_off_exactly d = (put_off d, λ cause. elim cause as (λ _. request_of d ≡ Err errors.Later) [ inl op ↦ op_put_off d op | inr later ↦ form_put_off d later ])

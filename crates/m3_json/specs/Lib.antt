@@ -1,0 +1,5 @@
+pub mod Fields
+pub mod Rows
+pub mod NotYet
+pub mod Requests
+pub mod Laws

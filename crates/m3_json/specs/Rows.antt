@@ -1,0 +1,127 @@
+-- The grammar: one row for each kind of request.
+use Rattle.std.specs.Prelude.{ℕ, suc, ◌^◌, List, [], ◌∷◌, Some, None, Option, Result, Ok, Err, Bool, true, not, ◌&&◌, nat_le, nat_eq, if◌then◌else◌, codes}
+use Rattle.std.specs.List.{list_any}
+use Rattle.std.specs.Cmp.Lexicographic.{pointwise}
+use Rattle.serde_json.specs.Data.{Data, Items, no_items, item}
+use Rattle.serde_json.specs.Find.{as_array}
+use Rattle.m3_model.specs.declared.act.Act.{Act}
+use Rattle.m3_model.specs.declared.act.Act.TheVariants as act
+use Rattle.m3_model.specs.declared.act.ReadLevel.{ReadLevel}
+use Rattle.m3_model.specs.declared.act.ReadLevel.TheVariants as read_level
+use Rattle.m3_model.specs.declared.act.WriteLevel.{WriteLevel}
+use Rattle.m3_model.specs.declared.act.WriteLevel.TheVariants as write_level
+use Rattle.m3_json.specs.declared.fault.LineErr.{LineErr}
+use Rattle.m3_json.specs.declared.fault.LineErr.TheVariants as errors
+use Rattle.m3_json.specs.Fields.{◌>>=◌, needed, tested, has_only, field, text_of, name_of, number_of, name_at, identifier_at, number_at, value_at, optional_at}
+
+-- a node of this name and this group
+abbrev pub node_of_two : Data → Data → Result (List ℕ × List ℕ) LineErr
+node_of_two name group = name_of name >>= λ n. name_of group >>= λ g. Ok (n, g)
+
+-- a node: two items, its name and its group
+abbrev pub node_of_items : Items → Result (List ℕ × List ℕ) LineErr
+node_of_items (item name (item group no_items)) = node_of_two name group
+node_of_items _ = Err errors.Form
+
+-- a node is such an array
+unfoldable pub node_of : Data → Result (List ℕ × List ℕ) LineErr
+node_of d = needed (as_array d) >>= node_of_items
+
+-- each item is a node
+abbrev pub nodes_of_items : Items → Result (List (List ℕ × List ℕ)) LineErr
+nodes_of_items no_items = Ok []
+nodes_of_items (item d ds) = node_of d >>= λ node. nodes_of_items ds >>= λ nodes. Ok (node ∷ nodes)
+
+-- how many items there are
+abbrev pub item_count : Items → ℕ
+item_count no_items = 0
+item_count (item d ds) = suc (item_count ds)
+
+-- 1 to 16 items
+abbrev pub has_few_items : Items → Bool
+has_few_items ds = nat_le 1 (item_count ds) && nat_le (item_count ds) 16
+
+-- the field is an array of 1 to 16 items
+unfoldable pub items_at : List ℕ → Data → Result Items LineErr
+items_at key d = field key d >>= λ array. needed (as_array array) >>= tested has_few_items
+
+-- no two nodes have the same name
+abbrev pub names_differ : List (List ℕ × List ℕ) → Bool
+names_differ [] = true
+names_differ (node ∷ nodes) = not (list_any (λ other. pointwise nat_eq other.0 node.0) nodes) && names_differ nodes
+
+-- the field is an array of 1 to 16 nodes with names of their own
+unfoldable pub nodes_at : List ℕ → Data → Result (List (List ℕ × List ℕ)) LineErr
+nodes_at key d = items_at key d >>= λ items. nodes_of_items items >>= tested names_differ
+
+-- init: 1 to 5 replicas, 1 to 64 shards, a seed of 32 bits, the nodes
+unfoldable pub init_of : Data → Result Act LineErr
+init_of d = do
+  whole ← tested (has_only (codes "nodes" ∷ codes "op" ∷ codes "rf" ∷ codes "seed" ∷ codes "shards" ∷ [])) d
+  rf ← number_at (codes "rf") 1 6 d
+  shards ← number_at (codes "shards") 1 65 d
+  seed ← number_at (codes "seed") 0 (2 ^ 32) d
+  nodes ← nodes_at (codes "nodes") d
+  Ok (act.Init rf shards seed nodes)
+
+-- namespace: its name, and durations below 2^40
+unfoldable pub namespace_of : Data → Result Act LineErr
+namespace_of d = do
+  whole ← tested (has_only (codes "block" ∷ codes "future" ∷ codes "name" ∷ codes "op" ∷ codes "past" ∷ codes "retention" ∷ [])) d
+  name ← name_at (codes "name") d
+  block ← number_at (codes "block") 1 (2 ^ 40) d
+  past ← number_at (codes "past") 0 block d
+  future ← number_at (codes "future") 0 block d
+  retention ← number_at (codes "retention") block (2 ^ 40) d
+  Ok (act.Namespace name block past future retention)
+
+-- the level of a write of this name
+abbrev pub write_level_named : List ℕ → Result WriteLevel LineErr
+write_level_named name =
+    if pointwise nat_eq name (codes "one") then Ok write_level.One else
+    (if pointwise nat_eq name (codes "majority") then Ok write_level.Majority else
+    (if pointwise nat_eq name (codes "all") then Ok write_level.All else Err errors.Form))
+
+-- the level of a read of this name
+abbrev pub read_level_named : List ℕ → Result ReadLevel LineErr
+read_level_named name =
+    if pointwise nat_eq name (codes "one") then Ok read_level.One else
+    (if pointwise nat_eq name (codes "unstrict") then Ok read_level.Unstrict else
+    (if pointwise nat_eq name (codes "majority") then Ok read_level.Majority else
+    (if pointwise nat_eq name (codes "all") then Ok read_level.All else Err errors.Form)))
+
+-- the field `level` of a write; where it is absent, a majority
+unfoldable pub write_level_at : Data → Result WriteLevel LineErr
+write_level_at = optional_at write_level.Majority (codes "level") (λ v. text_of v >>= write_level_named)
+
+-- the field `level` of a fetch; where it is absent, a majority
+unfoldable pub read_level_at : Data → Result ReadLevel LineErr
+read_level_at = optional_at read_level.Majority (codes "level") (λ v. text_of v >>= read_level_named)
+
+-- the field `version` of a call; where it is absent, none
+unfoldable pub version_at : Data → Result (Option ℕ) LineErr
+version_at = optional_at None (codes "version") (λ v. number_of 0 (2 ^ 62) v >>= λ n. Ok (Some n))
+
+-- write: a value for a series at a time
+unfoldable pub write_of : Data → Result Act LineErr
+write_of d = do
+  whole ← tested (has_only (codes "id" ∷ codes "level" ∷ codes "ns" ∷ codes "op" ∷ codes "t" ∷ codes "v" ∷ codes "version" ∷ [])) d
+  ns ← name_at (codes "ns") d
+  id ← identifier_at (codes "id") d
+  t ← number_at (codes "t") 0 (2 ^ 62) d
+  v ← value_at (codes "v") d
+  level ← write_level_at d
+  version ← version_at d
+  Ok (act.Write ns id t v level version)
+
+-- fetch: the points of a series in a range of times
+unfoldable pub fetch_of : Data → Result Act LineErr
+fetch_of d = do
+  whole ← tested (has_only (codes "from" ∷ codes "id" ∷ codes "level" ∷ codes "ns" ∷ codes "op" ∷ codes "to" ∷ codes "version" ∷ [])) d
+  ns ← name_at (codes "ns") d
+  id ← identifier_at (codes "id") d
+  from ← number_at (codes "from") 0 (2 ^ 62) d
+  to ← number_at (codes "to") 0 (2 ^ 62) d
+  level ← read_level_at d
+  version ← version_at d
+  Ok (act.Fetch ns id from to level version)

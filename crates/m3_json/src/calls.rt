@@ -1,0 +1,119 @@
+ghost use Rattle.std.specs.Prelude.{◌≡◌, IfOk, IfSome};
+ghost use Rattle.serde_json.specs.View.{view};
+ghost use Rattle.m3_model.specs.Limits.{MeetsLimits, IsMoment};
+ghost use Rattle.m3_json.specs.Fields.{Gives};
+ghost use Rattle.m3_json.specs.Rows.{write_level_named, read_level_named, write_level_at, read_level_at, version_at, write_of, fetch_of};
+
+use crate::fault::LineErr;
+use crate::fields::{has_only, identifier_at, name_at, number_at, number_of, text_of, value_at};
+use m3_model::act::{Act, ReadLevel, WriteLevel};
+use m3_model::text::Text;
+use serde_json::Value;
+use std::alloc::Global;
+
+/// Above each timestamp and each version.
+const MOMENT_LIMIT: u64 = 1 << 62;
+
+fn write_level_named(name: &str) -> Result<WriteLevel, LineErr>
+    ensures { Gives (λ l. l) result (write_level_named name.now) }
+{
+    match name {
+        "one" => Ok(WriteLevel::One),
+        "majority" => Ok(WriteLevel::Majority),
+        "all" => Ok(WriteLevel::All),
+        _ => Err(LineErr::Form),
+    }
+}
+
+fn read_level_named(name: &str) -> Result<ReadLevel, LineErr>
+    ensures { Gives (λ l. l) result (read_level_named name.now) }
+{
+    match name {
+        "one" => Ok(ReadLevel::One),
+        "unstrict" => Ok(ReadLevel::Unstrict),
+        "majority" => Ok(ReadLevel::Majority),
+        "all" => Ok(ReadLevel::All),
+        _ => Err(LineErr::Form),
+    }
+}
+
+#[tactic(auto, unfolding(crate::specs::Rows::write_level_at))]
+fn write_level_at(value: &Value) -> Result<WriteLevel, LineErr>
+    ensures { Gives (λ l. l) result (write_level_at (view value.now)) }
+{
+    match value.get("level") {
+        None => Ok(WriteLevel::Majority),
+        Some(level) => write_level_named(text_of(level)?),
+    }
+}
+
+#[tactic(auto, unfolding(crate::specs::Rows::read_level_at))]
+fn read_level_at(value: &Value) -> Result<ReadLevel, LineErr>
+    ensures { Gives (λ l. l) result (read_level_at (view value.now)) }
+{
+    match value.get("level") {
+        None => Ok(ReadLevel::Majority),
+        Some(level) => read_level_named(text_of(level)?),
+    }
+}
+
+#[tactic(auto, unfolding(crate::specs::Rows::version_at))]
+fn version_at(value: &Value) -> Result<Option<u64>, LineErr>
+    ensures gives { Gives (λ n. n) result (version_at (view value.now)) }
+    ensures within { IfOk result (λ version. IfSome version IsMoment) }
+{
+    match value.get("version") {
+        None => Ok(None),
+        Some(version) => Ok(Some(number_of(version, 0, MOMENT_LIMIT)?)),
+    }
+}
+
+/// The write that an object spells.
+#[tactic(auto, unfolding(crate::specs::Rows::write_of))]
+pub fn write_of(alloc: Global, value: &Value) -> Result<Act, LineErr>
+    ensures gives { Gives (λ a. a) result (write_of (view value.now)) }
+    ensures within { IfOk result MeetsLimits }
+{
+    if !has_only(value, &["id", "level", "ns", "op", "t", "v", "version"]) {
+        return Err(LineErr::Form);
+    }
+    let ns = name_at(value, "ns")?;
+    let id = identifier_at(value, "id")?;
+    let t = number_at(value, "t", 0, MOMENT_LIMIT)?;
+    let v = value_at(value, "v")?;
+    let level = write_level_at(value)?;
+    let version = version_at(value)?;
+    Ok(Act::Write {
+        ns: Text::from_str(alloc, ns)?,
+        id: Text::from_str(alloc, id)?,
+        t,
+        v,
+        level,
+        version,
+    })
+}
+
+/// The fetch that an object spells.
+#[tactic(auto, unfolding(crate::specs::Rows::fetch_of))]
+pub fn fetch_of(alloc: Global, value: &Value) -> Result<Act, LineErr>
+    ensures gives { Gives (λ a. a) result (fetch_of (view value.now)) }
+    ensures within { IfOk result MeetsLimits }
+{
+    if !has_only(value, &["from", "id", "level", "ns", "op", "to", "version"]) {
+        return Err(LineErr::Form);
+    }
+    let ns = name_at(value, "ns")?;
+    let id = identifier_at(value, "id")?;
+    let from = number_at(value, "from", 0, MOMENT_LIMIT)?;
+    let to = number_at(value, "to", 0, MOMENT_LIMIT)?;
+    let level = read_level_at(value)?;
+    let version = version_at(value)?;
+    Ok(Act::Fetch {
+        ns: Text::from_str(alloc, ns)?,
+        id: Text::from_str(alloc, id)?,
+        from,
+        to,
+        level,
+        version,
+    })
+}

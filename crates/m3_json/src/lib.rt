@@ -1,0 +1,14 @@
+//! Requests as JSON lines.
+#![tactic(auto)]
+
+mod calls;
+pub mod fault;
+mod fields;
+mod init;
+pub mod laws;
+pub mod lines;
+mod names;
+mod namespace;
+mod not_yet;
+#[cfg(test)]
+mod tests;

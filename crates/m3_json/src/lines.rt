@@ -1,0 +1,65 @@
+ghost use Rattle.std.specs.Prelude.{◌≡◌, Ok, Err, IfOk, IfErr};
+ghost use Rattle.serde_json.specs.View.{view};
+ghost use Rattle.m3_model.specs.Limits.{MeetsLimits};
+ghost use Rattle.m3_json.specs.Fields.{Gives};
+ghost use Rattle.m3_model.specs.NotYet.{IsServed};
+ghost use Rattle.m3_json.specs.Requests.{act_of, request_of, LineMeans};
+ghost use Rattle.m3_model.specs.Limits.{KeepsLimits};
+
+use crate::calls::{fetch_of, write_of};
+use crate::fault::LineErr;
+use crate::fields::text_at;
+use crate::init::init_of;
+use crate::namespace::namespace_of;
+use crate::not_yet::{is_put_off, refusal_of};
+use m3_model::act::Act;
+use m3_model::turn::Request;
+use serde_json::Value;
+use std::alloc::Global;
+
+#[tactic(auto, using(crate::proofs::Meanings::fails_as), unfolding(crate::specs::Requests::act_of))]
+fn act_of(alloc: Global, op: &str, value: &Value) -> Result<Act, LineErr>
+    ensures gives { Gives (λ a. a) result (act_of op.now (view value.now)) }
+    ensures within { IfOk result MeetsLimits }
+{
+    match op {
+        "init" => init_of(alloc, value),
+        "namespace" => namespace_of(alloc, value),
+        "write" => write_of(alloc, value),
+        "fetch" => fetch_of(alloc, value),
+        _ => Err(refusal_of(op)),
+    }
+}
+
+#[tactic(auto, unfolding(crate::specs::Requests::request_of))]
+fn request_of(alloc: Global, value: &Value) -> Result<Request, LineErr>
+    ensures gives { Gives (λ r. r) result (request_of (view value.now)) }
+    ensures within { IfOk result KeepsLimits }
+    ensures served { IfOk result IsServed }
+{
+    let op = text_at(value, "op")?;
+    let act = act_of(alloc, op, value)?;
+    if is_put_off(value, &act) {
+        Err(LineErr::Later)
+    } else {
+        Ok(Request::One(act))
+    }
+}
+
+/// The request that a line spells: a JSON object with `op` and the fields of that op's row. Of a key that comes twice
+/// the last value counts, and a field that is `null` isn't absent.
+///
+/// `Form` says that the line isn't in the grammar, `Later` that it is and no part of the program serves it yet, and
+/// `Memory` that memory ran out first. An error leaves nothing behind.
+pub fn read_line(alloc: Global, line: &[u8]) -> Result<Request, LineErr>
+    ensures ok { IfOk result (λ r. LineMeans line.now (Ok r)) }
+    ensures within { IfOk result KeepsLimits }
+    ensures served { IfOk result IsServed }
+    ensures err { IfErr result (λ e. LineMeans line.now (Err e)) }
+{
+    match Value::from_slice(alloc, line) {
+        Ok(value) => request_of(alloc, &value),
+        Err(error) if error.is_memory() => Err(LineErr::Memory),
+        Err(_) => Err(LineErr::Form),
+    }
+}

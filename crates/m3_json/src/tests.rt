@@ -1,0 +1,222 @@
+use crate::fault::LineErr;
+use crate::lines::read_line;
+use m3_model::act::{Act, ReadLevel, WriteLevel};
+use m3_model::turn::Request;
+use std::alloc::Global;
+use std::test::Fail;
+
+// Objects and their ops, each with its outcome before it.
+const OBJECTS: &str = r#"form {
+form []
+form "init"
+form {}
+form {"op":7}
+form {"op":null}
+form {"op":"frob"}
+later {"op":"now"}
+later {"op":"now","now":"x"}
+later {"op":"par"}
+form {"op":"match","op":"frob"}
+later {"op":"frob","op":"status"}
+form {"op":"now"} x
+form {"op":"now","x":"\ud800"}
+later {"op":"now","x":"\ud800\udc00"}"#;
+
+// Lines of init, each with its outcome before it.
+const INITS: &str =
+    r#"ok {"op":"init","rf":3,"shards":1,"seed":0,"nodes":[["a","x"],["b","y"],["c","z"]]}
+ok {"op":"init","rf":3,"shards":1,"seed":4294967295,"nodes":[["a","x"],["b","y"],["c","z"]]}
+form {"op":"init","rf":3,"shards":1,"seed":4294967296,"nodes":[["a","x"],["b","y"],["c","z"]]}
+later {"op":"init","rf":1,"shards":1,"seed":0,"nodes":[["a","x"],["b","y"],["c","z"]]}
+later {"op":"init","rf":5,"shards":64,"seed":0,"nodes":[["a","x"]]}
+form {"op":"init","rf":0,"shards":1,"seed":0,"nodes":[["a","x"],["b","y"],["c","z"]]}
+form {"op":"init","rf":6,"shards":1,"seed":0,"nodes":[["a","x"],["b","y"],["c","z"]]}
+form {"op":"init","rf":3,"shards":65,"seed":0,"nodes":[["a","x"],["b","y"],["c","z"]]}
+form {"op":"init","rf":3,"shards":1,"seed":0,"nodes":[["a","x"],["a","y"],["c","z"]]}
+later {"op":"init","rf":3,"shards":1,"seed":0,"nodes":[["a","x"],["b","y"],["c","x"]]}
+later {"op":"init","rf":3,"shards":1,"seed":0,"nodes":[["a","x"],["b","y"]]}
+form {"op":"init","rf":3,"shards":1,"seed":0,"nodes":[["a","x"],["b","y"],["c"]]}
+form {"op":"init","rf":3,"shards":1,"seed":0,"nodes":[["a","x"],["b","y"],["c","z","u"]]}
+form {"op":"init","rf":3,"shards":1,"seed":0,"nodes":[]}
+form {"op":"init","rf":3,"shards":1,"seed":0,"nodes":{}}
+later {"op":"init","rf":3,"shards":1,"seed":0,"nodes":[["1","g"],["2","g"],["3","g"],["4","g"],["5","g"],["6","g"],["7","g"],["8","g"],["9","g"],["10","g"],["11","g"],["12","g"],["13","g"],["14","g"],["15","g"],["16","g"]]}
+form {"op":"init","rf":3,"shards":1,"seed":0,"nodes":[["1","g"],["2","g"],["3","g"],["4","g"],["5","g"],["6","g"],["7","g"],["8","g"],["9","g"],["10","g"],["11","g"],["12","g"],["13","g"],["14","g"],["15","g"],["16","g"],["17","g"]]}"#;
+
+// Lines of namespace, each with its outcome before it.
+const NAMESPACES: &str =
+    r#"ok {"op":"namespace","name":"m","block":1,"past":0,"future":0,"retention":1}
+ok {"op":"namespace","name":"a_B-9","block":100,"past":99,"future":99,"retention":1099511627775}
+form {"op":"namespace","name":"m","block":0,"past":0,"future":0,"retention":1}
+form {"op":"namespace","name":"m","block":100,"past":100,"future":0,"retention":100}
+form {"op":"namespace","name":"m","block":100,"past":0,"future":100,"retention":100}
+form {"op":"namespace","name":"m","block":100,"past":0,"future":0,"retention":99}
+form {"op":"namespace","name":"m","block":100,"past":0,"future":0,"retention":1099511627776}
+form {"op":"namespace","name":"m.n","block":1,"past":0,"future":0,"retention":1}
+form {"op":"namespace","name":"","block":1,"past":0,"future":0,"retention":1}
+form {"op":"namespace","name":"m","block":1,"past":0,"future":0}
+form {"op":"namespace","name":"m","block":1,"past":0,"future":0,"retention":1,"x":1}"#;
+
+// Lines of write and fetch, each with its outcome before it.
+const CALLS: &str = r#"ok {"op":"write","ns":"m","id":"hello","t":100,"v":1}
+form {"op":"write","ns":"m","id":"hello","t":100,"v":1.5}
+form {"op":"write","ns":"m","id":"hello","t":100,"v":1.0}
+form {"op":"write","ns":"m","id":"hello","t":100,"v":-0}
+form {"op":"write","ns":"m","id":"hello","t":1e2,"v":1}
+form {"op":"write","ns":"m","id":"hello","t":-1,"v":1}
+ok {"op":"write","ns":"m","id":"hello","t":4611686018427387903,"v":1}
+form {"op":"write","ns":"m","id":"hello","t":4611686018427387904,"v":1}
+ok {"op":"write","ns":"m","id":"hello","t":100,"v":9223372036854775807}
+form {"op":"write","ns":"m","id":"hello","t":100,"v":9223372036854775808}
+ok {"op":"write","ns":"m","id":"hello","t":100,"v":-9223372036854775808}
+form {"op":"write","ns":"m","id":"hello","t":100,"v":-9223372036854775809}
+later {"op":"write","ns":"m","id":"{dc=\"x\"}","t":100,"v":1}
+form {"op":"write","ns":"m","id":"{dc=\"x\"}","t":100,"v":1.5}
+form {"op":"write","ns":"m","id":"","t":100,"v":1}
+later {"op":"write","ns":"m","id":"a","t":100,"v":1,"level":"one"}
+later {"op":"write","ns":"m","id":"a","t":100,"v":1,"level":"majority"}
+form {"op":"write","ns":"m","id":"a","t":100,"v":1,"level":"unstrict"}
+form {"op":"write","ns":"m","id":"a","t":100,"v":1,"level":"frob"}
+form {"op":"write","ns":"m","id":"a","t":100,"v":1,"level":null}
+later {"op":"write","ns":"m","id":"a","t":100,"v":1,"version":1}
+form {"op":"write","ns":"m","id":"a","t":100,"v":1,"version":-1}
+form {"op":"write","ns":"m","id":"a","t":100,"v":1,"version":1,"level":"frob"}
+ok {"op":"write","ns":"m","id":"a","t":100,"v":1.5,"v":2}
+form {"op":"write","ns":"m","id":"a","t":100,"v":2,"v":1.5}
+form {"op":"write","ns":"m","id":"a","t":100}
+ok {"op":"fetch","ns":"m","id":"a","from":0,"to":4611686018427387903}
+ok {"op":"fetch","ns":"m","id":"a","from":9,"to":0}
+later {"op":"fetch","ns":"m","id":"a","from":0,"to":9,"level":"unstrict"}
+later {"op":"fetch","ns":"m","id":"a","from":0,"to":9,"level":"all"}
+form {"op":"fetch","ns":"m","id":"a","from":0,"to":9,"level":"Majority"}
+later {"op":"fetch","ns":"m","id":"{","from":0,"to":9}
+form {"op":"fetch","ns":"m","id":"a","from":0,"to":9,"t":1}"#;
+
+fn outcome(alloc: Global, line: &[u8]) -> &'static str {
+    match read_line(alloc, line) {
+        Ok(_) => "ok",
+        Err(LineErr::Form) => "form",
+        Err(LineErr::Later) => "later",
+        Err(LineErr::Memory) => "memory",
+    }
+}
+
+// The first row whose line has another outcome.
+fn wrong_row(alloc: Global, rows: &str) -> Option<&str> {
+    rows.lines().find(|row| match row.split_once(' ') {
+        Some((want, line)) => outcome(alloc, line.as_bytes()) != want,
+        None => true,
+    })
+}
+
+#[test]
+fn rows(rt: HostRuntime) {
+    for rows in [OBJECTS, INITS, NAMESPACES, CALLS] {
+        assert_eq!(rt; wrong_row(rt.alloc(), rows), None);
+    }
+}
+
+#[test]
+fn bytes(rt: HostRuntime) {
+    let table: [(&[u8], &str); 4] = [
+        (b"", "form"),
+        (b"{\"op\":\"now\"}\r", "later"),
+        (b"\xef\xbb\xbf{\"op\":\"now\"}", "form"),
+        (b"{\"op\":\"now\",\"x\":\"\xff\"}", "form"),
+    ];
+    for (line, want) in table {
+        assert_eq!(rt; outcome(rt.alloc(), line), want);
+    }
+}
+
+#[test]
+fn long_lines(rt: HostRuntime) -> Result<(), Fail> {
+    let table = [
+        ("", "[", 10_000, "", "form"),
+        (r#"{"op":"now","x":"#, "9", 400, "}", "form"),
+        (
+            r#"{"op":"write","ns":"m","id":""#,
+            "x",
+            512,
+            r#"","t":1,"v":1}"#,
+            "ok",
+        ),
+        (
+            r#"{"op":"write","ns":"m","id":""#,
+            "x",
+            513,
+            r#"","t":1,"v":1}"#,
+            "form",
+        ),
+        (
+            r#"{"op":"write","ns":""#,
+            "m",
+            32,
+            r#"","id":"a","t":1,"v":1}"#,
+            "ok",
+        ),
+        (
+            r#"{"op":"write","ns":""#,
+            "m",
+            33,
+            r#"","id":"a","t":1,"v":1}"#,
+            "form",
+        ),
+    ];
+    for (front, piece, count, back, want) in table {
+        let mut line = String::from_str(rt.alloc(), front)?;
+        for _ in 0..count {
+            line.push_str(piece)?;
+        }
+        line.push_str(back)?;
+        assert_eq!(rt;
+            outcome(rt.alloc(), line.as_bytes()),
+            want,
+            "{count} of {piece}"
+        );
+    }
+    Ok(())
+}
+
+#[test]
+fn fields(rt: HostRuntime) {
+    let write = br#"{"v":-7,"t":100,"id":"hello","ns":"m","op":"write"}"#;
+    assert!(rt;
+        read_line(rt.alloc(), write).is_ok_and(|request| match request {
+            Request::One(
+                Act::Write {
+                    ns,
+                    id,
+                    t,
+                    v,
+                    level,
+                    version
+                }
+            ) => ns.as_str() == "m"
+                && id.as_str() == "hello"
+                && (t, v) == (100, -7)
+                && level == WriteLevel::Majority
+                && version.is_none(),
+            _ => false,
+        })
+    );
+    let fetch = br#"{"to":9,"from":2,"id":"hello","ns":"m","op":"fetch"}"#;
+    assert!(rt;
+        read_line(rt.alloc(), fetch).is_ok_and(|request| match request {
+            Request::One(
+                Act::Fetch {
+                    ns,
+                    id,
+                    from,
+                    to,
+                    level,
+                    version
+                }
+            ) => ns.as_str() == "m"
+                && id.as_str() == "hello"
+                && (from, to) == (2, 9)
+                && level == ReadLevel::Majority
+                && version.is_none(),
+            _ => false,
+        })
+    );
+}

@@ -1,0 +1,3 @@
+/// A call that failed. The count of faults of the object that was called rose in that call.
+#[derive(Clone, Copy, Debug, PartialEq, Eq)]
+pub struct Failed;

@@ -1,0 +1,108 @@
+ghost use Rattle.std.specs.Prelude.{◌≡◌, ◌↔◌, ◌<◌, ◌≤◌, ◌+◌, [], ◌++◌, take, drop, length, min, Some, Contains, IfOk, IsErr, OnErr};
+ghost use Rattle.std.specs.Io.{ReadsAtMost};
+ghost use Rattle.std.specs.Io.KnownBytes.{ReadConsumes, IsAtEnd, Keeps};
+ghost use Rattle.m3_outside.specs.Causes.{HasCause};
+ghost use Rattle.m3_outside.specs.Feed.{feed_after_read, feed_after_fault};
+
+use crate::failed::Failed;
+use crate::schedule::Schedule;
+use crate::source::Source;
+use m3_model::memory::Memory;
+use std::alloc::Global;
+use std::marker::Model;
+
+/// Bytes in memory, as a source. Contracts see it as a `Feed`.
+///
+/// The calls of `read` are numbered from 0, those that fail included, and exactly the listed ones
+/// fail. From number 2^64 - 1 on, each call has that number.
+#[derive(Drop)]
+pub struct MemSource {
+    bytes: Vec<u8>,
+    at: usize,
+    schedule: Schedule,
+}
+
+impl Model for MemSource {
+    ghost use Rattle.std.specs.Prelude.{◌≤◌, drop, length};
+    ghost use Rattle.m3_outside.specs.Feed.{Feed};
+
+    ghost Value = { Feed };
+
+    ghost view = { λ s. record {
+      left = drop s.at s.bytes.items;
+      fail = s.schedule.fail.items;
+      calls = s.schedule.calls;
+      faults = s.schedule.faults;
+    } };
+
+    ghost invariant = { λ s. s.at ≤ length s.bytes.items };
+}
+
+impl MemSource {
+    /// A source of a copy of these bytes, whose calls with these numbers fail, in any order.
+    ///
+    /// # Errors
+    ///
+    /// Want of memory.
+    pub fn new(alloc: Global, bytes: &[u8], fail: &[u64]) -> Result<MemSource, Memory>
+        ensures { IfOk result (λ source. source ≡ record { left = bytes.now; fail = fail.now; calls = 0; faults = 0 }) }
+    {
+        Ok(MemSource {
+            bytes: Vec::from_slice(alloc, bytes)?,
+            at: 0,
+            schedule: Schedule::new(alloc, fail)?,
+        })
+    }
+}
+
+impl Source for MemSource {
+    ghost left = { λ s. Some s.left };
+
+    ghost faulted = { λ s. s.faults };
+
+    /// Takes as much as there is room for. Costs in proportion to what it takes, and to the list of
+    /// the calls that fail.
+    fn read(&mut self, buf: &mut [u8]) -> Result<usize, Failed>
+        // As of every source.
+        ensures bound { ReadsAtMost result buf.new }
+        ensures bytes { ReadConsumes (Some self.old.left) (Some self.new.left) result buf.new }
+        ensures end { result ≡ Ok 0 → 0 < length buf.new → IsAtEnd (Some self.new.left) }
+        ensures failed_takes_nothing { OnErr result (Keeps (Some self.old.left) (Some self.new.left)) }
+        ensures cause { HasCause self.old.faults self.new.faults result }
+
+        // It fails exactly as listed.
+        ensures listed { IsErr result ↔ Contains self.old.fail self.old.calls }
+
+        // What it gives, and what is left of it and of the buffer.
+        ensures count { IfOk result (λ count. count ≡ min (length buf.old) (length self.old.left)) }
+        ensures given { IfOk result (λ count. buf.new ≡ take count self.old.left ++ drop count buf.old) }
+        ensures taken { IfOk result (λ count. self.new ≡ feed_after_read self.old count) }
+        ensures failed { OnErr result (self.new ≡ feed_after_fault self.old) }
+        ensures untouched { OnErr result (buf.new ≡ buf.old) }
+    {
+        if self.schedule.next_fails() {
+            return Err(Failed);
+        }
+        let count = copy_from(self.bytes.as_slice(), self.at, buf);
+        self.at += count;
+        Ok(count)
+    }
+
+    fn faults(&self) -> u64 {
+        self.schedule.faults
+    }
+}
+
+// Copies as much as there is room for from this place on.
+fn copy_from(bytes: &[u8], at: usize, buf: &mut [u8]) -> usize
+    requires { at ≤ length bytes.now }
+    ensures within { at + result ≤ length bytes.now }
+    ensures count { result ≡ min (length buf.old) (length (drop at bytes.now)) }
+    ensures given { buf.new ≡ take result (drop at bytes.now) ++ drop result buf.old }
+    ensures bytes { drop at bytes.now ≡ take result buf.new ++ drop (at + result) bytes.now }
+    ensures end { result ≡ 0 → 0 < length buf.new → drop (at + result) bytes.now ≡ [] }
+{
+    let count = (bytes.len() - at).min(buf.len());
+    buf[..count].copy_from_slice(&bytes[at..at + count]);
+    count
+}

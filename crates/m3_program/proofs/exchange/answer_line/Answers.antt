@@ -1,0 +1,27 @@
+use Rattle.std.proofs.Common.{sym, ◌∙◌, ap, subst}
+use Rattle.std.specs.Prelude.{Err}
+use Rattle.std.proofs.lemmas.Result.{IfOk-weaker}
+use Rattle.m3_model.specs.declared.answer.Answer.TheVariants as answer
+use Rattle.m3_model.specs.declared.turn.Reply.TheVariants as reply
+use Rattle.m3_json.specs.Requests.{LineMeans}
+use Rattle.m3_program.specs.Exchanges.{reply_line}
+use Rattle.m3_program.proofs.ExchangeLemmas.{passes, refuses, answers}
+use Rattle.m3_program.proofs.exchange.answer_line.Goals as goal
+
+pub returns-then-is_blank-clause-ok : goal.returns-then-is_blank-clause-ok
+returns-then-is_blank-clause-ok c = passes c.args.cluster.now c.args.line.now c.new.result.items (sym c.is_blank.ensures ∙ c.if-is_blank.true) c.new.ensures.items
+
+pub returns-in-Ok-clause-ok : goal.returns-in-Ok-clause-ok
+returns-in-Ok-clause-ok c =
+    IfOk-weaker c.line_of.result _ _ (λ v e. answers c.args.cluster.now c.serve-reply.new.self c.args.line.now v.items c.in-Ok.request c.serve-reply.result (sym c.is_blank.ensures ∙ c.if-is_blank.false) c.in-Ok.ensures.ok
+    (e ∙ ap (λ place. reply_line place c.serve-reply.result) c.place.ensures) c.serve-reply.ensures.serves) c.line_of.ensures
+
+pub returns-in-Err-Form-clause-ok : goal.returns-in-Err-Form-clause-ok
+returns-in-Err-Form-clause-ok c =
+    IfOk-weaker c.line_of-in-Err-Form.result _ _ (λ v e. refuses c.args.cluster.now c.args.line.now v.items answer.Form (sym c.is_blank.ensures ∙ c.if-is_blank.false)
+    (subst (λ f. LineMeans c.args.line.now (Err f)) c.in-Err-Form.field-0-is c.in-Err-Form.ensures.err) (e ∙ ap (λ place. reply_line place (reply.One answer.Form)) c.place-in-Err-Form.ensures)) c.line_of-in-Err-Form.ensures
+
+pub returns-in-Err-Later-clause-ok : goal.returns-in-Err-Later-clause-ok
+returns-in-Err-Later-clause-ok c =
+    IfOk-weaker c.line_of-in-Err-Later.result _ _ (λ v e. refuses c.args.cluster.now c.args.line.now v.items answer.Later (sym c.is_blank.ensures ∙ c.if-is_blank.false)
+    (subst (λ f. LineMeans c.args.line.now (Err f)) c.in-Err-Later.field-0-is c.in-Err-Later.ensures.err) (e ∙ ap (λ place. reply_line place (reply.One answer.Later)) c.place-in-Err-Later.ensures)) c.line_of-in-Err-Later.ensures

@@ -1,0 +1,6 @@
+pub mod Codes
+pub mod Words
+pub mod Exchanges
+pub mod Runs
+pub mod Causes
+pub mod Streams

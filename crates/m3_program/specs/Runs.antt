@@ -1,0 +1,67 @@
+-- What a run promises of its input and its output.
+use Rattle.std.specs.Prelude.{◌≡◌, ℕ, ◌≤◌, ◌<◌, ◌^◌, List, [], ◌∷◌, ◌++◌, map, length, Option, Some, None, Ok, if◌then◌else◌, ◌==◌}
+use Rattle.m3_model.specs.declared.rules.MetaState.{MetaState}
+use Rattle.m3_model.specs.declared.turn.Request.{Request}
+use Rattle.m3_model.specs.Record.{Record, Life}
+use Rattle.m3_model.specs.Kept.{Kept}
+use Rattle.m3_model.specs.Caused.{Caused}
+use Rattle.m3_json.specs.Requests.{LineMeans}
+use Rattle.m3_program.specs.Exchanges.{Exchange, AreExchanges, turns_of, replies_text}
+use Rattle.m3_program.specs.declared.status.Status.{Status}
+use Rattle.m3_program.specs.declared.status.Status.TheVariants as status
+
+-- a byte before the first of these lines
+abbrev pub with_byte : ℕ → List (List ℕ) → List (List ℕ)
+with_byte b [] = (b ∷ []) ∷ []
+with_byte b (line ∷ lines) = (b ∷ line) ∷ lines
+
+-- the lines of an input without their newlines; a last one without newline is a line
+abbrev pub lines_of : List ℕ → List (List ℕ)
+lines_of [] = []
+lines_of (b ∷ bytes) = if b == 10 then [] ∷ lines_of bytes else with_byte b (lines_of bytes)
+
+-- the next line is the request that was taken and got no reply, if there is one
+abbrev pub IsNext : Option Request → List (List ℕ) → Type 0
+IsNext None lines = Unit {0}
+IsNext (Some request) [] = ⊥
+IsNext (Some request) (line ∷ lines) = LineMeans line (Ok request)
+
+-- The course of a run that opened with this state: what came of the lines of its input, as far as it got.
+pub record Course (start : Option MetaState) (input : List ℕ) : Type 0 where
+  pub exchanges : List Exchange
+  pub unanswered : Option Request
+  pub later : List (List ℕ)
+  pub lines_are : lines_of input ≡ map (λ x. x.line) exchanges ++ later
+  pub each : AreExchanges start exchanges
+  pub next : IsNext unanswered later
+
+-- the record of the run
+abbrev pub record_of : (start : Option MetaState) → List Exchange → Option Request → Record
+record_of start xs unanswered = record { start = start; turns = turns_of xs; unanswered = unanswered }
+
+-- What holds of a run's record after the earlier runs on the same disks.
+pub record Promises (past : List Record) (present : Record) : Type 0 where
+  pub kept : Kept (record { past = past; present = present })
+  pub caused : Caused (record { past = past; present = present })
+
+-- what was written is a front of all that was to be written
+abbrev pub IsWrittenOf : List ℕ → List Exchange → Type 0
+IsWrittenOf written xs = (rest : List ℕ) × (written ++ rest ≡ replies_text xs)
+
+-- how far a run got that ended so
+abbrev pub GotTo : Status → List ℕ → List ℕ → List ℕ → List Exchange → List (List ℕ) → Type 0
+GotTo status.Done taken left written xs later = (later ≡ []) × (written ≡ replies_text xs) × (left ≡ []) × (length taken < 2 ^ 32)
+GotTo status.TooLong taken left written xs later = IsWrittenOf written xs × (length taken ≡ 2 ^ 32)
+GotTo status.ReadFault taken left written xs later = IsWrittenOf written xs
+GotTo status.WriteFault taken left written xs later = IsWrittenOf written xs
+GotTo status.Memory taken left written xs later = IsWrittenOf written xs
+GotTo status.Usage taken left written xs later = (taken ≡ []) × (written ≡ [])
+GotTo _ taken left written xs later = ⊥
+
+-- What a run did that took this input from a source and wrote this to a sink.
+pub record HasRun (past : List Record) (start : Option MetaState) (ended : Status) (input left written : List ℕ) : Type 0 where
+  pub taken : List ℕ
+  pub parts : input ≡ taken ++ left
+  pub course : Course start input
+  pub promises : Promises past (record_of start course.exchanges course.unanswered)
+  pub got_to : GotTo ended taken left written course.exchanges course.later

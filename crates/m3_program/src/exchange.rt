@@ -1,0 +1,51 @@
+ghost use Rattle.std.specs.Prelude.{◌≡◌, List, Option, IfOk, OnErr};
+ghost use Rattle.std.specs.Option.{option_copied};
+ghost use Rattle.m3_model.specs.declared.turn.Request.{Request};
+ghost use Rattle.m3_program.specs.Exchanges.{is_blank, reply_line};
+ghost use Rattle.m3_program.specs.Streams.{Advances, MayMean};
+
+use m3_cluster::cluster::Cluster;
+use m3_json::fault::LineErr;
+use m3_json::lines::read_line;
+use m3_model::answer::Answer;
+use m3_model::memory::Memory;
+use m3_model::placement::Placement;
+use m3_model::turn::Reply;
+use m3_replies::print_reply;
+use std::alloc::Global;
+
+fn is_blank(line: &[u8]) -> bool
+    ensures { result ≡ is_blank line.now }
+{
+    line.iter()
+        .all(|&b| (b == b' ' || b == b'\t') || b == b'\r')
+}
+
+// The text of a reply, with a newline.
+fn line_of(alloc: Global, reply: &Reply, place: Option<&Placement>) -> Result<Vec<u8>, Memory>
+    ensures { IfOk result (λ text. text.items ≡ reply_line (option_copied place.entry) reply.now) }
+{
+    let text = print_reply(alloc, reply, place)?;
+    let mut bytes = text.into_string().into_bytes();
+    bytes.push(b'\n')?;
+    Ok(bytes)
+}
+
+/// What is to be written for a line, which has no newline. Where memory is wanted, the request may have been served.
+pub fn answer_line(alloc: Global, cluster: &mut Cluster, line: &[u8]) -> Result<Vec<u8>, Memory>
+    ensures ok { IfOk result (λ text. Advances cluster.old line.now text.items cluster.new) }
+    ensures err { OnErr result ((unanswered : Option Request) × MayMean line.now unanswered) }
+{
+    if is_blank(line) {
+        return Ok(Vec::new(alloc));
+    }
+    match read_line(alloc, line) {
+        Ok(request) => {
+            let reply = cluster.serve(alloc, request);
+            line_of(alloc, &reply, cluster.place())
+        }
+        Err(LineErr::Form) => line_of(alloc, &Reply::One(Answer::Form), cluster.place()),
+        Err(LineErr::Later) => line_of(alloc, &Reply::One(Answer::Later), cluster.place()),
+        Err(LineErr::Memory) => Err(Memory),
+    }
+}

@@ -1,0 +1,9 @@
+//! The top call: request lines in, reply lines out.
+#![tactic(auto)]
+
+mod exchange;
+mod input;
+mod output;
+pub mod run;
+pub mod status;
+mod words;

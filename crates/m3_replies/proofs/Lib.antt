@@ -1,0 +1,4 @@
+pub mod RollLemmas
+pub mod PlainLemmas
+pub mod PlainReplies
+pub mod TellingLemmas

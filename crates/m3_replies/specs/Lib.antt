@@ -1,0 +1,11 @@
+pub mod Json
+pub mod Names
+pub mod Order
+pub mod Series
+pub mod Reasons
+pub mod Placements
+pub mod Outcomes
+pub mod Repairs
+pub mod Statuses
+pub mod Refusals
+pub mod Replies

@@ -1,0 +1,21 @@
+//! The texts of replies: each one is a line of compact JSON with its keys in ascending order.
+#![tactic(auto)]
+
+mod json;
+pub mod laws;
+mod names;
+mod order;
+mod outcomes;
+mod placement;
+mod reason;
+mod refusal;
+mod repair;
+mod reply;
+mod series;
+mod status;
+mod success;
+
+pub use reply::print_reply;
+
+#[cfg(test)]
+mod tests;

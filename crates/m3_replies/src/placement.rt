@@ -1,0 +1,100 @@
+ghost use Rattle.std.specs.Prelude.{◌≡◌, IfOk};
+ghost use Rattle.serde_json.specs.View.{view};
+ghost use Rattle.m3_replies.specs.Json.{list_of};
+ghost use Rattle.m3_replies.specs.Placements.{state_text, instance_item, instances_data, assignment_item, shard_data, placement_data};
+
+use crate::json::ToJson;
+use crate::names::name_of;
+use crate::order::Roll;
+use m3_model::placement::{Assignment, Instance, Placement, ShardState};
+use m3_model::seq::Seq;
+use serde_json::{Value, json};
+use std::alloc::{AllocError, Global};
+
+/// The word for a state.
+pub fn state_text(state: ShardState) -> &'static str
+    ensures { result.now ≡ state_text state }
+{
+    match state {
+        ShardState::Initializing => "initializing",
+        ShardState::Available => "available",
+        ShardState::Leaving => "leaving",
+    }
+}
+
+fn instance_value(alloc: Global, instance: &Instance) -> Result<Value, AllocError>
+    ensures { IfOk result (λ value. view value ≡ (instance_item instance.now).1) }
+{
+    json!(in alloc; [instance.name.as_str(), instance.group.as_str(), instance.drained])
+}
+
+fn instances_value(alloc: Global, instances: &[Instance]) -> Result<Value, AllocError>
+    ensures { IfOk result (λ value. view value ≡ instances_data instances.now) }
+{
+    let mut roll = Roll::new(alloc);
+    for instance in instances {
+        if instance.listed {
+            let value = instance_value(alloc, instance)?;
+            roll.enroll(alloc, instance.name.as_str(), value)?;
+        }
+    }
+    roll.into_list(alloc)
+}
+
+fn assignment_value(
+    alloc: Global,
+    instances: &[Instance],
+    assignment: &Assignment,
+) -> Result<Value, AllocError>
+    ensures { IfOk result (λ value. view value ≡ (assignment_item instances.now assignment.now).1) }
+{
+    let name = name_of(instances, assignment.node);
+    let state = state_text(assignment.state);
+    match assignment.source {
+        None => json!(in alloc; [name, state, assignment.tenure]),
+        Some(source) => {
+            json!(in alloc; [name, state, assignment.tenure, name_of(instances, source)])
+        }
+    }
+}
+
+fn shard_value(
+    alloc: Global,
+    instances: &[Instance],
+    assignments: &[Assignment],
+) -> Result<Value, AllocError>
+    ensures { IfOk result (λ value. view value ≡ shard_data instances.now assignments.now) }
+{
+    let mut roll = Roll::new(alloc);
+    for assignment in assignments {
+        let value = assignment_value(alloc, instances, assignment)?;
+        roll.enroll(alloc, name_of(instances, assignment.node), value)?;
+    }
+    roll.into_list(alloc)
+}
+
+fn shards_value(
+    alloc: Global,
+    instances: &[Instance],
+    shards: &[Seq<Assignment>],
+) -> Result<Value, AllocError>
+    ensures { IfOk result (λ value. view value ≡ list_of (shard_data instances.now) shards.now) }
+{
+    let mut values = Vec::new(alloc);
+    for shard in shards {
+        values.push(shard_value(alloc, instances, shard.as_slice())?)?;
+    }
+    Ok(Value::Array(values))
+}
+
+/// The names of its nodes come from its own instances.
+impl ToJson for Placement {
+    ghost data_of = { λ _ placement. placement_data placement };
+
+    fn to_json(&self, alloc: Global, _instances: &[Instance]) -> Result<Value, AllocError> {
+        let own = self.instances.as_slice();
+        let instances = instances_value(alloc, own)?;
+        let shards = shards_value(alloc, own, self.shards.as_slice())?;
+        json!(in alloc; {"instances": instances, "rf": self.rf, "shards": shards})
+    }
+}

@@ -1,0 +1,10 @@
+pub mod EachLemmas
+pub mod PlaceLemmas
+pub mod ReadLemmas
+pub mod SampleLemmas
+pub mod AcceptedLives
+pub mod CausedLives
+pub mod RefusedLives
+pub mod UncausedLives
+pub mod GeneralLemmas
+pub mod TagLemmas

@@ -1,0 +1,54 @@
+-- The rules, points and reads of the worked transcripts.
+use Rattle.std.proofs.Common.{arith, ◌≡◌, ◌<◌, ◌+◌, ◌≤◌, ℕ, ℤ, List, [], ◌∷◌, ◌++◌, refl, sym, subst}
+use Rattle.std.specs.Prelude.{Some, None, false, codes}
+use Rattle.m3_model.specs.Rules.{rules_at}
+use Rattle.m3_model.specs.Points.{sent_at, acked_at}
+use Rattle.m3_model.specs.Reads.{Read, Found, read_of, IsSought}
+use Rattle.m3_model.specs.Kept.{Kept, KeepsPoints}
+use Rattle.m3_model.specs.declared.point.Point.{Point}
+use Rattle.m3_model.specs.declared.point.Series.{Series}
+use Rattle.m3_model.specs.declared.point.Pick.TheVariants as pick
+use Rattle.m3_model.specs.declared.rules.Rules.{Rules}
+use Rattle.m3_model.specs.declared.act.ReadLevel.TheVariants as read_level
+use Rattle.m3_model.specs.declared.turn.Turn.{Turn}
+use Rattle.model_laws.specs.Building.{space, line, fetch, found, life_of}
+use Rattle.model_laws.proofs.EachLemmas.{same_of_some}
+use Rattle.model_laws.proofs.PlaceLemmas.{place_after, place_after-stands, points_kept}
+
+-- the rules with the one namespace at a moment
+abbrev pub rules_when : ℕ → Rules
+rules_when now = record { now = now; spaces = space ∷ [] }
+
+-- a point of `hello`
+abbrev pub hello : ℕ → ℤ → Point
+hello t v = record { ns = 0; id = codes "hello"; t = t; v = v }
+
+-- a read of `hello` at level majority
+abbrev pub reading : ℕ → ℕ → Read
+reading from to = record { pick = pick.One 0 (codes "hello"); from = from; to = to; level = read_level.Majority }
+
+-- all that these series are, and nothing is missing
+abbrev pub whole : List Series → Found
+whole series = record { series = series; short = false }
+
+-- a point of the range is sought while it is kept
+pub sought : (now from to t : ℕ) (v : ℤ) → from ≤ t → t < to → now < t + 500 → IsSought (rules_when now) (reading from to) (hello t v)
+sought now from to t v above below live = record {
+  matches = (refl, refl);
+  in_range = (omega arith, omega arith);
+  live = record { space = space; stands = refl; kept = omega arith };
+}
+
+-- a point that is sought is still kept
+pub sought-live : (now from to t : ℕ) (v : ℤ) → IsSought (rules_when now) (reading from to) (hello t v) → now < t + 500
+sought-live now from to t v s =
+    let same : space ≡ s.live.space = same_of_some space s.live.space s.live.stands in
+    subst (λ x. now < t + x.retention) (sym same) s.live.kept
+
+-- what the fetch at the end of a kept life keeps
+pub last_keeps : (lines : List Turn) (from to : ℕ) (series : List Series) (after : List Turn) → Kept (life_of (lines ++ line (fetch from to) (found series) ∷ after))
+    → read_of (rules_at None (place_after lines (fetch from to) (found series))).spaces (fetch from to) ≡ Some (reading from to)
+    → KeepsPoints (rules_at None (place_after lines (fetch from to) (found series))) (acked_at [] None (place_after lines (fetch from to) (found series))) (sent_at [] None (place_after lines (fetch from to) (found series))) (reading from to) (whole series)
+last_keeps lines from to series after kept asked =
+    let p = place_after lines (fetch from to) (found series) in
+    points_kept [] None p (reading from to) (whole series) (kept p (place_after-stands lines (fetch from to) (found series) after)) refl asked

@@ -1,0 +1,5 @@
+pub mod Building
+pub mod Accepted
+pub mod Refused
+pub mod Uncaused
+pub mod General

@@ -1,0 +1,7 @@
+//! The standard streams as a source and a sink.
+#![tactic(auto)]
+
+pub mod sink;
+pub mod source;
+#[cfg(test)]
+mod tests;
