@@ -1,0 +1,34 @@
+// How runs end.
+use crate::script::{ended, INIT, PLACED};
+use m3_program::status::Status;
+use std::test::Fail;
+
+#[test]
+fn words_other_than_run(rt: HostRuntime) -> Result<(), Fail> {
+    let cases: [&[&str]; 5] = [&[], &["frob"], &["run", "run"], &["Run"], &["run", ""]];
+    for words in cases {
+        let (status, written) = ended(rt.alloc(), words, INIT, &[], &[])?;
+        assert_eq!(rt; status, Status::Usage);
+        assert_eq!(rt; written.as_str(), "");
+    }
+    Ok(())
+}
+
+#[test]
+fn source_that_fails(rt: HostRuntime) -> Result<(), Fail> {
+    let (status, written) = ended(rt.alloc(), &["run"], INIT, &[0], &[])?;
+    assert_eq!(rt; status, Status::ReadFault);
+    assert_eq!(rt; written.as_str(), "");
+    let (status, written) = ended(rt.alloc(), &["run"], INIT, &[1], &[])?;
+    assert_eq!(rt; status, Status::ReadFault);
+    assert_eq!(rt; written.as_str(), PLACED);
+    Ok(())
+}
+
+#[test]
+fn sink_that_fails(rt: HostRuntime) -> Result<(), Fail> {
+    let (status, written) = ended(rt.alloc(), &["run"], INIT, &[], &[0])?;
+    assert_eq!(rt; status, Status::WriteFault);
+    assert_eq!(rt; written.as_str(), "");
+    Ok(())
+}
