@@ -1,8 +1,7 @@
 -- Each answer of the cluster is the one that is due.
-use Rattle.std.proofs.Common.{◌≡◌, ℕ, ◌<◌, ◌≤◌, ◌%◌, ℤ, List, [], ◌∷◌, map, length, refl, sym, ap, ◌∙◌, subst, inl, inr, arith, Bool, true, false, not, cond, ◌&&◌}
+use Rattle.std.proofs.Common.{◌≡◌, ℕ, ◌≤◌, ◌%◌, ℤ, List, [], map, length, refl, sym, ap, ◌∙◌, subst, inl, inr, arith, Bool, true, false, not, cond, ◌&&◌}
 use Rattle.std.specs.Prelude.{◌⊎◌, Option, Some, None, IsSome, is_some, is_none, nat_lt, slice_get}
 use Rattle.std.proofs.lemmas.Bool.{lt-ltb}
-use Rattle.std.proofs.lemmas.List.{length-map}
 use Rattle.m3_model.specs.declared.placement.Assignment.{Assignment}
 use Rattle.m3_model.specs.declared.placement.Placement.{Placement}
 use Rattle.m3_model.specs.declared.rules.Rules.{Rules}
@@ -18,18 +17,17 @@ use Rattle.m3_model.specs.declared.turn.Turn.{Turn}
 use Rattle.m3_model.specs.Members.{IsIn}
 use Rattle.m3_model.specs.Ascends.{Ascends}
 use Rattle.m3_model.specs.Hash.{murmur3, shard_of}
-use Rattle.m3_model.specs.Levels.{majority, needed_write}
+use Rattle.m3_model.specs.Levels.{majority}
 use Rattle.m3_model.specs.Limits.{MeetsLimits}
 use Rattle.m3_model.specs.NotYet.{IsServedAct}
-use Rattle.m3_model.specs.Record.{InnerTurn, TurnPlace, inner_turns}
+use Rattle.m3_model.specs.Record.{TurnPlace, inner_turns}
 use Rattle.m3_model.specs.Rules.{namespace_place, rules_at}
-use Rattle.m3_model.specs.Placements.{seed_after, IsCounted, IsFirstPlacement}
-use Rattle.m3_model.specs.Caused.{refusal_by, placement_at, CausedAt, IsDue, IsOwnOk, IsAcked}
+use Rattle.m3_model.specs.Placements.{seed_after, IsFirstPlacement}
+use Rattle.m3_model.specs.Caused.{refusal_by, CausedAt, IsDue, IsAcked}
 use Rattle.m3_model.proofs.MemberLemmas.{IsIn-map}
-use Rattle.m3_cluster.specs.declared.replica.Replica.{Replica}
 use Rattle.m3_cluster.specs.Quorums.{chosen}
 use Rattle.m3_cluster.specs.Steps.{Formed, spaces_in, IsWritten, IsFetched, IsNamed, IsMade, Answers}
-use Rattle.m3_cluster.specs.Serves.{place_of, rules_of, spaces_of, Stands}
+use Rattle.m3_cluster.specs.Serves.{place_of, spaces_of, Stands}
 use Rattle.m3_cluster.proofs.ChosenLemmas.{acks-IsIn, acks_ascend}
 use Rattle.m3_cluster.proofs.FirstLemmas.{first_placement, three_apart}
 

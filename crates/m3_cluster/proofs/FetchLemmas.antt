@@ -1,38 +1,35 @@
 -- A read's answer keeps what a majority acknowledged and makes nothing up.
-use Rattle.std.proofs.Common.{◌≡◌, ℕ, suc, ◌+◌, ◌<◌, ◌≤◌, ◌/◌, ℤ, ◌≤ℤ◌, List, [], ◌∷◌, ◌++◌, map, fold, length, refl, sym, ap, ◌∙◌, subst, inl, inr, arith, append-nil, Bool, true, false, cond}
-use Rattle.std.specs.Prelude.{◌⊎◌, Option, Some, None, option_map, slice_get}
-use Rattle.std.specs.List.{flat_map, filter_map}
+use Rattle.std.proofs.Common.{◌≡◌, ℕ, ◌+◌, ◌<◌, ◌≤◌, ℤ, ◌≤ℤ◌, List, [], ◌∷◌, map, fold, length, refl, sym, ap, ◌∙◌, subst, inl, inr, arith, append-nil, Bool, true, false, cond}
+use Rattle.std.specs.Prelude.{◌⊎◌, Option, Some, None}
+use Rattle.std.specs.List.{filter_map}
 use Rattle.std.specs.Ordering.{nat_cmp}
 use Rattle.std.specs.FinMap.{FinMap, entries, get, empty, get-empty, nat_cmp-IsAntisymmetric}
 use Rattle.std.specs.declared.cmp.Ordering.TheVariants.{Less}
 use Rattle.std.proofs.lemmas.Int.{ints}
 use Rattle.std.proofs.lemmas.Bool.{leb-true}
 use Rattle.std.proofs.lemmas.Cmp.{nat_cmp_total, ranked}
-use Rattle.m3_model.specs.declared.point.Key.{Key}
 use Rattle.m3_model.specs.declared.point.Point.{Point}
 use Rattle.m3_model.specs.declared.point.Series.{Series}
 use Rattle.m3_model.specs.declared.point.Pick.TheVariants as pick
-use Rattle.m3_model.specs.declared.rules.Space.{Space}
 use Rattle.m3_model.specs.declared.answer.Answer.{Answer}
 use Rattle.m3_model.specs.declared.answer.Answer.TheVariants as answer
 use Rattle.m3_model.specs.declared.act.ReadLevel.{ReadLevel}
 use Rattle.m3_model.specs.Members.{IsIn}
 use Rattle.m3_model.specs.Ascends.{Ascends}
 use Rattle.m3_model.specs.Levels.{majority}
-use Rattle.m3_model.specs.Contents.{Contents, Holds, HoldsAt, joined_pairs, point_at, range_of}
+use Rattle.m3_model.specs.Contents.{Holds, HoldsAt, joined_pairs, range_of}
 use Rattle.m3_model.specs.Record.{InnerTurn}
-use Rattle.m3_model.specs.Rules.{namespace_place}
 use Rattle.m3_model.specs.Points.{point_of, was_acked, acked_point, sent_point}
 use Rattle.m3_model.specs.Reads.{points_in, Covers, IsOrdered, IsSought}
 use Rattle.m3_model.specs.Kept.{KeepsPoints}
-use Rattle.m3_model.proofs.MemberLemmas.{IsIn-append_left, IsIn-filter_map, filter_map-IsIn, IsIn-map, map-IsIn}
+use Rattle.m3_model.proofs.MemberLemmas.{IsIn-filter_map, filter_map-IsIn, IsIn-map, map-IsIn}
 use Rattle.m3_model.proofs.RangeLemmas.{range_stands, stands_in_range}
 use Rattle.m3_model.proofs.FindLemmas.{get-IsIn, IsIn-get, entries_ascend}
 use Rattle.m3_model.proofs.JoinLemmas.{joined_holds, joined_keeps, joined_source}
 use Rattle.m3_cluster.specs.declared.replica.Replica.{Replica}
 use Rattle.m3_cluster.specs.Quorums.{chosen, joined_ranges}
 use Rattle.m3_cluster.specs.Steps.{Formed, spaces_in, series_of, IsJoined}
-use Rattle.m3_cluster.specs.Serves.{rules_of, place_of, IsWellFormed, IsHeld, Stands}
+use Rattle.m3_cluster.specs.Serves.{rules_of, Stands}
 use Rattle.m3_cluster.proofs.SpaceLemmas.{space_at}
 use Rattle.m3_cluster.proofs.ChosenLemmas.{chosen-IsIn, quorums_meet}
 

@@ -2,10 +2,7 @@
 use Rattle.std.proofs.Common.{◌≡◌, ℕ, List, [], ◌∷◌, ◌++◌, refl, sym, ap, ◌∙◌, subst, append-nil}
 use Rattle.std.specs.Prelude.{Option, Some, None, option_map}
 use Rattle.std.specs.List.{filter_map}
-use Rattle.m3_model.specs.declared.point.Point.{Point}
-use Rattle.m3_model.specs.declared.point.Series.{Series}
 use Rattle.m3_model.specs.declared.point.Pick.TheVariants as pick
-use Rattle.m3_model.specs.declared.placement.Placement.{Placement}
 use Rattle.m3_model.specs.declared.rules.Rules.{Rules}
 use Rattle.m3_model.specs.declared.act.Act.{Act}
 use Rattle.m3_model.specs.declared.act.Act.TheVariants as act
@@ -17,15 +14,15 @@ use Rattle.m3_model.specs.declared.turn.Reply.TheVariants as reply
 use Rattle.m3_model.specs.declared.turn.Turn.{Turn}
 use Rattle.m3_model.specs.Limits.{MeetsLimits}
 use Rattle.m3_model.specs.NotYet.{IsServedAct}
-use Rattle.m3_model.specs.Record.{InnerTurn, TurnPlace, IsTurnPlace, inner_turns}
-use Rattle.m3_model.specs.Rules.{rules_at, namespace_place}
+use Rattle.m3_model.specs.Record.{InnerTurn, TurnPlace, inner_turns}
+use Rattle.m3_model.specs.Rules.{rules_at}
 use Rattle.m3_model.specs.Placements.{replicas_of}
-use Rattle.m3_model.specs.Points.{acked_point, sent_point, acked_at, sent_at, rf_at}
+use Rattle.m3_model.specs.Points.{acked_point, sent_point, acked_at, rf_at}
 use Rattle.m3_model.specs.Reads.{Read, Found, read_of, found_of}
-use Rattle.m3_model.specs.Kept.{KeepsPoints, KeepsRead, KeptAt}
+use Rattle.m3_model.specs.Kept.{KeepsPoints, KeptAt}
 use Rattle.m3_model.specs.Caused.{CausedAt}
-use Rattle.m3_model.proofs.PlaceLemmas.{IsOnly, IsLastTurnPlace, kept_push, at_push, only_place, not_empty}
-use Rattle.m3_cluster.specs.Steps.{Formed, spaces_in, IsFetched, IsJoined, Answers}
+use Rattle.m3_model.proofs.PlaceLemmas.{IsOnly, at_push, only_place, not_empty}
+use Rattle.m3_cluster.specs.Steps.{Formed, spaces_in, IsFetched, Answers}
 use Rattle.m3_cluster.specs.Serves.{place_of, rules_of, Stands, Serves}
 use Rattle.m3_cluster.proofs.StandLemmas.{inner_turns-push, stands_push}
 use Rattle.m3_cluster.proofs.StepLemmas.{step_goes}

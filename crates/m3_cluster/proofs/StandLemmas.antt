@@ -1,5 +1,5 @@
 -- The cluster is what the turns left, one turn after the other.
-use Rattle.std.proofs.Common.{◌≡◌, ℕ, suc, ◌<◌, ℤ, List, [], ◌∷◌, ◌++◌, length, refl, sym, ap, ◌∙◌, subst, inl, inr, Bool, true, false, cond, fold}
+use Rattle.std.proofs.Common.{◌≡◌, ℕ, ℤ, List, [], ◌∷◌, ◌++◌, length, refl, sym, ap, ◌∙◌, subst, inl, inr, Bool, true, false, cond}
 use Rattle.std.specs.Prelude.{◌⊎◌, Option, Some, None, option_map}
 use Rattle.std.specs.FinMap.{get}
 use Rattle.std.proofs.lemmas.List.Concat.{flat_map-append}
@@ -7,8 +7,6 @@ use Rattle.std.proofs.lemmas.List.Sums.{fold_push}
 use Rattle.m3_model.specs.declared.point.Key.{Key}
 use Rattle.m3_model.specs.declared.point.Point.{Point}
 use Rattle.m3_model.specs.declared.rules.Space.{Space}
-use Rattle.m3_model.specs.declared.rules.Rules.{Rules}
-use Rattle.m3_model.specs.declared.placement.Placement.{Placement}
 use Rattle.m3_model.specs.declared.act.Act.{Act}
 use Rattle.m3_model.specs.declared.act.Act.TheVariants as act
 use Rattle.m3_model.specs.declared.answer.Answer.{Answer}
@@ -19,8 +17,8 @@ use Rattle.m3_model.specs.declared.turn.Turn.{Turn}
 use Rattle.m3_model.specs.Members.{IsIn}
 use Rattle.m3_model.specs.Contents.{Holds, point_at}
 use Rattle.m3_model.specs.Record.{InnerTurn, inner_turns}
-use Rattle.m3_model.specs.Rules.{rules_by, rules_after, start_rules, namespace_place}
-use Rattle.m3_model.specs.Placements.{printed, later_placement, placement_after}
+use Rattle.m3_model.specs.Rules.{rules_by, start_rules, namespace_place}
+use Rattle.m3_model.specs.Placements.{printed, later_placement}
 use Rattle.m3_model.specs.Points.{point_of, sent_point, was_sent}
 use Rattle.m3_model.proofs.MemberLemmas.{IsIn-append_left, IsIn-append_cases, IsIn-push}
 use Rattle.m3_cluster.specs.declared.replica.Replica.{Replica}

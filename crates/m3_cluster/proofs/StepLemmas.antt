@@ -1,5 +1,5 @@
 -- Each answer of the cluster is a step that a turn may do.
-use Rattle.std.proofs.Common.{◌≡◌, ℕ, ◌+◌, ◌<◌, ◌≤◌, ℤ, List, [], ◌∷◌, ◌++◌, map, length, refl, sym, ap, ◌∙◌, subst, inl, inr, append-nil, arith, Bool}
+use Rattle.std.proofs.Common.{◌≡◌, ℕ, ◌<◌, ℤ, List, [], ◌∷◌, ◌++◌, map, length, refl, sym, ap, ◌∙◌, subst, inl, inr, append-nil, arith, Bool}
 use Rattle.std.specs.Prelude.{◌⊎◌, Option, Some, None, option_map}
 use Rattle.std.specs.FinMap.{get, get-empty}
 use Rattle.m3_model.specs.declared.point.Key.{Key}
@@ -18,20 +18,20 @@ use Rattle.m3_model.specs.Members.{IsIn}
 use Rattle.m3_model.specs.Ascends.{Ascends}
 use Rattle.m3_model.specs.Caused.{IsNamedBelow}
 use Rattle.std.proofs.lemmas.List.{length-map}
-use Rattle.m3_model.specs.Contents.{Holds, point_at, raised}
+use Rattle.m3_model.specs.Contents.{Holds, point_at}
 use Rattle.m3_model.specs.Limits.{MeetsLimits}
 use Rattle.m3_model.specs.NotYet.{IsServedAct}
 use Rattle.m3_model.specs.Record.{InnerTurn}
 use Rattle.m3_model.specs.Rules.{rules_by, namespace_place}
 use Rattle.m3_model.specs.Placements.{printed, later_placement, first_instances}
-use Rattle.m3_model.specs.Points.{point_of, sent_point}
+use Rattle.m3_model.specs.Points.{sent_point}
 use Rattle.m3_model.proofs.MemberLemmas.{IsIn-append_cases, IsIn-map}
 use Rattle.m3_model.proofs.JoinLemmas.{raised_holds, raised_keeps, raised_source}
 use Rattle.m3_cluster.specs.declared.replica.Replica.{Replica}
-use Rattle.m3_cluster.specs.Quorums.{chosen, taken_where, with_point}
-use Rattle.m3_cluster.specs.First.{first_place, first_state, nodes_by_name, empty_replica}
-use Rattle.m3_cluster.specs.Steps.{Formed, spaces_in, with_space, IsTaken, IsWritten, IsFetched, IsNamed, IsMade, OnFormed, Answers}
-use Rattle.m3_cluster.specs.Serves.{place_of, rules_of, spaces_of, IsStaffed, IsWellFormed, IsHeld, Stands}
+use Rattle.m3_cluster.specs.Quorums.{chosen, with_point}
+use Rattle.m3_cluster.specs.First.{first_state, nodes_by_name, empty_replica}
+use Rattle.m3_cluster.specs.Steps.{Formed, spaces_in, IsTaken, IsWritten, IsFetched, IsNamed, IsMade, Answers}
+use Rattle.m3_cluster.specs.Serves.{place_of, rules_of, IsStaffed, IsWellFormed, Stands}
 use Rattle.m3_cluster.proofs.ChosenLemmas.{length-chosen_taken, length_taken, nodes_taken, chosen-taken, taken-IsIn, chosen_took}
 use Rattle.m3_cluster.proofs.FirstLemmas.{names_apart, first_staffed, three_apart}
 use Rattle.m3_cluster.proofs.StandLemmas.{Grows, Goes}

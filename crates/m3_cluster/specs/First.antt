@@ -8,7 +8,6 @@ use Rattle.m3_model.specs.declared.placement.Instance.{Instance}
 use Rattle.m3_model.specs.declared.placement.Placement.{Placement}
 use Rattle.m3_model.specs.declared.placement.ShardState.TheVariants.{Available}
 use Rattle.m3_model.specs.declared.rules.MetaState.{MetaState}
-use Rattle.m3_model.specs.Placements.{first_instances}
 use Rattle.m3_cluster.specs.declared.replica.Replica.{Replica}
 
 -- the number of each node at its name, from this number on

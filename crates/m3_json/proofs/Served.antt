@@ -1,6 +1,6 @@
 -- The requests that are served.
-use Rattle.std.proofs.Common.{◌≡◌, ℕ, ℤ, List, refl, sym, ap, subst, ◌∙◌, false, true}
-use Rattle.std.specs.Prelude.{Option, Some, None, Result, Ok, Err, IsTrue, Bool, nat_eq, is_some, not, ◌&&◌, ◌||◌, ◌==◌, if◌then◌else◌, codes, ◌^◌}
+use Rattle.std.proofs.Common.{◌≡◌, ℕ, ℤ, List, refl, ap, subst, ◌∙◌, false, true}
+use Rattle.std.specs.Prelude.{Option, Some, None, Result, Ok, Err, Bool, nat_eq, is_some, ◌&&◌, ◌||◌, ◌==◌, if◌then◌else◌, codes}
 use Rattle.std.specs.Option.{option_map_or}
 use Rattle.std.specs.Cmp.Lexicographic.{pointwise}
 use Rattle.std.proofs.lemmas.Bool.{or_parts, and_parts, not-false, eqb-true}
@@ -13,12 +13,11 @@ use Rattle.m3_model.specs.declared.act.ReadLevel.TheVariants as read_level
 use Rattle.m3_model.specs.declared.act.WriteLevel.{WriteLevel}
 use Rattle.m3_model.specs.declared.act.WriteLevel.TheVariants as write_level
 use Rattle.m3_json.specs.declared.fault.LineErr.{LineErr}
-use Rattle.m3_json.specs.Fields.{◌>>=◌, tested, has_only, name_at, identifier_at, number_at, value_at, optional_at}
-use Rattle.m3_json.specs.Rows.{nodes_at, init_of, namespace_of, write_level_at, read_level_at, version_at, write_of, fetch_of}
+use Rattle.m3_json.specs.Fields.{◌>>=◌, optional_at}
+use Rattle.m3_json.specs.Rows.{init_of, namespace_of, write_level_at, read_level_at, version_at, write_of, fetch_of}
 use Rattle.m3_json.specs.NotYet.{refusal_of, begins_with_brace, has_level_or_version, is_put_off}
 use Rattle.m3_model.specs.NotYet.{are_three_groups, IsServedAct}
 use Rattle.m3_json.specs.Requests.{act_of}
-use Rattle.m3_json.proofs.NodeLimits.{from_steps}
 
 absent_field : (o : Option Data) → is_some o ≡ false → o ≡ None
 absent_field None none = refl

@@ -1,14 +1,9 @@
 -- What the grammar has and no part of the program serves yet.
-use Rattle.std.specs.Prelude.{◌≡◌, ℕ, List, None, IsTrue, ⊤, [], ◌∷◌, Bool, false, not, ◌&&◌, ◌||◌, ◌==◌, is_some, nat_eq, if◌then◌else◌, codes}
-use Rattle.std.specs.Cmp.Lexicographic.{pointwise}
+use Rattle.std.specs.Prelude.{ℕ, List, [], ◌∷◌, Bool, false, not, ◌&&◌, ◌||◌, ◌==◌, is_some, if◌then◌else◌, codes}
 use Rattle.serde_json.specs.Data.{Data}
 use Rattle.serde_json.specs.Find.{get}
 use Rattle.m3_model.specs.declared.act.Act.{Act}
 use Rattle.m3_model.specs.declared.act.Act.TheVariants as act
-use Rattle.m3_model.specs.declared.act.ReadLevel.TheVariants as read_level
-use Rattle.m3_model.specs.declared.act.WriteLevel.TheVariants as write_level
-use Rattle.m3_model.specs.declared.turn.Request.{Request}
-use Rattle.m3_model.specs.declared.turn.Request.TheVariants as request
 use Rattle.m3_model.specs.NotYet.{are_three_groups}
 use Rattle.m3_json.specs.declared.fault.LineErr.{LineErr}
 use Rattle.m3_json.specs.declared.fault.LineErr.TheVariants as errors

@@ -1,12 +1,12 @@
 -- Why an answer is what it is: a refusal has its cause, and what has none is answered in its own way.
-use Rattle.std.specs.Prelude.{◌≡◌, ℕ, ◌≤◌, List, [], ◌∷◌, ◌++◌, length, Option, Some, None, Bool, true, false, not, ◌&&◌, ◌||◌, if◌then◌else◌, is_some, is_none, nat_lt, slice_get, ◌⊎◌}
+use Rattle.std.specs.Prelude.{◌≡◌, ℕ, ◌≤◌, List, ◌++◌, length, Option, Some, None, Bool, true, false, if◌then◌else◌, is_some, slice_get, ◌⊎◌}
 use Rattle.std.specs.Option.{option_map_or}
 use Rattle.std.specs.List.{filter_map}
 use Rattle.m3_model.specs.Ascends.{Ascends}
 use Rattle.m3_model.specs.Members.{IsIn}
 use Rattle.m3_model.specs.Hash.{shard_of}
 use Rattle.m3_model.specs.Levels.{needed_write}
-use Rattle.m3_model.specs.Record.{InnerTurn, Life, TurnPlace, IsTurnPlace, inner_turns}
+use Rattle.m3_model.specs.Record.{Life, TurnPlace, IsTurnPlace, inner_turns}
 use Rattle.m3_model.specs.Rules.{namespace_place, rules_at}
 use Rattle.m3_model.specs.Placements.{printed, placements, placement_after, start_placement, seed_after, is_listed, IsCounted, IsFirstPlacement}
 use Rattle.m3_model.specs.Tags.{IsBelow}

@@ -1,5 +1,5 @@
 -- The placements that replies print, and what one says of a node; M3DB's page "Placement".
-use Rattle.std.specs.Prelude.{◌≡◌, ◌≢◌, ◌<◌, ℕ, List, [], ◌∷◌, map, length, Option, Some, None, Bool, true, false, ◌&&◌, nat_eq, fold, slice_get}
+use Rattle.std.specs.Prelude.{◌≡◌, ◌≢◌, ◌<◌, ℕ, List, ◌∷◌, map, length, Option, Some, None, Bool, true, false, ◌&&◌, nat_eq, fold, slice_get}
 use Rattle.std.specs.List.{filter_map, list_any}
 use Rattle.std.specs.Option.{option_map_or}
 use Rattle.std.specs.Cmp.Lexicographic.{pointwise}

@@ -1,5 +1,5 @@
 -- The points of writes: which were sent, and which a majority acknowledged.
-use Rattle.std.specs.Prelude.{◌≡◌, ℕ, List, ◌++◌, length, Option, None, option_map, Bool, true, false, if◌then◌else◌, nat_le}
+use Rattle.std.specs.Prelude.{ℕ, List, ◌++◌, length, Option, None, option_map, Bool, true, false, if◌then◌else◌, nat_le}
 use Rattle.std.specs.List.{flat_map, filter_map}
 use Rattle.m3_model.specs.Levels.{majority}
 use Rattle.m3_model.specs.Record.{InnerTurn, Record, TurnPlace, acts_of, inner_turns, turns_before}

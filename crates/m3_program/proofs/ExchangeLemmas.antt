@@ -1,8 +1,7 @@
 -- A run goes on by one line.
 use Rattle.std.proofs.Common.{◌≡◌, ℕ, List, [], ◌∷◌, ◌++◌, refl, sym, ap, ◌∙◌, subst, inl, inr, append-nil, true, false}
-use Rattle.std.specs.Prelude.{◌⊎◌, Option, Some, None, Ok}
+use Rattle.std.specs.Prelude.{Option, None, Ok}
 use Rattle.std.proofs.lemmas.List.Concat.{flat_map-append}
-use Rattle.m3_model.specs.declared.placement.Placement.{Placement}
 use Rattle.m3_model.specs.declared.answer.Answer.{Answer}
 use Rattle.m3_model.specs.declared.turn.Request.{Request}
 use Rattle.m3_model.specs.declared.turn.Reply.{Reply}

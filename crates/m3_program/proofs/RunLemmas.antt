@@ -7,10 +7,10 @@ use Rattle.m3_cluster.specs.Serves.{Serves}
 use Rattle.m3_cluster.proofs.ServeLemmas.{serves_nothing}
 use Rattle.m3_program.specs.declared.status.Status.{Status}
 use Rattle.m3_program.specs.declared.status.Status.TheVariants as status
-use Rattle.m3_program.specs.Causes.{EndsLine, EndsStep}
+use Rattle.m3_program.specs.Causes.{EndsStep}
 use Rattle.m3_program.specs.Runs.{HasRun}
 use Rattle.m3_program.specs.Streams.{StreamState, TakesOn, Cuts, CutShort, Finished}
-use Rattle.m3_program.proofs.StreamLemmas.{cut_at, course_at, promised, stream_begins}
+use Rattle.m3_program.proofs.StreamLemmas.{cut_at, stream_begins}
 
 -- these bytes were read, these are left, and these were written after what stood there
 pub record Heard (input before : List ℕ) (left written : Option (List ℕ)) (n : ℕ) (c : Option Formed) (line : List ℕ) : Type 0 where

@@ -1,8 +1,8 @@
 -- What a run promises of its input and its output.
-use Rattle.std.specs.Prelude.{◌≡◌, ℕ, ◌≤◌, ◌<◌, ◌^◌, List, [], ◌∷◌, ◌++◌, map, length, Option, Some, None, Ok, if◌then◌else◌, ◌==◌}
+use Rattle.std.specs.Prelude.{◌≡◌, ℕ, ◌<◌, ◌^◌, List, [], ◌∷◌, ◌++◌, map, length, Option, Some, None, Ok, if◌then◌else◌, ◌==◌}
 use Rattle.m3_model.specs.declared.rules.MetaState.{MetaState}
 use Rattle.m3_model.specs.declared.turn.Request.{Request}
-use Rattle.m3_model.specs.Record.{Record, Life}
+use Rattle.m3_model.specs.Record.{Record}
 use Rattle.m3_model.specs.Kept.{Kept}
 use Rattle.m3_model.specs.Caused.{Caused}
 use Rattle.m3_json.specs.Requests.{LineMeans}

@@ -89,7 +89,14 @@ fn serve_all<S: Source, K: Sink>(alloc: Global, source: &mut S, out: &mut K) -> 
     let mut taken: u64 = 0;
     while taken < INPUT_LIMIT {
         let room = room_after(taken);
-        match serve_read(alloc, &mut cluster, &mut line, source, out, &mut buf[..room]) {
+        match serve_read(
+            alloc,
+            &mut cluster,
+            &mut line,
+            source,
+            out,
+            &mut buf[..room],
+        ) {
             Err(status) => return status,
             Ok(0) => {
                 return match serve_last(alloc, &mut cluster, out, line.as_slice()) {

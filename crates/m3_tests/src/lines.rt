@@ -1,5 +1,5 @@
 // What lines are answered with.
-use crate::script::{answers, ended, ACKS, FORM, INIT, LATER, NAMESPACE, ORDER, PLACED, DONE};
+use crate::script::{ACKS, DONE, FORM, INIT, LATER, NAMESPACE, ORDER, PLACED, answers, ended};
 use m3_program::status::Status;
 use std::test::Fail;
 
@@ -39,21 +39,48 @@ fn fetch_answers_its_range(rt: HostRuntime) -> Result<(), Fail> {
 fn refused_lines_go_on(rt: HostRuntime) -> Result<(), Fail> {
     let lines = [
         ("{\"op\":\"now\",\"now\":100}\n", LATER),
-        ("{\"op\":\"write\",\"ns\":\"other\",\"id\":\"hello\",\"t\":100,\"v\":1}\n", LATER),
-        ("{\"op\":\"write\",\"ns\":\"m\",\"id\":\"hello\",\"t\":100,\"v\":1,\"level\":\"majority\"}\n", LATER),
-        ("{\"op\":\"write\",\"ns\":\"m\",\"id\":\"{\",\"t\":100,\"v\":1}\n", LATER),
+        (
+            "{\"op\":\"write\",\"ns\":\"other\",\"id\":\"hello\",\"t\":100,\"v\":1}\n",
+            LATER,
+        ),
+        (
+            "{\"op\":\"write\",\"ns\":\"m\",\"id\":\"hello\",\"t\":100,\"v\":1,\"level\":\"majority\"}\n",
+            LATER,
+        ),
+        (
+            "{\"op\":\"write\",\"ns\":\"m\",\"id\":\"{\",\"t\":100,\"v\":1}\n",
+            LATER,
+        ),
         (NAMESPACE, ORDER),
         (INIT, ORDER),
         ("{\n", FORM),
         ("[]\n", FORM),
-        ("{\"op\":\"write\",\"ns\":\"m\",\"id\":\"hello\",\"t\":100,\"v\":1.5}\n", FORM),
-        ("{\"op\":\"write\",\"ns\":\"m\",\"id\":\"hello\",\"t\":100,\"v\":9223372036854775808}\n", FORM),
-        ("{\"op\":\"write\",\"ns\":\"m\",\"id\":\"hello\",\"t\":-1,\"v\":1}\n", FORM),
-        ("{\"op\":\"write\",\"ns\":\"m\",\"id\":\"hello\",\"t\":100}\n", FORM),
-        ("{\"op\":\"fetch\",\"ns\":\"m\",\"id\":\"hello\",\"from\":0,\"to\":200,\"x\":1}\n", FORM),
+        (
+            "{\"op\":\"write\",\"ns\":\"m\",\"id\":\"hello\",\"t\":100,\"v\":1.5}\n",
+            FORM,
+        ),
+        (
+            "{\"op\":\"write\",\"ns\":\"m\",\"id\":\"hello\",\"t\":100,\"v\":9223372036854775808}\n",
+            FORM,
+        ),
+        (
+            "{\"op\":\"write\",\"ns\":\"m\",\"id\":\"hello\",\"t\":-1,\"v\":1}\n",
+            FORM,
+        ),
+        (
+            "{\"op\":\"write\",\"ns\":\"m\",\"id\":\"hello\",\"t\":100}\n",
+            FORM,
+        ),
+        (
+            "{\"op\":\"fetch\",\"ns\":\"m\",\"id\":\"hello\",\"from\":0,\"to\":200,\"x\":1}\n",
+            FORM,
+        ),
         (" \t\r\n", ""),
         ("\n", ""),
-        ("{\"op\":\"write\",\"ns\":\"m\",\"id\":\"hello\",\"t\":100,\"v\":0}\n", ACKS),
+        (
+            "{\"op\":\"write\",\"ns\":\"m\",\"id\":\"hello\",\"t\":100,\"v\":0}\n",
+            ACKS,
+        ),
     ];
     for (line, reply) in lines {
         answers(&rt, rt.alloc(), line, reply)?;
@@ -65,8 +92,14 @@ fn refused_lines_go_on(rt: HostRuntime) -> Result<(), Fail> {
 #[test]
 fn order_before_init(rt: HostRuntime) -> Result<(), Fail> {
     let lines = [
-        ("{\"op\":\"write\",\"ns\":\"m\",\"id\":\"hello\",\"t\":100,\"v\":5}\n", ORDER),
-        ("{\"op\":\"fetch\",\"ns\":\"m\",\"id\":\"hello\",\"from\":0,\"to\":1}\n", ORDER),
+        (
+            "{\"op\":\"write\",\"ns\":\"m\",\"id\":\"hello\",\"t\":100,\"v\":5}\n",
+            ORDER,
+        ),
+        (
+            "{\"op\":\"fetch\",\"ns\":\"m\",\"id\":\"hello\",\"from\":0,\"to\":1}\n",
+            ORDER,
+        ),
         (NAMESPACE, ORDER),
         (INIT, PLACED),
         ("", ""),

@@ -1,5 +1,5 @@
 // How runs end.
-use crate::script::{ended, INIT, PLACED};
+use crate::script::{INIT, PLACED, ended};
 use m3_program::status::Status;
 use std::test::Fail;
 

@@ -1,5 +1,6 @@
 //! How many answers a level needs.
 #![tactic(auto)]
+
 ghost use Rattle.std.specs.Prelude.{◌≡◌};
 ghost use Rattle.m3_model.specs.Levels.{majority};
 

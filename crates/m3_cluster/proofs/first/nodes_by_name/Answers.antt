@@ -1,13 +1,10 @@
-use Rattle.std.proofs.Common.{◌≡◌, ◌<◌, ◌≤◌, ◌+◌, ℕ, List, [], ◌∷◌, ◌++◌, map, take, length, get_or, refl, sym, ap, ap₂, ◌∙◌, subst, arith, true, T}
-use Rattle.std.proofs.lemmas.List.{take_more}
+use Rattle.std.proofs.Common.{map, sym, ap, ◌∙◌, arith}
 use Rattle.std.proofs.lemmas.Result.{IfOk-weaker}
 use Rattle.std.specs.Ordering.{nat_cmp}
 use Rattle.std.specs.Cmp.Lexicographic.{slice_cmp, nat_list_cmp_total}
-use Rattle.std.specs.FinMap.{FinMap, is_sorted, from_sorted, empty, insert, entries, entries-from_sorted}
-use Rattle.m3_model.specs.declared.placement.Instance.{Instance}
+use Rattle.std.specs.FinMap.{is_sorted, from_sorted, entries, entries-from_sorted}
 use Rattle.m3_model.proofs.Keyed.{holds_of}
 use Rattle.m3_model.proofs.RaiseLemmas.{from_sorted-empty, from_sorted-insert_entry}
-use Rattle.m3_cluster.specs.First.{numbered}
 use Rattle.m3_cluster.proofs.FirstLemmas.{numbered_turn, numbered_all}
 use Rattle.m3_cluster.proofs.first.nodes_by_name.Goals as goal
 

@@ -1,4 +1,4 @@
-use Rattle.std.proofs.Common.{◌≡◌, ◌<◌, ◌+◌, length, true, false, [], ◌∷◌, ◌++◌, ap, ◌∙◌, sym, subst, arith, length-append, get_or}
+use Rattle.std.proofs.Common.{◌≡◌, ◌<◌, ◌+◌, length, true, false, [], ◌∷◌, ◌++◌, ap, ◌∙◌, sym, arith, length-append, get_or}
 use Rattle.m3_cluster.specs.Quorums.{chosen, joined_ranges}
 use Rattle.m3_model.specs.Contents.{joined_pairs}
 use Rattle.m3_cluster.proofs.ChosenLemmas.{chosen_push, chosen_pass, joined_turn}

@@ -1,6 +1,4 @@
-use Rattle.std.proofs.Common.{◌≡◌, ◌<◌, ◌+◌, length, true, false, [], ◌∷◌, ◌++◌, ap, ◌∙◌, refl, sym, subst, arith, length-append}
-use Rattle.std.specs.Prelude.{MatchBool}
-use Rattle.m3_cluster.specs.Quorums.{with_point}
+use Rattle.std.proofs.Common.{◌<◌, ◌+◌, length, true, false, [], ◌∷◌, ◌++◌, ap, ◌∙◌, refl, arith, length-append}
 use Rattle.m3_cluster.proofs.ChosenLemmas.{taken_turn, acks_turn, acks_still}
 use Rattle.m3_cluster.proofs.session.write_each.Goals as goal
 use Rattle.m3_cluster.proofs.session.write_each.Goals.{then-take_point, else-take_point}

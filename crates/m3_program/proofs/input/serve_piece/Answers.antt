@@ -1,4 +1,4 @@
-use Rattle.std.proofs.Common.{[], ◌∷◌, ◌++◌, ◌≡◌, ◌≤◌, ◌+◌, ◌-◌, take, drop, length, sym, ap, ◌∙◌, subst, refl, arith, append-nil, append_assoc}
+use Rattle.std.proofs.Common.{[], ◌∷◌, ◌++◌, ◌+◌, ◌-◌, take, drop, length, sym, ap, ◌∙◌, subst, refl, arith, append-nil, append_assoc}
 use Rattle.m3_program.specs.Streams.{StreamState, TakesOn, Cuts}
 use Rattle.m3_program.proofs.WrittenLemmas.{appends_nothing, appends_more}
 use Rattle.m3_program.proofs.StreamLemmas.{takes_both, cuts_after, takes_more, cuts_silently}

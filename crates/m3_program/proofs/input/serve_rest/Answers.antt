@@ -1,4 +1,4 @@
-use Rattle.std.proofs.Common.{[], ◌∷◌, ◌++◌, ◌≡◌, sym, ap, ◌∙◌, subst, refl}
+use Rattle.std.proofs.Common.{[], ◌∷◌, ◌++◌, ◌≡◌, sym, ap, ◌∙◌}
 use Rattle.std.proofs.lemmas.Bool.{eqb-true}
 use Rattle.m3_program.proofs.WrittenLemmas.{appends_nothing, on_ok_map, on_err_map, empty_of}
 use Rattle.m3_program.proofs.StreamLemmas.{takes_line, cuts_line, cuts_silently}
@@ -7,8 +7,12 @@ use Rattle.m3_program.proofs.input.serve_rest.Goals as goal
 pub returns-then-is_empty-clause-ok : goal.returns-then-is_empty-clause-ok
 returns-then-is_empty-clause-ok g c =
     let empty : c.args.line.now.items ≡ [] = sym c.as_slice.ensures.value ∙ empty_of c.as_slice.result.now (eqb-true _ _ (sym c.is_empty.ensures ∙ c.if-is_empty.true)) in
-    on_ok_map c.serve_line.result (λ w. (w.0, w.1, takes_line c.args.cluster.now c.serve_line.new.cluster c.args.line.now.items c.args.rest.now w.0 c.args.rest.now c.args.line.now.items c.requires
-        (ap (λ l. l ++ c.args.rest.now) (sym empty)) empty w.2)) c.serve_line.ensures.ok
+    on_ok_map c.serve_line.result (λ w. (
+      w.0,
+      w.1,
+      takes_line c.args.cluster.now c.serve_line.new.cluster c.args.line.now.items c.args.rest.now w.0 c.args.rest.now c.args.line.now.items c.requires
+          (ap (λ l. l ++ c.args.rest.now) (sym empty)) empty w.2,
+    )) c.serve_line.ensures.ok
 
 pub returns-then-is_empty-clause-err : goal.returns-then-is_empty-clause-err
 returns-then-is_empty-clause-err g c =

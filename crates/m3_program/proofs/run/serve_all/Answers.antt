@@ -1,4 +1,4 @@
-use Rattle.std.proofs.Common.{◌≡◌, ◌<◌, ◌+◌, ◌^◌, length-take, refl, sym, arith, subst}
+use Rattle.std.proofs.Common.{◌≡◌, ◌+◌, ◌^◌, length-take, refl, sym, arith, subst}
 use Rattle.m3_program.specs.Streams.{StreamState}
 use Rattle.m3_program.proofs.CauseLemmas.{step_ends_run, line_ends_step}
 use Rattle.m3_program.proofs.RunLemmas.{known_begins, known_more, known_cuts, known_stops, known_finishes, known_limit, step_told}

@@ -1,5 +1,4 @@
-use Rattle.std.proofs.Common.{ap, sym, subst, List, [], ◌∷◌, ◌++◌}
-use Rattle.m3_model.specs.declared.turn.Request.{Request}
+use Rattle.std.proofs.Common.{sym, subst, [], ◌∷◌, ◌++◌}
 use Rattle.m3_model.specs.declared.turn.Reply.TheVariants as reply
 use Rattle.m3_model.specs.Limits.{KeepsLimits}
 use Rattle.m3_model.specs.NotYet.{IsServed}
@@ -11,7 +10,7 @@ pub returns : goal.returns
 returns c = record {
   serves = λ turns s.
       let served = subst IsServed c.in-One.is c.requires.served in
-    let limits = subst KeepsLimits c.in-One.is c.requires.limits in
+      let limits = subst KeepsLimits c.in-One.is c.requires.limits in
       subst (λ r. Serves (turns ++ record { request = r; reply = reply.One c.answer.result } ∷ []) c.answer.new.self) (sym c.in-One.is)
       (answers_serve turns c.args.self.now c.answer.new.self c.in-One.act c.answer.result limits served s c.answer.ensures);
 }
