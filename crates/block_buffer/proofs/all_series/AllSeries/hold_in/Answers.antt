@@ -1,0 +1,35 @@
+use Rattle.std.proofs.Common.{subst, ap, sym, ◌∙◌, refl}
+use Rattle.std.specs.Prelude.{IsSome, OnOk, Option, ℤ}
+use Rattle.std.specs.FinMap.{from_sorted}
+use Rattle.block_buffer.specs.SeriesKeys.{series_cmp, key_at}
+use Rattle.block_buffer.specs.Points.{AllSlots, slot_at, value_of}
+use Rattle.block_buffer.proofs.SeriesLemmas.{Wrote, wrote, kept_of, slot-insert}
+use Rattle.block_buffer.proofs.all_series.AllSeries.hold_in.Goals as goal
+use Rattle.block_buffer.proofs.all_series.AllSeries.hold_in.Goals.{in-Some, in-None}
+
+pub invariant_of-self : goal.invariant_of-self
+invariant_of-self c = elim c.match-get_mut.branch [
+  | in-Some w ↦
+      let done : Wrote c.self.inside.map (c.get_mut.follows.lender w.hold.new.self) c.args.series.now w.in-Some.buffer.now w.hold.new.self =
+      wrote c.self.inside.map _ c.args.series.now _ w.hold.new.self c.self.invariant (c.get_mut.follows.holds w.hold.new.self) w.in-Some.ensures.value in
+      rw w.self-inside-is done.sorted
+  | in-None w ↦ rw (w.self-inside-is, c.get_mut.follows.holds-at-none) c.self.invariant
+]
+
+pub returns-clause-kept : goal.returns-clause-kept
+returns-clause-kept c k = elim c.match-get_mut.branch [
+  | in-Some w ↦
+      let done : Wrote c.self.inside.map (c.get_mut.follows.lender w.hold.new.self) c.args.series.now w.in-Some.buffer.now w.hold.new.self =
+      wrote c.self.inside.map _ c.args.series.now _ w.hold.new.self c.self.invariant (c.get_mut.follows.holds w.hold.new.self) w.in-Some.ensures.value in
+      rw (w.self-inside-is, ← c.self.view_is) (ap (λ (m : AllSlots). value_of m k) done.after ∙ kept_of (from_sorted {R = series_cmp} c.self.inside.map.entries) c.args.series.now _ _ done.found w.hold.ensures.kept k)
+  | in-None w ↦ rw (w.self-inside-is, c.get_mut.follows.holds-at-none, ← c.self.view_is) refl
+]
+
+pub returns-clause-stands : goal.returns-clause-stands
+returns-clause-stands c = elim c.match-get_mut.branch [
+  | in-Some w ↦
+      let done : Wrote c.self.inside.map (c.get_mut.follows.lender w.hold.new.self) c.args.series.now w.in-Some.buffer.now w.hold.new.self =
+      wrote c.self.inside.map _ c.args.series.now _ w.hold.new.self c.self.invariant (c.get_mut.follows.holds w.hold.new.self) w.in-Some.ensures.value in
+      rw (w.result-is, w.self-inside-is) (subst (λ (o : Option (Option ℤ)). OnOk w.hold.result (IsSome o)) (sym (ap (λ (m : AllSlots). slot_at m (key_at c.args.series.now c.args.t)) done.after ∙ slot-insert (from_sorted {R = series_cmp} c.self.inside.map.entries) c.args.series.now _ c.args.t)) w.hold.ensures.stands)
+  | in-None w ↦ rw w.result-is tt
+]

@@ -1,0 +1,331 @@
+ghost use Rattle.std.specs.Prelude.{◌≡◌, ◌||◌, ℕ, ◌+◌, ◌-◌, ◌<◌, ◌^◌, Some, None, cond, not, false, min, length, count_by, nat_le, slice_get, IsSome, IfSome, IfOk, OnOk, ◌++◌};
+ghost use Rattle.std.specs.List.{flat_map, filter_map, list_any, All};
+ghost use Rattle.std.specs.BTreeSet.{contains, IsOrdered};
+ghost use Rattle.std.specs.Option.{option_copied};
+ghost use Rattle.block_buffer.specs.Blocks.{block_cmp, block_of, is_block, IsBlocksOf};
+ghost use Rattle.m3_model.specs.declared.point.Pick.TheVariants as pick;
+ghost use Rattle.block_buffer.specs.Slots.{valued_in};
+ghost use Rattle.block_buffer.specs.Ranges.{IsRangeOf, some_series, series_in};
+ghost use Rattle.std.specs.FinMap as finite;
+ghost use Rattle.std.specs.Ordering.{eq_by_cmp};
+ghost use Rattle.m3_model.specs.declared.point.Key.{Key};
+ghost use Rattle.m3_model.specs.Keys.{key_cmp};
+ghost use Rattle.m3_model.specs.Contents.{higher, is_higher};
+ghost use Rattle.block_buffer.specs.SeriesKeys.{key_at};
+ghost use Rattle.block_buffer.specs.Points.{slot_at, value_of, series_points, points_of};
+ghost use Rattle.block_buffer.specs.Held.{without, has_ended, has_expired, is_in_block};
+
+use crate::series_buffer::SeriesBuffer;
+use crate::series_key::SeriesKey;
+use m3_model::duplicate::Duplicate;
+use m3_model::memory::Memory;
+use m3_model::point::Series;
+use m3_model::rules::{Rules, Space};
+use m3_model::seq::Seq;
+use m3_model::text::Text;
+use std::alloc::Global;
+use std::collections::{BTreeMap, BTreeSet};
+use std::marker::Model;
+
+// The slots of each series.
+#[derive(Drop)]
+pub(crate) struct AllSeries {
+    map: BTreeMap<SeriesKey, SeriesBuffer>,
+}
+
+impl Model for AllSeries {
+    ghost use Rattle.std.specs.Prelude.{IsTrue};
+    ghost use Rattle.std.specs.FinMap.{from_sorted, is_sorted, code};
+    ghost use Rattle.block_buffer.specs.SeriesKeys.{series_cmp, series_code};
+    ghost use Rattle.block_buffer.specs.Slots.{slots_code};
+    ghost use Rattle.block_buffer.specs.Points.{AllSlots};
+
+    ghost Value = { AllSlots };
+
+    ghost coded = { code series_code slots_code };
+
+    ghost view = { λ a. from_sorted a.map.entries };
+
+    ghost invariant = { λ a. IsTrue (is_sorted series_cmp a.map.entries) };
+}
+
+impl AllSeries {
+    pub(crate) fn new(alloc: Global) -> AllSeries
+        ensures { result ≡ finite.empty }
+    {
+        AllSeries {
+            map: BTreeMap::new(alloc),
+        }
+    }
+
+    // Makes a slot of the series at this time, if there is none. No value changes.
+    pub(crate) fn hold(&mut self, alloc: Global, series: SeriesKey, t: u64) -> Result<(), Memory>
+        ensures kept { (k : Key) → value_of self.new k ≡ value_of self.old k }
+        ensures stands { OnOk result (IsSome (slot_at self.new (key_at series t))) }
+    {
+        if self.map.contains_key(&series) {
+            return self.hold_in(&series, t);
+        }
+        let mut buffer = SeriesBuffer::new(alloc);
+        buffer.hold(t)?;
+        self.map.insert(series, buffer)?;
+        Ok(())
+    }
+
+    // The same, of a series that is there.
+    fn hold_in(&mut self, series: &SeriesKey, t: u64) -> Result<(), Memory>
+        requires { IsSome (finite.get self.old series.now) }
+        ensures kept { (k : Key) → value_of self.new k ≡ value_of self.old k }
+        ensures stands { OnOk result (IsSome (slot_at self.new (key_at series.now t))) }
+    {
+        match self.map.get_mut(series) {
+            Some(buffer) => buffer.hold(t),
+            None => Err(Memory),
+        }
+    }
+
+    // Puts the value into the slot of the series at this time, unless one at least as high stands there. Says whether
+    // it was put.
+    pub(crate) fn raise(&mut self, series: &SeriesKey, t: u64, v: i64) -> bool
+        requires { IsSome (slot_at self.old (key_at series.now t)) }
+        ensures raised { (k : Key) → value_of self.new k ≡ cond (eq_by_cmp key_cmp k (key_at series.now t)) (Some (higher (value_of self.old (key_at series.now t)) v)) (value_of self.old k) }
+        ensures changed { result ≡ is_higher (value_of self.old (key_at series.now t)) v }
+    {
+        match self.map.get_mut(series) {
+            Some(buffer) => buffer.raise(t, v),
+            None => false,
+        }
+    }
+
+    // Takes the slot of the series at this time out, if it has no value.
+    pub(crate) fn release(&mut self, series: &SeriesKey, t: u64)
+        ensures { (k : Key) → value_of self.new k ≡ value_of self.old k }
+    {
+        self.release_slot(series, t);
+        self.release_series(series);
+    }
+
+    fn release_slot(&mut self, series: &SeriesKey, t: u64)
+        ensures { (k : Key) → value_of self.new k ≡ value_of self.old k }
+    {
+        if let Some(buffer) = self.map.get_mut(series) {
+            buffer.release(t);
+        }
+    }
+
+    // Takes the series out, if it has no slot.
+    fn release_series(&mut self, series: &SeriesKey)
+        ensures { (k : Key) → value_of self.new k ≡ value_of self.old k }
+    {
+        if let Some(buffer) = self.map.get(series) {
+            if buffer.is_empty() {
+                self.map.remove(series);
+            }
+        }
+    }
+
+    // The points of a series with `from <= t < to`, in logarithmic time and in proportion to the answer.
+    pub(crate) fn range_of(
+        &self,
+        alloc: Global,
+        ns: u8,
+        id: &Text,
+        from: u64,
+        to: u64,
+    ) -> Result<Seq<Series>, Memory>
+        ensures { IfOk result (IsRangeOf (points_of self.now) (pick.One ns id.now) from to) }
+    {
+        let mut found = Vec::new(alloc);
+        let key = SeriesKey {
+            ns,
+            id: id.copy(alloc)?,
+        };
+        match self.map.get(&key) {
+            Some(buffer) => {
+                push_range(alloc, &mut found, id, buffer, from, to)?;
+                Ok(Seq::from_vec(found))
+            }
+            None => Ok(Seq::new(alloc)),
+        }
+    }
+
+    // The points of a namespace with `from <= t < to`, in proportion to the series and the answer.
+    pub(crate) fn range_of_space(
+        &self,
+        alloc: Global,
+        ns: u8,
+        from: u64,
+        to: u64,
+    ) -> Result<Seq<Series>, Memory>
+        ensures { IfOk result (λ found. found ≡ flat_map (series_in ns from to) (finite.entries self.now)) }
+    {
+        let mut found = Vec::new(alloc);
+        for (series, buffer) in &self.map {
+            if series.ns == ns {
+                push_range(alloc, &mut found, &series.id, buffer, from, to)?;
+            }
+        }
+        Ok(Seq::from_vec(found))
+    }
+
+    // The blocks that have points, ascending.
+    pub(crate) fn blocks(&self, alloc: Global, rules: &Rules) -> Result<Seq<(u8, u64)>, Memory>
+        requires { All (λ space. 0 < space.block) rules.now.spaces }
+        ensures { IfOk result (IsBlocksOf rules.entry.now (points_of self.now)) }
+    {
+        let starts = self.starts(alloc, rules)?;
+        let blocks = listed(alloc, &starts)?;
+        Ok(Seq::from_vec(blocks))
+    }
+
+    fn starts(&self, alloc: Global, rules: &Rules) -> Result<BTreeSet<(u8, u64)>, Memory>
+        requires { All (λ space. 0 < space.block) rules.now.spaces }
+        ensures { IfOk result (λ starts. (q : ℕ × ℕ) → contains block_cmp starts q ≡ list_any (λ x. is_block (block_of rules.entry.now x.0) q) (flat_map series_points (finite.entries self.now))) }
+    {
+        let mut starts = BTreeSet::new(alloc);
+        for (series, buffer) in &self.map {
+            add_blocks(rules, series, buffer, &mut starts)?;
+        }
+        Ok(starts)
+    }
+
+    // Takes the expired slots out, and the series that then have none. Costs in proportion to the series, and for each
+    // slot that goes its logarithm.
+    pub(crate) fn expire(&mut self, rules: &Rules)
+        ensures { points_of self.new ≡ without (points_of self.old) (has_expired rules.entry.now) }
+    {
+        self.map
+            .retain(|series, buffer| keep_unexpired(rules, series, buffer));
+    }
+
+    // Takes the slots of one block out, and the series that then have none.
+    pub(crate) fn drop_block(&mut self, ns: u8, start: u64, size: u64)
+        requires { start + size < 2 ^ 64 }
+        ensures { points_of self.new ≡ without (points_of self.old) (is_in_block ns start size) }
+    {
+        self.map.retain(|series, buffer| keep_outside(ns, start, size, series, buffer));
+    }
+
+    // How many points have expired, up to the greatest number.
+    pub(crate) fn count_expired(&self, rules: &Rules) -> u64
+        ensures { result ≡ min (count_by (λ x. has_expired rules.entry.now x.0) (flat_map series_points (finite.entries self.now))) (2 ^ 64 - 1) }
+    {
+        let mut count: u64 = 0;
+        for (series, buffer) in &self.map {
+            count = count.saturating_add(expired_in(rules, series, buffer));
+        }
+        count
+    }
+}
+
+// The namespace at this place, if it is there.
+fn space_of(rules: &Rules, ns: u8) -> Option<&Space>
+    ensures { option_copied result ≡ slice_get rules.entry.now.spaces ns }
+{
+    rules.spaces.as_slice().get(ns as usize)
+}
+
+// The last time of the namespace whose retention has ended, if there is one.
+fn last_expired(rules: &Rules, ns: u8) -> Option<u64>
+    ensures none { result ≡ None → (t : ℕ) → has_ended (slice_get rules.entry.now.spaces ns) rules.entry.now.now t ≡ false }
+    ensures some { IfSome result (λ last. (t : ℕ) → has_ended (slice_get rules.entry.now.spaces ns) rules.entry.now.now t ≡ nat_le t last) }
+{
+    match space_of(rules, ns) {
+        Some(space) => {
+            if space.retention <= rules.now {
+                Some(rules.now - space.retention)
+            } else {
+                None
+            }
+        }
+        None => None,
+    }
+}
+
+// Takes the expired slots of a series out, and says whether it keeps any.
+fn keep_unexpired(rules: &Rules, series: &SeriesKey, buffer: &mut SeriesBuffer) -> bool
+    ensures left { buffer.new ≡ finite.retain_keys buffer.old (λ t. not (has_expired rules.entry.now (key_at series.now t))) }
+    ensures empty { result ≡ false → length (finite.entries buffer.new) ≡ 0 }
+{
+    if let Some(last) = last_expired(rules, series.ns) {
+        buffer.cut(0, last);
+    }
+    !buffer.is_empty()
+}
+
+// Takes the slots of a block of the namespace out, and says whether the series keeps any.
+fn keep_outside(
+    ns: u8,
+    start: u64,
+    size: u64,
+    series: &SeriesKey,
+    buffer: &mut SeriesBuffer,
+) -> bool
+    requires { start + size < 2 ^ 64 }
+    ensures left { buffer.new ≡ finite.retain_keys buffer.old (λ t. not (is_in_block ns start size (key_at series.now t))) }
+    ensures empty { result ≡ false → length (finite.entries buffer.new) ≡ 0 }
+{
+    if series.ns == ns && 0 < size {
+        buffer.cut(start, start + (size - 1));
+    }
+    !buffer.is_empty()
+}
+
+// How many points of a series have expired.
+fn expired_in(rules: &Rules, series: &SeriesKey, buffer: &SeriesBuffer) -> u64
+    ensures { result ≡ count_by (λ x. has_expired rules.entry.now x.0) (series_points (series.now, buffer.now)) }
+{
+    match last_expired(rules, series.ns) {
+        Some(last) => buffer.count(0, last) as u64,
+        None => 0,
+    }
+}
+
+// Pushes the series with its pairs in the range, if there are any.
+fn push_range(
+    alloc: Global,
+    found: &mut Vec<Series>,
+    id: &Text,
+    buffer: &SeriesBuffer,
+    from: u64,
+    to: u64,
+) -> Result<(), Memory>
+    ensures { OnOk result (found.new.items ≡ found.old.items ++ some_series id.now (filter_map (valued_in from to) (finite.entries buffer.now))) }
+{
+    let pairs = buffer.pairs(alloc, from, to)?;
+    if pairs.is_empty() {
+        return Ok(());
+    }
+    let id = id.copy(alloc)?;
+    let points = Seq::from_vec(pairs);
+    found.push(Series { id, points })?;
+    Ok(())
+}
+
+// The blocks of a set, which ascend.
+fn listed(alloc: Global, starts: &BTreeSet<(u8, u64)>) -> Result<Vec<(u8, u64)>, Memory>
+    ensures same { IfOk result (λ blocks. blocks.items ≡ starts.now.keys) }
+    ensures ordered { OnOk result (IsOrdered block_cmp starts.now) }
+{
+    let mut blocks = Vec::new(alloc);
+    for start in starts {
+        blocks.push(*start)?;
+    }
+    Ok(blocks)
+}
+
+// Adds the blocks in which the series has points.
+fn add_blocks(
+    rules: &Rules,
+    series: &SeriesKey,
+    buffer: &SeriesBuffer,
+    starts: &mut BTreeSet<(u8, u64)>,
+) -> Result<(), Memory>
+    requires { All (λ space. 0 < space.block) rules.now.spaces }
+    ensures { OnOk result ((q : ℕ × ℕ) → contains block_cmp starts.new q ≡ (contains block_cmp starts.old q || list_any (λ x. is_block (block_of rules.entry.now x.0) q) (series_points (series.now, buffer.now)))) }
+{
+    match space_of(rules, series.ns) {
+        Some(space) => buffer.add_blocks(series.ns, space.block, starts),
+        None => Ok(()),
+    }
+}

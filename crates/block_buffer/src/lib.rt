@@ -1,0 +1,10 @@
+//! The points that a replica holds in memory.
+#![tactic(auto)]
+
+mod all_series;
+pub mod buffer;
+pub mod laws;
+mod series_buffer;
+mod series_key;
+#[cfg(test)]
+mod tests;
