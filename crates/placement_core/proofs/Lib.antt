@@ -1,0 +1,9 @@
+pub mod ListLemmas
+pub mod StepLemmas
+pub mod DoneLemmas
+pub mod OrderLemmas
+pub mod SortLemmas
+pub mod HolderLemmas
+pub mod ChangeLemmas
+pub mod LawLemmas
+pub mod ExampleLemmas

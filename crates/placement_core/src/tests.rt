@@ -1,0 +1,177 @@
+use crate::replicas::{counted, former, members};
+use crate::step::is_step;
+use m3_model::memory::Memory;
+use m3_model::placement::{Assignment, Instance, Placement, ShardState};
+use m3_model::seq::Seq;
+use m3_model::text::Text;
+use std::alloc::Global;
+use std::test::Fail;
+
+fn digit(byte: u8) -> u8 {
+    byte & 15
+}
+
+// A node, its state, its tenure, and a source where there is one: `3I20`.
+fn assignment(word: &str) -> Option<Assignment> {
+    let (node, state, tenure, source) = match word.as_bytes() {
+        [node, state, tenure] => (*node, *state, *tenure, None),
+        [node, state, tenure, source] => (*node, *state, *tenure, Some(digit(*source))),
+        _ => return None,
+    };
+    Some(Assignment {
+        node: digit(node),
+        tenure: digit(tenure) as u64,
+        state: match state {
+            b'I' => ShardState::Initializing,
+            b'L' => ShardState::Leaving,
+            _ => ShardState::Available,
+        },
+        source,
+    })
+}
+
+fn shard(alloc: Global, text: &str) -> Result<Seq<Assignment>, Memory> {
+    let mut all = Vec::new(alloc);
+    for word in text.split(' ') {
+        if let Some(assigned) = assignment(word) {
+            all.push(assigned)?;
+        }
+    }
+    Ok(Seq::from_vec(all))
+}
+
+// Each name is its node's isolation group, too.
+fn instances(alloc: Global, names: &str) -> Result<Seq<Instance>, Memory> {
+    let mut all = Vec::new(alloc);
+    for name in names.split(' ') {
+        all.push(Instance {
+            name: Text::from_str(alloc, name)?,
+            group: Text::from_str(alloc, name)?,
+            listed: true,
+            drained: false,
+        })?;
+    }
+    Ok(Seq::from_vec(all))
+}
+
+// Version and `rf`, names and shards: `12|a b c|0A1 1A1/1A1 2A1`.
+fn placement(alloc: Global, text: &str) -> Result<Placement, Memory> {
+    let (numbers, rest) = text.split_once('|').unwrap_or(("", ""));
+    let (names, shards) = rest.split_once('|').unwrap_or(("", ""));
+    let (version, rf) = match numbers.as_bytes() {
+        [version, rf] => (digit(*version), digit(*rf)),
+        _ => (0, 0),
+    };
+    let mut all = Vec::new(alloc);
+    for one in shards.split('/') {
+        all.push(shard(alloc, one)?)?;
+    }
+    Ok(Placement {
+        version: version as u64,
+        rf: rf as u32,
+        instances: instances(alloc, names)?,
+        shards: Seq::from_vec(all),
+    })
+}
+
+fn done_list(alloc: Global, text: &str) -> Result<Vec<(u32, u8)>, Memory> {
+    let mut all = Vec::new(alloc);
+    for word in text.split(' ') {
+        if let [shard, node] = word.as_bytes() {
+            all.push((digit(*shard) as u32, digit(*node)))?;
+        }
+    }
+    Ok(all)
+}
+
+// Whether it is a step, the old placement, the next one, and the done list.
+const STEPS: &str = "yes>12|a b c d|0A1 1A1/1A1 2A1>22|a b c d|0A1 1A1/1A1 2A1>
+yes>12|a b c d|0A1 1A1/1A1 2A1>22|a b c d e|0L1 1A1 2I20/1A1 2A1>
+yes>12|a b c d|0A1 1A1/1A1 2A1>22|a b c d|0L1 1A1 2I20/1L1 2A1 3I21>
+no>12|a b c d|0A1 1A1/1A1 2A1>12|a b c d|0A1 1A1/1A1 2A1>
+no>12|a b c d|0A1 1A1/1A1 2A1>32|a b c d|0A1 1A1/1A1 2A1>
+no>12|a b c d|0A1 1A1/1A1 2A1>23|a b c d|0A1 1A1/1A1 2A1>
+no>12|a b c d|0A1 1A1/1A1 2A1>22|a x c d|0A1 1A1/1A1 2A1>
+no>12|a b c d|0A1 1A1/1A1 2A1>22|a b c|0A1 1A1/1A1 2A1>
+no>12|a b c d|0A1 1A1/1A1 2A1>22|a b c d|0A1 1A1>
+no>12|a b c d|0A1 1A1/1A1 2A1>22|a b c d|0A1 1A1/1A1 2A1/0A1 1A1>
+no>12|a b c d|0A1 1A1/1A1 2A1>22|a b c d|0A2 1A1/1A1 2A1>
+no>12|a b c d|0A1 1A1/1A1 2A1>22|a b c d|0A1 2A1/1A1 2A1>
+no>12|a b c d|0A1 1A1/1A1 2A1>22|a b c d|1A1 0A1/1A1 2A1>
+no>12|a b c d|0A1 1A1/1A1 2A1>22|a b c d|0L1 1A1 2I10/1A1 2A1>
+no>12|a b c d|0A1 1A1/1A1 2A1>22|a b c d|2I20 0L1 1A1/1A1 2A1>
+no>12|a b c d|0A1 1A1/1A1 2A1>22|a b c d|0L1 1A1 1I20/1A1 2A1>
+no>12|a b c d|0A1 1A1/1A1 2A1>22|a b c d|0L1 1A1 2I2/1A1 2A1>
+no>12|a b c d|0A1 1A1/1A1 2A1>22|a b c d|0L1 1A1 2I21/1A1 2A1>
+no>12|a b c d|0A1 1A1/1A1 2A1>22|a b c d|0L1 1L1 2I20 3I21/1A1 2A1>
+yes>22|a b c d|0L1 1A1 2I20/1L1 2A1 3I21>32|a b c d|1A1 2A2/1L1 2A1 3I21>02
+yes>22|a b c d|0L1 1A1 2I20/1L1 2A1 3I21>32|a b c d|1A1 2A2/2A1 3A2>02 13
+yes>22|a b c d|0L1 1A1 2I20/1L1 2A1 3I21>32|a b c d|0A1 1A1/1L1 2A1 3I21>
+yes>22|a b c d|0L1 1A1 2I20/1L1 2A1 3I21>32|a b c d|0A1 1A1/2A1 3A2>13
+no>22|a b c d|0L1 1A1 2I20/1L1 2A1 3I21>32|a b c d|1A1 2A2/1L1 2A1 3I21>
+no>22|a b c d|0L1 1A1 2I20/1L1 2A1 3I21>32|a b c d|1A1 2A2/1L1 2A1 3I21>03
+no>22|a b c d|0L1 1A1 2I20/1L1 2A1 3I21>32|a b c d|1A1 2A2/2A1 3A2>13 02
+no>22|a b c d|0L1 1A1 2I20/1L1 2A1 3I21>32|a b c d|1A1 2A2/2A1 3A2>02 02 13
+no>22|a b c d|0L1 1A1 2I20/1L1 2A1 3I21>32|a b c d|1A1 2A2/2A1 3A2>02 13 22
+no>22|a b c d|0L1 1A1 2I20/1L1 2A1 3I21>32|a b c d|0A1 1A1/1L1 2A1 3I21>02
+no>22|a b c d|0L1 1A1 2I20/1L1 2A1 3I21>32|a b c d|0L1 1L1 2I20 3I31/1L1 2A1 3I21>
+no>22|a b c d|0L1 1A1 2I20/1L1 2A1 3I21>32|a b c d|2A2 1A1/1L1 2A1 3I21>02
+no>22|a b c d|0L1 1A1 2I20/1L1 2A1 3I21>32|a b c d|1A1 2A20/1L1 2A1 3I21>02";
+
+fn is_listed_step(alloc: Global, row: &str) -> Result<bool, Memory> {
+    let (old, rest) = row.split_once('>').unwrap_or(("", ""));
+    let (next, done) = rest.split_once('>').unwrap_or(("", ""));
+    let done = done_list(alloc, done)?;
+    Ok(is_step(&placement(alloc, old)?, &placement(alloc, next)?, &done))
+}
+
+#[test]
+fn steps_are_told(rt: HostRuntime) -> Result<(), Fail> {
+    let alloc = rt.alloc();
+    for row in STEPS.lines() {
+        let (want, rest) = row.split_once('>').unwrap_or(("", ""));
+        assert_eq!(rt; is_listed_step(alloc, rest)?, want == "yes", "{row}");
+    }
+    Ok(())
+}
+
+// The placement, then its counted nodes, its members and its former nodes.
+const REPLICAS: &str = "12|d a c b|0A1 1A1>10>10>
+22|d a c b|0L1 1A1 2I20>1>120>10
+12|node10 node2 node1|2A1 1A1 0A1>201>201>";
+
+fn spelled(nodes: &[u8], want: &str) -> bool {
+    nodes.len() == want.len()
+        && nodes
+            .iter()
+            .zip(want.as_bytes())
+            .all(|(node, byte)| *node == digit(*byte))
+}
+
+fn replicas_are(alloc: Global, row: &str) -> Result<bool, Memory> {
+    let (place, rest) = row.split_once('>').unwrap_or(("", ""));
+    let (want_counted, rest) = rest.split_once('>').unwrap_or(("", ""));
+    let (want_members, want_former) = rest.split_once('>').unwrap_or(("", ""));
+    let place = placement(alloc, place)?;
+    if place.shards.len() == 0 {
+        return Ok(false);
+    }
+    let mut nodes = Vec::new(alloc);
+    for member in members(alloc, &place, 0)?.as_slice() {
+        nodes.push(member.node)?;
+    }
+    Ok(
+        spelled(counted(alloc, &place, 0)?.as_slice(), want_counted)
+            && spelled(&nodes, want_members)
+            && spelled(former(alloc, &place, 0)?.as_slice(), want_former),
+    )
+}
+
+#[test]
+fn replicas_stand_by_name(rt: HostRuntime) -> Result<(), Fail> {
+    let alloc = rt.alloc();
+    for row in REPLICAS.lines() {
+        assert!(rt; replicas_are(alloc, row)?, "{row}");
+    }
+    Ok(())
+}
