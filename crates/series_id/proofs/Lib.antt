@@ -1,0 +1,15 @@
+pub mod Rotations
+pub mod Groups
+pub mod Orders
+pub mod Names
+pub mod Spellings
+pub mod Places
+pub mod Unique
+pub mod Excluded
+pub mod Walks
+pub mod Texts
+pub mod Values
+pub mod Found
+pub mod Wrong
+pub mod Spelled
+pub mod Faults

@@ -1,0 +1,5 @@
+pub mod Identifiers
+pub mod Names
+pub mod Faults
+pub mod Places
+pub mod Given

@@ -1,0 +1,33 @@
+-- How far a text of tags was read.
+use Rattle.std.specs.Prelude.{◌≡◌, ℕ, ◌+◌, ◌<◌, ◌≤◌, List, [], ◌∷◌, ◌++◌, length, Option, MatchOption}
+use Rattle.m3_model.specs.Tags.{escaped, tag_text, tags_text, HasTags}
+use Rattle.series_id.specs.Identifiers.{IsIdentifier}
+use Rattle.series_id.specs.Faults.{listed, last_name, MayFollow, GoesOn}
+use Rattle.series_id.specs.declared.place.Place.{Place}
+use Rattle.series_id.specs.declared.place.Tag.{Tag}
+
+-- these tags of the text stand before the place
+pub record Stands (text : List ℕ) (tags : List (List ℕ × List ℕ)) (place : Place) : Type 0 where
+  pub goes_on : GoesOn text tags place.rest.now
+  pub before : place.before.now ≡ last_name [] tags
+  pub at : place.at ≡ 1 + length (listed tags)
+  pub number : place.number ≡ length tags
+
+-- the text is spelled by these tags
+pub record Closes (text : List ℕ) (tags : List (List ℕ × List ℕ)) : Type 0 where
+  pub spelled : text ≡ tags_text tags
+  pub follow : MayFollow [] tags
+  pub some : 0 < length tags
+  pub few : length tags ≤ 32
+
+-- one tag more was read, and it is the last one or a place follows
+abbrev pub Reads : List ℕ → List (List ℕ × List ℕ) → Tag → Type 0
+Reads text tags read = (tag : List ℕ × List ℕ) × (read.name.now ≡ tag.0) × (read.spelling.now ≡ escaped tag.1)
+    × MatchOption read.next (Closes text (tags ++ tag ∷ [])) (Stands text (tags ++ tag ∷ []))
+    × ((later : List ℕ) × (text ≡ 123 ∷ listed tags ++ (tag_text tag ++ later)))
+
+-- the tags before the place have P; where no place follows, the text is an identifier, and all its tags have P
+abbrev pub IsReading : (List (List ℕ × List ℕ) → Type 0) → List ℕ → Option Place → Type 0
+IsReading P text place = MatchOption place
+    (IsIdentifier text × ((tags : List (List ℕ × List ℕ)) × HasTags text tags × P tags))
+    (λ here. (tags : List (List ℕ × List ℕ)) × Stands text tags here × P tags)

@@ -1,0 +1,205 @@
+use crate::id_err::IdErr;
+use crate::{SeriesId, has_tag, of_tags, parse, shard_of, valid};
+use m3_model::memory::Memory;
+use m3_model::text::Text;
+use std::alloc::Global;
+use std::test::Fail;
+
+// Texts, each behind what is read of it.
+const TEXTS: &str = r#"plain => up
+plain => grüße
+plain => a{b="x"}
+plain => "
+plain =>  {
+tags dc:x host:h1 => {dc="x",host="h1"}
+tags a: => {a=""}
+tags _: _a:{ _a0:,} => {_="",_a="{",_a0=",}"}
+tags A:1 a:2 => {A="1",a="2"}
+tags a:"\ => {a="\"\\"}
+tags a:grüße b:= => {a="grüße",b="="}
+Name { at: 1 } => {
+Name { at: 1 } => {}
+Name { at: 1 } => {1="x"}
+Name { at: 1 } => {="x"}
+Name { at: 7 } => {a="x",}
+Name { at: 7 } => {a="x",9="y"}
+Name { at: 1 } => {ü="x"}
+Brace => {a
+Brace => {a}
+Brace => {a=x}
+Brace => {a-b="x"}
+Brace => {a:"x"}
+Brace => {a="x
+Brace => {a="x"
+Brace => {a="x"}b
+Brace => {a="x"}}
+Brace => {a="x" ,b="y"}
+Brace => {a="x"b="y"}
+Order => {b="x",a="y"}
+Repeat => {a="x",a="y"}
+Order => {ab="x",a="y"}
+Order => {b="x",a
+Repeat => {b="x",b!
+tags a:x ab:y b:z => {a="x",ab="y",b="z"}
+Escape { at: 4 } => {a="\n"}
+Escape { at: 5 } => {a="x\
+Brace => {a="\"
+Escape { at: 4 } => {b="\u"}
+Order => {b="",a="\u"}
+Escape { at: 5 } => {b="x\u",a=""}"#;
+
+// Tags, each list behind what they spell.
+const LISTS: &str = r#"{dc="x",host="h1"} => dc:x;host:h1
+{a=""} => a:
+{a="q\"b\\s"} => a:q"b\s
+{a="grüße",b="{}"} => a:grüße;b:{}
+Name { at: 1 } => :x
+Name { at: 1 } => 1:x
+Name { at: 8 } => a:x;b c:y
+Name { at: 8 } => a:";9:y
+Name { at: 2 } => a-:x
+Order => b:x;a:y
+Repeat => a:x;a:y
+Name { at: 8 } => b:x;a!:y"#;
+
+// Seeds with hashes of texts, by a program in another language.
+const HASHES: &str = "0 0 
+1 1364076727 
+0 613153351 hello
+0 345750399 hello, world
+0 1009084850 a
+1 1485495528 a
+4294967295 711476519 a
+0 2613040991 ab
+1 3087506246 ab
+4294967295 4236296879 abc
+0 1139631978 abcd
+4294967295 2303486836 abcde
+0 2285673222 abcdefg
+1 1791706674 {dc=\"x\"}
+4294967295 977210749 grüße
+0 519850996 the quick brown fox";
+
+fn tags_of(alloc: Global, id: &SeriesId) -> Result<String, Fail> {
+    let mut text = String::new(alloc);
+    match id.tags(alloc) {
+        Ok(tags) => {
+            for (name, value) in tags.as_slice() {
+                write!(text, " {}:{}", name.as_str(), value.as_str())?;
+            }
+        }
+        Err(Memory) => text.push_str("Memory")?,
+    }
+    Ok(text)
+}
+
+fn outcome(alloc: Global, text: &str) -> Result<String, Fail> {
+    match parse(alloc, text) {
+        Err(e) => Ok(format!(in alloc; "{e:?}")?),
+        Ok(id) => {
+            let tags = tags_of(alloc, &id)?;
+            let kind = if tags.is_empty() { "plain" } else { "tags" };
+            Ok(format!(in alloc; "{kind}{tags}")?)
+        }
+    }
+}
+
+fn outcome_of(alloc: Global, tags: &[(Text, Text)]) -> Result<String, Fail> {
+    match of_tags(alloc, tags) {
+        Err(e) => Ok(format!(in alloc; "{e:?}")?),
+        Ok(id) => Ok(String::from_str(alloc, id.text())?),
+    }
+}
+
+#[test]
+fn texts_are_read(rt: HostRuntime) -> Result<(), Fail> {
+    for row in TEXTS.lines() {
+        let (want, text) = row.split_once(" => ").expect(&rt, "two parts");
+        let is = want.starts_with("plain") || want.starts_with("tags");
+        assert_eq!(rt; outcome(rt.alloc(), text)?.as_str(), want, "{text}");
+        assert_eq!(rt; valid(text), is, "{text}");
+    }
+    assert_eq!(rt; outcome(rt.alloc(), "")?.as_str(), "Empty");
+    Ok(())
+}
+
+#[test]
+fn tags_are_spelled(rt: HostRuntime) -> Result<(), Fail> {
+    for row in LISTS.lines() {
+        let (want, list) = row.split_once(" => ").expect(&rt, "two parts");
+        let mut tags = Vec::new(rt.alloc());
+        for tag in list.split(';') {
+            if let Some((name, value)) = tag.split_once(':') {
+                let name = Text::from_string(String::from_str(rt.alloc(), name)?);
+                let value = Text::from_string(String::from_str(rt.alloc(), value)?);
+                tags.push((name, value))?;
+            }
+        }
+        assert_eq!(rt; outcome_of(rt.alloc(), &tags)?.as_str(), want, "{list}");
+    }
+    assert_eq!(rt; outcome_of(rt.alloc(), &[])?.as_str(), "Name { at: 1 }");
+    Ok(())
+}
+
+// Tags with one-letter names, the first of which has a value of so many bytes.
+fn many(alloc: Global, tags: usize, bytes: usize) -> Result<String, Fail> {
+    let letters = "ABCDEFGHIJKLMNOPQRSTUVWXYZ_abcdefghijklmnopqrstuvwxyz";
+    let mut text = String::new(alloc);
+    for (i, letter) in letters.chars().take(tags).enumerate() {
+        write!(text, "{}{letter}=\"", if i == 0 { '{' } else { ',' })?;
+        if i == 0 {
+            for _ in 0..bytes {
+                text.push('x')?;
+            }
+        }
+        text.push('"')?;
+    }
+    text.push('}')?;
+    Ok(text)
+}
+
+#[test]
+fn limits_are_kept(rt: HostRuntime) -> Result<(), Fail> {
+    for (tags, bytes, want) in [
+        (32, 0, true),
+        (33, 0, false),
+        (1, 506, true),
+        (1, 507, false),
+    ] {
+        let text = many(rt.alloc(), tags, bytes)?;
+        assert_eq!(rt; valid(&text), want, "{tags} {bytes}");
+        if let Err(e) = parse(rt.alloc(), &text) {
+            assert_eq!(rt; e, IdErr::Long, "{tags} {bytes}");
+        }
+    }
+    Ok(())
+}
+
+#[test]
+fn tags_are_found(rt: HostRuntime) {
+    let id = r#"{a="x",b="q\"\\"}"#;
+    for (name, value, want) in [
+        ("a", "x", true),
+        ("b", "q\"\\", true),
+        ("b", "q", false),
+        ("c", "x", false),
+        ("a", "", false),
+    ] {
+        assert_eq!(rt; has_tag(id, name, value), want, "{name} {value}");
+    }
+    assert!(rt; !has_tag(r#"{a="x",b}"#, "a", "x"));
+    assert!(rt; !has_tag("up", "", ""));
+}
+
+#[test]
+fn hashes_are_those_of_another_program(rt: HostRuntime) -> Result<(), Fail> {
+    for row in HASHES.lines() {
+        let (seed, rest) = row.split_once(' ').expect(&rt, "three parts");
+        let (hash, text) = rest.split_once(' ').expect(&rt, "three parts");
+        let seed: u32 = seed.parse().expect(&rt, "a seed");
+        let hash: u32 = hash.parse().expect(&rt, "a hash");
+        assert_eq!(rt; shard_of(text, seed, u32::MAX), hash % u32::MAX, "{row}");
+        assert_eq!(rt; shard_of(text, seed, 64), hash % 64, "{row}");
+    }
+    Ok(())
+}
