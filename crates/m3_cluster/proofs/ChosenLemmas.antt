@@ -1,14 +1,14 @@
--- Lists of flags, one flag after the other.
+-- What the replicas answered, one after the other.
 use Rattle.std.proofs.Common.{◌≡◌, ℕ, zero, suc, ◌+◌, ◌<◌, ◌≤◌, List, [], ◌∷◌, ◌++◌, map, length, get_or, set, refl, sym, ap, ◌∙◌, subst, inl, inr, arith, Bool, true, false, cond}
-use Rattle.std.specs.Prelude.{◌⊎◌, MatchBool}
+use Rattle.std.specs.Prelude.{◌⊎◌, MatchBool, Option, Some, None, is_none}
 use Rattle.std.proofs.lemmas.List.{map-append, length-map}
-use Rattle.std.proofs.lemmas.List.Sums.{fold_push}
 use Rattle.m3_model.specs.declared.point.Point.{Point}
 use Rattle.m3_model.specs.Members.{IsIn}
 use Rattle.m3_model.specs.Ascends.{Ascends}
-use Rattle.m3_model.specs.Contents.{range_of, joined_pairs}
-use Rattle.m3_cluster.specs.declared.replica.Replica.{Replica}
-use Rattle.m3_cluster.specs.Quorums.{chosen, with_point, taken_where, joined_ranges}
+use Rattle.m3_cluster.specs.Replicas.{Replica}
+use Rattle.m3_model.specs.declared.reason.Reason.{Reason}
+use Rattle.m3_model.proofs.MemberLemmas.{IsIn-append_cases}
+use Rattle.m3_cluster.specs.Quorums.{chosen, answering, refusing, with_point, taken_where}
 
 none_chosen : {X : Type 0} (flags : List Bool) → chosen {X = X} flags [] ≡ []
 none_chosen [] = refl
@@ -74,14 +74,6 @@ acks_turn flags p old now i x new acks more n was seen h took node before pushed
 -- no further node acknowledged
 pub acks_still : (flags : List Bool) (old : List Replica) (acks : List ℕ) → acks ≡ map (λ r. r.node) (chosen flags old) → acks ≡ map (λ r. r.node) (chosen (flags ++ false ∷ []) old)
 acks_still flags old acks before = before ∙ ap (map (λ r. r.node)) (sym (chosen_pass flags old))
-
-joined_push : (ns : ℕ) (id : List ℕ) (from to : ℕ) (rs : List Replica) (r : Replica) → joined_ranges ns id from to (rs ++ r ∷ []) ≡ joined_pairs (joined_ranges ns id from to rs) (range_of r.content ns id from to)
-joined_push ns id from to rs r = fold_push _ _ rs r
-
--- one more replica answered
-pub joined_turn : (flags : List Bool) (ns : ℕ) (id : List ℕ) (from to : ℕ) (rs : List Replica) (r : Replica) → length flags < length rs → r ≡ get_or rs (length flags) r
-    → joined_ranges ns id from to (chosen (flags ++ true ∷ []) rs) ≡ joined_pairs (joined_ranges ns id from to (chosen flags rs)) (range_of r.content ns id from to)
-joined_turn flags ns id from to rs r h e = ap (joined_ranges ns id from to) (chosen_push flags rs r h e) ∙ joined_push ns id from to (chosen flags rs) r
 
 -- what is chosen is among what it is chosen from
 pub chosen-IsIn : {X : Type 0} (flags : List Bool) (xs : List X) (x : X) → IsIn (chosen flags xs) x → IsIn xs x
@@ -197,3 +189,78 @@ acks_ascend Before flags rs h = subst (Ascends Before) (sym (chosen-map (λ r. r
 
 pub acks-IsIn : (flags : List Bool) (rs : List Replica) (n : ℕ) → IsIn (map (λ r. r.node) (chosen flags rs)) n → IsIn (map (λ r. r.node) rs) n
 acks-IsIn flags rs n h = chosen-IsIn flags (map (λ r. r.node) rs) n (subst (λ ns. IsIn ns n) (chosen-map (λ r. r.node) flags rs) h)
+
+-- ---- outcomes
+
+pub answering_push : (outcomes : List (Option Reason)) (o : Option Reason) → answering (outcomes ++ o ∷ []) ≡ answering outcomes ++ is_none o ∷ []
+answering_push outcomes o = map-append is_none outcomes (o ∷ [])
+
+pub length-answering : (outcomes : List (Option Reason)) → length (answering outcomes) ≡ length outcomes
+length-answering outcomes = length-map outcomes is_none
+
+none_refusing : (outcomes : List (Option Reason)) → refusing outcomes [] ≡ []
+none_refusing [] = refl
+none_refusing (o ∷ outcomes) = refl
+
+-- one more replica answered
+pub refusing_pass : (outcomes : List (Option Reason)) (rs : List Replica) → refusing (outcomes ++ None ∷ []) rs ≡ refusing outcomes rs
+refusing_pass outcomes [] = none_refusing (outcomes ++ None ∷ []) ∙ sym (none_refusing outcomes)
+refusing_pass [] (r ∷ rs) = refl
+refusing_pass (None ∷ outcomes) (r ∷ rs) = refusing_pass outcomes rs
+refusing_pass (Some x ∷ outcomes) (r ∷ rs) = ap (λ xs. (r.node, x) ∷ xs) (refusing_pass outcomes rs)
+
+-- one more replica named a reason
+pub refusing_push : (outcomes : List (Option Reason)) (rs : List Replica) (reason : Reason) (r : Replica) → length outcomes < length rs → r.node ≡ (get_or rs (length outcomes) r).node
+    → refusing (outcomes ++ Some reason ∷ []) rs ≡ refusing outcomes rs ++ (r.node, reason) ∷ []
+refusing_push outcomes [] reason r h e = absurd (omega arith)
+refusing_push [] (q ∷ rs) reason r h e = ap (λ n. (n, reason) ∷ []) (sym e)
+refusing_push (None ∷ outcomes) (q ∷ rs) reason r h e = refusing_push outcomes rs reason r (omega arith) e
+refusing_push (Some x ∷ outcomes) (q ∷ rs) reason r h e = ap (λ xs. (q.node, x) ∷ xs) (refusing_push outcomes rs reason r (omega arith) e)
+
+-- a replica that took the point keeps its node
+pub node_still : (flags : List Bool) (p : Point) (old now : List Replica) (x new : Replica) → now ≡ taken_where flags p old → length flags < length old → new ≡ get_or now (length flags) x → new.node ≡ (get_or old (length flags) new).node
+node_still flags p old now x new was fits is =
+    ap (λ (r : Replica). r.node) (is ∙ ap (λ rs. get_or rs (length flags) x) was ∙ still_at flags p old x ∙ get_or-any old (length flags) x new fits)
+
+-- the outcomes so far may be, and one more
+pub outcomes_push : (May : Option Reason → Type 0) (outcomes : List (Option Reason)) (o : Option Reason) → ((x : Option Reason) → IsIn outcomes x → May x) → May o → (x : Option Reason) → IsIn (outcomes ++ o ∷ []) x → May x
+outcomes_push May outcomes o each one x m =
+    elim (IsIn-append_cases outcomes (o ∷ []) x m) as (λ _. May x) [
+      | inl was ↦ each x was
+      | inr last ↦ elim last as (λ _. May x) [ inl e ↦ subst May e one | inr none ↦ absurd none ]
+    ]
+
+-- each replica answered or named a reason
+pub one_or_other : (outcomes : List (Option Reason)) (rs : List Replica) → length outcomes ≡ length rs → length (chosen (answering outcomes) rs) + length (refusing outcomes rs) ≡ length rs
+one_or_other [] rs h = let none : length rs ≡ 0 = sym h in ap (λ n. 0 + n) (ap length none_both) ∙ h
+  where
+    none_both : refusing [] rs ≡ []
+    none_both = refl
+one_or_other (o ∷ outcomes) [] h = absurd (omega arith)
+one_or_other (None ∷ outcomes) (r ∷ rs) h = let rest = one_or_other outcomes rs (omega arith) in omega arith
+one_or_other (Some x ∷ outcomes) (r ∷ rs) h = let rest = one_or_other outcomes rs (omega arith) in omega arith
+
+-- a reason that is named is that of a replica, and is an outcome
+pub refusing-IsIn : (outcomes : List (Option Reason)) (rs : List Replica) (x : ℕ × Reason) → IsIn (refusing outcomes rs) x → IsIn (map (λ r. r.node) rs) x.0 × IsIn outcomes (Some x.1)
+refusing-IsIn [] rs x h = absurd h
+refusing-IsIn (o ∷ outcomes) [] x h = absurd h
+refusing-IsIn (None ∷ outcomes) (r ∷ rs) x h = let found = refusing-IsIn outcomes rs x h in (inr found.0, inr found.1)
+refusing-IsIn (Some y ∷ outcomes) (r ∷ rs) x h =
+    elim h as (λ _. ((r.node ≡ x.0) ⊎ IsIn (map (λ q. q.node) rs) x.0) × ((Some y ≡ Some x.1) ⊎ IsIn outcomes (Some x.1))) [
+      | inl e ↦ (inl (ap (λ (z : ℕ × Reason). z.0) e), inl (ap (λ (z : ℕ × Reason). Some z.1) e))
+      | inr m ↦ let found = refusing-IsIn outcomes rs x m in (inr found.0, inr found.1)
+    ]
+
+-- the nodes with reasons stand in order
+pub refusing_ascend : (Before : ℕ → ℕ → Type 0) (outcomes : List (Option Reason)) (rs : List Replica) → Ascends Before (map (λ r. r.node) rs) → Ascends (λ a b. Before a.0 b.0) (refusing outcomes rs)
+refusing_ascend Before [] rs h = tt
+refusing_ascend Before (o ∷ outcomes) [] h = tt
+refusing_ascend Before (None ∷ outcomes) (r ∷ rs) h = refusing_ascend Before outcomes rs h.1
+refusing_ascend Before (Some x ∷ outcomes) (r ∷ rs) h = ((λ y m. h.0 y.0 (refusing-IsIn outcomes rs y m).0), refusing_ascend Before outcomes rs h.1)
+
+-- where one is chosen, one answered
+pub some_answered : (outcomes : List (Option Reason)) (rs : List Replica) → 0 < length (chosen (answering outcomes) rs) → IsIn outcomes None
+some_answered [] rs h = absurd (omega arith)
+some_answered (o ∷ outcomes) [] h = absurd (omega arith)
+some_answered (None ∷ outcomes) (r ∷ rs) h = inl refl
+some_answered (Some x ∷ outcomes) (r ∷ rs) h = inr (some_answered outcomes rs h)

@@ -1,6 +1,6 @@
 -- A read's answer keeps what a majority acknowledged and makes nothing up.
-use Rattle.std.proofs.Common.{◌≡◌, ℕ, ◌+◌, ◌<◌, ◌≤◌, ℤ, ◌≤ℤ◌, List, [], ◌∷◌, map, fold, length, refl, sym, ap, ◌∙◌, subst, inl, inr, arith, append-nil, Bool, true, false, cond}
-use Rattle.std.specs.Prelude.{◌⊎◌, Option, Some, None}
+use Rattle.std.proofs.Common.{◌≡◌, ℕ, ◌<◌, ◌≤◌, ℤ, ◌≤ℤ◌, List, [], ◌∷◌, map, fold, length, refl, sym, ap, ◌∙◌, subst, inl, inr, arith, append-nil, Bool, true, false, cond}
+use Rattle.std.specs.Prelude.{◌⊎◌, Option, Some, None, slice_get}
 use Rattle.std.specs.List.{filter_map}
 use Rattle.std.specs.Ordering.{nat_cmp}
 use Rattle.std.specs.FinMap.{FinMap, entries, get, empty, get-empty, nat_cmp-IsAntisymmetric}
@@ -17,17 +17,18 @@ use Rattle.m3_model.specs.declared.act.ReadLevel.{ReadLevel}
 use Rattle.m3_model.specs.Members.{IsIn}
 use Rattle.m3_model.specs.Ascends.{Ascends}
 use Rattle.m3_model.specs.Levels.{majority}
-use Rattle.m3_model.specs.Contents.{Holds, HoldsAt, joined_pairs, range_of}
+use Rattle.m3_model.specs.Contents.{Holds, HoldsAt, joined_pairs}
 use Rattle.m3_model.specs.Record.{InnerTurn}
 use Rattle.m3_model.specs.Points.{point_of, was_acked, acked_point, sent_point}
 use Rattle.m3_model.specs.Reads.{points_in, Covers, IsOrdered, IsSought}
 use Rattle.m3_model.specs.Kept.{KeepsPoints}
 use Rattle.m3_model.proofs.MemberLemmas.{IsIn-filter_map, filter_map-IsIn, IsIn-map, map-IsIn}
-use Rattle.m3_model.proofs.RangeLemmas.{range_stands, stands_in_range}
 use Rattle.m3_model.proofs.FindLemmas.{get-IsIn, IsIn-get, entries_ascend}
 use Rattle.m3_model.proofs.JoinLemmas.{joined_holds, joined_keeps, joined_source}
-use Rattle.m3_cluster.specs.declared.replica.Replica.{Replica}
-use Rattle.m3_cluster.specs.Quorums.{chosen, joined_ranges}
+use Rattle.m3_cluster.specs.Quorums.{chosen, answering, joined_answers}
+use Rattle.m3_cluster.specs.Replicas.{Replica, AreRanges}
+use Rattle.m3_cluster.specs.Windows.{kept_from}
+use Rattle.m3_cluster.proofs.WindowLemmas.{kept_reached, reached_kept}
 use Rattle.m3_cluster.specs.Steps.{Formed, spaces_in, series_of, IsJoined}
 use Rattle.m3_cluster.specs.Serves.{rules_of, Stands}
 use Rattle.m3_cluster.proofs.SpaceLemmas.{space_at}
@@ -54,36 +55,38 @@ Ascends-weaker P Q f (x ∷ xs) h = ((λ y m. f x y (h.0 y m)), Ascends-weaker P
 times_ascend : (m : FinMap nat_cmp ℤ) → Ascends (λ a b. a.0 < b.0) (entries m)
 times_ascend m = Ascends-weaker _ _ (λ a b e. ranked a.0 b.0 Less (sym e)) (entries m) (entries_ascend nat_cmp nat_cmp_total nat_cmp-IsAntisymmetric m)
 
--- joining one replica's range after the other
-joined_from : ℕ → List ℕ → ℕ → ℕ → FinMap nat_cmp ℤ → List Replica → FinMap nat_cmp ℤ
-joined_from ns id from to m rs = fold (λ n r. joined_pairs n (range_of r.content ns id from to)) m rs
+-- joining one answer after the other
+joined_from_keeps : (answers : List (List (ℕ × ℤ))) (m : FinMap nat_cmp ℤ) (t : ℕ) (v : ℤ) → HoldsAt m t v → HoldsAt (fold (λ n pairs. joined_pairs n pairs) m answers) t v
+joined_from_keeps [] m t v h = h
+joined_from_keeps (pairs ∷ answers) m t v h = joined_from_keeps answers (joined_pairs m pairs) t v (joined_keeps nat_cmp_total nat_cmp-IsAntisymmetric pairs m t v h)
 
-joined_from_keeps : (ns : ℕ) (id : List ℕ) (from to : ℕ) (rs : List Replica) (m : FinMap nat_cmp ℤ) (t : ℕ) (v : ℤ) → HoldsAt m t v → HoldsAt (fold (λ n r. joined_pairs n (range_of r.content ns id from to)) m rs) t v
-joined_from_keeps ns id from to [] m t v h = h
-joined_from_keeps ns id from to (r ∷ rs) m t v h =
-    joined_from_keeps ns id from to rs (joined_pairs m (range_of r.content ns id from to)) t v (joined_keeps nat_cmp_total nat_cmp-IsAntisymmetric (range_of r.content ns id from to) m t v h)
-
--- what a replica has in the range stands in the joined answer, or a higher value
-joined_from_holds : (ns : ℕ) (id : List ℕ) (from to : ℕ) (rs : List Replica) (m : FinMap nat_cmp ℤ) (r : Replica) (p : ℕ × ℤ) → IsIn rs r → IsIn (range_of r.content ns id from to) p
-    → HoldsAt (fold (λ n q. joined_pairs n (range_of q.content ns id from to)) m rs) p.0 p.1
-joined_from_holds ns id from to [] m r p h i = absurd h
-joined_from_holds ns id from to (q ∷ rs) m r p h i =
-    elim h as (λ _. HoldsAt (fold (λ n x. joined_pairs n (range_of x.content ns id from to)) (joined_pairs m (range_of q.content ns id from to)) rs) p.0 p.1) [
-      | inl same ↦ joined_from_keeps ns id from to rs (joined_pairs m (range_of q.content ns id from to)) p.0 p.1
-          (joined_holds nat_cmp_total nat_cmp-IsAntisymmetric (range_of q.content ns id from to) m p (subst (λ (x : Replica). IsIn (range_of x.content ns id from to) p) (sym same) i))
-      | inr rest ↦ joined_from_holds ns id from to rs (joined_pairs m (range_of q.content ns id from to)) r p rest i
+-- what a replica has in the range stands in the joined answers, or a higher value
+joined_from_holds : (ns : ℕ) (id : List ℕ) (from to : ℕ) (rs : List Replica) (answers : List (List (ℕ × ℤ))) (m : FinMap nat_cmp ℤ) (r : Replica) (t : ℕ) (v : ℤ) → AreRanges ns id from to rs answers → IsIn rs r
+    → get r.content (record { ns = ns; id = id; t = t }) ≡ Some v → from ≤ t → t < to → HoldsAt (fold (λ n pairs. joined_pairs n pairs) m answers) t v
+joined_from_holds ns id from to [] answers m r t v all h e low high = absurd h
+joined_from_holds ns id from to (q ∷ rs) [] m r t v all h e low high = absurd all
+joined_from_holds ns id from to (q ∷ rs) (pairs ∷ answers) m r t v all h e low high =
+    elim h as (λ _. HoldsAt (fold (λ n x. joined_pairs n x) (joined_pairs m pairs) answers) t v) [
+      | inl same ↦ joined_from_keeps answers (joined_pairs m pairs) t v
+          (joined_holds nat_cmp_total nat_cmp-IsAntisymmetric pairs m (t, v) (all.0.whole t v (ap (λ (x : Replica). get x.content (record { ns = ns; id = id; t = t })) same ∙ e) low high))
+      | inr rest ↦ joined_from_holds ns id from to rs answers (joined_pairs m pairs) r t v all.1 rest e low high
     ]
 
--- what stands in the joined answer is in a replica's range
-joined_from_source : (ns : ℕ) (id : List ℕ) (from to : ℕ) (rs : List Replica) (m : FinMap nat_cmp ℤ) (t : ℕ) (v : ℤ) → get (fold (λ n r. joined_pairs n (range_of r.content ns id from to)) m rs) t ≡ Some v
-    → ((r : Replica) × IsIn rs r × IsIn (range_of r.content ns id from to) (t, v)) ⊎ (get m t ≡ Some v)
-joined_from_source ns id from to [] m t v e = inr e
-joined_from_source ns id from to (q ∷ rs) m t v e =
-    elim (joined_from_source ns id from to rs (joined_pairs m (range_of q.content ns id from to)) t v e)
-    as (λ _. ((r : Replica) × ((q ≡ r) ⊎ IsIn rs r) × IsIn (range_of r.content ns id from to) (t, v)) ⊎ (get m t ≡ Some v)) [
-      | inl later ↦ inl (later.0, inr later.1, later.2)
-      | inr here ↦ elim (joined_source nat_cmp_total nat_cmp-IsAntisymmetric (range_of q.content ns id from to) m t v here)
-          as (λ _. ((r : Replica) × ((q ≡ r) ⊎ IsIn rs r) × IsIn (range_of r.content ns id from to) (t, v)) ⊎ (get m t ≡ Some v)) [ inl own ↦ inl (q, inl refl, own) | inr before ↦ inr before ]
+-- what stands in the joined answers is what a replica has in the range
+joined_from_source : (ns : ℕ) (id : List ℕ) (from to : ℕ) (rs : List Replica) (answers : List (List (ℕ × ℤ))) (m : FinMap nat_cmp ℤ) (t : ℕ) (v : ℤ) → AreRanges ns id from to rs answers → get (fold (λ n pairs. joined_pairs n pairs) m answers) t ≡ Some v
+    → ((r : Replica) × IsIn rs r × (get r.content (record { ns = ns; id = id; t = t }) ≡ Some v) × (from ≤ t) × (t < to)) ⊎ (get m t ≡ Some v)
+joined_from_source ns id from to [] [] m t v all e = inr e
+joined_from_source ns id from to [] (pairs ∷ answers) m t v all e = absurd all
+joined_from_source ns id from to (q ∷ rs) [] m t v all e = absurd all
+joined_from_source ns id from to (q ∷ rs) (pairs ∷ answers) m t v all e =
+    elim (joined_from_source ns id from to rs answers (joined_pairs m pairs) t v all.1 e)
+    as (λ _. ((r : Replica) × ((q ≡ r) ⊎ IsIn rs r) × (get r.content (record { ns = ns; id = id; t = t }) ≡ Some v) × (from ≤ t) × (t < to)) ⊎ (get m t ≡ Some v)) [
+      | inl later ↦ inl (later.0, inr later.1, later.2, later.3, later.4)
+      | inr here ↦ elim (joined_source nat_cmp_total nat_cmp-IsAntisymmetric pairs m t v here)
+          as (λ _. ((r : Replica) × ((q ≡ r) ⊎ IsIn rs r) × (get r.content (record { ns = ns; id = id; t = t }) ≡ Some v) × (from ≤ t) × (t < to)) ⊎ (get m t ≡ Some v)) [
+            | inl own ↦ let is = all.0.nothing_else (t, v) own in inl (q, inl refl, is.0, is.1, is.2)
+            | inr before ↦ inr before
+          ]
     ]
 
 -- the point of a pair of an identifier
@@ -91,28 +94,28 @@ abbrev at_pair : ℕ → List ℕ → ℕ × ℤ → Point
 at_pair ns id x = record { ns = ns; id = id; t = x.0; v = x.1 }
 
 -- a point that one of the replicas holds is covered by what they give together
-covered : (rs : List Replica) (r : Replica) (p : Point) (ns : ℕ) (id : List ℕ) (from to : ℕ) → IsIn rs r → Holds r.content p → p.ns ≡ ns → p.id ≡ id → from ≤ p.t → p.t < to
-    → Covers (map (at_pair ns id) (entries (joined_ranges ns id from to rs))) p
-covered rs r p ns id from to m h ns_is id_is low high =
+covered : (rs : List Replica) (answers : List (List (ℕ × ℤ))) (r : Replica) (p : Point) (ns : ℕ) (id : List ℕ) (from to : ℕ) → AreRanges ns id from to rs answers → IsIn rs r → Holds r.content p → p.ns ≡ ns → p.id ≡ id → from ≤ p.t → p.t < to
+    → Covers (map (at_pair ns id) (entries (joined_answers answers))) p
+covered rs answers r p ns id from to all m h ns_is id_is low high =
     let at_r : get r.content (record { ns = ns; id = id; t = p.t }) ≡ Some h.value = ap (get r.content) (λ i. record { ns = sym ns_is i; id = sym id_is i; t = p.t }) ∙ h.stands in
-    let joined = joined_from_holds ns id from to rs empty r (p.t, h.value) m (stands_in_range r.content ns id from to p.t h.value at_r low high) in
-    let entry = get-IsIn nat_cmp nat_cmp_total nat_cmp-IsAntisymmetric (joined_ranges ns id from to rs) p.t joined.value joined.stands in
+    let joined = joined_from_holds ns id from to rs answers empty r p.t h.value all m at_r low high in
+    let entry = get-IsIn nat_cmp nat_cmp_total nat_cmp-IsAntisymmetric (joined_answers answers) p.t joined.value joined.stands in
     let higher : h.value ≤ℤ joined.value = joined.at_least in
     let lower : p.v ≤ℤ h.value = h.at_least in
     record {
       value = joined.value;
       at_least = grind (arith, ints);
-      stands = subst (IsIn (map (at_pair ns id) (entries (joined_ranges ns id from to rs)))) (λ i. record { ns = sym ns_is i; id = sym id_is i; t = p.t; v = joined.value })
-          (map-IsIn (at_pair ns id) (entries (joined_ranges ns id from to rs)) (p.t, joined.value) entry);
+      stands = subst (IsIn (map (at_pair ns id) (entries (joined_answers answers)))) (λ i. record { ns = sym ns_is i; id = sym id_is i; t = p.t; v = joined.value })
+          (map-IsIn (at_pair ns id) (entries (joined_answers answers)) (p.t, joined.value) entry);
     }
 
 -- a pair that the replicas give together stands in one of them
-given_by : (rs : List Replica) (ns : ℕ) (id : List ℕ) (from to : ℕ) (x : ℕ × ℤ) → IsIn (entries (joined_ranges ns id from to rs)) x
+given_by : (rs : List Replica) (answers : List (List (ℕ × ℤ))) (ns : ℕ) (id : List ℕ) (from to : ℕ) (x : ℕ × ℤ) → AreRanges ns id from to rs answers → IsIn (entries (joined_answers answers)) x
     → (r : Replica) × IsIn rs r × (get r.content (record { ns = ns; id = id; t = x.0 }) ≡ Some x.1) × (from ≤ x.0) × (x.0 < to)
-given_by rs ns id from to x h =
-    elim (joined_from_source ns id from to rs empty x.0 x.1 (IsIn-get nat_cmp nat_cmp_total nat_cmp-IsAntisymmetric (joined_ranges ns id from to rs) x.0 x.1 h))
+given_by rs answers ns id from to x all h =
+    elim (joined_from_source ns id from to rs answers empty x.0 x.1 all (IsIn-get nat_cmp nat_cmp_total nat_cmp-IsAntisymmetric (joined_answers answers) x.0 x.1 h))
     as (λ _. (r : Replica) × IsIn rs r × (get r.content (record { ns = ns; id = id; t = x.0 }) ≡ Some x.1) × (from ≤ x.0) × (x.0 < to)) [
-      | inl found ↦ let stands = range_stands found.0.content ns id from to x found.2 in (found.0, found.1, stands.0, stands.1, stands.2)
+      | inl found ↦ found
       | inr none ↦ let nothing = get-empty {X = ℤ} nat_cmp x.0 in cc
     ]
 
@@ -152,23 +155,28 @@ pub fetch_keeps : (turns : List InnerTurn) (f : Formed) (ns id : List ℕ) (from
     → KeepsPoints (rules_of (Some f)) (filter_map (acked_point f.state.place.rf (spaces_in f)) turns) (filter_map (sent_point (spaces_in f)) turns)
     (record { pick = pick.One j.place id; from = from; to = to; level = level }) (record { series = series; short = short })
 fetch_keeps turns f ns id from to level short series s j =
-    let rs = chosen j.flags f.replicas in
-    let pairs = entries (joined_ranges j.place id from to rs) in
+    let rules = f.state.rules in
+    let first = kept_from rules j.place from in
+    let flags = answering j.outcomes in
+    let rs = chosen flags f.replicas in
+    let pairs = entries (joined_answers j.answers) in
     let answered : points_in j.place series ≡ map (at_pair j.place id) pairs = ap (points_in j.place) j.series_are ∙ points_in-series_of j.place id pairs in
     let space = space_at ns (spaces_in f) j.place j.found in
     record {
       acknowledged = λ strong p m sought.
           let turn = IsIn-filter_map (acked_point f.state.place.rf (spaces_in f)) turns p m in
-          let held = held_in turns f j.flags turn.0 p s j.enough turn.1 turn.2 in
-          subst (λ ps. Covers ps p) (sym answered) (covered rs held.0 p j.place id from to held.1 held.2 sought.matches.0 sought.matches.1 sought.in_range.0 sought.in_range.1);
+          let held = held_in turns f flags turn.0 p s j.enough turn.1 turn.2 in
+          let stands : slice_get (spaces_in f) j.place ≡ Some sought.live.space = ap (slice_get (spaces_in f)) (sym sought.matches.0) ∙ sought.live.stands in
+          let reached = kept_reached rules j.place from p.t sought.live.space stands sought.in_range.0 sought.live.kept in
+          subst (λ ps. Covers ps p) (sym answered) (covered rs j.answers held.0 p j.place id first to j.ranges held.1 held.2 sought.matches.0 sought.matches.1 reached sought.in_range.1);
       nothing_else = λ p m.
           let pair = IsIn-map (at_pair j.place id) pairs p (subst (λ ps. IsIn ps p) answered m) in
-          let given = given_by rs j.place id from to pair.0 pair.1 in
-          let live : 0 < pair.0.0 + space.0.retention = let r = (s.well f refl).retained space.0 space.2 in omega arith in
-          let sent = s.sent f refl given.0 (chosen-IsIn j.flags f.replicas given.0 given.1) (record { ns = j.place; id = id; t = pair.0.0 }) pair.0.1 given.2 in (
+          let given = given_by rs j.answers j.place id first to pair.0 j.ranges pair.1 in
+          let kept = reached_kept rules j.place from pair.0.0 space.0 space.1 given.3 in
+          let sent = s.sent f refl given.0 (chosen-IsIn flags f.replicas given.0 given.1) (record { ns = j.place; id = id; t = pair.0.0 }) pair.0.1 given.2 in (
             subst (IsIn (filter_map (sent_point (spaces_in f)) turns)) pair.2 (filter_map-IsIn (sent_point (spaces_in f)) turns sent.turn (at_pair j.place id pair.0) sent.served sent.of_act),
-            subst (IsSought (rules_of (Some f)) (record { pick = pick.One j.place id; from = from; to = to; level = level })) pair.2
-                (record { matches = (refl, refl); in_range = (given.3, given.4); live = record { space = space.0; stands = space.1; kept = live } }),
+            subst (IsSought rules (record { pick = pick.One j.place id; from = from; to = to; level = level })) pair.2
+                (record { matches = (refl, refl); in_range = (kept.0, given.4); live = record { space = space.0; stands = space.1; kept = kept.1 } }),
           );
-      ordered = subst IsOrdered (sym j.series_are) (ordered_one id pairs (times_ascend (joined_ranges j.place id from to rs)));
+      ordered = subst IsOrdered (sym j.series_are) (ordered_one id pairs (times_ascend (joined_answers j.answers)));
     }

@@ -19,7 +19,7 @@ use Rattle.m3_model.specs.declared.placement.Placement.{Placement}
 use Rattle.m3_model.specs.Placements.{first_instances, IsApart, IsFirstShard, IsFirstPlacement}
 use Rattle.m3_model.specs.Caused.{IsNamedBelow}
 use Rattle.m3_model.proofs.MemberLemmas.{IsIn-map}
-use Rattle.m3_cluster.specs.declared.replica.Replica.{Replica}
+use Rattle.m3_cluster.specs.Replicas.{Replica}
 use Rattle.m3_cluster.specs.First.{numbered, nodes_by_name, first_assignment, empty_replica, first_place}
 use Rattle.m3_cluster.specs.Serves.{IsStaffed}
 

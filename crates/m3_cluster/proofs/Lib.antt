@@ -1,6 +1,9 @@
 pub mod ChosenLemmas
+pub mod RangeLemmas
 pub mod SpaceLemmas
+pub mod WindowLemmas
 pub mod FirstLemmas
+pub mod WriteLemmas
 pub mod StandLemmas
 pub mod FetchLemmas
 pub mod StepLemmas

@@ -21,7 +21,7 @@ use Rattle.m3_model.specs.Rules.{rules_by, start_rules, namespace_place}
 use Rattle.m3_model.specs.Placements.{printed, later_placement}
 use Rattle.m3_model.specs.Points.{point_of, sent_point, was_sent}
 use Rattle.m3_model.proofs.MemberLemmas.{IsIn-append_left, IsIn-append_cases, IsIn-push}
-use Rattle.m3_cluster.specs.declared.replica.Replica.{Replica}
+use Rattle.m3_cluster.specs.Replicas.{Replica}
 use Rattle.m3_cluster.specs.Quorums.{chosen}
 use Rattle.m3_cluster.specs.Steps.{Formed, spaces_in}
 use Rattle.m3_cluster.specs.Serves.{place_of, rules_of, IsWellFormed, IsHeld, WasSent, Stands}

@@ -1,5 +1,5 @@
 -- Each answer of the cluster is a step that a turn may do.
-use Rattle.std.proofs.Common.{◌≡◌, ℕ, ◌<◌, ℤ, List, [], ◌∷◌, ◌++◌, map, length, refl, sym, ap, ◌∙◌, subst, inl, inr, append-nil, arith, Bool}
+use Rattle.std.proofs.Common.{◌≡◌, ℕ, ℤ, List, [], ◌∷◌, ◌++◌, map, length, refl, sym, ap, ◌∙◌, subst, inl, inr, append-nil, arith, Bool, true, cond}
 use Rattle.std.specs.Prelude.{◌⊎◌, Option, Some, None, option_map}
 use Rattle.std.specs.FinMap.{get, get-empty}
 use Rattle.m3_model.specs.declared.point.Key.{Key}
@@ -24,13 +24,15 @@ use Rattle.m3_model.specs.NotYet.{IsServedAct}
 use Rattle.m3_model.specs.Record.{InnerTurn}
 use Rattle.m3_model.specs.Rules.{rules_by, namespace_place}
 use Rattle.m3_model.specs.Placements.{printed, later_placement, first_instances}
-use Rattle.m3_model.specs.Points.{sent_point}
-use Rattle.m3_model.proofs.MemberLemmas.{IsIn-append_cases, IsIn-map}
+use Rattle.m3_model.specs.Points.{point_of, sent_point, was_sent}
+use Rattle.m3_model.proofs.MemberLemmas.{IsIn-map}
 use Rattle.m3_model.proofs.JoinLemmas.{raised_holds, raised_keeps, raised_source}
-use Rattle.m3_cluster.specs.declared.replica.Replica.{Replica}
-use Rattle.m3_cluster.specs.Quorums.{chosen, with_point}
+use Rattle.m3_cluster.specs.Replicas.{Replica}
+use Rattle.m3_model.specs.declared.point.Series.{Series}
+use Rattle.m3_model.specs.declared.reason.Reason.{Reason}
+use Rattle.m3_cluster.specs.Quorums.{chosen, answering, with_point}
 use Rattle.m3_cluster.specs.First.{first_state, nodes_by_name, empty_replica}
-use Rattle.m3_cluster.specs.Steps.{Formed, spaces_in, IsTaken, IsWritten, IsFetched, IsNamed, IsMade, Answers}
+use Rattle.m3_cluster.specs.Steps.{Formed, spaces_in, IsTaken, IsWritten, IsFetched, IsNamed, IsMoved, IsMade, Answers}
 use Rattle.m3_cluster.specs.Serves.{place_of, rules_of, IsStaffed, IsWellFormed, Stands}
 use Rattle.m3_cluster.proofs.ChosenLemmas.{length-chosen_taken, length_taken, nodes_taken, chosen-taken, taken-IsIn, chosen_took}
 use Rattle.m3_cluster.proofs.FirstLemmas.{names_apart, first_staffed, three_apart}
@@ -48,30 +50,45 @@ stays turns c a b s rules none no_acks = record {
   acked = λ acks e. absurd (no_acks acks e);
 }
 
-rules_order : (a : Act) (r : Rules) → rules_by a answer.Order r ≡ r
-rules_order (act.Now now) r = refl
-rules_order (act.Namespace name block past future retention) r = refl
-rules_order _ r = refl
+-- only what was done changes the moment or the namespaces
+rules_stay : (a : Act) (b : Answer) (r : Rules) → (b ≡ answer.Done → ⊥) → rules_by a b r ≡ r
+rules_stay (act.Now now) answer.Done r h = absurd (h refl)
+rules_stay (act.Now now) _ r h = refl
+rules_stay (act.Namespace name block past future retention) answer.Done r h = absurd (h refl)
+rules_stay (act.Namespace name block past future retention) _ r h = refl
+rules_stay _ b r h = refl
 
-rules_memory : (a : Act) (r : Rules) → rules_by a answer.Memory r ≡ r
-rules_memory (act.Now now) r = refl
-rules_memory (act.Namespace name block past future retention) r = refl
-rules_memory _ r = refl
+-- an answer that tells of no change
+abbrev TellsNothing : Answer → Type 0
+TellsNothing b = (b ≡ answer.Done → ⊥) × (printed b ≡ None) × ((acks : List ℕ) → b ≡ answer.Acks acks → ⊥)
 
-rules_later : (a : Act) (r : Rules) → rules_by a answer.Later r ≡ r
-rules_later (act.Now now) r = refl
-rules_later (act.Namespace name block past future retention) r = refl
-rules_later _ r = refl
+unchanged : (turns : List InnerTurn) (old new : Option Formed) (a : Act) (b : Answer) → Stands turns old → TellsNothing b → new ≡ old → Goes old (record { act = a; answer = b }) new
+unchanged turns old new a b s tells e = subst (Goes old (record { act = a; answer = b })) (sym e) (stays turns old a b s (rules_stay a b (rules_of old) tells.0) tells.1 tells.2)
 
-pub stays_order : (turns : List InnerTurn) (old new : Option Formed) (a : Act) (b : Answer) → Stands turns old → b ≡ answer.Order → new ≡ old → Goes old (record { act = a; answer = b }) new
-stays_order turns old new a b s is e =
-    subst (λ x. Goes old (record { act = a; answer = x }) new) (sym is) (subst (Goes old (record { act = a; answer = answer.Order })) (sym e) (stays turns old a answer.Order s (rules_order a (rules_of old)) refl (λ acks f. cc)))
+tells_order : TellsNothing answer.Order
+tells_order = ((λ e. cc), refl, λ acks e. cc)
 
-stays_memory : (turns : List InnerTurn) (old new : Option Formed) (a : Act) → Stands turns old → new ≡ old → Goes old (record { act = a; answer = answer.Memory }) new
-stays_memory turns old new a s e = subst (Goes old (record { act = a; answer = answer.Memory })) (sym e) (stays turns old a answer.Memory s (rules_memory a (rules_of old)) refl (λ acks f. cc))
+tells_memory : TellsNothing answer.Memory
+tells_memory = ((λ e. cc), refl, λ acks e. cc)
 
-stays_later : (turns : List InnerTurn) (old new : Option Formed) (a : Act) → Stands turns old → new ≡ old → Goes old (record { act = a; answer = answer.Later }) new
-stays_later turns old new a s e = subst (Goes old (record { act = a; answer = answer.Later })) (sym e) (stays turns old a answer.Later s (rules_later a (rules_of old)) refl (λ acks f. cc))
+tells_unknown : (name : List ℕ) → TellsNothing (answer.Unknown name)
+tells_unknown name = ((λ e. cc), refl, λ acks e. cc)
+
+tells_limit : (limit : ℕ) → TellsNothing (answer.Limit limit)
+tells_limit limit = ((λ e. cc), refl, λ acks e. cc)
+
+tells_clock : (now : ℕ) → TellsNothing (answer.Clock now)
+tells_clock now = ((λ e. cc), refl, λ acks e. cc)
+
+tells_found : (series : List Series) (short : Bool) → TellsNothing (answer.Found series short)
+tells_found series short = ((λ e. cc), refl, λ acks e. cc)
+
+tells_consistency : (got needed : ℕ) (reasons : List (ℕ × Reason)) (shard : ℕ) → TellsNothing (answer.Consistency got needed reasons shard)
+tells_consistency got needed reasons shard = ((λ e. cc), refl, λ acks e. cc)
+
+-- out of order
+unordered : (turns : List InnerTurn) (old new : Option Formed) (a : Act) (b : Answer) → Stands turns old → b ≡ answer.Order → new ≡ old → Goes old (record { act = a; answer = b }) new
+unordered turns old new a b s is e = subst (λ x. Goes old (record { act = a; answer = x }) new) (sym is) (unchanged turns old new a answer.Order s tells_order e)
 
 -- ---- init
 
@@ -84,8 +101,6 @@ init_goes rf shards seed nodes place version old new limits built h =
       rules = ap rules_of h.0 ∙ sym (ap rules_of h.3);
       place = ap Some h.1 ∙ sym (ap place_of h.3);
       well = λ g is. subst IsWellFormed (same g is) (record {
-        no_moment = refl;
-        retained = λ s m. absurd m;
         staffed = first_staffed rf (first_instances nodes) (names_apart nodes limits.distinct) (built.0 ∙ sym (length_instances nodes ∙ (three_apart nodes built.2).0));
       });
       grows = λ f is. let bad : None ≡ Some f = sym h.0 ∙ is in cc;
@@ -99,51 +114,53 @@ init_goes rf shards seed nodes place version old new limits built h =
     length_instances [] = refl
     length_instances (n ∷ ns) = let rest = length_instances ns in omega arith
 
--- ---- namespaces
+-- ---- namespaces and moments
 
-space_goes : (turns : List InnerTurn) (f g : Formed) (space : Space) → 0 < space.retention → Stands turns (Some f) → IsNamed f space answer.Done g
-    → Goes (Some f) (record { act = act.Namespace space.name space.block space.past space.future space.retention; answer = answer.Done }) (Some g)
-space_goes turns f g space some s h =
+-- the rules changed, by one more namespace or none, and nothing else
+ruled_goes : (turns : List InnerTurn) (f g : Formed) (d : InnerTurn) (more : List Space) → Stands turns (Some f) → rules_by d.act d.answer f.state.rules ≡ g.state.rules → spaces_in g ≡ spaces_in f ++ more → g.state.place ≡ f.state.place → g.replicas ≡ f.replicas
+    → printed d.answer ≡ None → ((acks : List ℕ) → d.answer ≡ answer.Acks acks → ⊥) → Goes (Some f) d (Some g)
+ruled_goes turns f g d more s rules spaces place replicas none no_acks =
     let well = s.well f refl in
-    let spaces : spaces_in g ≡ spaces_in f ++ space ∷ [] = ap (λ (x : MetaState). x.rules.spaces) h.1 in
     let same : (x : Formed) → Some g ≡ Some x → g ≡ x = λ x is. cc in
-    let place : g.state.place ≡ f.state.place = ap (λ (x : MetaState). x.place) h.1 in
-    let d : InnerTurn = record { act = act.Namespace space.name space.block space.past space.future space.retention; answer = answer.Done } in
     record {
-      rules = ap with_spaces (sym spaces);
-      place = ap Some (sym place);
-      well = λ x is. subst IsWellFormed (same x is) (record {
-        no_moment = ap (λ (x : MetaState). x.rules.now) h.1 ∙ well.no_moment;
-        retained = λ y m. elim (IsIn-append_cases (spaces_in f) (space ∷ []) y (subst (λ ys. IsIn ys y) spaces m)) as (λ _. 0 < y.retention) [
-          | inl was ↦ well.retained y was
-          | inr last ↦ elim last as (λ _. 0 < y.retention) [ inl e ↦ subst (λ (z : Space). 0 < z.retention) e some | inr none ↦ absurd none ]
-        ];
-        staffed = subst (λ p. IsStaffed p g.replicas) (sym place) (subst (IsStaffed f.state.place) (sym h.2) well.staffed);
-      });
+      rules = rules;
+      place = ap (λ o. later_placement o (Some f.state.place)) none ∙ ap Some (sym place);
+      well = λ x is. subst IsWellFormed (same x is) (record { staffed = subst (λ p. IsStaffed p g.replicas) (sym place) (subst (IsStaffed f.state.place) (sym replicas) well.staffed) });
       grows = λ x is. (
         g,
         refl,
         subst (λ y. Grows y d g) (let e : f ≡ x = cc in e) (record {
-          more = space ∷ [];
+          more = more;
           spaces = spaces;
-          size = λ flags. ap (λ rs. length (chosen flags rs)) h.2;
-          keeps = λ flags p all r m. all r (subst (λ rs. IsIn (chosen flags rs) r) h.2 m);
-          source = λ r m k v e. inl (r, subst (λ rs. IsIn rs r) h.2 m, e);
+          size = λ flags. ap (λ rs. length (chosen flags rs)) replicas;
+          keeps = λ flags p all r m. all r (subst (λ rs. IsIn (chosen flags rs) r) replicas m);
+          source = λ r m k v e. inl (r, subst (λ rs. IsIn rs r) replicas m, e);
         }),
       );
       fresh = λ was. cc;
-      acked = λ acks e. cc;
+      acked = λ acks e. absurd (no_acks acks e);
     }
-  where
-    with_spaces : List Space → Rules
-    with_spaces spaces = record { now = 0; spaces = spaces }
+
+named_goes : (turns : List InnerTurn) (f g : Formed) (space : Space) (b : Answer) → Stands turns (Some f) → IsNamed f space b g → Goes (Some f) (record { act = act.Namespace space.name space.block space.past space.future space.retention; answer = b }) (Some g)
+named_goes turns f g space answer.Done s h =
+    ruled_goes turns f g _ (space ∷ []) s (ap (λ (x : MetaState). x.rules) (sym h.2)) (ap (λ (x : MetaState). x.rules.spaces) h.2) (ap (λ (x : MetaState). x.place) h.2) h.3 refl (λ acks e. cc)
+named_goes turns f g space answer.Order s h = unchanged turns (Some f) (Some g) _ answer.Order s tells_order (ap Some h.1)
+named_goes turns f g space (answer.Limit limit) s h = unchanged turns (Some f) (Some g) _ (answer.Limit limit) s (tells_limit limit) (ap Some h.3)
+named_goes turns f g space answer.Memory s h = unchanged turns (Some f) (Some g) _ answer.Memory s tells_memory (ap Some h)
+named_goes turns f g space _ s h = absurd h
+
+moved_goes : (turns : List InnerTurn) (f g : Formed) (now : ℕ) (b : Answer) → Stands turns (Some f) → IsMoved f now b g → Goes (Some f) (record { act = act.Now now; answer = b }) (Some g)
+moved_goes turns f g now answer.Done s h =
+    ruled_goes turns f g _ [] s (ap (λ (x : MetaState). x.rules) (sym h.1)) (ap (λ (x : MetaState). x.rules.spaces) h.1 ∙ sym (append-nil (spaces_in f))) (ap (λ (x : MetaState). x.place) h.1) h.2 refl (λ acks e. cc)
+moved_goes turns f g now (answer.Clock moment) s h = unchanged turns (Some f) (Some g) _ (answer.Clock moment) s (tells_clock moment) (ap Some h.2)
+moved_goes turns f g now _ s h = absurd h
 
 -- ---- writes
 
 -- a point that replicas took is the point of the write
-taken_point : (f : Formed) (ns id : List ℕ) (t : ℕ) (v : ℤ) (flags : List Bool) (g : Formed) → (taken : IsTaken f ns id t v flags g)
+taken_point : (f : Formed) (ns id : List ℕ) (t : ℕ) (v : ℤ) (outcomes : List (Option Reason)) (g : Formed) → (taken : IsTaken f ns id t v outcomes g)
     → option_map {U = Point} (λ k. record { ns = k; id = id; t = t; v = v }) (namespace_place ns (spaces_in g)) ≡ Some (record { ns = taken.place; id = id; t = t; v = v })
-taken_point f ns id t v flags g taken =
+taken_point f ns id t v outcomes g taken =
     let made : ℕ → Point = λ k. record { ns = k; id = id; t = t; v = v } in
     ap (λ (s : MetaState). option_map made (namespace_place ns s.rules.spaces)) taken.state_stays ∙ ap (option_map made) taken.found
 
@@ -165,12 +182,13 @@ source_as d spaces q rs r k v sent e was m how =
       | inr stayed ↦ inl (was, m, ap (λ (x : Replica). get x.content k) (sym stayed) ∙ e)
     ]
 
-taken_grows : (f g : Formed) (ns id : List ℕ) (t : ℕ) (v : ℤ) (level : WriteLevel) (version : Option ℕ) (flags : List Bool) (b : Answer) → IsTaken f ns id t v flags g
-    → ((taken : IsTaken f ns id t v flags g) → sent_point (spaces_in g) (record { act = act.Write ns id t v level version; answer = b }) ≡ Some (record { ns = taken.place; id = id; t = t; v = v }))
+taken_grows : (f g : Formed) (ns id : List ℕ) (t : ℕ) (v : ℤ) (level : WriteLevel) (version : Option ℕ) (outcomes : List (Option Reason)) (b : Answer) → IsTaken f ns id t v outcomes g → was_sent b ≡ true
     → Grows f (record { act = act.Write ns id t v level version; answer = b }) g
-taken_grows f g ns id t v level version flags b taken sent =
+taken_grows f g ns id t v level version outcomes b taken sent =
+    let flags = answering outcomes in
     let p : Point = record { ns = taken.place; id = id; t = t; v = v } in
     let d : InnerTurn = record { act = act.Write ns id t v level version; answer = b } in
+    let of_turn : sent_point (spaces_in g) d ≡ Some p = ap (λ test. cond test (point_of (spaces_in g) d.act) None) sent ∙ taken_point f ns id t v outcomes g taken in
     record {
       more = [];
       spaces = ap (λ (s : MetaState). s.rules.spaces) taken.state_stays ∙ sym (append-nil (spaces_in f));
@@ -180,11 +198,12 @@ taken_grows f g ns id t v level version flags b taken sent =
           holds_as q p (chosen fs f.replicas) r all was.0 was.1 was.2;
       source = λ r m k w e.
           let was = taken-IsIn flags p f.replicas r (subst (λ rs. IsIn rs r) taken.replicas_are m) in
-          source_as d (spaces_in g) p f.replicas r k w (sent taken) e was.0 was.1 was.2;
+          source_as d (spaces_in g) p f.replicas r k w of_turn e was.0 was.1 was.2;
     }
 
-taken_well : (f g : Formed) (ns id : List ℕ) (t : ℕ) (v : ℤ) (flags : List Bool) → IsTaken f ns id t v flags g → IsWellFormed f → IsWellFormed g
-taken_well f g ns id t v flags taken well =
+taken_well : (f g : Formed) (ns id : List ℕ) (t : ℕ) (v : ℤ) (outcomes : List (Option Reason)) → IsTaken f ns id t v outcomes g → IsWellFormed f → IsWellFormed g
+taken_well f g ns id t v outcomes taken well =
+    let flags = answering outcomes in
     let p : Point = record { ns = taken.place; id = id; t = t; v = v } in
     let nodes : map (λ (r : Replica). r.node) g.replicas ≡ map (λ (r : Replica). r.node) f.replicas = ap (map (λ (r : Replica). r.node)) taken.replicas_are ∙ nodes_taken flags p f.replicas in
     let place : g.state.place ≡ f.state.place = ap (λ (s : MetaState). s.place) taken.state_stays in
@@ -196,97 +215,77 @@ taken_well f g ns id t v flags taken well =
       all = well.staffed.all ∙ sym (ap length taken.replicas_are ∙ length_taken flags p f.replicas);
       by_name = subst (Ascends (IsNamedBelow f.state.place)) (sym nodes) well.staffed.by_name;
     } in
-    record {
-      no_moment = ap (λ (s : MetaState). s.rules.now) taken.state_stays ∙ well.no_moment;
-      retained = λ s m. well.retained s (subst (λ ss. IsIn ss s) (ap (λ (x : MetaState). x.rules.spaces) taken.state_stays) m);
-      staffed = subst (λ x. IsStaffed x g.replicas) (sym place) staffed;
-    }
+    record { staffed = subst (λ x. IsStaffed x g.replicas) (sym place) staffed }
 
-write_goes : (turns : List InnerTurn) (f g : Formed) (ns id : List ℕ) (t : ℕ) (v : ℤ) (level : WriteLevel) (version : Option ℕ) (acks : List ℕ) → Stands turns (Some f) → IsWritten f ns id t v (answer.Acks acks) g
-    → Goes (Some f) (record { act = act.Write ns id t v level version; answer = answer.Acks acks }) (Some g)
-write_goes turns f g ns id t v level version acks s h =
-    let flags = h.0 in
-    let taken = h.1 in
+-- replicas took the point of a write that was answered so
+taken_goes : (turns : List InnerTurn) (f g : Formed) (ns id : List ℕ) (t : ℕ) (v : ℤ) (level : WriteLevel) (version : Option ℕ) (outcomes : List (Option Reason)) (b : Answer) → Stands turns (Some f) → IsTaken f ns id t v outcomes g
+    → was_sent b ≡ true → printed b ≡ None → ((acks : List ℕ) → b ≡ answer.Acks acks → acks ≡ map (λ r. r.node) (chosen (answering outcomes) f.replicas)) → Goes (Some f) (record { act = act.Write ns id t v level version; answer = b }) (Some g)
+taken_goes turns f g ns id t v level version outcomes b s taken sent none acks_are =
+    let flags = answering outcomes in
     let p : Point = record { ns = taken.place; id = id; t = t; v = v } in
     let same : (x : Formed) → Some g ≡ Some x → g ≡ x = λ x is. cc in
     let was : (x : Formed) → Some f ≡ Some x → f ≡ x = λ x is. cc in
     record {
-      rules = ap (λ (st : MetaState). record { now = 0; spaces = st.rules.spaces }) (sym taken.state_stays);
-      place = ap (λ (st : MetaState). Some st.place) (sym taken.state_stays);
-      well = λ x is. subst IsWellFormed (same x is) (taken_well f g ns id t v flags taken (s.well f refl));
-      grows = λ x is. (g, refl, subst (λ y. Grows y (record { act = act.Write ns id t v level version; answer = answer.Acks acks }) g) (was x is) (taken_grows f g ns id t v level version flags (answer.Acks acks) taken (λ k. taken_point f ns id t v flags g k)));
-      fresh = λ none. cc;
-      acked = λ more e. record {
+      rules = ap (λ (st : MetaState). st.rules) (sym taken.state_stays);
+      place = ap (λ o. later_placement o (Some f.state.place)) none ∙ ap (λ (st : MetaState). Some st.place) (sym taken.state_stays);
+      well = λ x is. subst IsWellFormed (same x is) (taken_well f g ns id t v outcomes taken (s.well f refl));
+      grows = λ x is. (g, refl, subst (λ y. Grows y (record { act = act.Write ns id t v level version; answer = b }) g) (was x is) (taken_grows f g ns id t v level version outcomes b taken sent));
+      fresh = λ no. cc;
+      acked = λ acks e. record {
         cluster = g;
         stands = refl;
         point = p;
-        of_act = taken_point f ns id t v flags g taken;
+        of_act = taken_point f ns id t v outcomes g taken;
         flags = flags;
-        count = let list : acks ≡ more = cc in
-            ap length (sym list ∙ h.2) ∙ length-map (chosen flags f.replicas) (λ (r : Replica). r.node) ∙ sym (ap (λ rs. length (chosen flags rs)) taken.replicas_are ∙ length-chosen_taken flags flags p f.replicas);
+        count = ap length (acks_are acks e) ∙ length-map (chosen flags f.replicas) (λ (r : Replica). r.node) ∙ sym (ap (λ rs. length (chosen flags rs)) taken.replicas_are ∙ length-chosen_taken flags flags p f.replicas);
         holders = λ r m.
             let took = chosen_took flags p f.replicas r (subst (λ rs. IsIn (chosen flags rs) r) taken.replicas_are m) in
             subst (λ (x : Replica). Holds x.content p) (sym took.1) (raised_holds took.0.content p);
       };
     }
 
-wanting_goes : (turns : List InnerTurn) (f g : Formed) (ns id : List ℕ) (t : ℕ) (v : ℤ) (level : WriteLevel) (version : Option ℕ) → Stands turns (Some f) → IsWritten f ns id t v answer.Memory g
-    → Goes (Some f) (record { act = act.Write ns id t v level version; answer = answer.Memory }) (Some g)
-wanting_goes turns f g ns id t v level version s h =
-    let flags = h.0 in
-    let taken = h.1 in
-    let same : (x : Formed) → Some g ≡ Some x → g ≡ x = λ x is. cc in
-    let was : (x : Formed) → Some f ≡ Some x → f ≡ x = λ x is. cc in
-    record {
-      rules = ap (λ (st : MetaState). record { now = 0; spaces = st.rules.spaces }) (sym taken.state_stays);
-      place = ap (λ (st : MetaState). Some st.place) (sym taken.state_stays);
-      well = λ x is. subst IsWellFormed (same x is) (taken_well f g ns id t v flags taken (s.well f refl));
-      grows = λ x is. (g, refl, subst (λ y. Grows y (record { act = act.Write ns id t v level version; answer = answer.Memory }) g) (was x is) (taken_grows f g ns id t v level version flags answer.Memory taken (λ k. taken_point f ns id t v flags g k)));
-      fresh = λ none. cc;
-      acked = λ more e. cc;
-    }
+written_goes : (turns : List InnerTurn) (f g : Formed) (ns id : List ℕ) (t : ℕ) (v : ℤ) (level : WriteLevel) (version : Option ℕ) (b : Answer) → Stands turns (Some f) → IsWritten f ns id t v b g
+    → Goes (Some f) (record { act = act.Write ns id t v level version; answer = b }) (Some g)
+written_goes turns f g ns id t v level version (answer.Acks acks) s h =
+    taken_goes turns f g ns id t v level version h.0 (answer.Acks acks) s h.1 refl refl (λ more e. let list : acks ≡ more = cc in sym list ∙ h.2)
+written_goes turns f g ns id t v level version (answer.Consistency got needed reasons shard) s h =
+    taken_goes turns f g ns id t v level version h.0 (answer.Consistency got needed reasons shard) s h.1 refl refl (λ more e. cc)
+written_goes turns f g ns id t v level version answer.Memory s h =
+    elim h as (λ _. Goes (Some f) (record { act = act.Write ns id t v level version; answer = answer.Memory }) (Some g)) [
+      | inl same ↦ unchanged turns (Some f) (Some g) _ answer.Memory s tells_memory (ap Some same)
+      | inr taken ↦ taken_goes turns f g ns id t v level version taken.0 answer.Memory s taken.1 refl refl (λ more e. cc)
+    ]
+written_goes turns f g ns id t v level version (answer.Unknown name) s h = unchanged turns (Some f) (Some g) _ (answer.Unknown name) s (tells_unknown name) (ap Some h.2)
+written_goes turns f g ns id t v level version _ s h = absurd h
 
 -- ---- all of them
 
 goes_to : (old : Option Formed) (d : InnerTurn) (new : Option Formed) (g : Formed) → new ≡ Some g → Goes old d (Some g) → Goes old d new
 goes_to old d new g is h = subst (Goes old d) (sym is) h
 
-named_goes : (turns : List InnerTurn) (f g : Formed) (space : Space) (b : Answer) → 0 < space.retention → Stands turns (Some f) → IsNamed f space b g
-    → Goes (Some f) (record { act = act.Namespace space.name space.block space.past space.future space.retention; answer = b }) (Some g)
-named_goes turns f g space answer.Done some s h = space_goes turns f g space some s h
-named_goes turns f g space answer.Order some s h = stays_order turns (Some f) (Some g) _ answer.Order s refl (ap Some h.1)
-named_goes turns f g space answer.Later some s h = stays_later turns (Some f) (Some g) _ s (ap Some h.2)
-named_goes turns f g space answer.Memory some s h = stays_memory turns (Some f) (Some g) _ s (ap Some h.1)
-named_goes turns f g space _ some s h = absurd h
-
-written_goes : (turns : List InnerTurn) (f g : Formed) (ns id : List ℕ) (t : ℕ) (v : ℤ) (level : WriteLevel) (version : Option ℕ) (b : Answer) → Stands turns (Some f) → IsWritten f ns id t v b g
-    → Goes (Some f) (record { act = act.Write ns id t v level version; answer = b }) (Some g)
-written_goes turns f g ns id t v level version (answer.Acks acks) s h = write_goes turns f g ns id t v level version acks s h
-written_goes turns f g ns id t v level version answer.Memory s h = wanting_goes turns f g ns id t v level version s h
-written_goes turns f g ns id t v level version answer.Later s h = stays_later turns (Some f) (Some g) _ s (ap Some h.1)
-written_goes turns f g ns id t v level version _ s h = absurd h
-
-fetched_goes : (turns : List InnerTurn) (f g : Formed) (ns id : List ℕ) (from to : ℕ) (a : Act) (b : Answer) → rules_by a b (rules_of (Some f)) ≡ rules_of (Some f) → Stands turns (Some f) → IsFetched f ns id from to b → g ≡ f
-    → Goes (Some f) (record { act = a; answer = b }) (Some g)
-fetched_goes turns f g ns id from to a (answer.Found series short) rules s h e = subst (λ x. Goes (Some f) (record { act = a; answer = answer.Found series short }) (Some x)) (sym e) (stays turns (Some f) a (answer.Found series short) s rules refl (λ acks w. cc))
-fetched_goes turns f g ns id from to a answer.Memory rules s h e = stays_memory turns (Some f) (Some g) a s (ap Some e)
-fetched_goes turns f g ns id from to a answer.Later rules s h e = stays_later turns (Some f) (Some g) a s (ap Some e)
-fetched_goes turns f g ns id from to a _ rules s h e = absurd h
+fetched_goes : (turns : List InnerTurn) (f g : Formed) (ns id : List ℕ) (from to : ℕ) (a : Act) (b : Answer) → Stands turns (Some f) → IsFetched f ns id from to b → g ≡ f → Goes (Some f) (record { act = a; answer = b }) (Some g)
+fetched_goes turns f g ns id from to a (answer.Found series short) s h e = unchanged turns (Some f) (Some g) a (answer.Found series short) s (tells_found series short) (ap Some e)
+fetched_goes turns f g ns id from to a (answer.Consistency got needed reasons shard) s h e = unchanged turns (Some f) (Some g) a (answer.Consistency got needed reasons shard) s (tells_consistency got needed reasons shard) (ap Some e)
+fetched_goes turns f g ns id from to a answer.Memory s h e = unchanged turns (Some f) (Some g) a answer.Memory s tells_memory (ap Some e)
+fetched_goes turns f g ns id from to a (answer.Unknown name) s h e = unchanged turns (Some f) (Some g) a (answer.Unknown name) s (tells_unknown name) (ap Some e)
+fetched_goes turns f g ns id from to a _ s h e = absurd h
 
 made_goes : (turns : List InnerTurn) (rf shards seed : ℕ) (nodes : List (List ℕ × List ℕ)) (b : Answer) (old new : Option Formed) → MeetsLimits (act.Init rf shards seed nodes) → IsServedAct (act.Init rf shards seed nodes) → Stands turns old
     → IsMade old rf seed nodes b new → Goes old (record { act = act.Init rf shards seed nodes; answer = b }) new
 made_goes turns rf shards seed nodes (answer.Placed place version) old new limits built s h = init_goes rf shards seed nodes place version old new limits built h
-made_goes turns rf shards seed nodes answer.Order old new limits built s h = stays_order turns old new _ answer.Order s refl h.1
-made_goes turns rf shards seed nodes answer.Memory old new limits built s h = stays_memory turns old new _ s h.1
+made_goes turns rf shards seed nodes answer.Order old new limits built s h = unchanged turns old new _ answer.Order s tells_order h.1
+made_goes turns rf shards seed nodes answer.Memory old new limits built s h = unchanged turns old new _ answer.Memory s tells_memory h.1
 made_goes turns rf shards seed nodes _ old new limits built s h = absurd h
 
 pub step_goes : (turns : List InnerTurn) (old : Option Formed) (a : Act) (b : Answer) (new : Option Formed) → MeetsLimits a → IsServedAct a → Stands turns old → Answers old a b new → Goes old (record { act = a; answer = b }) new
 step_goes turns old (act.Init rf shards seed nodes) b new limits built s h = made_goes turns rf shards seed nodes b old new limits built s h
-step_goes turns None (act.Namespace name block past future retention) b new limits built s h = stays_order turns None new _ b s h.0 h.1
+step_goes turns None (act.Namespace name block past future retention) b new limits built s h = unordered turns None new _ b s h.0 h.1
 step_goes turns (Some f) (act.Namespace name block past future retention) b new limits built s h =
-    goes_to (Some f) _ new h.0 h.1 (named_goes turns f h.0 (record { name = name; block = block; past = past; future = future; retention = retention }) b (let a = limits.some_block in let b = limits.kept_longer in omega arith) s h.2)
-step_goes turns None (act.Write ns id t v level version) b new limits built s h = stays_order turns None new _ b s h.0 h.1
+    goes_to (Some f) _ new h.0 h.1 (named_goes turns f h.0 (record { name = name; block = block; past = past; future = future; retention = retention }) b s h.2)
+step_goes turns None (act.Now now) b new limits built s h = unordered turns None new _ b s h.0 h.1
+step_goes turns (Some f) (act.Now now) b new limits built s h = goes_to (Some f) _ new h.0 h.1 (moved_goes turns f h.0 now b s h.2)
+step_goes turns None (act.Write ns id t v level version) b new limits built s h = unordered turns None new _ b s h.0 h.1
 step_goes turns (Some f) (act.Write ns id t v level version) b new limits built s h = goes_to (Some f) _ new h.0 h.1 (written_goes turns f h.0 ns id t v level version b s h.2)
-step_goes turns None (act.Fetch ns id from to level version) b new limits built s h = stays_order turns None new _ b s h.0 h.1
-step_goes turns (Some f) (act.Fetch ns id from to level version) b new limits built s h = goes_to (Some f) _ new h.0 h.1 (fetched_goes turns f h.0 ns id from to (act.Fetch ns id from to level version) b refl s h.2.0 h.2.1)
+step_goes turns None (act.Fetch ns id from to level version) b new limits built s h = unordered turns None new _ b s h.0 h.1
+step_goes turns (Some f) (act.Fetch ns id from to level version) b new limits built s h = goes_to (Some f) _ new h.0 h.1 (fetched_goes turns f h.0 ns id from to (act.Fetch ns id from to level version) b s h.2.0 h.2.1)
 step_goes turns old a b new limits built s h = absurd h

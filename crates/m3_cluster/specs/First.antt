@@ -8,7 +8,7 @@ use Rattle.m3_model.specs.declared.placement.Instance.{Instance}
 use Rattle.m3_model.specs.declared.placement.Placement.{Placement}
 use Rattle.m3_model.specs.declared.placement.ShardState.TheVariants.{Available}
 use Rattle.m3_model.specs.declared.rules.MetaState.{MetaState}
-use Rattle.m3_cluster.specs.declared.replica.Replica.{Replica}
+use Rattle.m3_cluster.specs.Replicas.{Replica}
 
 -- the number of each node at its name, from this number on
 abbrev pub numbered : ℕ → List Instance → FinMap (slice_cmp nat_cmp) ℕ → FinMap (slice_cmp nat_cmp) ℕ

@@ -1,4 +1,6 @@
+pub mod Replicas
 pub mod Quorums
+pub mod Windows
 pub mod First
 pub mod Steps
 pub mod Standing

@@ -1,5 +1,5 @@
 -- What the replicas keep of the turns that were served.
-use Rattle.std.specs.Prelude.{◌≡◌, ℕ, ◌<◌, ℤ, List, [], ◌∷◌, map, length, Option, Some, None, option_map, Bool}
+use Rattle.std.specs.Prelude.{◌≡◌, ℕ, ℤ, List, [], ◌∷◌, map, length, Option, Some, None, option_map, Bool}
 use Rattle.std.specs.Option.{option_map_or}
 use Rattle.std.specs.FinMap.{get}
 use Rattle.m3_model.specs.Members.{IsIn}
@@ -20,7 +20,7 @@ use Rattle.m3_model.specs.declared.rules.Space.{Space}
 use Rattle.m3_model.specs.declared.rules.Rules.{Rules}
 use Rattle.m3_model.specs.declared.answer.Answer.TheVariants as answer
 use Rattle.m3_model.specs.declared.turn.Turn.{Turn}
-use Rattle.m3_cluster.specs.declared.replica.Replica.{Replica}
+use Rattle.m3_cluster.specs.Replicas.{Replica}
 use Rattle.m3_cluster.specs.Quorums.{chosen}
 use Rattle.m3_cluster.specs.Steps.{Formed, spaces_in}
 
@@ -30,9 +30,10 @@ place_of c = option_map (λ f. f.state.place) c
 abbrev pub spaces_of : Option Formed → List Space
 spaces_of c = option_map_or spaces_in c []
 
--- there is no other moment than 0 yet
+-- the moment and the namespaces, before `init` moment 0 and none
 abbrev pub rules_of : Option Formed → Rules
-rules_of c = record { now = 0; spaces = spaces_of c }
+rules_of None = record { now = 0; spaces = [] }
+rules_of (Some f) = f.state.rules
 
 -- the replicas are those of the one shard: a replica for each of its assignments, by node name, all available
 pub record IsStaffed (place : Placement) (replicas : List Replica) : Type 0 where
@@ -44,8 +45,6 @@ pub record IsStaffed (place : Placement) (replicas : List Replica) : Type 0 wher
   pub by_name : Ascends (IsNamedBelow place) (map (λ r. r.node) replicas)
 
 pub record IsWellFormed (f : Formed) : Type 0 where
-  pub no_moment : f.state.rules.now ≡ 0
-  pub retained : (s : Space) → IsIn (spaces_in f) s → 0 < s.retention
   pub staffed : IsStaffed f.state.place f.replicas
 
 -- a write that was acknowledged stands in as many replicas as acknowledged it

@@ -31,11 +31,11 @@ impl Model for Cluster {
     ghost use Rattle.std.specs.Prelude.{Option, option_map};
     ghost use Rattle.m3_cluster.specs.Steps.{Formed};
     ghost use Rattle.std.specs.Coded.{codes};
-    ghost use Rattle.m3_model.specs.contracts.content.Content as content;
+    ghost use Rattle.m3_cluster.specs.Replicas.{replica_code};
 
     ghost Value = { Option Formed };
 
-    ghost coded = { Prim.hlevel (codes, content.the_row.coded) };
+    ghost coded = { Prim.hlevel (codes, replica_code) };
 
     ghost use Rattle.m3_cluster.specs.Standing.{formed};
 
@@ -108,6 +108,10 @@ impl Cluster {
                     retention,
                 }),
             },
+            Act::Now { now } => match &mut self.members {
+                None => Answer::Order,
+                Some(members) => members.set_moment(now),
+            },
             Act::Write {
                 ns,
                 id,
@@ -117,7 +121,7 @@ impl Cluster {
                 version: _,
             } => match &mut self.members {
                 None => Answer::Order,
-                Some(members) => members.write(alloc, ns.as_str(), id, t, v),
+                Some(members) => members.write(alloc, ns, id, t, v),
             },
             Act::Fetch {
                 ns,
@@ -128,7 +132,7 @@ impl Cluster {
                 version: _,
             } => match &self.members {
                 None => Answer::Order,
-                Some(members) => members.fetch(alloc, ns.as_str(), id, from, to),
+                Some(members) => members.fetch(alloc, ns, id, from, to),
             },
             _ => unreachable!(),
         }

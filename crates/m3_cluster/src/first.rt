@@ -3,7 +3,6 @@ ghost use Rattle.m3_model.specs.Placements.{first_instances};
 ghost use Rattle.m3_cluster.specs.First.{nodes_by_name, first_assignment, empty_replica};
 
 use crate::replica::Replica;
-use m3_model::content::Content;
 use m3_model::duplicate::Duplicate;
 use m3_model::memory::Memory;
 use m3_model::placement::{Assignment, Instance, ShardState};
@@ -72,10 +71,7 @@ pub fn empty_replicas(alloc: Global, nodes: &[u8]) -> Result<Vec<Replica>, Memor
 {
     let mut replicas = Vec::new(alloc);
     for node in nodes {
-        replicas.push(Replica {
-            node: *node,
-            content: Content::new(alloc),
-        })?;
+        replicas.push(Replica::new(alloc, *node))?;
     }
     Ok(replicas)
 }

@@ -1,8 +1,10 @@
 ghost use Rattle.std.specs.Prelude.{◌≡◌, [], ◌∷◌, IfOk, OnOk};
 ghost use Rattle.std.specs.FinMap as finite;
 ghost use Rattle.m3_model.specs.Contents.{joined_pairs};
+ghost use Rattle.m3_cluster.specs.Quorums.{pairs_of};
 
 use m3_model::memory::Memory;
+use m3_model::point::Series;
 use m3_model::raise::raise_entry;
 use m3_model::seq::Seq;
 use std::alloc::Global;
@@ -55,6 +57,16 @@ impl Joined {
     {
         for (t, v) in pairs {
             self.raise(*t, *v)?;
+        }
+        Ok(())
+    }
+
+    /// Joins the points of an answer's series. Want of memory leaves some of them joined.
+    pub fn join_series(&mut self, series: &[Series]) -> Result<(), Memory>
+        ensures { OnOk result (self.new ≡ joined_pairs self.old (pairs_of series.now)) }
+    {
+        for one in series {
+            self.join(one.points.as_slice())?;
         }
         Ok(())
     }

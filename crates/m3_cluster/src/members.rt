@@ -1,21 +1,26 @@
-ghost use Rattle.std.specs.Prelude.{◌≡◌, ◌≤◌, ◌<◌, map, length, IfOk, IfSome};
+ghost use Rattle.std.specs.Prelude.{◌≡◌, ◌≤◌, ◌<◌, ◌^◌, map, length, IfOk, IfSome};
 ghost use Rattle.m3_model.specs.Placements.{first_instances};
 ghost use Rattle.m3_model.specs.Rules.{namespace_place};
 ghost use Rattle.m3_cluster.specs.First.{nodes_by_name, empty_replica, first_state};
-ghost use Rattle.m3_cluster.specs.Steps.{series_of};
+ghost use Rattle.m3_cluster.specs.Steps.{series_of, IsWriteAnswer, IsReadAnswer};
+ghost use Rattle.m3_model.specs.declared.answer.Answer.TheVariants as answer;
 
 use crate::first::{empty_replicas, first_instances, first_shard, nodes_by_name};
 use crate::replica::Replica;
-use crate::session::{read_from, write_to};
+use crate::session::{Gathered, Written, read_from, write_to};
 use m3_model::answer::Answer;
 use m3_model::memory::Memory;
 use m3_model::placement::Placement;
 use m3_model::point::{Point, Series};
+use m3_model::reason::Reason;
 use m3_model::rules::{MetaState, Rules, Space};
 use m3_model::seq::Seq;
 use m3_model::text::Text;
 use quorum_count::majority;
 use std::alloc::Global;
+
+/// How many namespaces there may be.
+const NAMESPACE_LIMIT: usize = 8;
 
 /// A cluster that stands: its state and its replicas of the one shard, by node name.
 #[derive(Drop)]
@@ -23,6 +28,7 @@ pub struct Members {
     pub state: MetaState,
     pub replicas: Vec<Replica>,
     ghost few: { length state.rules.spaces ≤ 8 },
+    ghost moment: { state.rules.now < 2 ^ 62 },
 }
 
 /// The place of a namespace, by its name. There are at most 8.
@@ -48,9 +54,49 @@ fn series_of(alloc: Global, id: Text, points: Seq<(u64, i64)>) -> Result<Seq<Ser
     Ok(Seq::from_vec(series))
 }
 
+fn too_few(got: usize, needed: u32, reasons: Vec<(u8, Reason)>) -> Answer
+    requires { got < needed }
+    ensures { result ≡ answer.Consistency got needed reasons.items 0 }
+{
+    Answer::Consistency {
+        got: got as u32,
+        needed,
+        reasons: Seq::from_vec(reasons),
+        shard: 0,
+    }
+}
+
+/// Acknowledged where enough nodes took it.
+fn answer_of_write(needed: u32, written: Written) -> Answer
+    ensures { IsWriteAnswer needed written.acks.items written.reasons.items result }
+{
+    if written.acks.len() < needed as usize {
+        return too_few(written.acks.len(), needed, written.reasons);
+    }
+    Answer::Acks {
+        acks: Seq::from_vec(written.acks),
+    }
+}
+
+/// Found where enough nodes answered.
+fn answer_of_read(alloc: Global, needed: u32, id: Text, gathered: Gathered) -> Answer
+    ensures { IsReadAnswer needed gathered.answers id gathered.pairs gathered.reasons.items result }
+{
+    if gathered.answers < needed as usize {
+        return too_few(gathered.answers, needed, gathered.reasons);
+    }
+    match series_of(alloc, id, gathered.pairs) {
+        Ok(series) => Answer::Found {
+            series,
+            short: false,
+        },
+        Err(_) => Answer::Memory,
+    }
+}
+
 impl Members {
     ghost use Rattle.m3_cluster.specs.Standing.{formed};
-    ghost use Rattle.m3_cluster.specs.Steps.{IsWritten, IsFetched, IsNamed};
+    ghost use Rattle.m3_cluster.specs.Steps.{IsWritten, IsFetched, IsNamed, IsMoved};
 
     /// The cluster that `init` makes: one shard, with a replica on each node.
     pub fn first(
@@ -85,7 +131,8 @@ impl Members {
         })
     }
 
-    /// Makes a first namespace.
+    /// Makes a namespace. `Order` says that its name is there, and `Limit` that there are as many as may be; nothing
+    /// changes then.
     pub fn name_space(&mut self, space: Space) -> Answer
         ensures { IsNamed (formed self.old) space result (formed self.new) }
     {
@@ -93,8 +140,10 @@ impl Members {
         if namespace_place(spaces, space.name.as_str()).is_some() {
             return Answer::Order;
         }
-        if spaces.len() > 0 {
-            return Answer::Later;
+        if spaces.len() >= NAMESPACE_LIMIT {
+            return Answer::Limit {
+                limit: NAMESPACE_LIMIT as u64,
+            };
         }
         match self.state.rules.spaces.push(space) {
             Ok(()) => Answer::Done,
@@ -102,12 +151,25 @@ impl Members {
         }
     }
 
-    /// Writes a point at majority.
-    pub fn write(&mut self, alloc: Global, ns: &str, id: Text, t: u64, v: i64) -> Answer
-        ensures { IsWritten (formed self.old) ns.now id t v result (formed self.new) }
+    /// Moves the moment on. `Clock` says that it would fall; it stays then.
+    pub fn set_moment(&mut self, now: u64) -> Answer
+        requires { now < 2 ^ 62 }
+        ensures { IsMoved (formed self.old) now result (formed self.new) }
     {
-        let Some(place) = namespace_place(self.state.rules.spaces.as_slice(), ns) else {
-            return Answer::Later;
+        let moment = self.state.rules.now;
+        if now < moment {
+            return Answer::Clock { now: moment };
+        }
+        self.state.rules.now = now;
+        Answer::Done
+    }
+
+    /// Writes a point at majority.
+    pub fn write(&mut self, alloc: Global, ns: Text, id: Text, t: u64, v: i64) -> Answer
+        ensures { IsWritten (formed self.old) ns id t v result (formed self.new) }
+    {
+        let Some(place) = namespace_place(self.state.rules.spaces.as_slice(), ns.as_str()) else {
+            return Answer::Unknown { name: ns };
         };
         let point = Point {
             ns: place as u8,
@@ -115,37 +177,25 @@ impl Members {
             t,
             v,
         };
-        let needed = majority(self.state.place.rf) as usize;
-        let Ok(acks) = write_to(alloc, &mut self.replicas, &point) else {
-            return Answer::Memory;
-        };
-        if acks.len() < needed {
-            return Answer::Memory;
-        }
-        Answer::Acks {
-            acks: Seq::from_vec(acks),
+        let needed = majority(self.state.place.rf);
+        match write_to(alloc, &mut self.replicas, &self.state.rules, &point) {
+            Ok(written) => answer_of_write(needed, written),
+            Err(_) => Answer::Memory,
         }
     }
 
     /// Fetches the points of an identifier at majority.
-    pub fn fetch(&self, alloc: Global, ns: &str, id: Text, from: u64, to: u64) -> Answer
-        ensures { IsFetched (formed self.now) ns.now id from to result }
+    pub fn fetch(&self, alloc: Global, ns: Text, id: Text, from: u64, to: u64) -> Answer
+        ensures { IsFetched (formed self.now) ns id from to result }
     {
-        let Some(place) = namespace_place(self.state.rules.spaces.as_slice(), ns) else {
-            return Answer::Later;
+        let rules = &self.state.rules;
+        let Some(place) = namespace_place(rules.spaces.as_slice(), ns.as_str()) else {
+            return Answer::Unknown { name: ns };
         };
         let replicas = self.replicas.as_slice();
-        let Ok(gathered) = read_from(alloc, replicas, place as u8, id.as_str(), from, to) else {
-            return Answer::Memory;
-        };
-        if gathered.answers < majority(self.state.place.rf) as usize {
-            return Answer::Memory;
-        }
-        match series_of(alloc, id, gathered.pairs) {
-            Ok(series) => Answer::Found {
-                series,
-                short: false,
-            },
+        let needed = majority(self.state.place.rf);
+        match read_from(alloc, replicas, rules, place as u8, id.as_str(), from, to) {
+            Ok(gathered) => answer_of_read(alloc, needed, id, gathered),
             Err(_) => Answer::Memory,
         }
     }

@@ -14,7 +14,7 @@ use Rattle.m3_model.specs.Names.{is_name, has_identifier_length}
 use Rattle.m3_json.specs.declared.fault.LineErr.{LineErr}
 use Rattle.m3_json.specs.declared.fault.LineErr.TheVariants as errors
 use Rattle.m3_json.specs.Fields.{◌>>=◌, needed, tested, is_one_of, text_of, name_of, number_of, field, text_at, name_at, identifier_at, number_at, value_at, optional_at}
-use Rattle.m3_json.specs.Rows.{node_of_two, node_of_items, node_of, nodes_of_items, has_few_items, items_at, names_differ, nodes_at, init_of, namespace_of, write_level_named, read_level_named, write_level_at, read_level_at, version_at, write_of, fetch_of}
+use Rattle.m3_json.specs.Rows.{node_of_two, node_of_items, node_of, nodes_of_items, has_few_items, items_at, names_differ, nodes_at, init_of, namespace_of, now_of, write_level_named, read_level_named, write_level_at, read_level_at, version_at, write_of, fetch_of}
 use Rattle.m3_json.specs.NotYet.{later_ops, refusal_of, is_put_off}
 use Rattle.m3_json.specs.Requests.{act_of, request_of}
 use Rattle.m3_json.specs.Laws.{HasLaterOp, HasLaterForm, PutsOffExactly}
@@ -77,6 +77,10 @@ Decided-number_at key from limit d = Decided-steps (field key d) (number_of from
 Decided-namespace_of : (d : Data) → Decided (namespace_of d)
 unfolding namespace_of
 Decided-namespace_of d = search (Decided-steps, Decided-Ok, Decided-tested, Decided-name_at, Decided-number_at) depth 20
+
+Decided-now_of : (d : Data) → Decided (now_of d)
+unfolding now_of
+Decided-now_of d = search (Decided-steps, Decided-Ok, Decided-tested, Decided-number_at) depth 20
 
 Decided-value_at : (key : List ℕ) (d : Data) → Decided (value_at key d)
 unfolding value_at
@@ -147,15 +151,16 @@ Decided-fetch_of d = search (Decided-steps, Decided-Ok, Decided-tested, Decided-
 later_op : (op : List ℕ) (d : Data) → act_of op d ≡ Err errors.Later → IsTrue (is_one_of later_ops op)
 unfolding act_of refusal_of
 later_op op d e =
-    by (pointwise nat_eq op (codes "init")) (pointwise nat_eq op (codes "namespace")) (pointwise nat_eq op (codes "write")) (pointwise nat_eq op (codes "fetch")) (is_one_of later_ops op) e
+    by (pointwise nat_eq op (codes "init")) (pointwise nat_eq op (codes "namespace")) (pointwise nat_eq op (codes "now")) (pointwise nat_eq op (codes "write")) (pointwise nat_eq op (codes "fetch")) (is_one_of later_ops op) e
   where
-    by : (i n w f later : Bool) → (if i then init_of d else (if n then namespace_of d else (if w then write_of d else (if f then fetch_of d else Err (if later then errors.Later else errors.Form))))) ≡ Err errors.Later → IsTrue later
-    by true n w f later e = absurd (Decided-init_of d e)
-    by false true w f later e = absurd (Decided-namespace_of d e)
-    by false false true f later e = absurd (Decided-write_of d e)
-    by false false false true later e = absurd (Decided-fetch_of d e)
-    by false false false false true e = refl
-    by false false false false false e = absurd (Decided-Form Act e)
+    by : (i n m w f later : Bool) → (if i then init_of d else (if n then namespace_of d else (if m then now_of d else (if w then write_of d else (if f then fetch_of d else Err (if later then errors.Later else errors.Form)))))) ≡ Err errors.Later → IsTrue later
+    by true n m w f later e = absurd (Decided-init_of d e)
+    by false true m w f later e = absurd (Decided-namespace_of d e)
+    by false false true w f later e = absurd (Decided-now_of d e)
+    by false false false true f later e = absurd (Decided-write_of d e)
+    by false false false false true later e = absurd (Decided-fetch_of d e)
+    by false false false false false true e = refl
+    by false false false false false false e = absurd (Decided-Form Act e)
 
 -- a text that is put off is none that isn't
 is_other_op : (op row : List ℕ) → IsTrue (is_one_of later_ops op) → is_one_of later_ops row ≡ false → pointwise nat_eq op row ≡ false
@@ -166,7 +171,7 @@ is_other_op op row later not_later =
 op_later : (op : List ℕ) (d : Data) → IsTrue (is_one_of later_ops op) → act_of op d ≡ Err errors.Later
 unfolding act_of refusal_of
 op_later op d later =
-    simp (is_other_op op (codes "init") later refl, is_other_op op (codes "namespace") later refl, is_other_op op (codes "write") later refl, is_other_op op (codes "fetch") later refl, later)
+    simp (is_other_op op (codes "init") later refl, is_other_op op (codes "namespace") later refl, is_other_op op (codes "now") later refl, is_other_op op (codes "write") later refl, is_other_op op (codes "fetch") later refl, later)
 
 put_off : (d : Data) → request_of d ≡ Err errors.Later → HasLaterOp d ⊎ HasLaterForm d
 unfolding request_of

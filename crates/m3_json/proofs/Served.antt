@@ -14,7 +14,7 @@ use Rattle.m3_model.specs.declared.act.WriteLevel.{WriteLevel}
 use Rattle.m3_model.specs.declared.act.WriteLevel.TheVariants as write_level
 use Rattle.m3_json.specs.declared.fault.LineErr.{LineErr}
 use Rattle.m3_json.specs.Fields.{◌>>=◌, optional_at}
-use Rattle.m3_json.specs.Rows.{init_of, namespace_of, write_level_at, read_level_at, version_at, write_of, fetch_of}
+use Rattle.m3_json.specs.Rows.{init_of, namespace_of, now_of, write_level_at, read_level_at, version_at, write_of, fetch_of}
 use Rattle.m3_json.specs.NotYet.{refusal_of, begins_with_brace, has_level_or_version, is_put_off}
 use Rattle.m3_model.specs.NotYet.{are_three_groups, IsServedAct}
 use Rattle.m3_json.specs.Requests.{act_of}
@@ -67,6 +67,9 @@ init_ends d rf shards seed nodes = ends d (act.Init rf shards seed nodes) (λ se
 namespace_ends : (d : Data) (name : List ℕ) (block past future retention : ℕ) → Serves d (Ok (act.Namespace name block past future retention))
 namespace_ends d name block past future retention = ends d (act.Namespace name block past future retention) (λ served. tt)
 
+now_ends : (d : Data) (now : ℕ) → Serves d (Ok (act.Now now))
+now_ends d now = ends d (act.Now now) (λ served. tt)
+
 write_ends : (d : Data) (ns id : List ℕ) (t : ℕ) (v : ℤ) (level : WriteLevel) (version : Option ℕ) → write_level_at d ≡ Ok level → version_at d ≡ Ok version → Serves d (Ok (act.Write ns id t v level version))
 unfolding is_put_off
 write_ends d ns id t v level version is_level is_version = ends d (act.Write ns id t v level version) (λ served.
@@ -87,6 +90,10 @@ namespace_served : (d : Data) → Serves d (namespace_of d)
 unfolding namespace_of
 namespace_served d = search (steps, namespace_ends) depth 20
 
+now_served : (d : Data) → Serves d (now_of d)
+unfolding now_of
+now_served d = search (steps, now_ends) depth 20
+
 write_served : (d : Data) → Serves d (write_of d)
 unfolding write_of
 write_served d = search (steps, write_ends) depth 20
@@ -99,11 +106,12 @@ fetch_served d = search (steps, fetch_ends) depth 20
 pub act_served : (op : List ℕ) (d : Data) (one : Act) → act_of op d ≡ Ok one → is_put_off d one ≡ false → IsServedAct one
 unfolding act_of
 act_served op d one e served =
-    by (pointwise nat_eq op (codes "init")) (pointwise nat_eq op (codes "namespace")) (pointwise nat_eq op (codes "write")) (pointwise nat_eq op (codes "fetch")) e
+    by (pointwise nat_eq op (codes "init")) (pointwise nat_eq op (codes "namespace")) (pointwise nat_eq op (codes "now")) (pointwise nat_eq op (codes "write")) (pointwise nat_eq op (codes "fetch")) e
   where
-    by : (i n w f : Bool) → (if i then init_of d else (if n then namespace_of d else (if w then write_of d else (if f then fetch_of d else Err (refusal_of op))))) ≡ Ok one → IsServedAct one
-    by true n w f read = init_served d one read served
-    by false true w f read = namespace_served d one read served
-    by false false true f read = write_served d one read served
-    by false false false true read = fetch_served d one read served
-    by false false false false read = absurd (cc)
+    by : (i n m w f : Bool) → (if i then init_of d else (if n then namespace_of d else (if m then now_of d else (if w then write_of d else (if f then fetch_of d else Err (refusal_of op)))))) ≡ Ok one → IsServedAct one
+    by true n m w f read = init_served d one read served
+    by false true m w f read = namespace_served d one read served
+    by false false true w f read = now_served d one read served
+    by false false false true f read = write_served d one read served
+    by false false false false true read = fetch_served d one read served
+    by false false false false false read = absurd (cc)

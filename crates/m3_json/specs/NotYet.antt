@@ -12,7 +12,7 @@ use Rattle.m3_json.specs.Fields.{is_one_of}
 -- the ops that are put off, whatever other fields stand with them
 abbrev pub later_ops : List (List ℕ)
 later_ops =
-    codes "now" ∷ codes "match" ∷ codes "fates" ∷ codes "deliver" ∷ codes "stop" ∷ codes "restart" ∷ codes "bootstrap" ∷ codes "add" ∷ codes "drain"
+    codes "match" ∷ codes "fates" ∷ codes "deliver" ∷ codes "stop" ∷ codes "restart" ∷ codes "bootstrap" ∷ codes "add" ∷ codes "drain"
     ∷ codes "cancel" ∷ codes "remove" ∷ codes "replace" ∷ codes "tick" ∷ codes "flush" ∷ codes "snapshot" ∷ codes "repair" ∷ codes "status" ∷ codes "par" ∷ []
 
 -- what an op without a row is answered: put off, or no op at all

@@ -9,7 +9,7 @@ use Rattle.m3_model.specs.declared.turn.Request.TheVariants as request
 use Rattle.m3_json.specs.declared.fault.LineErr.{LineErr}
 use Rattle.m3_json.specs.declared.fault.LineErr.TheVariants as errors
 use Rattle.m3_json.specs.Fields.{◌>>=◌, text_at}
-use Rattle.m3_json.specs.Rows.{init_of, namespace_of, write_of, fetch_of}
+use Rattle.m3_json.specs.Rows.{init_of, namespace_of, now_of, write_of, fetch_of}
 use Rattle.m3_json.specs.NotYet.{refusal_of, is_put_off}
 
 -- the row of this op
@@ -17,8 +17,9 @@ unfoldable pub act_of : List ℕ → Data → Result Act LineErr
 act_of op d =
     if pointwise nat_eq op (codes "init") then init_of d else
     (if pointwise nat_eq op (codes "namespace") then namespace_of d else
+    (if pointwise nat_eq op (codes "now") then now_of d else
     (if pointwise nat_eq op (codes "write") then write_of d else
-    (if pointwise nat_eq op (codes "fetch") then fetch_of d else Err (refusal_of op))))
+    (if pointwise nat_eq op (codes "fetch") then fetch_of d else Err (refusal_of op)))))
 
 -- the request that an object spells, by its field `op`
 unfoldable pub request_of : Data → Result Request LineErr

@@ -75,6 +75,13 @@ namespace_of d = do
   retention ← number_at (codes "retention") block (2 ^ 40) d
   Ok (act.Namespace name block past future retention)
 
+-- now: the moment
+unfoldable pub now_of : Data → Result Act LineErr
+now_of d = do
+  whole ← tested (has_only (codes "now" ∷ codes "op" ∷ [])) d
+  now ← number_at (codes "now") 0 (2 ^ 62) d
+  Ok (act.Now now)
+
 -- the level of a write of this name
 abbrev pub write_level_named : List ℕ → Result WriteLevel LineErr
 write_level_named name =

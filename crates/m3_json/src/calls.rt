@@ -6,13 +6,11 @@ ghost use Rattle.m3_json.specs.Rows.{write_level_named, read_level_named, write_
 
 use crate::fault::LineErr;
 use crate::fields::{has_only, identifier_at, name_at, number_at, number_of, text_of, value_at};
+use crate::moment::MOMENT_LIMIT;
 use m3_model::act::{Act, ReadLevel, WriteLevel};
 use m3_model::text::Text;
 use serde_json::Value;
 use std::alloc::Global;
-
-/// Above each timestamp and each version.
-const MOMENT_LIMIT: u64 = 1 << 62;
 
 fn write_level_named(name: &str) -> Result<WriteLevel, LineErr>
     ensures { Gives (λ l. l) result (write_level_named name.now) }

@@ -7,6 +7,7 @@ mod fields;
 mod init;
 pub mod laws;
 pub mod lines;
+mod moment;
 mod names;
 mod namespace;
 mod not_yet;

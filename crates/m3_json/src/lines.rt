@@ -10,6 +10,7 @@ use crate::calls::{fetch_of, write_of};
 use crate::fault::LineErr;
 use crate::fields::text_at;
 use crate::init::init_of;
+use crate::moment::now_of;
 use crate::namespace::namespace_of;
 use crate::not_yet::{is_put_off, refusal_of};
 use m3_model::act::Act;
@@ -25,6 +26,7 @@ fn act_of(alloc: Global, op: &str, value: &Value) -> Result<Act, LineErr>
     match op {
         "init" => init_of(alloc, value),
         "namespace" => namespace_of(alloc, value),
+        "now" => now_of(value),
         "write" => write_of(alloc, value),
         "fetch" => fetch_of(alloc, value),
         _ => Err(refusal_of(op)),

@@ -15,7 +15,6 @@ pub fn refusal_of(op: &str) -> LineErr
     ensures { result ≡ refusal_of op.now }
 {
     let later_ops = [
-        "now",
         "match",
         "fates",
         "deliver",

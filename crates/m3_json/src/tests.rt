@@ -13,14 +13,14 @@ form {}
 form {"op":7}
 form {"op":null}
 form {"op":"frob"}
-later {"op":"now"}
-later {"op":"now","now":"x"}
+later {"op":"tick"}
+later {"op":"tick","now":"x"}
 later {"op":"par"}
 form {"op":"match","op":"frob"}
 later {"op":"frob","op":"status"}
-form {"op":"now"} x
-form {"op":"now","x":"\ud800"}
-later {"op":"now","x":"\ud800\udc00"}"#;
+form {"op":"tick"} x
+form {"op":"tick","x":"\ud800"}
+later {"op":"tick","x":"\ud800\udc00"}"#;
 
 // Lines of init, each with its outcome before it.
 const INITS: &str =
@@ -55,6 +55,16 @@ form {"op":"namespace","name":"m.n","block":1,"past":0,"future":0,"retention":1}
 form {"op":"namespace","name":"","block":1,"past":0,"future":0,"retention":1}
 form {"op":"namespace","name":"m","block":1,"past":0,"future":0}
 form {"op":"namespace","name":"m","block":1,"past":0,"future":0,"retention":1,"x":1}"#;
+
+// Lines of now, each with its outcome before it.
+const MOMENTS: &str = r#"ok {"op":"now","now":0}
+ok {"op":"now","now":4611686018427387903}
+form {"op":"now","now":4611686018427387904}
+form {"op":"now","now":-1}
+form {"op":"now","now":"1"}
+form {"op":"now"}
+form {"op":"now","now":1,"x":1}
+ok {"op":"now","now":"x","now":1}"#;
 
 // Lines of write and fetch, each with its outcome before it.
 const CALLS: &str = r#"ok {"op":"write","ns":"m","id":"hello","t":100,"v":1}
@@ -110,7 +120,7 @@ fn wrong_row(alloc: Global, rows: &str) -> Option<&str> {
 
 #[test]
 fn rows(rt: HostRuntime) {
-    for rows in [OBJECTS, INITS, NAMESPACES, CALLS] {
+    for rows in [OBJECTS, INITS, NAMESPACES, MOMENTS, CALLS] {
         assert_eq!(rt; wrong_row(rt.alloc(), rows), None);
     }
 }
@@ -119,9 +129,9 @@ fn rows(rt: HostRuntime) {
 fn bytes(rt: HostRuntime) {
     let table: [(&[u8], &str); 4] = [
         (b"", "form"),
-        (b"{\"op\":\"now\"}\r", "later"),
-        (b"\xef\xbb\xbf{\"op\":\"now\"}", "form"),
-        (b"{\"op\":\"now\",\"x\":\"\xff\"}", "form"),
+        (b"{\"op\":\"tick\"}\r", "later"),
+        (b"\xef\xbb\xbf{\"op\":\"tick\"}", "form"),
+        (b"{\"op\":\"tick\",\"x\":\"\xff\"}", "form"),
     ];
     for (line, want) in table {
         assert_eq!(rt; outcome(rt.alloc(), line), want);
@@ -132,7 +142,7 @@ fn bytes(rt: HostRuntime) {
 fn long_lines(rt: HostRuntime) -> Result<(), Fail> {
     let table = [
         ("", "[", 10_000, "", "form"),
-        (r#"{"op":"now","x":"#, "9", 400, "}", "form"),
+        (r#"{"op":"tick","x":"#, "9", 400, "}", "form"),
         (
             r#"{"op":"write","ns":"m","id":""#,
             "x",

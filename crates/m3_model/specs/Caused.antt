@@ -1,19 +1,22 @@
 -- Why an answer is what it is: a refusal has its cause, and what has none is answered in its own way.
-use Rattle.std.specs.Prelude.{◌≡◌, ℕ, ◌≤◌, List, ◌++◌, length, Option, Some, None, Bool, true, false, if◌then◌else◌, is_some, slice_get, ◌⊎◌}
-use Rattle.std.specs.Option.{option_map_or}
+use Rattle.std.specs.Prelude.{◌≡◌, ℕ, ◌+◌, ◌≤◌, ◌<◌, List, ◌++◌, length, Option, Some, None, Bool, true, slice_get, ◌⊎◌, ⊤}
 use Rattle.std.specs.List.{filter_map}
 use Rattle.m3_model.specs.Ascends.{Ascends}
 use Rattle.m3_model.specs.Members.{IsIn}
 use Rattle.m3_model.specs.Hash.{shard_of}
-use Rattle.m3_model.specs.Levels.{needed_write}
+use Rattle.m3_model.specs.Levels.{needed_write, needed_read}
 use Rattle.m3_model.specs.Record.{Life, TurnPlace, IsTurnPlace, inner_turns}
-use Rattle.m3_model.specs.Rules.{namespace_place, rules_at}
-use Rattle.m3_model.specs.Placements.{printed, placements, placement_after, start_placement, seed_after, is_listed, IsCounted, IsFirstPlacement}
+use Rattle.m3_model.specs.Rules.{InWindow, IsPast, IsFuture, rules_at}
+use Rattle.m3_model.specs.Placements.{printed, placements, placement_after, start_placement, seed_after, counted_nodes, IsCounted, IsFirstPlacement}
+use Rattle.m3_model.specs.Points.{point_of}
+use Rattle.m3_model.specs.Refusals.{refusal_by}
 use Rattle.m3_model.specs.Tags.{IsBelow}
-use Rattle.m3_model.specs.NotYet.{is_put_off}
 use Rattle.m3_model.specs.declared.placement.Instance.{Instance}
 use Rattle.m3_model.specs.declared.placement.Placement.{Placement}
-use Rattle.m3_model.specs.declared.rules.Space.{Space}
+use Rattle.m3_model.specs.declared.point.Point.{Point}
+use Rattle.m3_model.specs.declared.reason.Reason.{Reason}
+use Rattle.m3_model.specs.declared.reason.Reason.TheVariants as reason
+use Rattle.m3_model.specs.declared.rules.Rules.{Rules}
 use Rattle.m3_model.specs.declared.rules.MetaState.{MetaState}
 use Rattle.m3_model.specs.declared.act.Act.{Act}
 use Rattle.m3_model.specs.declared.act.Act.TheVariants as act
@@ -22,22 +25,6 @@ use Rattle.m3_model.specs.declared.act.ReadLevel.TheVariants as read
 use Rattle.m3_model.specs.declared.act.WriteLevel.{WriteLevel}
 use Rattle.m3_model.specs.declared.answer.Answer.{Answer}
 use Rattle.m3_model.specs.declared.answer.Answer.TheVariants as answer
-
--- a name that the act is to make is there already
-abbrev pub is_taken : Placement → List Space → Act → Bool
-is_taken place spaces (act.Namespace name block past future retention) = is_some (namespace_place name spaces)
-is_taken place spaces (act.Add node group) = is_listed node place
-is_taken place spaces (act.Replace node by group) = is_listed by place
-is_taken place spaces _ = false
-
--- an `init` stands already, or none stands, or a name to be made is there
-abbrev pub is_out_of_order : Option Placement → List Space → Act → Bool
-is_out_of_order place spaces (act.Init rf shards seed nodes) = is_some place
-is_out_of_order place spaces a = option_map_or (λ p. is_taken p spaces a) place true
-
--- the first refusal that the turns before decide, in the order of refusals
-abbrev pub refusal_by : Option Placement → List Space → Act → Option Answer
-refusal_by place spaces a = if is_put_off place spaces a then Some answer.Later else (if is_out_of_order place spaces a then Some answer.Order else None)
 
 -- the placement at a place of a run
 abbrev pub placement_at : Option MetaState → TurnPlace → Option Placement
@@ -56,6 +43,12 @@ pub record IsNamedBelow (place : Placement) (a b : ℕ) : Type 0 where
   pub of_other : slice_get place.instances b ≡ Some other
   pub below : IsBelow one.name other.name
 
+-- the point of the act is one that is taken at this moment
+pub record TakesPoint (rules : Rules) (a : Act) : Type 0 where
+  pub point : Point
+  pub of_act : point_of rules.spaces a ≡ Some point
+  pub in_window : InWindow rules point
+
 -- the nodes that took a write: counted ones of the identifier's shard, each once, by name, and as many as the level needs
 pub record IsAcked (start : Option MetaState) (p : TurnPlace) (id : List ℕ) (level : WriteLevel) (version : Option ℕ) (acks : List ℕ) : Type 0 where
   pub place : Placement
@@ -63,27 +56,81 @@ pub record IsAcked (start : Option MetaState) (p : TurnPlace) (id : List ℕ) (l
   pub counted : (node : ℕ) → IsIn acks node → IsCounted place (shard_of id (seed_after start (inner_turns p.lines)) (length place.shards)) node
   pub by_name : Ascends (IsNamedBelow place) acks
   pub enough : needed_write level place.rf ≤ length acks
+  pub takes : TakesPoint (rules_at start p) p.turn.act
+
+-- What a write, a fetch or a match asks for beside its points.
+pub record Call : Type 0 where
+  pub id : Option (List ℕ)  -- where it is of one identifier
+  pub version : Option ℕ
+  pub needed : ℕ → ℕ  -- of this many replicas
+
+abbrev pub call_of : Act → Option Call
+call_of (act.Write ns id t v level version) = Some (record { id = Some id; version = version; needed = needed_write level })
+call_of (act.Fetch ns id from to level version) = Some (record { id = Some id; version = version; needed = needed_read level })
+call_of (act.Match ns wanted from to level version) = Some (record { id = None; version = version; needed = needed_read level })
+call_of _ = None
+
+-- a shard that a call asks: the one of its identifier, else any
+abbrev pub IsAsked : Option (List ℕ) → ℕ → ℕ → ℕ → Type 0
+IsAsked (Some id) seed shards shard = shard ≡ shard_of id seed shards
+IsAsked None seed shards shard = shard < shards
+
+-- a write's point lies too far below the moment, or too far above it
+pub record IsOutside (Outside : Rules → Point → Type 0) (rules : Rules) (a : Act) : Type 0 where
+  pub point : Point
+  pub of_act : point_of rules.spaces a ≡ Some point
+  pub outside : Outside rules point
+
+-- why a replica may refuse a call: its point isn't in the window, or memory is wanted, which may come at any place
+abbrev pub MayRefuse : Rules → Act → Reason → Type 0
+MayRefuse rules a reason.Past = IsOutside IsPast rules a
+MayRefuse rules a reason.Future = IsOutside IsFuture rules a
+MayRefuse rules a reason.Memory = ⊤
+MayRefuse rules a _ = ⊥
+
+-- a replica may do as a call asks: a write's point is one that is taken at this moment
+abbrev pub MayServe : Rules → Act → Type 0
+MayServe rules (act.Write ns id t v level version) = TakesPoint rules (act.Write ns id t v level version)
+MayServe rules _ = ⊤
+
+-- fewer replicas than are needed answered: each counted one that didn't has its reason, by name, and the others are the answers
+pub record IsUnmet (start : Option MetaState) (p : TurnPlace) (got needed : ℕ) (reasons : List (ℕ × Reason)) (shard : ℕ) : Type 0 where
+  pub call : Call
+  pub of_act : call_of p.turn.act ≡ Some call
+  pub place : Placement
+  pub may_use : MayUse start p call.version place
+  pub asked : IsAsked call.id (seed_after start (inner_turns p.lines)) (length place.shards) shard
+  pub needed_is : needed ≡ call.needed place.rf
+  pub fewer : got < needed
+  pub counted : (r : ℕ × Reason) → IsIn reasons r → IsCounted place shard r.0
+  pub by_name : Ascends (λ a b. IsNamedBelow place a.0 b.0) reasons
+  pub others : got + length reasons ≡ length (counted_nodes place shard)
+  pub refused : (r : ℕ × Reason) → IsIn reasons r → MayRefuse (rules_at start p) p.turn.act r.1
+  pub served : 0 < got → MayServe (rules_at start p) p.turn.act
 
 -- only an unstrict read may be short
 abbrev pub MayBeShort : ReadLevel → Bool → Type 0
 MayBeShort level short = short ≡ true → level ≡ read.Unstrict
 
--- the answer is an ok answer of the act; what a read finds is said by what it keeps
-abbrev pub IsOwnOk : Option MetaState → TurnPlace → Act → Answer → Type 0
-IsOwnOk start p (act.Init rf shards seed nodes) (answer.Placed place version) = IsFirstPlacement rf shards nodes place × (version ≡ place.version)
-IsOwnOk start p (act.Namespace name block past future retention) answer.Done = Unit {0}
-IsOwnOk start p (act.Write ns id t v level version) (answer.Acks acks) = IsAcked start p id level version acks
-IsOwnOk start p (act.Fetch ns id from to level version) (answer.Found series short) = MayBeShort level short
-IsOwnOk start p _ _ = ⊥
+-- the answer is the act's own: ok, or too few replicas answered; what a read finds is said by what it keeps
+abbrev pub IsOwn : Option MetaState → TurnPlace → Act → Answer → Type 0
+IsOwn start p (act.Init rf shards seed nodes) (answer.Placed place version) = IsFirstPlacement rf shards nodes place × (version ≡ place.version)
+IsOwn start p (act.Namespace name block past future retention) answer.Done = Unit {0}
+IsOwn start p (act.Now now) answer.Done = Unit {0}
+IsOwn start p (act.Write ns id t v level version) (answer.Acks acks) = IsAcked start p id level version acks
+IsOwn start p (act.Write ns id t v level version) (answer.Consistency got needed reasons shard) = IsUnmet start p got needed reasons shard
+IsOwn start p (act.Fetch ns id from to level version) (answer.Found series short) = MayBeShort level short
+IsOwn start p (act.Fetch ns id from to level version) (answer.Consistency got needed reasons shard) = IsUnmet start p got needed reasons shard
+IsOwn start p _ _ = ⊥
 
--- the refusal that is due, or the act's own ok answer where none is due
+-- the refusal that is due, or the act's own answer where none is due
 abbrev pub IsDue : Option MetaState → TurnPlace → Option Answer → Type 0
 IsDue start p (Some refusal) = p.turn.answer ≡ refusal
-IsDue start p None = IsOwnOk start p p.turn.act p.turn.answer
+IsDue start p None = IsOwn start p p.turn.act p.turn.answer
 
 -- an answer is the one that is due; want of memory may come at any place
 abbrev pub CausedAt : Option MetaState → TurnPlace → Type 0
-CausedAt start p = (p.turn.answer ≡ answer.Memory) ⊎ IsDue start p (refusal_by (placement_at start p) (rules_at start p).spaces p.turn.act)
+CausedAt start p = (p.turn.answer ≡ answer.Memory) ⊎ IsDue start p (refusal_by (placement_at start p) (rules_at start p) p.turn.act)
 
 -- each answer of the present run is caused
 abbrev pub Caused : Life → Type 0

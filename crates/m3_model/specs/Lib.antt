@@ -14,4 +14,5 @@ pub mod Points
 pub mod Reads
 pub mod Kept
 pub mod NotYet
+pub mod Refusals
 pub mod Caused

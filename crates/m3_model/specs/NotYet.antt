@@ -1,9 +1,6 @@
 -- What no part of the program serves yet. It goes away with the last part.
-use Rattle.std.specs.Prelude.{◌≡◌, ℕ, List, [], ◌∷◌, length, Option, None, Bool, true, false, not, ◌&&◌, is_some, is_none, nat_lt, nat_eq, IsTrue, ⊤}
+use Rattle.std.specs.Prelude.{◌≡◌, ℕ, List, [], ◌∷◌, None, Bool, true, false, not, ◌&&◌, nat_eq, IsTrue, ⊤}
 use Rattle.std.specs.Cmp.Lexicographic.{pointwise}
-use Rattle.m3_model.specs.Rules.{namespace_place}
-use Rattle.m3_model.specs.declared.placement.Placement.{Placement}
-use Rattle.m3_model.specs.declared.rules.Space.{Space}
 use Rattle.m3_model.specs.declared.act.Act.{Act}
 use Rattle.m3_model.specs.declared.act.Act.TheVariants as act
 use Rattle.m3_model.specs.declared.act.ReadLevel.TheVariants as read
@@ -20,6 +17,7 @@ are_three_groups _ = false
 abbrev pub IsServedAct : Act → Type 0
 IsServedAct (act.Init rf shards seed nodes) = (rf ≡ 3) × (shards ≡ 1) × IsTrue (are_three_groups nodes)
 IsServedAct (act.Namespace name block past future retention) = ⊤
+IsServedAct (act.Now now) = ⊤
 IsServedAct (act.Write ns id t v level version) = (level ≡ write.Majority) × (version ≡ None)
 IsServedAct (act.Fetch ns id from to level version) = (level ≡ read.Majority) × (version ≡ None)
 IsServedAct _ = ⊥
@@ -29,10 +27,11 @@ abbrev pub IsServed : Request → Type 0
 IsServed (request.One one) = IsServedAct one
 IsServed (request.Par clients workers) = ⊥
 
--- the act is put off: a second namespace, a call on a namespace that isn't there, or an act of another kind than these four
-abbrev pub is_put_off : Option Placement → List Space → Act → Bool
-is_put_off place spaces (act.Init rf shards seed nodes) = false
-is_put_off place spaces (act.Namespace name block past future retention) = is_some place && (nat_lt 0 (length spaces) && is_none (namespace_place name spaces))
-is_put_off place spaces (act.Write ns id t v level version) = is_some place && is_none (namespace_place ns spaces)
-is_put_off place spaces (act.Fetch ns id from to level version) = is_some place && is_none (namespace_place ns spaces)
-is_put_off place spaces _ = true
+-- the act is of another kind than these five
+abbrev pub is_put_off : Act → Bool
+is_put_off (act.Init rf shards seed nodes) = false
+is_put_off (act.Namespace name block past future retention) = false
+is_put_off (act.Now now) = false
+is_put_off (act.Write ns id t v level version) = false
+is_put_off (act.Fetch ns id from to level version) = false
+is_put_off _ = true

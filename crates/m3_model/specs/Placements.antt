@@ -1,5 +1,5 @@
 -- The placements that replies print, and what one says of a node; M3DB's page "Placement".
-use Rattle.std.specs.Prelude.{◌≡◌, ◌≢◌, ◌<◌, ℕ, List, ◌∷◌, map, length, Option, Some, None, Bool, true, false, ◌&&◌, nat_eq, fold, slice_get}
+use Rattle.std.specs.Prelude.{◌≡◌, ◌≢◌, ◌<◌, ℕ, List, [], ◌∷◌, map, length, Option, Some, None, Bool, true, false, if◌then◌else◌, ◌&&◌, nat_eq, fold, slice_get}
 use Rattle.std.specs.List.{filter_map, list_any}
 use Rattle.std.specs.Option.{option_map_or}
 use Rattle.std.specs.Cmp.Lexicographic.{pointwise}
@@ -9,6 +9,7 @@ use Rattle.m3_model.specs.Record.{InnerTurn}
 use Rattle.m3_model.specs.declared.placement.Assignment.{Assignment}
 use Rattle.m3_model.specs.declared.placement.Instance.{Instance}
 use Rattle.m3_model.specs.declared.placement.Placement.{Placement}
+use Rattle.m3_model.specs.declared.placement.ShardState.{ShardState}
 use Rattle.m3_model.specs.declared.placement.ShardState.TheVariants.{Available}
 use Rattle.m3_model.specs.declared.rules.MetaState.{MetaState}
 use Rattle.m3_model.specs.declared.act.Act.{Act}
@@ -57,6 +58,10 @@ seed_after start turns = fold (λ seed turn. seed_by turn.act turn.answer seed) 
 abbrev pub is_listed : List ℕ → Placement → Bool
 is_listed name place = list_any (λ node. node.listed && pointwise nat_eq name node.name) place.instances
 
+abbrev pub is_available : ShardState → Bool
+is_available Available = true
+is_available _ = false
+
 -- the node has the shard, and counts for reads and writes of it
 pub record IsCounted (place : Placement) (shard node : ℕ) : Type 0 where
   pub assignments : List Assignment
@@ -65,6 +70,14 @@ pub record IsCounted (place : Placement) (shard node : ℕ) : Type 0 where
   pub assigned : IsIn assignments assignment
   pub to_node : assignment.node ≡ node
   pub available : assignment.state ≡ Available
+
+-- the node of an assignment that counts
+abbrev pub counted_node : Assignment → Option ℕ
+counted_node a = if is_available a.state then Some a.node else None
+
+-- the nodes of a shard that count for its reads and writes, in the order of its assignments
+abbrev pub counted_nodes : Placement → ℕ → List ℕ
+counted_nodes place shard = option_map_or (λ assignments. filter_map counted_node assignments) (slice_get place.shards shard) []
 
 -- the nodes of `init`, in their order
 abbrev pub first_instances : List (List ℕ × List ℕ) → List Instance

@@ -53,3 +53,15 @@ pub record IsLive (rules : Rules) (point : Point) : Type 0 where
   pub space : Space
   pub stands : slice_get rules.spaces point.ns ≡ Some space
   pub kept : rules.now < point.t + space.retention
+
+-- the point's namespace is there, and a write of it comes too late at this moment
+pub record IsPast (rules : Rules) (point : Point) : Type 0 where
+  pub space : Space
+  pub stands : slice_get rules.spaces point.ns ≡ Some space
+  pub too_old : point.t + space.past ≤ rules.now
+
+-- the point's namespace is there, and a write of it comes too early at this moment
+pub record IsFuture (rules : Rules) (point : Point) : Type 0 where
+  pub space : Space
+  pub stands : slice_get rules.spaces point.ns ≡ Some space
+  pub too_new : rules.now + space.future ≤ point.t

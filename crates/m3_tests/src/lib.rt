@@ -1,9 +1,13 @@
-//! Tests over several crates: lines go through `run`, over a source and a sink in memory.
+//! Tests over several crates: lines go through `run`, over a source and a sink in memory, and points through a buffer.
 #![tactic(auto)]
 
+#[cfg(test)]
+mod buffers;
 #[cfg(test)]
 mod lines;
 #[cfg(test)]
 mod script;
 #[cfg(test)]
 mod statuses;
+#[cfg(test)]
+mod stories;

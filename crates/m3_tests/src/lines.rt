@@ -1,114 +1,80 @@
 // What lines are answered with.
-use crate::script::{ACKS, DONE, FORM, INIT, LATER, NAMESPACE, ORDER, PLACED, answers, ended};
+use crate::script::{INIT, NAMESPACE, PLACED, ended};
+use crate::stories::{
+    BEFORE_INIT, EXPIRY, FETCH_RETURNS_WRITE, HIGHER_VALUE_STAYS, NAMESPACES, RANGES, REFUSALS,
+    WINDOW,
+};
 use m3_program::status::Status;
+use std::alloc::Global;
+use std::process::Abort;
 use std::test::Fail;
 
-#[test]
-fn fetch_returns_write(rt: HostRuntime) -> Result<(), Fail> {
-    answers(
-        &rt,
-        rt.alloc(),
-        "{\"op\":\"write\",\"ns\":\"m\",\"id\":\"hello\",\"t\":100,\"v\":5}\n{\"op\":\"fetch\",\"ns\":\"m\",\"id\":\"hello\",\"from\":0,\"to\":200}\n",
-        "{\"acks\":[\"a\",\"b\",\"c\"],\"ok\":true}\n{\"ok\":true,\"series\":[{\"id\":\"hello\",\"points\":[[100,5]]}],\"short\":false}\n",
-    )
+// The lines of a story, and the replies that it tells of, behind these first ones.
+fn told(alloc: Global, input: &str, output: &str, story: &str) -> Result<(String, String), Fail> {
+    let mut requests = String::from_str(alloc, input)?;
+    let mut replies = String::from_str(alloc, output)?;
+    let mut is_request = true;
+    for line in story.lines() {
+        if is_request {
+            requests.push_str(line)?;
+            requests.push('\n')?;
+        } else if line != "-" {
+            replies.push_str(line)?;
+            replies.push('\n')?;
+        }
+        is_request = !is_request;
+    }
+    Ok((requests, replies))
 }
 
-// Three writes at one time, a blank line among them, and a last line without newline.
-#[test]
-fn higher_value_stays(rt: HostRuntime) -> Result<(), Fail> {
-    answers(
-        &rt,
-        rt.alloc(),
-        "{\"op\":\"write\",\"ns\":\"m\",\"id\":\"hello\",\"t\":100,\"v\":4}\n{\"op\":\"write\",\"ns\":\"m\",\"id\":\"hello\",\"t\":100,\"v\":9}\n\n{\"op\":\"write\",\"ns\":\"m\",\"id\":\"hello\",\"t\":100,\"v\":4}\n{\"op\":\"fetch\",\"ns\":\"m\",\"id\":\"hello\",\"from\":0,\"to\":200}",
-        "{\"acks\":[\"a\",\"b\",\"c\"],\"ok\":true}\n{\"acks\":[\"a\",\"b\",\"c\"],\"ok\":true}\n{\"acks\":[\"a\",\"b\",\"c\"],\"ok\":true}\n{\"ok\":true,\"series\":[{\"id\":\"hello\",\"points\":[[100,9]]}],\"short\":false}\n",
-    )
-}
-
-// Points in time order, a range that ends before the last of them, and an identifier apart.
-#[test]
-fn fetch_answers_its_range(rt: HostRuntime) -> Result<(), Fail> {
-    answers(
-        &rt,
-        rt.alloc(),
-        "{\"op\":\"write\",\"ns\":\"m\",\"id\":\"b\",\"t\":7,\"v\":-1}\n{\"op\":\"write\",\"ns\":\"m\",\"id\":\"b\",\"t\":2,\"v\":-9223372036854775808}\n{\"op\":\"write\",\"ns\":\"m\",\"id\":\"a\",\"t\":2,\"v\":3}\n{\"op\":\"write\",\"ns\":\"m\",\"id\":\"b\",\"t\":9,\"v\":9223372036854775807}\n{\"op\":\"fetch\",\"ns\":\"m\",\"id\":\"b\",\"from\":2,\"to\":9}\n{\"op\":\"fetch\",\"ns\":\"m\",\"id\":\"b\",\"from\":3,\"to\":10}\n{\"op\":\"fetch\",\"ns\":\"m\",\"id\":\"c\",\"from\":0,\"to\":10}\n",
-        "{\"acks\":[\"a\",\"b\",\"c\"],\"ok\":true}\n{\"acks\":[\"a\",\"b\",\"c\"],\"ok\":true}\n{\"acks\":[\"a\",\"b\",\"c\"],\"ok\":true}\n{\"acks\":[\"a\",\"b\",\"c\"],\"ok\":true}\n{\"ok\":true,\"series\":[{\"id\":\"b\",\"points\":[[2,-9223372036854775808],[7,-1]]}],\"short\":false}\n{\"ok\":true,\"series\":[{\"id\":\"b\",\"points\":[[7,-1],[9,9223372036854775807]]}],\"short\":false}\n{\"ok\":true,\"series\":[],\"short\":false}\n",
-    )
+// A run over the lines of the story answers as it tells.
+fn answers(
+    rt: &impl Abort,
+    alloc: Global,
+    input: &str,
+    output: &str,
+    story: &str,
+) -> Result<(), Fail> {
+    let (requests, replies) = told(alloc, input, output, story)?;
+    let (status, written) = ended(alloc, &["run"], requests.as_str(), &[], &[])?;
+    assert_eq!(rt; status, Status::Done);
+    assert_eq!(rt; written.as_str(), replies.as_str());
+    Ok(())
 }
 
 #[test]
-fn refused_lines_go_on(rt: HostRuntime) -> Result<(), Fail> {
-    let lines = [
-        ("{\"op\":\"now\",\"now\":100}\n", LATER),
-        (
-            "{\"op\":\"write\",\"ns\":\"other\",\"id\":\"hello\",\"t\":100,\"v\":1}\n",
-            LATER,
-        ),
-        (
-            "{\"op\":\"write\",\"ns\":\"m\",\"id\":\"hello\",\"t\":100,\"v\":1,\"level\":\"majority\"}\n",
-            LATER,
-        ),
-        (
-            "{\"op\":\"write\",\"ns\":\"m\",\"id\":\"{\",\"t\":100,\"v\":1}\n",
-            LATER,
-        ),
-        (NAMESPACE, ORDER),
-        (INIT, ORDER),
-        ("{\n", FORM),
-        ("[]\n", FORM),
-        (
-            "{\"op\":\"write\",\"ns\":\"m\",\"id\":\"hello\",\"t\":100,\"v\":1.5}\n",
-            FORM,
-        ),
-        (
-            "{\"op\":\"write\",\"ns\":\"m\",\"id\":\"hello\",\"t\":100,\"v\":9223372036854775808}\n",
-            FORM,
-        ),
-        (
-            "{\"op\":\"write\",\"ns\":\"m\",\"id\":\"hello\",\"t\":-1,\"v\":1}\n",
-            FORM,
-        ),
-        (
-            "{\"op\":\"write\",\"ns\":\"m\",\"id\":\"hello\",\"t\":100}\n",
-            FORM,
-        ),
-        (
-            "{\"op\":\"fetch\",\"ns\":\"m\",\"id\":\"hello\",\"from\":0,\"to\":200,\"x\":1}\n",
-            FORM,
-        ),
-        (" \t\r\n", ""),
-        ("\n", ""),
-        (
-            "{\"op\":\"write\",\"ns\":\"m\",\"id\":\"hello\",\"t\":100,\"v\":0}\n",
-            ACKS,
-        ),
-    ];
-    for (line, reply) in lines {
-        answers(&rt, rt.alloc(), line, reply)?;
+fn stories_after_init(rt: HostRuntime) -> Result<(), Fail> {
+    let alloc = rt.alloc();
+    let mut input = String::from_str(alloc, INIT)?;
+    input.push_str(NAMESPACE)?;
+    let mut output = String::from_str(alloc, PLACED)?;
+    output.push_str("{\"ok\":true}\n")?;
+    for story in [
+        FETCH_RETURNS_WRITE,
+        HIGHER_VALUE_STAYS,
+        RANGES,
+        WINDOW,
+        EXPIRY,
+        NAMESPACES,
+        REFUSALS,
+    ] {
+        answers(&rt, alloc, input.as_str(), output.as_str(), story)?;
     }
     Ok(())
 }
 
-// Before a placement stands, a write is out of order, and so is a namespace.
 #[test]
-fn order_before_init(rt: HostRuntime) -> Result<(), Fail> {
-    let lines = [
-        (
-            "{\"op\":\"write\",\"ns\":\"m\",\"id\":\"hello\",\"t\":100,\"v\":5}\n",
-            ORDER,
-        ),
-        (
-            "{\"op\":\"fetch\",\"ns\":\"m\",\"id\":\"hello\",\"from\":0,\"to\":1}\n",
-            ORDER,
-        ),
-        (NAMESPACE, ORDER),
-        (INIT, PLACED),
-        ("", ""),
-    ];
-    for (line, reply) in lines {
-        let (status, written) = ended(rt.alloc(), &["run"], line, &[], &[])?;
-        assert_eq!(rt; status, Status::Done);
-        assert_eq!(rt; written.as_str(), reply);
-    }
-    assert_eq!(rt; DONE, "{\"ok\":true}\n");
+fn story_before_init(rt: HostRuntime) -> Result<(), Fail> {
+    answers(&rt, rt.alloc(), "", "", BEFORE_INIT)
+}
+
+// Blank lines are passed over, and a last line without its newline is a line.
+#[test]
+fn last_line_without_newline(rt: HostRuntime) -> Result<(), Fail> {
+    let mut input = String::from_str(rt.alloc(), " \t\r\n\n")?;
+    input.push_str(INIT.trim_end())?;
+    let (status, written) = ended(rt.alloc(), &["run"], input.as_str(), &[], &[])?;
+    assert_eq!(rt; status, Status::Done);
+    assert_eq!(rt; written.as_str(), PLACED);
     Ok(())
 }

@@ -4,10 +4,10 @@ use Rattle.std.specs.Prelude.{pos}
 use Rattle.std.proofs.lemmas.Int.{ints}
 use Rattle.m3_model.specs.Kept.{Kept}
 use Rattle.model_laws.specs.Building.{life_of}
-use Rattle.model_laws.specs.Accepted.{write_then_read, three_values, two_ranges, until_expiry, after_cut, write_beside}
+use Rattle.model_laws.specs.Accepted.{write_then_read, three_values, two_ranges, until_expiry, after_cut, write_beside, edge_writes, unmet_then_read}
 use Rattle.model_laws.proofs.EachLemmas.{◌also◌}
 use Rattle.model_laws.proofs.PlaceLemmas.{kept_by_places, no_read, only}
-use Rattle.model_laws.proofs.ReadLemmas.{kept_each, ordered_point, ordered_none, covered_by}
+use Rattle.model_laws.proofs.ReadLemmas.{kept_each, ordered_point, ordered_pair, ordered_none, covered_by}
 use Rattle.model_laws.proofs.SampleLemmas.{sought, sought-live}
 
 pub write_then_read-kept : Kept (life_of write_then_read)
@@ -16,9 +16,10 @@ write_then_read-kept =
     only (no_read _ _ _ refl)
     also only (no_read _ _ _ refl)
     also only (no_read _ _ _ refl)
+    also only (no_read _ _ _ refl)
     also only (kept_each _ _ _ _ _ refl refl
     ((λ s. covered_by _ _ (pos 5) (omega (arith, ints)) (inl refl)) also tt)
-    ((inl refl, sought 0 0 200 100 (pos 5) (omega arith) (omega arith) (omega arith)) also tt)
+    ((inl refl, sought 100 0 200 100 (pos 5) (omega arith) (omega arith) (omega arith)) also tt)
     (ordered_point _ _ _))
     also tt)
 
@@ -30,12 +31,13 @@ three_values-kept =
     also only (no_read _ _ _ refl)
     also only (no_read _ _ _ refl)
     also only (no_read _ _ _ refl)
+    also only (no_read _ _ _ refl)
     also only (kept_each _ _ _ _ _ refl refl
     ((λ s. covered_by _ _ (pos 9) (omega (arith, ints)) (inl refl))
     also (λ s. covered_by _ _ (pos 9) (omega (arith, ints)) (inl refl))
     also (λ s. covered_by _ _ (pos 9) (omega (arith, ints)) (inl refl))
     also tt)
-    ((inr (inl refl), sought 0 0 200 100 (pos 9) (omega arith) (omega arith) (omega arith)) also tt)
+    ((inr (inl refl), sought 100 0 200 100 (pos 9) (omega arith) (omega arith) (omega arith)) also tt)
     (ordered_point _ _ _))
     also tt)
 
@@ -46,11 +48,12 @@ two_ranges-kept =
     also only (no_read _ _ _ refl)
     also only (no_read _ _ _ refl)
     also only (no_read _ _ _ refl)
+    also only (no_read _ _ _ refl)
     also only (kept_each _ _ _ _ _ refl refl
     ((λ s. covered_by _ _ (pos 1) (omega (arith, ints)) (inl refl))
     also (λ s. absurd (omega (arith, s.in_range.1)))
     also tt)
-    ((inl refl, sought 0 100 120 100 (pos 1) (omega arith) (omega arith) (omega arith)) also tt)
+    ((inl refl, sought 100 100 120 100 (pos 1) (omega arith) (omega arith) (omega arith)) also tt)
     (ordered_point _ _ _))
     also only (kept_each _ _ _ _ _ refl refl
     ((λ s. absurd (omega (arith, s.in_range.0)))
@@ -84,7 +87,7 @@ after_cut-found =
     kept_by_places (after_cut ((100, pos 5) ∷ [])) (
     only (kept_each _ _ _ _ _ refl refl
     tt
-    ((inl refl, sought 0 0 200 100 (pos 5) (omega arith) (omega arith) (omega arith)) also tt)
+    ((inl refl, sought 100 0 200 100 (pos 5) (omega arith) (omega arith) (omega arith)) also tt)
     (ordered_point _ _ _))
     also tt)
 
@@ -97,11 +100,12 @@ write_beside-found =
     kept_by_places (life_of (write_beside ((100, pos 5) ∷ []))) (
     only (no_read _ _ _ refl)
     also only (no_read _ _ _ refl)
+    also only (no_read _ _ _ refl)
     also (
     (no_read _ _ _ refl also tt)
     also (kept_each _ _ _ _ _ refl refl
     tt
-    ((inl refl, sought 0 0 200 100 (pos 5) (omega arith) (omega arith) (omega arith)) also tt)
+    ((inl refl, sought 100 0 200 100 (pos 5) (omega arith) (omega arith) (omega arith)) also tt)
     (ordered_point _ _ _)
     also tt)
     also tt)
@@ -112,8 +116,52 @@ write_beside-not_found =
     kept_by_places (life_of (write_beside [])) (
     only (no_read _ _ _ refl)
     also only (no_read _ _ _ refl)
+    also only (no_read _ _ _ refl)
     also (
     (no_read _ _ _ refl also tt)
     also (kept_each _ _ _ _ _ refl refl tt tt ordered_none also tt)
     also tt)
+    also tt)
+
+pub edge_writes-kept : Kept (life_of edge_writes)
+edge_writes-kept =
+    kept_by_places (life_of edge_writes) (
+    only (no_read _ _ _ refl)
+    also only (no_read _ _ _ refl)
+    also only (no_read _ _ _ refl)
+    also only (no_read _ _ _ refl)
+    also only (no_read _ _ _ refl)
+    also only (no_read _ _ _ refl)
+    also only (no_read _ _ _ refl)
+    also only (kept_each _ _ _ _ _ refl refl
+    ((λ s. covered_by _ _ (pos 2) (omega (arith, ints)) (inl refl))
+    also (λ s. covered_by _ _ (pos 3) (omega (arith, ints)) (inr (inl refl)))
+    also tt)
+    ((inr (inl refl), sought 250 0 400 151 (pos 2) (omega arith) (omega arith) (omega arith))
+    also (inr (inr (inl refl)), sought 250 0 400 299 (pos 3) (omega arith) (omega arith) (omega arith))
+    also tt)
+    (ordered_pair _ _ _ _ _ (omega arith)))
+    also tt)
+
+pub unmet_then_read-found : Kept (life_of (unmet_then_read ((100, pos 5) ∷ [])))
+unmet_then_read-found =
+    kept_by_places (life_of (unmet_then_read ((100, pos 5) ∷ []))) (
+    only (no_read _ _ _ refl)
+    also only (no_read _ _ _ refl)
+    also only (no_read _ _ _ refl)
+    also only (no_read _ _ _ refl)
+    also only (kept_each _ _ _ _ _ refl refl
+    tt
+    ((inl refl, sought 100 0 200 100 (pos 5) (omega arith) (omega arith) (omega arith)) also tt)
+    (ordered_point _ _ _))
+    also tt)
+
+pub unmet_then_read-not_found : Kept (life_of (unmet_then_read []))
+unmet_then_read-not_found =
+    kept_by_places (life_of (unmet_then_read [])) (
+    only (no_read _ _ _ refl)
+    also only (no_read _ _ _ refl)
+    also only (no_read _ _ _ refl)
+    also only (no_read _ _ _ refl)
+    also only (kept_each _ _ _ _ _ refl refl tt tt ordered_none)
     also tt)

@@ -1,19 +1,33 @@
--- Why each answer of the first transcript has its cause.
-use Rattle.std.proofs.Common.{◌≡◌, ◌≢◌, ◌<◌, ℕ, List, [], ◌∷◌, length, refl, inl, inr, arith}
-use Rattle.std.specs.Prelude.{Some, None, pos, slice_get, codes}
-use Rattle.m3_model.specs.Caused.{Caused, IsAcked, IsNamedBelow}
-use Rattle.m3_model.specs.Hash.{murmur3}
+-- Why each answer of the accepted transcripts has its cause.
+use Rattle.std.proofs.Common.{◌≡◌, ◌≢◌, ◌+◌, ◌<◌, ◌≤◌, ℕ, ℤ, false, cond, List, [], ◌∷◌, length, nat_lt, refl, sym, subst, ap, inl, inr, arith}
+use Rattle.std.proofs.lemmas.Bool.Decides.{nat_tests}
+use Rattle.std.specs.Prelude.{Some, None, pos, slice_get, codes, option_map}
+use Rattle.m3_model.specs.Caused.{Caused, CausedAt, IsDue, call_of, IsAcked, IsNamedBelow, IsUnmet, MayRefuse, MayServe, TakesPoint}
+use Rattle.m3_model.specs.Hash.{murmur3, shard_of}
 use Rattle.m3_model.specs.Members.{IsIn}
 use Rattle.m3_model.specs.Placements.{IsCounted, IsFirstShard, IsFirstPlacement, IsApart, first_instances}
 use Rattle.m3_model.specs.Tags.{IsBelow}
+use Rattle.m3_model.specs.declared.act.Act.{Act}
+use Rattle.m3_model.specs.declared.act.Act.TheVariants as act
 use Rattle.m3_model.specs.declared.act.WriteLevel.TheVariants as write_level
+use Rattle.m3_model.specs.declared.answer.Answer.{Answer}
+use Rattle.m3_model.specs.declared.answer.Answer.TheVariants as answer
 use Rattle.m3_model.specs.declared.placement.Assignment.{Assignment}
 use Rattle.m3_model.specs.declared.placement.Instance.{Instance}
 use Rattle.m3_model.specs.declared.placement.ShardState.TheVariants.{Available}
-use Rattle.model_laws.specs.Building.{life_of, made, named, place, nodes, assigned, write, acks}
-use Rattle.model_laws.specs.Accepted.{write_then_read}
-use Rattle.model_laws.proofs.EachLemmas.{each_in, ascends_by, texts_differ, ◌also◌}
-use Rattle.model_laws.proofs.PlaceLemmas.{caused_by_places, place_after, only}
+use Rattle.m3_model.specs.declared.reason.Reason.{Reason}
+use Rattle.m3_model.specs.declared.reason.Reason.TheVariants as reason
+use Rattle.m3_model.specs.declared.point.Point.{Point}
+use Rattle.m3_model.specs.declared.rules.Rules.{Rules}
+use Rattle.m3_model.specs.declared.rules.Space.{Space}
+use Rattle.m3_model.specs.Rules.{namespace_place}
+use Rattle.m3_model.specs.Points.{point_of}
+use Rattle.m3_model.specs.declared.turn.Turn.{Turn}
+use Rattle.model_laws.specs.Building.{life_of, made, named, begun, at_moment, eight_made, with_eight, two_made, with_two_shards, place, place_of_two, nodes, two_nodes, assigned, write, write_in, fetch, acks, unmet, by_each, space, narrow}
+use Rattle.model_laws.specs.Accepted.{write_then_read, edge_writes, narrow_writes, unmet_then_read}
+use Rattle.model_laws.proofs.EachLemmas.{Each, EachPair, each_in, ascends_by, texts_differ, ◌also◌}
+use Rattle.model_laws.proofs.PlaceLemmas.{EachSplit, EachInLine, caused_by_places, place_after, only}
+use Rattle.model_laws.proofs.SampleLemmas.{rules_when, StandsAt, stands, call_with}
 
 -- the assignments of the only shard
 abbrev all_three : List Assignment
@@ -53,25 +67,217 @@ first_placement = record {
 counted_at : (node : ℕ) → IsIn all_three (assigned node) → IsCounted place 0 node
 counted_at node h = record { assignments = all_three; stands = refl; assignment = assigned node; assigned = h; to_node = refl; available = refl }
 
-all_acked : IsAcked None (place_after (made ∷ named ∷ []) (write 100 (pos 5)) (acks (0 ∷ 1 ∷ 2 ∷ []))) (codes "hello") write_level.Majority None (0 ∷ 1 ∷ 2 ∷ [])
+counted_0 : IsCounted place 0 0
+counted_0 = counted_at 0 (inl refl)
+
+counted_1 : IsCounted place 0 1
+counted_1 = counted_at 1 (inr (inl refl))
+
+counted_2 : IsCounted place 0 2
+counted_2 = counted_at 2 (inr (inr (inl refl)))
+
+below_0_1 : IsNamedBelow place 0 1
+below_0_1 = below_by _ _ _ _ refl refl refl
+
+below_0_2 : IsNamedBelow place 0 2
+below_0_2 = below_by _ _ _ _ refl refl refl
+
+below_1_2 : IsNamedBelow place 1 2
+below_1_2 = below_by _ _ _ _ refl refl refl
+
+-- a point of `hello` in this namespace
+abbrev point_in : ℕ → ℕ → ℤ → Point
+point_in k t v = record { ns = k; id = codes "hello"; t = t; v = v }
+
+-- a write into a namespace that is known has its point
+point_of-write : (spaces : List Space) (ns : List ℕ) (k t : ℕ) (v : ℤ) → namespace_place ns spaces ≡ Some k → point_of spaces (write_in ns t v) ≡ Some (point_in k t v)
+point_of-write spaces ns k t v at = ap (option_map (λ n. point_in n t v)) at
+
+-- a point inside the window of its namespace is one that is taken
+takes_by : (rules : Rules) (ns : List ℕ) (k : ℕ) (within : Space) (t : ℕ) (v : ℤ) → namespace_place ns rules.spaces ≡ Some k → slice_get rules.spaces k ≡ Some within → rules.now < t + within.past → t < rules.now + within.future
+    → TakesPoint rules (write_in ns t v)
+takes_by rules ns k within t v at stood not_past not_future =
+    record { point = point_in k t v; of_act = point_of-write rules.spaces ns k t v at; in_window = record { space = within; stands = stood; not_past = not_past; not_future = not_future } }
+
+past_by : (rules : Rules) (ns : List ℕ) (k : ℕ) (within : Space) (t : ℕ) (v : ℤ) → namespace_place ns rules.spaces ≡ Some k → slice_get rules.spaces k ≡ Some within → t + within.past ≤ rules.now → MayRefuse rules (write_in ns t v) reason.Past
+past_by rules ns k within t v at stood too_old = record { point = point_in k t v; of_act = point_of-write rules.spaces ns k t v at; outside = record { space = within; stands = stood; too_old = too_old } }
+
+future_by : (rules : Rules) (ns : List ℕ) (k : ℕ) (within : Space) (t : ℕ) (v : ℤ) → namespace_place ns rules.spaces ≡ Some k → slice_get rules.spaces k ≡ Some within → rules.now + within.future ≤ t → MayRefuse rules (write_in ns t v) reason.Future
+future_by rules ns k within t v at stood too_new = record { point = point_in k t v; of_act = point_of-write rules.spaces ns k t v at; outside = record { space = within; stands = stood; too_new = too_new } }
+
+-- all three nodes take a write inside the window of its namespace
+all_take : (lines : List Turn) (rules : Rules) (ns : List ℕ) (k : ℕ) (within : Space) (t : ℕ) (v : ℤ) → StandsAt lines rules → namespace_place ns rules.spaces ≡ Some k → slice_get rules.spaces k ≡ Some within
+    → rules.now < t + within.past → t < rules.now + within.future → IsAcked None (place_after lines (write_in ns t v) (acks (0 ∷ 1 ∷ 2 ∷ []))) (codes "hello") write_level.Majority None (0 ∷ 1 ∷ 2 ∷ [])
 unfolding murmur3
-all_acked = record {
+all_take lines rules ns k within t v stood at in_spaces not_past not_future = record {
   place = place;
-  may_use = inl refl;
-  counted = each_in (IsCounted place 0) (0 ∷ 1 ∷ 2 ∷ []) (counted_at 0 (inl refl) also counted_at 1 (inr (inl refl)) also counted_at 2 (inr (inr (inl refl))) also tt);
-  by_name = ascends_by (IsNamedBelow place) (0 ∷ 1 ∷ 2 ∷ []) (
-      (below_by _ _ _ _ refl refl refl also below_by _ _ _ _ refl refl refl also tt)
-      also (below_by _ _ _ _ refl refl refl also tt)
-      also tt
-      also tt);
+  may_use = inl stood.place_is;
+  counted = subst (λ seed. (node : ℕ) → IsIn (0 ∷ 1 ∷ 2 ∷ []) node → IsCounted place (shard_of (codes "hello") seed (length place.shards)) node) (sym stood.seed_is)
+      (each_in (IsCounted place 0) (0 ∷ 1 ∷ 2 ∷ []) (counted_0 also counted_1 also counted_2 also tt));
+  by_name = ascends_by (IsNamedBelow place) (0 ∷ 1 ∷ 2 ∷ []) ((below_0_1 also below_0_2 also tt) also (below_1_2 also tt) also tt also tt);
   enough = omega arith;
+  takes = subst (λ r. TakesPoint r (write_in ns t v)) (sym stood.rules_is) (takes_by rules ns k within t v at in_spaces not_past not_future);
 }
 
-pub write_then_read-caused : Caused (life_of write_then_read)
-write_then_read-caused =
-    caused_by_places (life_of write_then_read) (
+-- fewer than the two nodes that are needed did as a call of `hello` asked
+unmet_by : (lines : List Turn) (rules : Rules) (a : Act) (needed : ℕ → ℕ) (got : ℕ) (reasons : List (ℕ × Reason)) → StandsAt lines rules → call_of a ≡ Some (call_with needed) → needed 3 ≡ 2 → got < 2 → got + length reasons ≡ 3
+    → Each (λ r. IsCounted place 0 r.0) reasons → EachPair (λ r s. IsNamedBelow place r.0 s.0) reasons → Each (λ r. MayRefuse rules a r.1) reasons → (0 < got → MayServe rules a)
+    → IsUnmet None (place_after lines a (unmet got reasons)) got 2 reasons 0
+unfolding murmur3
+unmet_by lines rules a needed got reasons stood is two fewer others counted by_name refused served = record {
+  call = call_with needed;
+  of_act = is;
+  place = place;
+  may_use = inl stood.place_is;
+  asked = subst (λ seed. 0 ≡ shard_of (codes "hello") seed (length place.shards)) (sym stood.seed_is) refl;
+  needed_is = sym two;
+  fewer = fewer;
+  counted = each_in (λ r. IsCounted place 0 r.0) reasons counted;
+  by_name = ascends_by (λ r s. IsNamedBelow place r.0 s.0) reasons by_name;
+  others = others;
+  refused = subst (λ known. (r : ℕ × Reason) → IsIn reasons r → MayRefuse known a r.1) (sym stood.rules_is) (each_in (λ r. MayRefuse rules a r.1) reasons refused);
+  served = λ some. subst (λ known. MayServe known a) (sym stood.rules_is) (served some);
+}
+
+-- all three nodes refused a write for one reason
+all_refuse : (lines : List Turn) (rules : Rules) (ns : List ℕ) (t : ℕ) (v : ℤ) (why : Reason) → StandsAt lines rules → MayRefuse rules (write_in ns t v) why
+    → IsUnmet None (place_after lines (write_in ns t v) (unmet 0 (by_each why))) 0 2 (by_each why) 0
+all_refuse lines rules ns t v why stood may =
+    unmet_by lines rules (write_in ns t v) _ 0 (by_each why) stood refl refl (omega arith) refl
+    (counted_0 also counted_1 also counted_2 also tt)
+    ((below_0_1 also below_0_2 also tt) also (below_1_2 also tt) also tt also tt)
+    (may also may also may also tt)
+    (λ some. absurd (omega (arith, some)))
+
+-- a first moment is never a lowered one
+first_moment : (now : ℕ) → CausedAt None (place_after (made ∷ named ∷ []) (act.Now now) answer.Done)
+first_moment now =
+    let test : nat_lt now 0 ≡ false = grind (arith, nat_tests) in
+    inr (subst (λ b. IsDue None (place_after (made ∷ named ∷ []) (act.Now now) answer.Done) (cond b (Some (answer.Clock 0)) None)) (sym test) tt)
+
+-- the first three lines have their causes
+begun_caused : (now : ℕ) (turns : List Turn) → EachSplit (λ lines line after. EachInLine (CausedAt None) lines line) (begun now []) turns → Caused (life_of (begun now turns))
+begun_caused now turns each = caused_by_places (life_of (begun now turns)) (only (inr (first_placement, refl)) also only (inr tt) also only (first_moment now) also each)
+
+pub at_moment-caused : (now : ℕ) (a : Act) (b : Answer) → CausedAt None (place_after (begun now []) a b) → Caused (life_of (at_moment now a b))
+at_moment-caused now a b here = begun_caused now _ (only here also tt)
+
+pub with_eight-caused : (a : Act) (b : Answer) → CausedAt None (place_after eight_made a b) → Caused (life_of (with_eight a b))
+with_eight-caused a b here =
+    caused_by_places (life_of (with_eight a b)) (
     only (inr (first_placement, refl))
     also only (inr tt)
-    also only (inr all_acked)
+    also only (inr tt)
+    also only (inr tt)
+    also only (inr tt)
+    also only (inr tt)
+    also only (inr tt)
+    also only (inr tt)
+    also only (inr tt)
+    also only here
+    also tt)
+
+pub write_then_read-caused : Caused (life_of write_then_read)
+write_then_read-caused = begun_caused 100 _ (only (inr (all_take _ (rules_when 100) _ _ _ _ _ (stands refl refl refl) refl refl (omega arith) (omega arith))) also only (inr (λ e. cc)) also tt)
+
+pub edge_writes-caused : Caused (life_of edge_writes)
+edge_writes-caused =
+    begun_caused 250 _ (
+    only (inr (all_refuse _ (rules_when 250) _ _ _ _ (stands refl refl refl) (past_by (rules_when 250) _ 0 space _ _ refl refl (omega arith))))
+    also only (inr (all_take _ (rules_when 250) _ _ _ _ _ (stands refl refl refl) refl refl (omega arith) (omega arith)))
+    also only (inr (all_take _ (rules_when 250) _ _ _ _ _ (stands refl refl refl) refl refl (omega arith) (omega arith)))
+    also only (inr (all_refuse _ (rules_when 250) _ _ _ _ (stands refl refl refl) (future_by (rules_when 250) _ 0 space _ _ refl refl (omega arith))))
     also only (inr (λ e. cc))
     also tt)
+
+-- the rules with both namespaces at moment 250
+abbrev both_rules : Rules
+both_rules = record { now = 250; spaces = space ∷ narrow ∷ [] }
+
+pub narrow_writes-caused : Caused (life_of narrow_writes)
+narrow_writes-caused =
+    caused_by_places (life_of narrow_writes) (
+    only (inr (first_placement, refl))
+    also only (inr tt)
+    also only (inr tt)
+    also only (inr tt)
+    also only (inr (all_refuse _ both_rules _ _ _ _ (stands refl refl refl) (past_by both_rules _ 1 narrow _ _ refl refl (omega arith))))
+    also only (inr (all_take _ both_rules _ 1 narrow _ _ (stands refl refl refl) refl refl (omega arith) (omega arith)))
+    also only (inr (all_take _ both_rules _ 1 narrow _ _ (stands refl refl refl) refl refl (omega arith) (omega arith)))
+    also only (inr (all_refuse _ both_rules _ _ _ _ (stands refl refl refl) (future_by both_rules _ 1 narrow _ _ refl refl (omega arith))))
+    also only (inr (all_take _ both_rules _ 0 space _ _ (stands refl refl refl) refl refl (omega arith) (omega arith)))
+    also only (inr (all_take _ both_rules _ 0 space _ _ (stands refl refl refl) refl refl (omega arith) (omega arith)))
+    also tt)
+
+pub unmet_then_read-caused : (points : List (ℕ × ℤ)) → Caused (life_of (unmet_then_read points))
+unmet_then_read-caused points =
+    begun_caused 100 _ (
+    only (inr (unmet_by _ (rules_when 100) _ _ 1 _ (stands refl refl refl) refl refl (omega arith) refl
+    (counted_1 also counted_2 also tt) ((below_1_2 also tt) also tt also tt) (tt also tt also tt)
+    (λ some. takes_by (rules_when 100) _ 0 space _ _ refl refl (omega arith) (omega arith))))
+    also only (inr (λ e. cc))
+    also tt)
+
+pub fetch_unmet-caused : Caused (life_of (at_moment 100 (fetch 0 200) (unmet 1 ((0, reason.Memory) ∷ (2, reason.Memory) ∷ []))))
+fetch_unmet-caused =
+    at_moment-caused 100 _ _ (
+    inr (unmet_by _ (rules_when 100) _ _ 1 _ (stands refl refl refl) refl refl (omega arith) refl
+    (counted_0 also counted_2 also tt) ((below_0_2 also tt) also tt also tt) (tt also tt also tt) (λ some. tt)))
+
+-- a shard with one replica
+first_shard_of : (node : ℕ) → node < length (first_instances two_nodes) → IsFirstShard 1 (first_instances two_nodes) (assigned node ∷ [])
+first_shard_of node known = record {
+  all = refl;
+  available = each_in (λ a. (a.state ≡ Available) × (a.tenure ≡ 1) × (a.source ≡ None)) (assigned node ∷ []) ((refl, refl, refl) also tt);
+  to_nodes = each_in (λ a. a.node < length (first_instances two_nodes)) (assigned node ∷ []) (known also tt);
+  apart = ascends_by (IsApart (first_instances two_nodes)) (assigned node ∷ []) (tt also tt);
+}
+
+first_placement_of_two : IsFirstPlacement 1 2 two_nodes place_of_two
+first_placement_of_two = record {
+  version_is = refl;
+  rf_is = refl;
+  instances_are = refl;
+  shards_are = refl;
+  each_shard = each_in (IsFirstShard 1 (first_instances two_nodes)) place_of_two.shards (first_shard_of 0 (omega arith) also first_shard_of 1 (omega arith) also tt);
+}
+
+with_two_shards-caused : (a : Act) (b : Answer) → CausedAt None (place_after two_made a b) → Caused (life_of (with_two_shards a b))
+with_two_shards-caused a b here = caused_by_places (life_of (with_two_shards a b)) (only (inr (first_placement_of_two, refl)) also only (inr tt) also only here also tt)
+
+counted_of_two : IsCounted place_of_two 1 1
+counted_of_two = record { assignments = assigned 1 ∷ []; stands = refl; assignment = assigned 1; assigned = inl refl; to_node = refl; available = refl }
+
+second_took : IsAcked None (place_after two_made (write 10 (pos 5)) (acks (1 ∷ []))) (codes "hello") write_level.Majority None (1 ∷ [])
+unfolding murmur3
+second_took = record {
+  place = place_of_two;
+  may_use = inl refl;
+  counted = each_in (IsCounted place_of_two 1) (1 ∷ []) (counted_of_two also tt);
+  by_name = ascends_by (IsNamedBelow place_of_two) (1 ∷ []) (tt also tt);
+  enough = omega arith;
+  takes = takes_by (rules_when 0) _ 0 space 10 (pos 5) refl refl (omega arith) (omega arith);
+}
+
+second_unmet : IsUnmet None (place_after two_made (write 10 (pos 5)) (answer.Consistency 0 1 ((1, reason.Memory) ∷ []) 1)) 0 1 ((1, reason.Memory) ∷ []) 1
+unfolding murmur3
+second_unmet = record {
+  call = call_with _;
+  of_act = refl;
+  place = place_of_two;
+  may_use = inl refl;
+  asked = refl;
+  needed_is = refl;
+  fewer = omega arith;
+  counted = each_in (λ r. IsCounted place_of_two 1 r.0) ((1, reason.Memory) ∷ []) (counted_of_two also tt);
+  by_name = ascends_by (λ r s. IsNamedBelow place_of_two r.0 s.0) ((1, reason.Memory) ∷ []) (tt also tt);
+  others = refl;
+  refused = each_in (λ r. MayRefuse (rules_when 0) (write 10 (pos 5)) r.1) ((1, reason.Memory) ∷ []) (tt also tt);
+  served = λ some. absurd (omega (arith, some));
+}
+
+pub second_took-caused : Caused (life_of (with_two_shards (write 10 (pos 5)) (acks (1 ∷ []))))
+second_took-caused = with_two_shards-caused _ _ (inr second_took)
+
+pub second_unmet-caused : Caused (life_of (with_two_shards (write 10 (pos 5)) (answer.Consistency 0 1 ((1, reason.Memory) ∷ []) 1)))
+second_unmet-caused = with_two_shards-caused _ _ (inr second_unmet)

@@ -8,7 +8,7 @@ use Rattle.m3_model.specs.Record.{Record, TurnPlace}
 use Rattle.m3_model.specs.Rules.{rules_at}
 use Rattle.m3_model.specs.Points.{sent_at, acked_at}
 use Rattle.m3_model.specs.declared.rules.MetaState.{MetaState}
-use Rattle.model_laws.proofs.EachLemmas.{Each, each_in}
+use Rattle.model_laws.proofs.EachLemmas.{Each, each_in, ascends_by}
 use Rattle.model_laws.proofs.PlaceLemmas.{kept_read}
 use Rattle.m3_model.specs.declared.point.Point.{Point}
 
@@ -31,6 +31,14 @@ ordered_point id t v = record {
   ids = ((λ y h. absurd h), tt);
   times = each_in (λ s. Ascends (λ a b. a.0 < b.0) s.points) (record { id = id; points = (t, v) ∷ [] } ∷ []) (((λ y h. absurd h), tt), tt);
   none_empty = each_in (λ s. 0 < length s.points) (record { id = id; points = (t, v) ∷ [] } ∷ []) (omega arith, tt);
+}
+
+-- a series of two points is in order where their times are
+pub ordered_pair : (id : List ℕ) (t u : ℕ) (v w : ℤ) → t < u → IsOrdered (record { id = id; points = (t, v) ∷ (u, w) ∷ [] } ∷ [])
+ordered_pair id t u v w below = record {
+  ids = ((λ y h. absurd h), tt);
+  times = each_in (λ s. Ascends (λ a b. a.0 < b.0) s.points) (record { id = id; points = (t, v) ∷ (u, w) ∷ [] } ∷ []) (ascends_by (λ a b. a.0 < b.0) ((t, v) ∷ (u, w) ∷ []) ((below, tt), (tt, tt)), tt);
+  none_empty = each_in (λ s. 0 < length s.points) (record { id = id; points = (t, v) ∷ (u, w) ∷ [] } ∷ []) (omega arith, tt);
 }
 
 -- no series is in order

@@ -1,7 +1,10 @@
 -- The rules, points and reads of the worked transcripts.
 use Rattle.std.proofs.Common.{arith, ◌≡◌, ◌<◌, ◌+◌, ◌≤◌, ℕ, ℤ, List, [], ◌∷◌, ◌++◌, refl, sym, subst}
 use Rattle.std.specs.Prelude.{Some, None, false, codes}
-use Rattle.m3_model.specs.Rules.{rules_at}
+use Rattle.m3_model.specs.Caused.{Call}
+use Rattle.m3_model.specs.Record.{inner_turns}
+use Rattle.m3_model.specs.Rules.{rules_at, rules_after, start_rules}
+use Rattle.m3_model.specs.Placements.{placement_after, seed_after}
 use Rattle.m3_model.specs.Points.{sent_at, acked_at}
 use Rattle.m3_model.specs.Reads.{Read, Found, read_of, IsSought}
 use Rattle.m3_model.specs.Kept.{Kept, KeepsPoints}
@@ -11,13 +14,26 @@ use Rattle.m3_model.specs.declared.point.Pick.TheVariants as pick
 use Rattle.m3_model.specs.declared.rules.Rules.{Rules}
 use Rattle.m3_model.specs.declared.act.ReadLevel.TheVariants as read_level
 use Rattle.m3_model.specs.declared.turn.Turn.{Turn}
-use Rattle.model_laws.specs.Building.{space, line, fetch, found, life_of}
+use Rattle.model_laws.specs.Building.{space, place, line, fetch, found, life_of}
 use Rattle.model_laws.proofs.EachLemmas.{same_of_some}
 use Rattle.model_laws.proofs.PlaceLemmas.{place_after, place_after-stands, points_kept}
 
 -- the rules with the one namespace at a moment
 abbrev pub rules_when : ℕ → Rules
 rules_when now = record { now = now; spaces = space ∷ [] }
+
+-- the cluster stands after these lines, with these rules
+pub record StandsAt (lines : List Turn) (rules : Rules) : Type 0 where
+  pub place_is : placement_after None (inner_turns lines) ≡ Some place
+  pub rules_is : rules_after (start_rules None) (inner_turns lines) ≡ rules
+  pub seed_is : seed_after None (inner_turns lines) ≡ 0
+
+pub stands : {lines : List Turn} {rules : Rules} → placement_after None (inner_turns lines) ≡ Some place → rules_after (start_rules None) (inner_turns lines) ≡ rules → seed_after None (inner_turns lines) ≡ 0 → StandsAt lines rules
+stands place_is rules_is seed_is = record { place_is = place_is; rules_is = rules_is; seed_is = seed_is }
+
+-- a call of `hello` at the present version that needs so many replicas
+abbrev pub call_with : (ℕ → ℕ) → Call
+call_with needed = record { id = Some (codes "hello"); version = None; needed = needed }
 
 -- a point of `hello`
 abbrev pub hello : ℕ → ℤ → Point

@@ -1,14 +1,15 @@
 -- Why the answers without a cause are refused.
-use Rattle.std.proofs.Common.{◌≡◌, ◌≢◌, ◌≤◌, ℕ, List, [], ◌∷◌, ◌++◌, length, refl, sym, subst, ◌∙◌, inl, inr, arith, true}
+use Rattle.std.proofs.Common.{◌≡◌, ◌≢◌, ◌≤◌, ◌<◌, ◌+◌, ℕ, ℤ, List, [], ◌∷◌, ◌++◌, length, refl, sym, subst, ◌∙◌, inl, inr, arith, true}
 use Rattle.std.specs.Prelude.{Some, None, pos, slice_get, codes}
-use Rattle.m3_model.specs.Caused.{Caused, IsDue, IsAcked, IsNamedBelow, placement_at, refusal_by}
+use Rattle.m3_model.specs.Caused.{Caused, IsDue, IsAcked, IsAsked, IsNamedBelow, IsUnmet, MayRefuse, MayServe, MayUse, TakesPoint, call_of, placement_at}
+use Rattle.m3_model.specs.Refusals.{refusal_by}
 use Rattle.m3_model.specs.Hash.{murmur3, shard_of}
 use Rattle.m3_model.specs.Members.{IsIn}
 use Rattle.m3_model.specs.Rules.{rules_at}
-use Rattle.m3_model.specs.Placements.{IsCounted}
+use Rattle.m3_model.specs.Placements.{IsCounted, counted_nodes}
 use Rattle.m3_model.specs.Tags.{IsBelow}
 use Rattle.m3_model.specs.Ascends.{Ascends}
-use Rattle.m3_model.specs.Levels.{needed_write}
+use Rattle.m3_model.specs.Levels.{needed_write, needed_read}
 use Rattle.std.specs.declared.cmp.Ordering.TheVariants.{Less, Equal, Greater}
 use Rattle.m3_model.specs.declared.act.Act.{Act}
 use Rattle.m3_model.specs.declared.act.Act.TheVariants as act
@@ -19,23 +20,35 @@ use Rattle.m3_model.specs.declared.answer.Answer.TheVariants as answer
 use Rattle.m3_model.specs.declared.turn.Turn.{Turn}
 use Rattle.m3_model.specs.declared.placement.Assignment.{Assignment}
 use Rattle.m3_model.specs.declared.placement.Instance.{Instance}
-use Rattle.model_laws.specs.Building.{made, named, line, write, fetch, acks, place, placed, assigned, nodes, life_of}
+use Rattle.m3_model.specs.declared.placement.Placement.{Placement}
+use Rattle.m3_model.specs.declared.point.Point.{Point}
+use Rattle.m3_model.specs.declared.reason.Reason.{Reason}
+use Rattle.m3_model.specs.declared.reason.Reason.TheVariants as reason
+use Rattle.m3_model.specs.declared.rules.Rules.{Rules}
+use Rattle.m3_model.specs.declared.rules.Space.{Space}
+use Rattle.model_laws.specs.Building.{made, begun, at_moment, eight_made, with_eight, two_made, with_two_shards, namespace_of, line, write, write_in, fetch, acks, unmet, by_each, space, place, place_of_two, placed, assigned, nodes, life_of}
 use Rattle.model_laws.specs.Uncaused.{write_answered, write_first, made_twice, fetch_short, made_of_two}
 use Rattle.model_laws.proofs.PlaceLemmas.{place_after, place_after-stands}
-use Rattle.model_laws.proofs.EachLemmas.{each_in, same_of_some}
+use Rattle.model_laws.proofs.EachLemmas.{Each, ◌also◌, each_in, same_of_some, texts_differ}
+use Rattle.model_laws.proofs.SampleLemmas.{hello, rules_when, StandsAt, stands, call_with}
 
 -- an answer that isn't want of memory is the one that is due
 pub due_after : (lines : List Turn) (a : Act) (b : Answer) (after : List Turn) → b ≢ answer.Memory → Caused (life_of (lines ++ line a b ∷ after))
-    → IsDue None (place_after lines a b) (refusal_by (placement_at None (place_after lines a b)) (rules_at None (place_after lines a b)).spaces a)
+    → IsDue None (place_after lines a b) (refusal_by (placement_at None (place_after lines a b)) (rules_at None (place_after lines a b)) a)
 due_after lines a b after other caused =
     let p = place_after lines a b in
-    elim (caused p (place_after-stands lines a b after)) as (λ _. IsDue None p (refusal_by (placement_at None p) (rules_at None p).spaces a)) [ inl e ↦ absurd (other e) | inr due ↦ due ]
+    elim (caused p (place_after-stands lines a b after)) as (λ _. IsDue None p (refusal_by (placement_at None p) (rules_at None p) a)) [ inl e ↦ absurd (other e) | inr due ↦ due ]
+
+-- what is due of one request at a moment
+due_at : (now : ℕ) (a : Act) (b : Answer) → b ≢ answer.Memory → Caused (life_of (at_moment now a b))
+    → IsDue None (place_after (begun now []) a b) (refusal_by (placement_at None (place_after (begun now []) a b)) (rules_at None (place_after (begun now []) a b)) a)
+due_at now a b other caused = due_after (begun now []) a b [] other caused
 
 pub write_order-refused : ¬ Caused (life_of (write_answered answer.Order))
-write_order-refused caused = due_after (made ∷ named ∷ []) (write 100 (pos 5)) answer.Order [] (λ e. cc) caused
+write_order-refused caused = due_at 100 (write 100 (pos 5)) answer.Order (λ e. cc) caused
 
 pub write_done-refused : ¬ Caused (life_of (write_answered answer.Done))
-write_done-refused caused = due_after (made ∷ named ∷ []) (write 100 (pos 5)) answer.Done [] (λ e. cc) caused
+write_done-refused caused = due_at 100 (write 100 (pos 5)) answer.Done (λ e. cc) caused
 
 pub write_first-refused : ¬ Caused (life_of write_first)
 write_first-refused caused =
@@ -49,7 +62,7 @@ made_twice-refused caused =
 
 pub fetch_short-refused : ¬ Caused (life_of fetch_short)
 fetch_short-refused caused =
-    let level : read_level.Majority ≡ read_level.Unstrict = due_after (made ∷ named ∷ []) (fetch 0 200) (answer.Found [] true) [] (λ e. cc) caused refl in
+    let level : read_level.Majority ≡ read_level.Unstrict = due_at 100 (fetch 0 200) (answer.Found [] true) (λ e. cc) caused refl in
     cc
 
 pub made_of_two-refused : ¬ Caused (life_of made_of_two)
@@ -59,27 +72,36 @@ made_of_two-refused caused =
     let all : length two ≡ 3 = (due.0.each_shard two (inl refl)).all in
     omega arith
 
--- What is due of the nodes that took the write.
-record TakenBy (taken : List ℕ) : Type 0 where
+-- the only placement is the one that a call uses
+only_place : (lines : List Turn) (rules : Rules) (a : Act) (b : Answer) (used : Placement) → StandsAt lines rules → MayUse None (place_after lines a b) None used → place ≡ used
+only_place lines rules a b used stood may =
+    elim may as (λ _. place ≡ used) [ inl e ↦ same_of_some place used (sym stood.place_is ∙ e) | inr none ↦ absurd none ]
+
+-- What is due of the nodes that took a write at a moment.
+record TakenBy (now t : ℕ) (v : ℤ) (taken : List ℕ) : Type 0 where
   counted : (node : ℕ) → IsIn taken node → IsCounted place 0 node
   by_name : Ascends (IsNamedBelow place) taken
   enough : 2 ≤ length taken
+  takes : TakesPoint (rules_when now) (write t v)
 
-taken_by : (taken : List ℕ) → Caused (life_of (write_answered (acks taken))) → TakenBy taken
+taken_by : (now t : ℕ) (v : ℤ) (taken : List ℕ) → StandsAt (begun now []) (rules_when now) → Caused (life_of (at_moment now (write t v) (acks taken))) → TakenBy now t v taken
 unfolding murmur3
-taken_by taken caused =
-    let lines = made ∷ named ∷ [] in
-    let due : IsAcked None (place_after lines (write 100 (pos 5)) (acks taken)) (codes "hello") write_level.Majority None taken = due_after lines (write 100 (pos 5)) (acks taken) [] (λ e. cc) caused in
-    let same : place ≡ due.place =
-    elim due.may_use as (λ _. place ≡ due.place) [ inl e ↦ same_of_some place due.place e | inr none ↦ absurd none ] in
+taken_by now t v taken stood caused =
+    let due : IsAcked None (place_after (begun now []) (write t v) (acks taken)) (codes "hello") write_level.Majority None taken = due_at now (write t v) (acks taken) (λ e. cc) caused in
+    let same : place ≡ due.place = only_place (begun now []) (rules_when now) (write t v) (acks taken) due.place stood due.may_use in
     record {
       counted = subst (λ x. (node : ℕ) → IsIn taken node → IsCounted x (shard_of (codes "hello") 0 (length x.shards)) node) (sym same) due.counted;
       by_name = subst (λ x. Ascends (IsNamedBelow x) taken) (sym same) due.by_name;
       enough = subst (λ x. needed_write write_level.Majority x.rf ≤ length taken) (sym same) due.enough;
+      takes = due.takes;
     }
 
+-- what is due of the nodes that took the write at 100
+taken_at_100 : (taken : List ℕ) → Caused (life_of (write_answered (acks taken))) → TakenBy 100 100 (pos 5) taken
+taken_at_100 taken caused = taken_by 100 100 (pos 5) taken (stands refl refl refl) caused
+
 pub acks_too_few-refused : ¬ Caused (life_of (write_answered (acks (0 ∷ []))))
-acks_too_few-refused caused = let enough : 2 ≤ 1 = (taken_by (0 ∷ []) caused).enough in omega arith
+acks_too_few-refused caused = let enough : 2 ≤ 1 = (taken_at_100 (0 ∷ []) caused).enough in omega arith
 
 -- two nodes whose names are known
 names_below : (a b : ℕ) (one other : Instance) → slice_get place.instances a ≡ Some one → slice_get place.instances b ≡ Some other → IsNamedBelow place a b → IsBelow one.name other.name
@@ -90,18 +112,216 @@ names_below a b one other of_one of_other below =
 
 pub acks_repeated-refused : ¬ Caused (life_of (write_answered (acks (0 ∷ 0 ∷ []))))
 acks_repeated-refused caused =
-    let below : Equal ≡ Less = names_below 0 0 _ _ refl refl ((taken_by (0 ∷ 0 ∷ []) caused).by_name.0 0 (inl refl)) in
+    let below : Equal ≡ Less = names_below 0 0 _ _ refl refl ((taken_at_100 (0 ∷ 0 ∷ []) caused).by_name.0 0 (inl refl)) in
     cc
 
 pub acks_not_by_name-refused : ¬ Caused (life_of (write_answered (acks (1 ∷ 0 ∷ 2 ∷ []))))
 acks_not_by_name-refused caused =
-    let below : Greater ≡ Less = names_below 1 0 _ _ refl refl ((taken_by (1 ∷ 0 ∷ 2 ∷ []) caused).by_name.0 0 (inl refl)) in
+    let below : Greater ≡ Less = names_below 1 0 _ _ refl refl ((taken_at_100 (1 ∷ 0 ∷ 2 ∷ []) caused).by_name.0 0 (inl refl)) in
     cc
 
+-- a node that no assignment of the shard names doesn't count
+not_counted : (x : Placement) (shard node : ℕ) (all : List Assignment) → slice_get x.shards shard ≡ Some all → Each (λ a. a.node ≢ node) all → ¬ IsCounted x shard node
+not_counted x shard node all stood each counted =
+    let same : counted.assignments ≡ all = same_of_some counted.assignments all (sym counted.stands ∙ stood) in
+    each_in (λ a. a.node ≢ node) all each counted.assignment (subst (λ xs. IsIn xs counted.assignment) same counted.assigned) counted.to_node
+
+not_counted_7 : ¬ IsCounted place 0 7
+not_counted_7 = not_counted place 0 7 _ refl ((λ e. omega (arith, e)) also (λ e. omega (arith, e)) also (λ e. omega (arith, e)) also tt)
+
 pub acks_of_no_node-refused : ¬ Caused (life_of (write_answered (acks (0 ∷ 1 ∷ 7 ∷ []))))
-acks_of_no_node-refused caused =
-    let all_three : List Assignment = assigned 0 ∷ assigned 1 ∷ assigned 2 ∷ [] in
-    let counted = (taken_by (0 ∷ 1 ∷ 7 ∷ []) caused).counted 7 (inr (inr (inl refl))) in
-    let same : counted.assignments ≡ all_three = same_of_some counted.assignments all_three (sym counted.stands) in
-    let assigned_here : IsIn all_three counted.assignment = subst (λ x. IsIn x counted.assignment) same counted.assigned in
-    each_in (λ a. a.node ≢ 7) all_three ((λ e. omega (arith, e)), ((λ e. omega (arith, e)), ((λ e. omega (arith, e)), tt))) counted.assignment assigned_here counted.to_node
+acks_of_no_node-refused caused = not_counted_7 ((taken_at_100 (0 ∷ 1 ∷ 7 ∷ []) caused).counted 7 (inr (inr (inl refl))))
+
+-- the point of a write of `hello` is known, and so is its namespace
+write_known : (t : ℕ) (v : ℤ) (point : Point) (within : Space) → Some (hello t v) ≡ Some point → slice_get (space ∷ []) point.ns ≡ Some within → (point ≡ hello t v) × (within ≡ space)
+write_known t v point within e stood =
+    let same : point ≡ hello t v = sym (same_of_some (hello t v) point e) in
+    (same, sym (same_of_some space within (subst (λ p. slice_get (space ∷ []) p.ns ≡ Some within) same stood)))
+
+-- a point that is taken lies above the moment less 100, and below the moment and 50
+takes-window : (now t : ℕ) (v : ℤ) → TakesPoint (rules_when now) (write t v) → (now < t + 100) × (t < now + 50)
+takes-window now t v takes =
+    let known = write_known t v takes.point takes.in_window.space takes.of_act takes.in_window.stands in (
+      subst (λ p. now < p.t + 100) known.0 (subst (λ s. now < takes.point.t + s.past) known.1 takes.in_window.not_past),
+      subst (λ p. p.t < now + 50) known.0 (subst (λ s. takes.point.t < now + s.future) known.1 takes.in_window.not_future),
+    )
+
+pub taken_past-refused : ¬ Caused (life_of (at_moment 250 (write 150 (pos 5)) (acks (0 ∷ 1 ∷ 2 ∷ []))))
+taken_past-refused caused =
+    let not_past : 250 < 150 + 100 = (takes-window 250 150 (pos 5) (taken_by 250 150 (pos 5) _ (stands refl refl refl) caused).takes).0 in
+    omega arith
+
+pub taken_future-refused : ¬ Caused (life_of (at_moment 250 (write 300 (pos 5)) (acks (0 ∷ 1 ∷ 2 ∷ []))))
+taken_future-refused caused =
+    let not_future : 300 < 250 + 50 = (takes-window 250 300 (pos 5) (taken_by 250 300 (pos 5) _ (stands refl refl refl) caused).takes).1 in
+    omega arith
+
+-- What is due where fewer nodes than are needed did as a call asked.
+record UnmetBy (now : ℕ) (a : Act) (due_needed got needed : ℕ) (reasons : List (ℕ × Reason)) : Type 0 where
+  needed_is : needed ≡ due_needed
+  fewer : got < needed
+  counted : (r : ℕ × Reason) → IsIn reasons r → IsCounted place 0 r.0
+  by_name : Ascends (λ r s. IsNamedBelow place r.0 s.0) reasons
+  others : got + length reasons ≡ 3
+  refused : (r : ℕ × Reason) → IsIn reasons r → MayRefuse (rules_when now) a r.1
+  served : 0 < got → MayServe (rules_when now) a
+
+unmet_by : (now : ℕ) (a : Act) (b : Answer) (needs : ℕ → ℕ) (got needed : ℕ) (reasons : List (ℕ × Reason)) → StandsAt (begun now []) (rules_when now) → call_of a ≡ Some (call_with needs)
+    → IsUnmet None (place_after (begun now []) a b) got needed reasons 0 → UnmetBy now a (needs 3) got needed reasons
+unmet_by now a b needs got needed reasons stood is due =
+    let known : call_with needs ≡ due.call = same_of_some (call_with needs) due.call (sym is ∙ due.of_act) in
+    let may : MayUse None (place_after (begun now []) a b) None due.place = subst (λ call. MayUse None (place_after (begun now []) a b) call.version due.place) (sym known) due.may_use in
+    let same : place ≡ due.place = only_place (begun now []) (rules_when now) a b due.place stood may in
+    record {
+      needed_is = subst (λ x. needed ≡ needs x.rf) (sym same) (subst (λ call. needed ≡ call.needed due.place.rf) (sym known) due.needed_is);
+      fewer = due.fewer;
+      counted = subst (λ x. (r : ℕ × Reason) → IsIn reasons r → IsCounted x 0 r.0) (sym same) due.counted;
+      by_name = subst (λ x. Ascends (λ r s. IsNamedBelow x r.0 s.0) reasons) (sym same) due.by_name;
+      others = subst (λ x. got + length reasons ≡ length (counted_nodes x 0)) (sym same) due.others;
+      refused = due.refused;
+      served = due.served;
+    }
+
+-- what is due of a refused write
+write_unmet : (now t : ℕ) (v : ℤ) (got needed : ℕ) (reasons : List (ℕ × Reason)) → StandsAt (begun now []) (rules_when now) → Caused (life_of (at_moment now (write t v) (answer.Consistency got needed reasons 0))) → UnmetBy now (write t v) 2 got needed reasons
+write_unmet now t v got needed reasons stood caused =
+    unmet_by now (write t v) (answer.Consistency got needed reasons 0) (needed_write write_level.Majority) got needed reasons stood refl (due_at now (write t v) (answer.Consistency got needed reasons 0) (λ e. cc) caused)
+
+-- what is due of the write at 100
+unmet_at_100 : (got needed : ℕ) (reasons : List (ℕ × Reason)) → Caused (life_of (write_answered (answer.Consistency got needed reasons 0))) → UnmetBy 100 (write 100 (pos 5)) 2 got needed reasons
+unmet_at_100 got needed reasons caused = write_unmet 100 100 (pos 5) got needed reasons (stands refl refl refl) caused
+
+-- a write that may be refused as past lies at or below the moment less 100
+past-outside : (now t : ℕ) (v : ℤ) → MayRefuse (rules_when now) (write t v) reason.Past → t + 100 ≤ now
+past-outside now t v may =
+    let known = write_known t v may.point may.outside.space may.of_act may.outside.stands in
+    subst (λ p. p.t + 100 ≤ now) known.0 (subst (λ s. may.point.t + s.past ≤ now) known.1 may.outside.too_old)
+
+-- a write that may be refused as future lies at or above the moment and 50
+future-outside : (now t : ℕ) (v : ℤ) → MayRefuse (rules_when now) (write t v) reason.Future → now + 50 ≤ t
+future-outside now t v may =
+    let known = write_known t v may.point may.outside.space may.of_act may.outside.stands in
+    subst (λ p. now + 50 ≤ p.t) known.0 (subst (λ s. now + s.future ≤ may.point.t) known.1 may.outside.too_new)
+
+-- each of the nodes may refuse the write for the one reason that all have
+each_refuses : (now t : ℕ) (v : ℤ) (why : Reason) → StandsAt (begun now []) (rules_when now) → Caused (life_of (at_moment now (write t v) (unmet 0 (by_each why)))) → MayRefuse (rules_when now) (write t v) why
+each_refuses now t v why stood caused = (write_unmet now t v 0 2 (by_each why) stood caused).refused (0, why) (inl refl)
+
+pub past-refused : (t : ℕ) → 250 < t + 100 → ¬ Caused (life_of (at_moment 250 (write t (pos 5)) (unmet 0 (by_each reason.Past))))
+past-refused t inside caused =
+    let outside : t + 100 ≤ 250 = past-outside 250 t (pos 5) (each_refuses 250 t (pos 5) reason.Past (stands refl refl refl) caused) in
+    omega arith
+
+pub future-refused : (t : ℕ) → t < 250 + 50 → ¬ Caused (life_of (at_moment 250 (write t (pos 5)) (unmet 0 (by_each reason.Future))))
+future-refused t inside caused =
+    let outside : 250 + 50 ≤ t = future-outside 250 t (pos 5) (each_refuses 250 t (pos 5) reason.Future (stands refl refl refl) caused) in
+    omega arith
+
+pub one_took-refused : ¬ Caused (life_of (at_moment 250 (write 150 (pos 5)) (unmet 1 ((1, reason.Past) ∷ (2, reason.Past) ∷ []))))
+one_took-refused caused =
+    let takes = (write_unmet 250 150 (pos 5) 1 2 _ (stands refl refl refl) caused).served (omega arith) in
+    let not_past : 250 < 150 + 100 = (takes-window 250 150 (pos 5) takes).0 in
+    omega arith
+
+pub fetch_past-refused : ¬ Caused (life_of (at_moment 250 (fetch 0 200) (unmet 0 (by_each reason.Past))))
+fetch_past-refused caused =
+    let due = unmet_by 250 (fetch 0 200) (unmet 0 (by_each reason.Past)) (needed_read read_level.Majority) 0 2 (by_each reason.Past) (stands refl refl refl) refl (due_at 250 (fetch 0 200) (unmet 0 (by_each reason.Past)) (λ e. cc) caused) in
+    let may = due.refused (0, reason.Past) (inl refl) in
+    let point : None ≡ Some may.point = may.of_act in
+    cc
+
+pub cut-refused : ¬ Caused (life_of (write_answered (unmet 0 (by_each reason.Cut))))
+cut-refused caused = each_refuses 100 100 (pos 5) reason.Cut (stands refl refl refl) caused
+
+pub reason_repeated-refused : ¬ Caused (life_of (write_answered (unmet 0 ((0, reason.Memory) ∷ (0, reason.Memory) ∷ (1, reason.Memory) ∷ []))))
+reason_repeated-refused caused =
+    let below : Equal ≡ Less = names_below 0 0 _ _ refl refl ((unmet_at_100 0 2 _ caused).by_name.0 (0, reason.Memory) (inl refl)) in
+    cc
+
+pub reason_left_out-refused : ¬ Caused (life_of (write_answered (unmet 0 ((0, reason.Memory) ∷ (1, reason.Memory) ∷ []))))
+reason_left_out-refused caused = let others : 0 + 2 ≡ 3 = (unmet_at_100 0 2 _ caused).others in omega arith
+
+pub reason_of_no_node-refused : ¬ Caused (life_of (write_answered (unmet 0 ((0, reason.Memory) ∷ (1, reason.Memory) ∷ (7, reason.Memory) ∷ []))))
+reason_of_no_node-refused caused = not_counted_7 ((unmet_at_100 0 2 _ caused).counted (7, reason.Memory) (inr (inr (inl refl))))
+
+pub enough_took_it-refused : ¬ Caused (life_of (write_answered (unmet 2 ((2, reason.Memory) ∷ []))))
+enough_took_it-refused caused = let fewer : 2 < 2 = (unmet_at_100 2 2 _ caused).fewer in omega arith
+
+pub more_than_needed-refused : ¬ Caused (life_of (write_answered (answer.Consistency 2 3 ((2, reason.Memory) ∷ []) 0)))
+more_than_needed-refused caused = let needed : 3 ≡ 2 = (unmet_at_100 2 3 _ caused).needed_is in omega (arith, needed)
+
+-- the placement of two shards is the one that a call uses
+place_of_two-used : (a : Act) (b : Answer) (used : Placement) → MayUse None (place_after two_made a b) None used → used ≡ place_of_two
+place_of_two-used a b used may = elim may as (λ _. used ≡ place_of_two) [ inl e ↦ same_of_some used place_of_two (sym e) | inr none ↦ absurd none ]
+
+-- node 0 isn't on shard 1
+not_counted_0 : ¬ IsCounted place_of_two 1 0
+not_counted_0 = not_counted place_of_two 1 0 _ refl ((λ e. omega (arith, e)) also tt)
+
+pub other_node-refused : ¬ Caused (life_of (with_two_shards (write 10 (pos 5)) (acks (0 ∷ []))))
+unfolding murmur3
+other_node-refused caused =
+    let due : IsAcked None (place_after two_made (write 10 (pos 5)) (acks (0 ∷ []))) (codes "hello") write_level.Majority None (0 ∷ []) = due_after two_made (write 10 (pos 5)) (acks (0 ∷ [])) [] (λ e. cc) caused in
+    let same : due.place ≡ place_of_two = place_of_two-used (write 10 (pos 5)) (acks (0 ∷ [])) due.place due.may_use in
+    not_counted_0 (subst (λ x. IsCounted x (shard_of (codes "hello") 0 (length x.shards)) 0) same (due.counted 0 (inl refl)))
+
+-- What is due of one node's reason, with a shard.
+record OneReason (shard : ℕ) : Type 0 where
+  asked : shard ≡ 1
+  counted : IsCounted place_of_two shard 0
+
+one_reason : (shard : ℕ) → Caused (life_of (with_two_shards (write 10 (pos 5)) (answer.Consistency 0 1 ((0, reason.Memory) ∷ []) shard))) → OneReason shard
+unfolding murmur3
+one_reason shard caused =
+    let a = write 10 (pos 5) in
+    let b = answer.Consistency 0 1 ((0, reason.Memory) ∷ []) shard in
+    let call = call_with (needed_write write_level.Majority) in
+    let due : IsUnmet None (place_after two_made a b) 0 1 ((0, reason.Memory) ∷ []) shard = due_after two_made a b [] (λ e. cc) caused in
+    let known : call ≡ due.call = same_of_some call due.call due.of_act in
+    let same : due.place ≡ place_of_two = place_of_two-used a b due.place (subst (λ c. MayUse None (place_after two_made a b) c.version due.place) (sym known) due.may_use) in
+    record {
+      asked = subst (λ x. IsAsked (Some (codes "hello")) 0 (length x.shards) shard) same (subst (λ c. IsAsked c.id 0 (length due.place.shards) shard) (sym known) due.asked);
+      counted = subst (λ x. IsCounted x shard 0) same (due.counted (0, reason.Memory) (inl refl));
+    }
+
+pub own_shard-refused : ¬ Caused (life_of (with_two_shards (write 10 (pos 5)) (answer.Consistency 0 1 ((0, reason.Memory) ∷ []) 0)))
+own_shard-refused caused = let asked : 0 ≡ 1 = (one_reason 0 caused).asked in omega (arith, asked)
+
+pub shard_1-refused : ¬ Caused (life_of (with_two_shards (write 10 (pos 5)) (answer.Consistency 0 1 ((0, reason.Memory) ∷ []) 1)))
+shard_1-refused caused = not_counted_0 (one_reason 1 caused).counted
+
+pub equal_moment-refused : ¬ Caused (life_of (at_moment 100 (act.Now 100) (answer.Clock 100)))
+equal_moment-refused caused = due_at 100 (act.Now 100) (answer.Clock 100) (λ e. cc) caused
+
+same_moment : (m n : ℕ) → answer.Clock m ≡ answer.Clock n → m ≡ n
+same_moment m n e = cc
+
+same_name : (m n : List ℕ) → answer.Unknown m ≡ answer.Unknown n → m ≡ n
+same_name m n e = cc
+
+pub other_moment-refused : ¬ Caused (life_of (at_moment 100 (act.Now 99) (answer.Clock 99)))
+other_moment-refused caused =
+    let same : 99 ≡ 100 = same_moment 99 100 (due_at 100 (act.Now 99) (answer.Clock 99) (λ e. cc) caused) in
+    omega (arith, same)
+
+pub lower_moment-refused : ¬ Caused (life_of (at_moment 100 (act.Now 99) answer.Done))
+lower_moment-refused caused = let due : answer.Done ≡ answer.Clock 100 = due_at 100 (act.Now 99) answer.Done (λ e. cc) caused in cc
+
+pub unknown_there-refused : ¬ Caused (life_of (write_answered (answer.Unknown (codes "m"))))
+unknown_there-refused caused = due_at 100 (write 100 (pos 5)) (answer.Unknown (codes "m")) (λ e. cc) caused
+
+pub unknown_other-refused : ¬ Caused (life_of (at_moment 100 (write_in (codes "n") 100 (pos 5)) (answer.Unknown (codes "m"))))
+unknown_other-refused caused =
+    texts_differ (codes "m") (codes "n") refl refl (same_name _ _ (due_at 100 (write_in (codes "n") 100 (pos 5)) (answer.Unknown (codes "m")) (λ e. cc) caused))
+
+pub later-refused : ¬ Caused (life_of (at_moment 100 (write_in (codes "n") 100 (pos 5)) answer.Later))
+later-refused caused = let due : answer.Later ≡ answer.Unknown (codes "n") = due_at 100 (write_in (codes "n") 100 (pos 5)) answer.Later (λ e. cc) caused in cc
+
+pub ninth-refused : ¬ Caused (life_of (with_eight (namespace_of (codes "m9")) answer.Done))
+ninth-refused caused = let due : answer.Done ≡ answer.Limit 8 = due_after eight_made (namespace_of (codes "m9")) answer.Done [] (λ e. cc) caused in cc
+
+pub limit-refused : ¬ Caused (life_of (at_moment 100 (namespace_of (codes "n")) (answer.Limit 8)))
+limit-refused caused = due_at 100 (namespace_of (codes "n")) (answer.Limit 8) (λ e. cc) caused
+
+pub same_namespace-refused : ¬ Caused (life_of (at_moment 100 (namespace_of (codes "m")) answer.Done))
+same_namespace-refused caused = let due : answer.Done ≡ answer.Order = due_at 100 (namespace_of (codes "m")) answer.Done (λ e. cc) caused in cc

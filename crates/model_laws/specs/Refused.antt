@@ -1,62 +1,63 @@
 -- Transcripts that are not kept, each broken in one way.
 use Rattle.std.specs.Prelude.{List, [], ◌∷◌, None, pos, codes}
 use Rattle.m3_model.specs.declared.act.Act.TheVariants as act
-use Rattle.m3_model.specs.declared.act.ReadLevel.TheVariants as read_level
 use Rattle.m3_model.specs.declared.act.WriteLevel.TheVariants as write_level
 use Rattle.m3_model.specs.declared.answer.Answer.{Answer}
 use Rattle.m3_model.specs.declared.turn.Turn.{Turn}
-use Rattle.model_laws.specs.Building.{made, named, moved, wrote, read, line, write, fetch, acks, found}
+use Rattle.model_laws.specs.Building.{begun, fetch_in, moved, wrote, read, line, write, fetch, acks, found}
 
 -- an acknowledged write, and a fetch that finds nothing
 abbrev pub without_the_point : List Turn
-without_the_point = made ∷ named ∷ wrote 100 (pos 5) ∷ read 0 200 [] ∷ []
+without_the_point = begun 100 (wrote 100 (pos 5) ∷ read 0 200 [] ∷ [])
 
 -- values 4 and 9 at one time, and a fetch that finds 4
 abbrev pub with_lower_value : List Turn
-with_lower_value = made ∷ named ∷ wrote 100 (pos 4) ∷ wrote 100 (pos 9) ∷ read 0 200 ((100, pos 4) ∷ []) ∷ []
+with_lower_value = begun 100 (wrote 100 (pos 4) ∷ wrote 100 (pos 9) ∷ read 0 200 ((100, pos 4) ∷ []) ∷ [])
 
 -- a fetch that finds what was written, and a point at a time at which nothing was
 abbrev pub with_other_point : List Turn
-with_other_point = made ∷ named ∷ wrote 100 (pos 5) ∷ read 0 200 ((100, pos 5) ∷ (120, pos 7) ∷ []) ∷ []
+with_other_point = begun 100 (wrote 100 (pos 5) ∷ read 0 200 ((100, pos 5) ∷ (120, pos 7) ∷ []) ∷ [])
 
 -- a fetch that finds a value above all that were written
 abbrev pub with_higher_value : List Turn
-with_higher_value = made ∷ named ∷ wrote 100 (pos 5) ∷ read 0 200 ((100, pos 9) ∷ []) ∷ []
+with_higher_value = begun 100 (wrote 100 (pos 5) ∷ read 0 200 ((100, pos 9) ∷ []) ∷ [])
 
 -- a fetch that finds both points, the later one first
 abbrev pub with_later_first : List Turn
-with_later_first = made ∷ named ∷ wrote 100 (pos 1) ∷ wrote 120 (pos 2) ∷ read 0 200 ((120, pos 2) ∷ (100, pos 1) ∷ []) ∷ []
+with_later_first = begun 100 (wrote 100 (pos 1) ∷ wrote 120 (pos 2) ∷ read 0 200 ((120, pos 2) ∷ (100, pos 1) ∷ []) ∷ [])
 
 -- a fetch that finds one point twice
 abbrev pub with_point_twice : List Turn
-with_point_twice = made ∷ named ∷ wrote 100 (pos 5) ∷ read 0 200 ((100, pos 5) ∷ (100, pos 5) ∷ []) ∷ []
+with_point_twice = begun 100 (wrote 100 (pos 5) ∷ read 0 200 ((100, pos 5) ∷ (100, pos 5) ∷ []) ∷ [])
 
 -- a fetch that finds a series without points, where nothing was written
 abbrev pub with_empty_series : List Turn
-with_empty_series = made ∷ named ∷ line (fetch 0 200) (found (record { id = codes "hello"; points = [] } ∷ [])) ∷ []
+with_empty_series = begun 100 (line (fetch 0 200) (found (record { id = codes "hello"; points = [] } ∷ [])) ∷ [])
 
 -- a write at 1000 that a fetch doesn't find at moment 1499
 abbrev pub without_kept_point : List Turn
-without_kept_point = made ∷ named ∷ moved 1000 ∷ wrote 1000 (pos 7) ∷ moved 1499 ∷ read 0 2000 [] ∷ []
+without_kept_point = begun 1000 (wrote 1000 (pos 7) ∷ moved 1499 ∷ read 0 2000 [] ∷ [])
 
 -- a write at 1000 that a fetch still finds at moment 1500
 abbrev pub with_expired_point : List Turn
-with_expired_point = made ∷ named ∷ moved 1000 ∷ wrote 1000 (pos 7) ∷ moved 1499 ∷ read 0 2000 ((1000, pos 7) ∷ []) ∷ moved 1500 ∷ read 0 2000 ((1000, pos 7) ∷ []) ∷ []
+with_expired_point = begun 1000 (wrote 1000 (pos 7) ∷ moved 1499 ∷ read 0 2000 ((1000, pos 7) ∷ []) ∷ moved 1500 ∷ read 0 2000 ((1000, pos 7) ∷ []) ∷ [])
 
 -- a fetch from 100 to 120 that finds a point at 120
 abbrev pub with_point_at_end : List Turn
-with_point_at_end = made ∷ named ∷ wrote 100 (pos 1) ∷ wrote 120 (pos 2) ∷ read 100 120 ((100, pos 1) ∷ (120, pos 2) ∷ []) ∷ []
+with_point_at_end = begun 100 (wrote 100 (pos 1) ∷ wrote 120 (pos 2) ∷ read 100 120 ((100, pos 1) ∷ (120, pos 2) ∷ []) ∷ [])
 
 -- a write of another series, which a fetch of `hello` finds
 abbrev pub with_other_series : List Turn
 with_other_series =
-    made ∷ named ∷ line (act.Write (codes "m") (codes "world") 100 (pos 5) write_level.Majority None) (acks (0 ∷ 1 ∷ 2 ∷ []))
-    ∷ line (fetch 0 200) (found (record { id = codes "world"; points = (100, pos 5) ∷ [] } ∷ [])) ∷ []
+    begun 100 (
+    line (act.Write (codes "m") (codes "world") 100 (pos 5) write_level.Majority None) (acks (0 ∷ 1 ∷ 2 ∷ []))
+    ∷ line (fetch 0 200) (found (record { id = codes "world"; points = (100, pos 5) ∷ [] } ∷ []))
+    ∷ [])
 
 -- an answered fetch of a namespace that nothing made
 abbrev pub with_unknown_namespace : List Turn
-with_unknown_namespace = made ∷ named ∷ line (act.Fetch (codes "n") (codes "hello") 0 200 read_level.Majority None) (found []) ∷ []
+with_unknown_namespace = begun 100 (line (fetch_in (codes "n") 0 200) (found []) ∷ [])
 
 -- a write that got this answer, and a fetch that finds its point
 abbrev pub with_point_answered : Answer → List Turn
-with_point_answered b = made ∷ named ∷ line (write 100 (pos 5)) b ∷ read 0 200 ((100, pos 5) ∷ []) ∷ []
+with_point_answered b = begun 100 (line (write 100 (pos 5)) b ∷ read 0 200 ((100, pos 5) ∷ []) ∷ [])

@@ -3,11 +3,11 @@ use Rattle.std.specs.Prelude.{List, [], ◌∷◌, pos, true}
 use Rattle.m3_model.specs.declared.answer.Answer.{Answer}
 use Rattle.m3_model.specs.declared.answer.Answer.TheVariants as answer
 use Rattle.m3_model.specs.declared.turn.Turn.{Turn}
-use Rattle.model_laws.specs.Building.{made, named, wrote, line, init, write, fetch, placed, assigned}
+use Rattle.model_laws.specs.Building.{made, at_moment, wrote, init, write, fetch, placed, assigned}
 
 -- a write that got this answer, after the cluster and the namespace were made
 abbrev pub write_answered : Answer → List Turn
-write_answered b = made ∷ named ∷ line (write 100 (pos 5)) b ∷ []
+write_answered b = at_moment 100 (write 100 (pos 5)) b
 
 -- a write that all nodes took, before there were any
 abbrev pub write_first : List Turn
@@ -19,7 +19,7 @@ made_twice = made ∷ made ∷ []
 
 -- a fetch at level majority that only some nodes answered
 abbrev pub fetch_short : List Turn
-fetch_short = made ∷ named ∷ line (fetch 0 200) (answer.Found [] true) ∷ []
+fetch_short = at_moment 100 (fetch 0 200) (answer.Found [] true)
 
 -- an `init` of three replicas that gave the shard to two nodes
 abbrev pub made_of_two : List Turn

@@ -1,0 +1,73 @@
+-- What the turns before an act refuse it for: its place among the lines, a name, a limit, a moment.
+use Rattle.std.specs.Prelude.{ℕ, List, length, Option, Some, None, option_map, Bool, true, false, if◌then◌else◌, is_some, nat_le, nat_lt}
+use Rattle.std.specs.Option.{option_map_or, option_or}
+use Rattle.m3_model.specs.Rules.{namespace_place}
+use Rattle.m3_model.specs.Placements.{is_listed}
+use Rattle.m3_model.specs.NotYet.{is_put_off}
+use Rattle.m3_model.specs.declared.placement.Placement.{Placement}
+use Rattle.m3_model.specs.declared.rules.Space.{Space}
+use Rattle.m3_model.specs.declared.rules.Rules.{Rules}
+use Rattle.m3_model.specs.declared.act.Act.{Act}
+use Rattle.m3_model.specs.declared.act.Act.TheVariants as act
+use Rattle.m3_model.specs.declared.answer.Answer.{Answer}
+use Rattle.m3_model.specs.declared.answer.Answer.TheVariants as answer
+
+-- this answer, where the test holds
+abbrev pub answer_if : Bool → Answer → Option Answer
+answer_if test a = if test then Some a else None
+
+-- a name that the act is to make is there already
+abbrev pub is_taken : Placement → List Space → Act → Bool
+is_taken place spaces (act.Namespace name block past future retention) = is_some (namespace_place name spaces)
+is_taken place spaces (act.Add node group) = is_listed node place
+is_taken place spaces (act.Replace node by group) = is_listed by place
+is_taken place spaces _ = false
+
+-- an `init` stands already, or none stands, or a name to be made is there
+abbrev pub is_out_of_order : Option Placement → List Space → Act → Bool
+is_out_of_order place spaces (act.Init rf shards seed nodes) = is_some place
+is_out_of_order place spaces a = option_map_or (λ p. is_taken p spaces a) place true
+
+-- the name, where no namespace has it
+abbrev pub missing_space : List Space → List ℕ → Option (List ℕ)
+missing_space spaces name = if is_some (namespace_place name spaces) then None else Some name
+
+-- the name, where no listed node has it
+abbrev pub missing_node : Option Placement → List ℕ → Option (List ℕ)
+missing_node place name = if option_map_or (is_listed name) place false then None else Some name
+
+-- the name in an act that should be there and isn't
+abbrev pub missing_name : Option Placement → List Space → Act → Option (List ℕ)
+missing_name place spaces (act.Write ns id t v level version) = missing_space spaces ns
+missing_name place spaces (act.Fetch ns id from to level version) = missing_space spaces ns
+missing_name place spaces (act.Match ns wanted from to level version) = missing_space spaces ns
+missing_name place spaces (act.Stop node) = missing_node place node
+missing_name place spaces (act.Restart node pick) = missing_node place node
+missing_name place spaces (act.Bootstrap node shard) = missing_node place node
+missing_name place spaces (act.Drain node) = missing_node place node
+missing_name place spaces (act.Cancel node) = missing_node place node
+missing_name place spaces (act.Remove node) = missing_node place node
+missing_name place spaces (act.Replace node by group) = missing_node place node
+missing_name place spaces _ = None
+
+-- how many namespaces there may be
+abbrev pub namespace_limit : ℕ
+namespace_limit = 8
+
+-- the limit that an act would pass
+abbrev pub limit_reached : List Space → Act → Option Answer
+limit_reached spaces (act.Namespace name block past future retention) = answer_if (nat_le namespace_limit (length spaces)) (answer.Limit namespace_limit)
+limit_reached spaces _ = None
+
+-- the moment, where an act would lower it
+abbrev pub lowered_moment : ℕ → Act → Option Answer
+lowered_moment moment (act.Now now) = answer_if (nat_lt now moment) (answer.Clock moment)
+lowered_moment moment _ = None
+
+-- the first refusal that the turns before decide: put off, out of order, unknown, limit, clock
+abbrev pub refusal_by : Option Placement → Rules → Act → Option Answer
+refusal_by place rules a =
+    option_or (answer_if (is_put_off a) answer.Later)
+    (option_or (answer_if (is_out_of_order place rules.spaces a) answer.Order)
+    (option_or (option_map (λ name. answer.Unknown name) (missing_name place rules.spaces a))
+    (option_or (limit_reached rules.spaces a) (lowered_moment rules.now a))))

@@ -1,0 +1,9 @@
+use Rattle.std.proofs.Common.{refl, inr}
+use Rattle.model_laws.proofs.CausedLives.{at_moment-caused}
+use Rattle.model_laws.proofs.accepted.namespace_not_there.Goals as goal
+
+pub returns-clause-write : goal.returns-clause-write
+returns-clause-write c = at_moment-caused 100 _ _ (inr refl)
+
+pub returns-clause-fetch : goal.returns-clause-fetch
+returns-clause-fetch c = at_moment-caused 100 _ _ (inr refl)
