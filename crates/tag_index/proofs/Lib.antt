@@ -1,0 +1,5 @@
+pub mod LinkLemmas
+pub mod PostingLemmas
+pub mod SlotLemmas
+pub mod SoundLemmas
+pub mod IndexLemmas

@@ -1,0 +1,133 @@
+-- Links: which ones a series has.
+use Rattle.std.proofs.Common.{◌≡◌, ℕ, ◌<◌, List, [], ◌∷◌, ◌++◌, length, take, get_or, refl, sym, ap, ◌∙◌, inl, inr, Bool, true, false, not, cond, ◌||◌, ◌&&◌, arith, zero, suc}
+use Rattle.std.specs.Prelude.{◌⊎◌}
+use Rattle.std.specs.FinMap.{IsAntisymmetric, nat_cmp-IsAntisymmetric, slice_cmp-IsAntisymmetric}
+use Rattle.std.specs.Ordering.{nat_cmp, ordering_then, is_eq, eq_by_cmp}
+use Rattle.std.specs.Cmp.{tied_itself}
+use Rattle.std.specs.Cmp.Lexicographic.{slice_cmp}
+use Rattle.std.specs.declared.cmp.Ordering.{Ordering}
+use Rattle.std.specs.declared.cmp.Ordering.TheVariants.{Less, Equal, Greater}
+use Rattle.m3_model.specs.Members.{IsIn}
+use Rattle.m3_model.proofs.Keyed.{equal_of}
+use Rattle.tag_index.specs.declared.link.Link.{Link}
+use Rattle.tag_index.specs.Links.{link_cmp, link_cmp_total, link_of, is_link_of}
+
+abbrev pub Pair : Type 0
+Pair = List ℕ × List ℕ
+
+both_equal : (a b : Ordering) → ordering_then a b ≡ Equal → (a ≡ Equal) × (b ≡ Equal)
+both_equal Less b e = cc
+both_equal Equal b e = (refl, e)
+both_equal Greater b e = cc
+
+-- only equal links tie
+pub link_cmp-IsAntisymmetric : IsAntisymmetric link_cmp
+link_cmp-IsAntisymmetric x y e =
+    let first = both_equal (slice_cmp nat_cmp x.name y.name) (ordering_then (slice_cmp nat_cmp x.value y.value) (nat_cmp x.ordinal y.ordinal)) e in
+    let second = both_equal (slice_cmp nat_cmp x.value y.value) (nat_cmp x.ordinal y.ordinal) first.1 in
+    λ i. record { name = slice_cmp-IsAntisymmetric nat_cmp-IsAntisymmetric x.name y.name first.0 i; value = slice_cmp-IsAntisymmetric nat_cmp-IsAntisymmetric x.value y.value second.0 i; ordinal = nat_cmp-IsAntisymmetric x.ordinal y.ordinal second.1 i }
+
+pub same_link : (x y : Link) → eq_by_cmp link_cmp x y ≡ true → x ≡ y
+same_link x y e = link_cmp-IsAntisymmetric x y (equal_of _ e)
+
+pub link_itself : (x : Link) → eq_by_cmp link_cmp x x ≡ true
+link_itself x = ap is_eq (tied_itself link_cmp_total x)
+
+or_true : (b : Bool) → (b || true) ≡ true
+or_true true = refl
+or_true false = refl
+
+pub or_false : (b : Bool) → (b || false) ≡ b
+or_false true = refl
+or_false false = refl
+
+both_false : (a b : Bool) → (a || b) ≡ false → (a ≡ false) × (b ≡ false)
+both_false true b e = cc
+both_false false b e = (refl, e)
+
+-- a link of the tags to the ordinal names one of them and the ordinal
+pub link_names : (tags : List Pair) (o : ℕ) (q : Link) → is_link_of tags o q ≡ true → IsIn tags (q.name, q.value) × (o ≡ q.ordinal)
+link_names [] o q e = cc
+link_names (tag ∷ tags) o q e = by_test (eq_by_cmp link_cmp (link_of o tag) q) refl (link_names tags o q) e
+  where
+    by_test : (b : Bool) → eq_by_cmp link_cmp (link_of o tag) q ≡ b → (is_link_of tags o q ≡ true → IsIn tags (q.name, q.value) × (o ≡ q.ordinal)) → (b || is_link_of tags o q) ≡ true
+        → ((tag ≡ (q.name, q.value)) ⊎ IsIn tags (q.name, q.value)) × (o ≡ q.ordinal)
+    by_test true t later e =
+        let same = same_link (link_of o tag) q t in
+        (inl (λ i. ((same i).name, (same i).value)), ap (λ (l : Link). l.ordinal) same)
+    by_test false t later e = let found = later e in (inr found.0, found.1)
+
+-- each tag has its link
+pub names_link : (tags : List Pair) (o : ℕ) (tag : Pair) → IsIn tags tag → is_link_of tags o (link_of o tag) ≡ true
+names_link [] o tag h = absurd h
+names_link (x ∷ tags) o tag h =
+    elim h as (λ _. (eq_by_cmp link_cmp (link_of o x) (link_of o tag) || is_link_of tags o (link_of o tag)) ≡ true) [
+      | inl same ↦ ap (λ (t : Pair). eq_by_cmp link_cmp (link_of o t) (link_of o tag) || is_link_of tags o (link_of o tag)) same ∙ ap (λ b. b || is_link_of tags o (link_of o tag)) (link_itself (link_of o tag))
+      | inr later ↦ ap (λ b. eq_by_cmp link_cmp (link_of o x) (link_of o tag) || b) (names_link tags o tag later) ∙ or_true _
+    ]
+
+-- a link to another ordinal is none of them
+pub other_ordinal : (tags : List Pair) (o : ℕ) (q : Link) → (o ≡ q.ordinal → ⊥) → is_link_of tags o q ≡ false
+other_ordinal tags o q apart = by_test (is_link_of tags o q) refl
+  where
+    by_test : (b : Bool) → is_link_of tags o q ≡ b → b ≡ false
+    by_test true e = absurd (apart (link_names tags o q e).1)
+    by_test false e = refl
+
+pub is_link_of-append : (xs ys : List Pair) (o : ℕ) (q : Link) → is_link_of (xs ++ ys) o q ≡ (is_link_of xs o q || is_link_of ys o q)
+is_link_of-append [] ys o q = refl
+is_link_of-append (x ∷ xs) ys o q = ap (λ b. eq_by_cmp link_cmp (link_of o x) q || b) (is_link_of-append xs ys o q) ∙ or_assoc (eq_by_cmp link_cmp (link_of o x) q) _ _
+  where
+    or_assoc : (a b c : Bool) → (a || (b || c)) ≡ ((a || b) || c)
+    or_assoc true b c = refl
+    or_assoc false b c = refl
+
+-- a link of none of the tags is none of the first ones, and none of a single one
+pub none_taken : (tags : List Pair) (i o : ℕ) (q : Link) → is_link_of tags o q ≡ false → is_link_of (take i tags) o q ≡ false
+none_taken [] zero o q e = refl
+none_taken [] (suc i) o q e = refl
+none_taken (x ∷ tags) zero o q e = refl
+none_taken (x ∷ tags) (suc i) o q e =
+    let parts = both_false (eq_by_cmp link_cmp (link_of o x) q) (is_link_of tags o q) e in
+    ap (λ b. b || is_link_of (take i tags) o q) parts.0 ∙ none_taken tags i o q parts.1
+
+pub none_at : (tags : List Pair) (i o : ℕ) (d : Pair) (q : Link) → i < length tags → is_link_of tags o q ≡ false → is_link_of (get_or tags i d ∷ []) o q ≡ false
+none_at [] i o d q h e = absurd (omega arith)
+none_at (x ∷ tags) zero o d q h e = ap (λ b. b || false) (both_false (eq_by_cmp link_cmp (link_of o x) q) (is_link_of tags o q) e).0
+none_at (x ∷ tags) (suc i) o d q h e = none_at tags i o d q (omega arith) (both_false (eq_by_cmp link_cmp (link_of o x) q) (is_link_of tags o q) e).1
+
+-- one more tag is linked
+pub linked_more : (was b now more : Bool) → now ≡ (b || more) → (old : Bool) → b ≡ (old || was) → now ≡ (old || (was || more))
+linked_more was b now more e old h = e ∙ ap (λ c. c || more) h ∙ assoc old was more
+  where
+    assoc : (a b c : Bool) → ((a || b) || c) ≡ (a || (b || c))
+    assoc true b c = refl
+    assoc false b c = refl
+
+-- one tag's link left
+pub unlinked_more : (c rest e : Bool) → (cond e false c && not rest) ≡ (c && not (rest || (e || false)))
+unlinked_more true true true = refl
+unlinked_more true true false = refl
+unlinked_more true false true = refl
+unlinked_more true false false = refl
+unlinked_more false true true = refl
+unlinked_more false true false = refl
+unlinked_more false false true = refl
+unlinked_more false false false = refl
+
+pub and_true : (b : Bool) → (b && true) ≡ b
+and_true true = refl
+and_true false = refl
+
+-- what was linked in part is unlinked again
+pub rolled_back : (tags : List Pair) (o : ℕ) (q : Link) (old now after : Bool) → (q.ordinal ≡ o → old ≡ false) → (is_link_of tags o q ≡ false → now ≡ old)
+    → after ≡ (now && not (is_link_of tags o q)) → after ≡ old
+rolled_back tags o q old now after fresh kept e = by_test (is_link_of tags o q) refl e
+  where
+    none : (b : Bool) → (b && false) ≡ false
+    none true = refl
+    none false = refl
+
+    by_test : (b : Bool) → is_link_of tags o q ≡ b → after ≡ (now && not b) → after ≡ old
+    by_test true t f = f ∙ none now ∙ sym (fresh (sym (link_names tags o q t).1))
+    by_test false t f = f ∙ and_true now ∙ kept t

@@ -1,0 +1,4 @@
+pub mod Listed
+pub mod Links
+pub mod Sound
+pub mod Laws

@@ -1,0 +1,13 @@
+//! Work on postings and matchers: what two ascending lists share, what one has alone, and whether tags meet matchers.
+//!
+//! A posting is the list of the ordinals of some series, ascending. Both calls on postings cost time in proportion to
+//! the two lengths together. To try matchers costs time in proportion to the number of tags times that of matchers.
+#![tactic(auto)]
+
+mod matchers;
+mod postings;
+#[cfg(test)]
+mod tests;
+
+pub use matchers::holds;
+pub use postings::{both, minus};
