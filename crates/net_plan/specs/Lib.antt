@@ -1,0 +1,3 @@
+pub mod FateKeys
+pub mod Fates
+pub mod Laws
