@@ -6,3 +6,4 @@ pub mod CutLemmas
 pub mod AnswerLemmas
 pub mod BlockLemmas
 pub mod LawLemmas
+pub mod JoinLemmas

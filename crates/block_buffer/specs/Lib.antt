@@ -5,3 +5,4 @@ pub mod Held
 pub mod Ranges
 pub mod Blocks
 pub mod Laws
+pub mod Joins

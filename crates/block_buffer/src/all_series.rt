@@ -59,13 +59,22 @@ impl AllSeries {
     }
 
     // Makes a slot of the series at this time, if there is none. No value changes.
-    pub(crate) fn hold(&mut self, alloc: Global, series: SeriesKey, t: u64) -> Result<(), Memory>
+    pub(crate) fn hold(&mut self, alloc: Global, series: &SeriesKey, t: u64) -> Result<(), Memory>
+        ensures kept { (k : Key) → value_of self.new k ≡ value_of self.old k }
+        ensures stands { OnOk result (IsSome (slot_at self.new (key_at series.now t))) }
+    {
+        if self.map.contains_key(series) {
+            return self.hold_in(series, t);
+        }
+        self.hold_new(alloc, series.copy(alloc)?, t)
+    }
+
+    // The same, of a series that isn't there.
+    fn hold_new(&mut self, alloc: Global, series: SeriesKey, t: u64) -> Result<(), Memory>
+        requires { finite.get self.old series ≡ None }
         ensures kept { (k : Key) → value_of self.new k ≡ value_of self.old k }
         ensures stands { OnOk result (IsSome (slot_at self.new (key_at series t))) }
     {
-        if self.map.contains_key(&series) {
-            return self.hold_in(&series, t);
-        }
         let mut buffer = SeriesBuffer::new(alloc);
         buffer.hold(t)?;
         self.map.insert(series, buffer)?;

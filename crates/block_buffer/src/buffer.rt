@@ -1,6 +1,8 @@
 ghost use Rattle.std.specs.Prelude.{◌≡◌, ◌+◌, ◌-◌, ◌^◌, ◌<◌, min, Some, None, IfOk, OnOk, OnErr};
 ghost use Rattle.std.specs.FinMap as finite;
-ghost use Rattle.m3_model.specs.Contents.{raised, is_higher, key_of};
+ghost use Rattle.m3_model.specs.Contents.{raised, raised_at, is_higher, key_of};
+ghost use Rattle.block_buffer.specs.Joins.{joined, points_of_series, IsJoinedInPart};
+ghost use Rattle.block_buffer.specs.SeriesKeys.{key_at};
 ghost use Rattle.block_buffer.specs.Held.{without, has_expired, is_in_block};
 ghost use Rattle.std.specs.List.{All};
 ghost use Rattle.block_buffer.specs.Ranges.{IsRangeOf};
@@ -71,7 +73,7 @@ impl Buffer {
             ns: p.ns,
             id: p.id.copy(self.alloc)?,
         };
-        self.all.hold(self.alloc, series, p.t)?;
+        self.all.hold(self.alloc, &series, p.t)?;
         self.room = Some(key);
         Ok(())
     }
@@ -90,6 +92,39 @@ impl Buffer {
             }
             None => false,
         }
+    }
+
+    /// Joins the points of a series of the namespace, of which the higher value stays at each key, and gives up the
+    /// room. Each point costs logarithmic time.
+    ///
+    /// # Errors
+    ///
+    /// Want of memory leaves the first ones of them joined.
+    pub fn join(&mut self, ns: u8, series: &Series) -> Result<(), Memory>
+        ensures ok { OnOk result (self.new ≡ record { points = joined self.old.points (points_of_series ns series.now); room = None }) }
+        ensures err { OnErr result (IsJoinedInPart self.old.points (points_of_series ns series.now) self.new.points) }
+        ensures room { self.new.room ≡ None }
+    {
+        self.release();
+        let key = SeriesKey {
+            ns,
+            id: series.id.copy(self.alloc)?,
+        };
+        for (t, v) in series.points.as_slice() {
+            self.add(&key, *t, *v)?;
+        }
+        Ok(())
+    }
+
+    // Joins a point of the series.
+    fn add(&mut self, series: &SeriesKey, t: u64, v: i64) -> Result<(), Memory>
+        requires { self.old.room ≡ None }
+        ensures ok { OnOk result (self.new ≡ record { points = raised_at self.old.points (key_at series.now t) v; room = None }) }
+        ensures err { OnErr result (self.new ≡ self.old) }
+    {
+        self.all.hold(self.alloc, series, t)?;
+        self.all.raise(series, t, v);
+        Ok(())
     }
 
     /// The points with `from <= t < to` of the series that the pick names: of the one identifier, or of each

@@ -1,4 +1,7 @@
+use m3_model::duplicate::Duplicate;
+use m3_model::memory::Memory;
 use m3_model::text::Text;
+use std::alloc::Global;
 use std::cmp::Ordering;
 
 /// A series: the place of its namespace among the namespaces, and its identifier.
@@ -6,6 +9,15 @@ use std::cmp::Ordering;
 pub struct SeriesKey {
     pub ns: u8,
     pub id: Text,
+}
+
+impl Duplicate for SeriesKey {
+    fn copy(&self, alloc: Global) -> Result<SeriesKey, Memory> {
+        Ok(SeriesKey {
+            ns: self.ns,
+            id: self.id.copy(alloc)?,
+        })
+    }
 }
 
 impl PartialEq for SeriesKey {

@@ -1,11 +1,14 @@
 -- The nodes of `init`, by name.
-use Rattle.std.proofs.Common.{◌≡◌, ◌≢◌, ℕ, zero, suc, ◌+◌, ◌<◌, ◌≤◌, List, [], ◌∷◌, ◌++◌, map, take, length, get_or, refl, sym, ap, ap₂, ◌∙◌, subst, inl, inr, arith, length-append, append_assoc, Bool, true, false, not, cond, ◌&&◌}
-use Rattle.std.specs.Prelude.{Some, None, slice_get, is_some, nat_eq}
+use Rattle.std.proofs.Common.{◌≡◌, ◌≢◌, ℕ, zero, suc, ◌+◌, ◌<◌, ◌≤◌, List, [], ◌∷◌, ◌++◌, map, take, length, get_or, refl, sym, ap, ap₂, ◌∙◌, subst, inl, inr, arith, length-append, append_assoc, Bool, true, false, not, cond, ◌&&◌, ◌||◌, eqb}
+use Rattle.std.specs.Prelude.{Some, None, slice_get, slice_index_or, is_some, nat_eq}
 use Rattle.std.specs.Ordering.{nat_cmp, eq_by_cmp}
 use Rattle.std.specs.Cmp.{tied_itself}
 use Rattle.std.specs.Cmp.Lexicographic.{slice_cmp, nat_list_cmp_total, pointwise}
 use Rattle.std.proofs.lemmas.Slice.Eq.{bytes_eq-Decides}
-use Rattle.m3_model.specs.NotYet.{are_three_groups}
+use Rattle.m3_model.specs.NotYet.{groups_differ, fills_its_nodes}
+use Rattle.std.specs.List.{list_any}
+use Rattle.std.proofs.lemmas.Bool.{eqb-true}
+use Rattle.m3_model.proofs.RangeLemmas.{both_true}
 use Rattle.std.specs.FinMap.{FinMap, IsAntisymmetric, nat_cmp-IsAntisymmetric, slice_cmp-IsAntisymmetric, empty, insert, entries, get, len, get-insert, get-empty, len-insert, len-entries, len-empty}
 use Rattle.m3_model.specs.declared.placement.Instance.{Instance}
 use Rattle.m3_model.specs.Members.{IsIn}
@@ -20,7 +23,7 @@ use Rattle.m3_model.specs.Placements.{first_instances, IsApart, IsFirstShard, Is
 use Rattle.m3_model.specs.Caused.{IsNamedBelow}
 use Rattle.m3_model.proofs.MemberLemmas.{IsIn-map}
 use Rattle.m3_cluster.specs.Replicas.{Replica}
-use Rattle.m3_cluster.specs.First.{numbered, nodes_by_name, first_assignment, empty_replica, first_place}
+use Rattle.m3_cluster.specs.First.{numbered, nodes_by_name, first_assignment, empty_replica, copies, first_place, first_replicas}
 use Rattle.m3_cluster.specs.Serves.{IsStaffed}
 
 abbrev Names : Type 0
@@ -204,22 +207,55 @@ assigned_nodes : (ns : List ℕ) → map (λ (a : Assignment). a.node) (map firs
 assigned_nodes [] = refl
 assigned_nodes (n ∷ ns) = ap (λ xs. n ∷ xs) (assigned_nodes ns)
 
--- the replicas that `init` makes are those of its shard
-pub first_staffed : (rf : ℕ) (is : List Instance) → NamesApart is → rf ≡ length is → IsStaffed (first_place rf is) (map empty_replica (nodes_by_name is))
-first_staffed rf is apart size = record {
-  assignments = map first_assignment (nodes_by_name is);
-  one_shard = refl;
-  nodes = assigned_nodes (nodes_by_name is) ∙ sym (same_nodes (nodes_by_name is));
-  available = λ a m. let from = IsIn-map first_assignment (nodes_by_name is) a m in ap (λ (x : Assignment). x.state) (sym from.2);
-  all = size ∙ sym (length-map (nodes_by_name is) empty_replica ∙ length-nodes_by_name is apart);
-  by_name = subst (Ascends (IsNamedBelow (first_place rf is))) (sym (same_nodes (nodes_by_name is))) (nodes_by_name-ascends (first_place rf is));
-}
+pub length-copies : {X : Type 0} (n : ℕ) (x : X) → length (copies n x) ≡ n
+length-copies zero x = refl
+length-copies (suc n) x = ap suc (length-copies n x)
+
+-- one more copy
+pub copies_push : {X : Type 0} (n : ℕ) (x : X) → copies (n + 1) x ≡ copies n x ++ x ∷ []
+copies_push zero x = refl
+copies_push (suc n) x = let next : suc n + 1 ≡ suc (n + 1) = omega arith in ap (λ k. copies k x) next ∙ ap (λ xs. x ∷ xs) (copies_push n x)
+
+-- each copy is the element
+pub get-copies : {X : Type 0} (n : ℕ) (x : X) (k : ℕ) → k < n → slice_get (copies n x) k ≡ Some x
+get-copies zero x k low = absurd (omega arith)
+get-copies (suc n) x zero low = refl
+get-copies (suc n) x (suc k) low = get-copies n x k (omega arith)
+
+pub get_or-copies : {X : Type 0} (n : ℕ) (x d : X) (k : ℕ) → k < n → slice_index_or (copies n x) k d ≡ x
+get_or-copies zero x d k low = absurd (omega arith)
+get_or-copies (suc n) x d zero low = refl
+get_or-copies (suc n) x d (suc k) low = get_or-copies n x d k (omega arith)
+
+-- an element of one of the copies of a list is one of the list
+pub copies-IsIn : {X : Type 0} (n : ℕ) (xs : List X) (k : ℕ) (x : X) → IsIn (slice_index_or (copies n xs) k []) x → IsIn xs x
+copies-IsIn zero xs k x h = absurd h
+copies-IsIn (suc n) xs zero x h = h
+copies-IsIn (suc n) xs (suc k) x h = copies-IsIn n xs k x h
+
+IsIn-copies : {X : Type 0} (n : ℕ) (x y : X) → IsIn (copies n x) y → x ≡ y
+IsIn-copies zero x y h = absurd h
+IsIn-copies (suc n) x y h = elim h as (λ _. x ≡ y) [ inl e ↦ e | inr r ↦ IsIn-copies n x y r ]
+
+-- the replicas that `init` makes are those of their shard
+pub first_staffed : (rf shards seed : ℕ) (is : List Instance) → NamesApart is → rf ≡ length is → (k : ℕ) → k < shards → IsStaffed (first_place rf shards is) k (slice_index_or (first_replicas shards is) k [])
+first_staffed rf shards seed is apart size k low =
+    let replicas = map empty_replica (nodes_by_name is) in
+    let place = first_place rf shards is in
+    subst (IsStaffed place k) (sym (get_or-copies shards replicas [] k low)) (record {
+      assignments = map first_assignment (nodes_by_name is);
+      stands = get-copies shards (map first_assignment (nodes_by_name is)) k low;
+      nodes = assigned_nodes (nodes_by_name is) ∙ sym (same_nodes (nodes_by_name is));
+      available = λ a m. let from = IsIn-map first_assignment (nodes_by_name is) a m in ap (λ (x : Assignment). x.state) (sym from.2);
+      all = size ∙ sym (length-map (nodes_by_name is) empty_replica ∙ length-nodes_by_name is apart);
+      by_name = subst (Ascends (IsNamedBelow place)) (sym (same_nodes (nodes_by_name is))) (nodes_by_name-ascends place);
+    })
 
 -- it is a first placement
-pub first_placement : (rf : ℕ) (nodes : List (List ℕ × List ℕ)) → Ascends (λ a b. a.0 ≢ b.0) nodes → Ascends (λ a b. a.1 ≢ b.1) nodes → rf ≡ length nodes → IsFirstPlacement rf 1 nodes (first_place rf (first_instances nodes))
-first_placement rf nodes names groups size =
+pub first_placement : (rf shards : ℕ) (nodes : List (List ℕ × List ℕ)) → Ascends (λ a b. a.0 ≢ b.0) nodes → Ascends (λ a b. a.1 ≢ b.1) nodes → rf ≡ length nodes → IsFirstPlacement rf shards nodes (first_place rf shards (first_instances nodes))
+first_placement rf shards nodes names groups size =
     let is = first_instances nodes in
-    let place = first_place rf is in
+    let place = first_place rf shards is in
     let shard = map first_assignment (nodes_by_name is) in
     let count : length shard ≡ rf = length-map (nodes_by_name is) first_assignment ∙ length-nodes_by_name is (names_apart nodes names) ∙ length-map nodes (λ (n : List ℕ × List ℕ). record { name = n.0; group = n.1; listed = true; drained = false }) ∙ sym size in
     let first : IsFirstShard rf is shard = record {
@@ -234,33 +270,40 @@ first_placement rf nodes names groups size =
       version_is = refl;
       rf_is = refl;
       instances_are = refl;
-      shards_are = refl;
-      each_shard = λ assignments m. elim m as (λ _. IsFirstShard rf is assignments) [ inl same ↦ subst (IsFirstShard rf is) same first | inr none ↦ absurd none ];
+      shards_are = length-copies shards shard;
+      each_shard = λ assignments m. subst (IsFirstShard rf is) (IsIn-copies shards shard assignments m) first;
     }
 
-apart_test : (x y : List ℕ) → not (pointwise nat_eq x y) ≡ true → x ≢ y
-apart_test x y t e = let same : pointwise nat_eq x y ≡ true = (bytes_eq-Decides x y).1 e in let bad : false ≡ true = ap not (sym same) ∙ t in cc
+apart_test : (x y : List ℕ) → pointwise nat_eq y x ≡ false → x ≢ y
+apart_test x y t e = let same : pointwise nat_eq y x ≡ true = (bytes_eq-Decides y x).1 (sym e) in let bad : false ≡ true = sym t ∙ same in cc
 
-all_true : (a b c : Bool) → ((a && b) && c) ≡ true → (a ≡ true) × (b ≡ true) × (c ≡ true)
-all_true true true true e = (refl, refl, refl)
-all_true true true false e = cc
-all_true true false c e = cc
-all_true false b c e = cc
+both_tests : (a b : Bool) → (not a && b) ≡ true → (a ≡ false) × (b ≡ true)
+both_tests true b e = cc
+both_tests false b e = (refl, e)
 
--- three nodes in groups of their own
-pub three_apart : (nodes : List (List ℕ × List ℕ)) → are_three_groups nodes ≡ true → (length nodes ≡ 3) × Ascends (λ a b. a.1 ≢ b.1) nodes
-three_apart (a ∷ b ∷ c ∷ []) t =
-    let tests = all_true (not (pointwise nat_eq a.1 b.1)) (not (pointwise nat_eq a.1 c.1)) (not (pointwise nat_eq b.1 c.1)) t in
-    let ab = apart_test a.1 b.1 tests.0 in
-    let ac = apart_test a.1 c.1 tests.1 in
-    let bc = apart_test b.1 c.1 tests.2 in (
-      refl,
-      (
-        (λ y m. elim m as (λ _. a.1 ≢ y.1) [ inl e ↦ subst (λ (n : List ℕ × List ℕ). a.1 ≢ n.1) e ab | inr r ↦ elim r as (λ _. a.1 ≢ y.1) [ inl e ↦ subst (λ (n : List ℕ × List ℕ). a.1 ≢ n.1) e ac | inr none ↦ absurd none ] ]),
-        ((λ y m. elim m as (λ _. b.1 ≢ y.1) [ inl e ↦ subst (λ (n : List ℕ × List ℕ). b.1 ≢ n.1) e bc | inr none ↦ absurd none ]), ((λ y m. absurd m), tt)),
-      ),
-    )
-three_apart [] t = cc
-three_apart (a ∷ []) t = cc
-three_apart (a ∷ b ∷ []) t = cc
-three_apart (a ∷ b ∷ c ∷ d ∷ nodes) t = cc
+none_alike : (node : List ℕ × List ℕ) (nodes : List (List ℕ × List ℕ)) → list_any (λ other. pointwise nat_eq other.1 node.1) nodes ≡ false → (y : List ℕ × List ℕ) → IsIn nodes y → node.1 ≢ y.1
+none_alike node [] t y h = absurd h
+none_alike node (x ∷ xs) t y h =
+    let tests = either_false (pointwise nat_eq x.1 node.1) (list_any (λ (other : List ℕ × List ℕ). pointwise nat_eq other.1 node.1) xs) t in
+    elim h as (λ _. node.1 ≢ y.1) [
+      | inl e ↦ subst (λ (n : List ℕ × List ℕ). node.1 ≢ n.1) e (apart_test node.1 x.1 tests.0)
+      | inr r ↦ none_alike node xs tests.1 y r
+    ]
+  where
+    either_false : (a b : Bool) → (a || b) ≡ false → (a ≡ false) × (b ≡ false)
+    either_false true b e = cc
+    either_false false b e = (refl, e)
+
+-- groups that differ stand apart
+pub groups_ascend : (nodes : List (List ℕ × List ℕ)) → groups_differ nodes ≡ true → Ascends (λ a b. a.1 ≢ b.1) nodes
+groups_ascend [] t = tt
+groups_ascend (node ∷ nodes) t =
+    let tests = both_tests (list_any (λ (other : List ℕ × List ℕ). pointwise nat_eq other.1 node.1) nodes) (groups_differ nodes) t in
+    (none_alike node nodes tests.0, groups_ascend nodes tests.1)
+
+-- nodes that are filled are as many as replicas, in groups of their own
+pub filled_apart : (rf : ℕ) (nodes : List (List ℕ × List ℕ)) → fills_its_nodes rf nodes ≡ true → (length nodes ≡ rf) × Ascends (λ a b. a.1 ≢ b.1) nodes
+filled_apart rf nodes t = let tests = both_true (eqb (length nodes) rf) (groups_differ nodes) t in (eqb-true (length nodes) rf tests.0, groups_ascend nodes tests.1)
+
+pub first_size : (rf : ℕ) (nodes : List (List ℕ × List ℕ)) → fills_its_nodes rf nodes ≡ true → rf ≡ length (first_instances nodes)
+first_size rf nodes t = sym (length-map nodes (λ (n : List ℕ × List ℕ). record { name = n.0; group = n.1; listed = true; drained = false }) ∙ (filled_apart rf nodes t).0)

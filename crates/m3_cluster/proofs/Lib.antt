@@ -1,11 +1,11 @@
 pub mod ChosenLemmas
-pub mod RangeLemmas
+pub mod GatherLemmas
 pub mod SpaceLemmas
 pub mod WindowLemmas
 pub mod FirstLemmas
 pub mod WriteLemmas
 pub mod StandLemmas
-pub mod FetchLemmas
+pub mod ReadLemmas
 pub mod StepLemmas
 pub mod CauseLemmas
 pub mod ServeLemmas

@@ -1,6 +1,6 @@
 -- Each answer of the cluster is a step that a turn may do.
-use Rattle.std.proofs.Common.{◌≡◌, ℕ, ℤ, List, [], ◌∷◌, ◌++◌, map, length, refl, sym, ap, ◌∙◌, subst, inl, inr, append-nil, arith, Bool, true, cond}
-use Rattle.std.specs.Prelude.{◌⊎◌, Option, Some, None, option_map}
+use Rattle.std.proofs.Common.{◌≡◌, ℕ, ℤ, List, [], ◌∷◌, ◌++◌, map, length, refl, sym, ap, ◌∙◌, subst, inl, inr, append-nil, arith, Bool, true, false, cond, eqb, ap₂, ◌<◌, ◌≤◌, ◌%◌}
+use Rattle.std.specs.Prelude.{◌⊎◌, Option, Some, None, option_map, slice_index_or, slice_set}
 use Rattle.std.specs.FinMap.{get, get-empty}
 use Rattle.m3_model.specs.declared.point.Key.{Key}
 use Rattle.m3_model.specs.declared.point.Point.{Point}
@@ -17,26 +17,35 @@ use Rattle.m3_model.specs.Keys.{key_cmp}
 use Rattle.m3_model.specs.Members.{IsIn}
 use Rattle.m3_model.specs.Ascends.{Ascends}
 use Rattle.m3_model.specs.Caused.{IsNamedBelow}
-use Rattle.std.proofs.lemmas.List.{length-map}
+use Rattle.std.proofs.lemmas.List.{length-map, length-set, get_or-set_same, get_or-set_other}
+use Rattle.std.proofs.lemmas.Bool.{eqb-true, eqb-false}
 use Rattle.m3_model.specs.Contents.{Holds, point_at}
 use Rattle.m3_model.specs.Limits.{MeetsLimits}
 use Rattle.m3_model.specs.NotYet.{IsServedAct}
+use Rattle.m3_model.specs.Hash.{murmur3, shard_of}
+use Rattle.m3_model.specs.declared.point.Pick.{Pick}
 use Rattle.m3_model.specs.Record.{InnerTurn}
 use Rattle.m3_model.specs.Rules.{rules_by, namespace_place}
-use Rattle.m3_model.specs.Placements.{printed, later_placement, first_instances}
+use Rattle.m3_model.specs.Placements.{printed, later_placement, seed_by, first_instances}
 use Rattle.m3_model.specs.Points.{point_of, sent_point, was_sent}
 use Rattle.m3_model.proofs.MemberLemmas.{IsIn-map}
 use Rattle.m3_model.proofs.JoinLemmas.{raised_holds, raised_keeps, raised_source}
 use Rattle.m3_cluster.specs.Replicas.{Replica}
 use Rattle.m3_model.specs.declared.point.Series.{Series}
 use Rattle.m3_model.specs.declared.reason.Reason.{Reason}
-use Rattle.m3_cluster.specs.Quorums.{chosen, answering, with_point}
-use Rattle.m3_cluster.specs.First.{first_state, nodes_by_name, empty_replica}
-use Rattle.m3_cluster.specs.Steps.{Formed, spaces_in, IsTaken, IsWritten, IsFetched, IsNamed, IsMoved, IsMade, Answers}
-use Rattle.m3_cluster.specs.Serves.{place_of, rules_of, IsStaffed, IsWellFormed, Stands}
+use Rattle.m3_cluster.specs.Quorums.{chosen, answering, taken_where, with_point}
+use Rattle.m3_cluster.specs.First.{first_state, first_replicas, nodes_by_name, empty_replica}
+use Rattle.m3_cluster.specs.Steps.{Formed, spaces_in, staff, shard_in, IsTaken, IsWritten, IsFetched, IsNamed, IsMoved, IsMade, Answers}
+use Rattle.m3_cluster.specs.Serves.{place_of, rules_of, seed_of, IsStaffed, IsWellFormed, Stands}
 use Rattle.m3_cluster.proofs.ChosenLemmas.{length-chosen_taken, length_taken, nodes_taken, chosen-taken, taken-IsIn, chosen_took}
-use Rattle.m3_cluster.proofs.FirstLemmas.{names_apart, first_staffed, three_apart}
+use Rattle.m3_cluster.proofs.FirstLemmas.{names_apart, first_size, first_staffed, length-copies, copies-IsIn}
 use Rattle.m3_cluster.proofs.StandLemmas.{Grows, Goes}
+
+-- only `init` sets the seed
+seed_stays : (a : Act) (b : Answer) (n : ℕ) → printed b ≡ None → seed_by a b n ≡ n
+seed_stays (act.Init rf shards seed nodes) (answer.Placed place version) n e = cc
+seed_stays (act.Init rf shards seed nodes) _ n e = refl
+seed_stays _ b n e = refl
 
 -- a turn that changes nothing
 stays : (turns : List InnerTurn) (c : Option Formed) (a : Act) (b : Answer) → Stands turns c → rules_by a b (rules_of c) ≡ rules_of c → printed b ≡ None → ((acks : List ℕ) → b ≡ answer.Acks acks → ⊥)
@@ -44,8 +53,21 @@ stays : (turns : List InnerTurn) (c : Option Formed) (a : Act) (b : Answer) → 
 stays turns c a b s rules none no_acks = record {
   rules = rules;
   place = ap (λ o. later_placement o (place_of c)) none;
+  seed = seed_stays a b (seed_of c) none;
   well = s.well;
-  grows = λ f is. (f, is, record { more = []; spaces = sym (append-nil (spaces_in f)); size = λ flags. refl; keeps = λ flags p all. all; source = λ r m k v e. inl (r, m, e) });
+  grows = λ f is. (
+    f,
+    is,
+    record {
+      more = [];
+      spaces = sym (append-nil (spaces_in f));
+      shards = refl;
+      seed = refl;
+      size = λ k flags. refl;
+      keeps = λ k flags p all. all;
+      source = λ k r m key v e. inl (r, m, e);
+    },
+  );
   fresh = λ was g is. let bad : None ≡ Some g = sym was ∙ is in cc;
   acked = λ acks e. absurd (no_acks acks e);
 }
@@ -93,57 +115,71 @@ unordered turns old new a b s is e = subst (λ x. Goes old (record { act = a; an
 -- ---- init
 
 init_goes : (rf shards seed : ℕ) (nodes : List (List ℕ × List ℕ)) (place : Placement) (version : ℕ) (old new : Option Formed) → MeetsLimits (act.Init rf shards seed nodes) → IsServedAct (act.Init rf shards seed nodes)
-    → IsMade old rf seed nodes (answer.Placed place version) new → Goes old (record { act = act.Init rf shards seed nodes; answer = answer.Placed place version }) new
+    → IsMade old rf shards seed nodes (answer.Placed place version) new → Goes old (record { act = act.Init rf shards seed nodes; answer = answer.Placed place version }) new
 init_goes rf shards seed nodes place version old new limits built h =
-    let made : Formed = record { state = first_state rf seed (first_instances nodes); replicas = map empty_replica (nodes_by_name (first_instances nodes)) } in
-    let same : (g : Formed) → new ≡ Some g → made ≡ g = λ g is. let both : Some made ≡ Some g = sym h.3 ∙ is in cc in
+    let is = first_instances nodes in
+    let made : Formed = record { state = first_state rf shards seed is; shards = first_replicas shards is } in
+    let same : (g : Formed) → new ≡ Some g → made ≡ g = λ g e. let both : Some made ≡ Some g = sym h.3 ∙ e in cc in
     record {
       rules = ap rules_of h.0 ∙ sym (ap rules_of h.3);
       place = ap Some h.1 ∙ sym (ap place_of h.3);
-      well = λ g is. subst IsWellFormed (same g is) (record {
-        staffed = first_staffed rf (first_instances nodes) (names_apart nodes limits.distinct) (built.0 ∙ sym (length_instances nodes ∙ (three_apart nodes built.2).0));
+      seed = sym (ap seed_of h.3);
+      well = λ g e. subst IsWellFormed (same g e) (record {
+        some_replicas = limits.some_replicas;
+        some_shards = subst (λ n. 1 ≤ n) (sym (length-copies shards _)) limits.some_shards;
+        shards = length-copies shards _ ∙ sym (length-copies shards _);
+        staffed = λ k low. first_staffed rf shards seed is (names_apart nodes limits.distinct) (first_size rf nodes built) k (subst (λ n. k < n) (length-copies shards _) low);
       });
-      grows = λ f is. let bad : None ≡ Some f = sym h.0 ∙ is in cc;
-      fresh = λ was g is r m k.
-          let from = IsIn-map empty_replica (nodes_by_name (first_instances nodes)) r (subst (λ (x : Formed). IsIn x.replicas r) (sym (same g is)) m) in
-          ap (λ (q : Replica). get q.content k) (sym from.2) ∙ get-empty {X = ℤ} key_cmp k;
+      grows = λ f e. let bad : None ≡ Some f = sym h.0 ∙ e in cc;
+      fresh = λ was g e k r m key.
+          let among : IsIn (map empty_replica (nodes_by_name is)) r = copies-IsIn shards _ k r (subst (λ (x : Formed). IsIn (staff x k) r) (sym (same g e)) m) in
+          let from = IsIn-map empty_replica (nodes_by_name is) r among in
+          ap (λ (q : Replica). get q.content key) (sym from.2) ∙ get-empty {X = ℤ} key_cmp key;
       acked = λ acks e. cc;
     }
-  where
-    length_instances : (ns : List (List ℕ × List ℕ)) → length (first_instances ns) ≡ length ns
-    length_instances [] = refl
-    length_instances (n ∷ ns) = let rest = length_instances ns in omega arith
 
 -- ---- namespaces and moments
 
 -- the rules changed, by one more namespace or none, and nothing else
-ruled_goes : (turns : List InnerTurn) (f g : Formed) (d : InnerTurn) (more : List Space) → Stands turns (Some f) → rules_by d.act d.answer f.state.rules ≡ g.state.rules → spaces_in g ≡ spaces_in f ++ more → g.state.place ≡ f.state.place → g.replicas ≡ f.replicas
-    → printed d.answer ≡ None → ((acks : List ℕ) → d.answer ≡ answer.Acks acks → ⊥) → Goes (Some f) d (Some g)
-ruled_goes turns f g d more s rules spaces place replicas none no_acks =
+ruled_goes : (turns : List InnerTurn) (f g : Formed) (d : InnerTurn) (more : List Space) → Stands turns (Some f) → rules_by d.act d.answer f.state.rules ≡ g.state.rules → spaces_in g ≡ spaces_in f ++ more → g.state.place ≡ f.state.place
+    → g.state.seed ≡ f.state.seed → g.shards ≡ f.shards → printed d.answer ≡ None → ((acks : List ℕ) → d.answer ≡ answer.Acks acks → ⊥) → Goes (Some f) d (Some g)
+ruled_goes turns f g d more s rules spaces place seed shards none no_acks =
     let well = s.well f refl in
     let same : (x : Formed) → Some g ≡ Some x → g ≡ x = λ x is. cc in
     record {
       rules = rules;
       place = ap (λ o. later_placement o (Some f.state.place)) none ∙ ap Some (sym place);
-      well = λ x is. subst IsWellFormed (same x is) (record { staffed = subst (λ p. IsStaffed p g.replicas) (sym place) (subst (IsStaffed f.state.place) (sym replicas) well.staffed) });
+      seed = seed_stays d.act d.answer f.state.seed none ∙ sym seed;
+      well = λ x is. subst IsWellFormed (same x is) (well_as f g well place shards);
       grows = λ x is. (
         g,
         refl,
         subst (λ y. Grows y d g) (let e : f ≡ x = cc in e) (record {
           more = more;
           spaces = spaces;
-          size = λ flags. ap (λ rs. length (chosen flags rs)) replicas;
-          keeps = λ flags p all r m. all r (subst (λ rs. IsIn (chosen flags rs) r) replicas m);
-          source = λ r m k v e. inl (r, subst (λ rs. IsIn rs r) replicas m, e);
+          shards = ap length shards;
+          seed = seed;
+          size = λ k flags. ap (λ rs. length (chosen flags (slice_index_or rs k []))) shards;
+          keeps = λ k flags p all r m. all r (subst (λ rs. IsIn (chosen flags (slice_index_or rs k [])) r) shards m);
+          source = λ k r m key v e. inl (r, subst (λ rs. IsIn (slice_index_or rs k []) r) shards m, e);
         }),
       );
       fresh = λ was. cc;
       acked = λ acks e. absurd (no_acks acks e);
     }
+  where
+    well_as : (f g : Formed) → IsWellFormed f → g.state.place ≡ f.state.place → g.shards ≡ f.shards → IsWellFormed g
+    well_as f g well place shards = record {
+      some_replicas = subst (λ (p : Placement). 1 ≤ p.rf) (sym place) well.some_replicas;
+      some_shards = subst (λ (rs : List (List Replica)). 1 ≤ length rs) (sym shards) well.some_shards;
+      shards = ap (λ (p : Placement). length p.shards) place ∙ well.shards ∙ sym (ap length shards);
+      staffed = λ k low. subst (λ (rs : List (List Replica)). IsStaffed g.state.place k (slice_index_or rs k [])) (sym shards)
+          (subst (λ (p : Placement). IsStaffed p k (staff f k)) (sym place) (well.staffed k (subst (λ (rs : List (List Replica)). k < length rs) shards low)));
+    }
 
 named_goes : (turns : List InnerTurn) (f g : Formed) (space : Space) (b : Answer) → Stands turns (Some f) → IsNamed f space b g → Goes (Some f) (record { act = act.Namespace space.name space.block space.past space.future space.retention; answer = b }) (Some g)
 named_goes turns f g space answer.Done s h =
-    ruled_goes turns f g _ (space ∷ []) s (ap (λ (x : MetaState). x.rules) (sym h.2)) (ap (λ (x : MetaState). x.rules.spaces) h.2) (ap (λ (x : MetaState). x.place) h.2) h.3 refl (λ acks e. cc)
+    ruled_goes turns f g _ (space ∷ []) s (ap (λ (x : MetaState). x.rules) (sym h.2)) (ap (λ (x : MetaState). x.rules.spaces) h.2) (ap (λ (x : MetaState). x.place) h.2) (ap (λ (x : MetaState). x.seed) h.2) h.3 refl (λ acks e. cc)
 named_goes turns f g space answer.Order s h = unchanged turns (Some f) (Some g) _ answer.Order s tells_order (ap Some h.1)
 named_goes turns f g space (answer.Limit limit) s h = unchanged turns (Some f) (Some g) _ (answer.Limit limit) s (tells_limit limit) (ap Some h.3)
 named_goes turns f g space answer.Memory s h = unchanged turns (Some f) (Some g) _ answer.Memory s tells_memory (ap Some h)
@@ -151,7 +187,7 @@ named_goes turns f g space _ s h = absurd h
 
 moved_goes : (turns : List InnerTurn) (f g : Formed) (now : ℕ) (b : Answer) → Stands turns (Some f) → IsMoved f now b g → Goes (Some f) (record { act = act.Now now; answer = b }) (Some g)
 moved_goes turns f g now answer.Done s h =
-    ruled_goes turns f g _ [] s (ap (λ (x : MetaState). x.rules) (sym h.1)) (ap (λ (x : MetaState). x.rules.spaces) h.1 ∙ sym (append-nil (spaces_in f))) (ap (λ (x : MetaState). x.place) h.1) h.2 refl (λ acks e. cc)
+    ruled_goes turns f g _ [] s (ap (λ (x : MetaState). x.rules) (sym h.1)) (ap (λ (x : MetaState). x.rules.spaces) h.1 ∙ sym (append-nil (spaces_in f))) (ap (λ (x : MetaState). x.place) h.1) (ap (λ (x : MetaState). x.seed) h.1) h.2 refl (λ acks e. cc)
 moved_goes turns f g now (answer.Clock moment) s h = unchanged turns (Some f) (Some g) _ (answer.Clock moment) s (tells_clock moment) (ap Some h.2)
 moved_goes turns f g now _ s h = absurd h
 
@@ -182,54 +218,117 @@ source_as d spaces q rs r k v sent e was m how =
       | inr stayed ↦ inl (was, m, ap (λ (x : Replica). get x.content k) (sym stayed) ∙ e)
     ]
 
-taken_grows : (f g : Formed) (ns id : List ℕ) (t : ℕ) (v : ℤ) (level : WriteLevel) (version : Option ℕ) (outcomes : List (Option Reason)) (b : Answer) → IsTaken f ns id t v outcomes g → was_sent b ≡ true
+-- the replicas of a shard after one of the shards was set: the new ones, or as they were
+abbrev AtShard : Formed → Formed → ℕ → List Replica → ℕ → Type 0
+AtShard f g shard new k = ((k ≡ shard) × (staff g k ≡ new)) ⊎ (staff g k ≡ staff f k)
+
+at_shard : (f g : Formed) (shard : ℕ) (new : List Replica) (k : ℕ) → shard < length f.shards → g.shards ≡ slice_set f.shards shard new → AtShard f g shard new k
+at_shard f g shard new k low set_is = by_test (eqb k shard) refl
+  where
+    by_test : (b : Bool) → eqb k shard ≡ b → ((k ≡ shard) × (staff g k ≡ new)) ⊎ (staff g k ≡ staff f k)
+    by_test true t =
+        let same : k ≡ shard = eqb-true k shard t in
+        inl (same, ap (λ rs. slice_index_or rs k []) set_is ∙ ap (λ j. slice_index_or (slice_set f.shards shard new) j []) same ∙ get_or-set_same f.shards shard new [] low)
+    by_test false t = inr (ap (λ rs. slice_index_or rs k []) set_is ∙ get_or-set_other f.shards shard k new [] (eqb-false k shard t))
+
+-- an identifier's shard is one of them
+pub shard_below : (f : Formed) (id : List ℕ) → IsWellFormed f → shard_in f id < length f.shards
+shard_below f id well = let some = well.some_shards in mod_below (murmur3 id f.state.seed) (length f.shards) some
+  where
+    mod_below : (n m : ℕ) → 1 ≤ m → n % m < m
+    mod_below n m some = omega arith
+
+taken_at : (f g : Formed) (ns id : List ℕ) (t : ℕ) (v : ℤ) (outcomes : List (Option Reason)) → IsWellFormed f → (taken : IsTaken f ns id t v outcomes g) → (k : ℕ)
+    → AtShard f g (shard_in f id) (taken_where (answering outcomes) (record { ns = taken.place; id = id; t = t; v = v }) (staff f (shard_in f id))) k
+taken_at f g ns id t v outcomes well taken k = at_shard f g (shard_in f id) _ k (shard_below f id well) taken.shards_are
+
+taken_grows : (f g : Formed) (ns id : List ℕ) (t : ℕ) (v : ℤ) (level : WriteLevel) (version : Option ℕ) (outcomes : List (Option Reason)) (b : Answer) → IsWellFormed f → IsTaken f ns id t v outcomes g → was_sent b ≡ true
     → Grows f (record { act = act.Write ns id t v level version; answer = b }) g
-taken_grows f g ns id t v level version outcomes b taken sent =
+taken_grows f g ns id t v level version outcomes b well taken sent =
     let flags = answering outcomes in
+    let shard : ℕ = shard_in f id in
     let p : Point = record { ns = taken.place; id = id; t = t; v = v } in
     let d : InnerTurn = record { act = act.Write ns id t v level version; answer = b } in
     let of_turn : sent_point (spaces_in g) d ≡ Some p = ap (λ test. cond test (point_of (spaces_in g) d.act) None) sent ∙ taken_point f ns id t v outcomes g taken in
     record {
       more = [];
       spaces = ap (λ (s : MetaState). s.rules.spaces) taken.state_stays ∙ sym (append-nil (spaces_in f));
-      size = λ fs. ap (λ rs. length (chosen fs rs)) taken.replicas_are ∙ length-chosen_taken fs flags p f.replicas;
-      keeps = λ fs q all r m.
-          let was = chosen-taken fs flags p f.replicas r (subst (λ rs. IsIn (chosen fs rs) r) taken.replicas_are m) in
-          holds_as q p (chosen fs f.replicas) r all was.0 was.1 was.2;
-      source = λ r m k w e.
-          let was = taken-IsIn flags p f.replicas r (subst (λ rs. IsIn rs r) taken.replicas_are m) in
-          source_as d (spaces_in g) p f.replicas r k w of_turn e was.0 was.1 was.2;
+      shards = ap length taken.shards_are ∙ length-set f.shards shard _;
+      seed = ap (λ (s : MetaState). s.seed) taken.state_stays;
+      size = λ k fs. elim (taken_at f g ns id t v outcomes well taken k) as (λ _. length (chosen fs (staff g k)) ≡ length (chosen fs (staff f k))) [
+        | inl new ↦ ap (λ rs. length (chosen fs rs)) new.1 ∙ length-chosen_taken fs flags p (staff f shard) ∙ ap (λ j. length (chosen fs (staff f j))) (sym new.0)
+        | inr same ↦ ap (λ rs. length (chosen fs rs)) same
+      ];
+      keeps = λ k fs q all r m. elim (taken_at f g ns id t v outcomes well taken k) as (λ _. Holds r.content q) [
+        | inl new ↦
+            let was = chosen-taken fs flags p (staff f shard) r (subst (λ rs. IsIn (chosen fs rs) r) new.1 m) in
+            holds_as q p (chosen fs (staff f shard)) r (λ x h. all x (subst (λ j. IsIn (chosen fs (staff f j)) x) (sym new.0) h)) was.0 was.1 was.2
+        | inr same ↦ all r (subst (λ rs. IsIn (chosen fs rs) r) same m)
+      ];
+      source = λ k r m key w e. elim (taken_at f g ns id t v outcomes well taken k) as (λ _. ((x : Replica) × IsIn (staff f k) x × (get x.content key ≡ Some w)) ⊎ (sent_point (spaces_in g) d ≡ Some (point_at key w))) [
+        | inl new ↦
+            let was = taken-IsIn flags p (staff f shard) r (subst (λ rs. IsIn rs r) new.1 m) in
+            subst (λ j. ((x : Replica) × IsIn (staff f j) x × (get x.content key ≡ Some w)) ⊎ (sent_point (spaces_in g) d ≡ Some (point_at key w))) (sym new.0)
+            (source_as d (spaces_in g) p (staff f shard) r key w of_turn e was.0 was.1 was.2)
+        | inr same ↦ inl (r, subst (λ rs. IsIn rs r) same m, e)
+      ];
     }
+
+taken_staffed : (place : Placement) (k : ℕ) (flags : List Bool) (p : Point) (rs : List Replica) → IsStaffed place k rs → IsStaffed place k (taken_where flags p rs)
+taken_staffed place k flags p rs staffed = record {
+  assignments = staffed.assignments;
+  stands = staffed.stands;
+  nodes = staffed.nodes ∙ sym (nodes_taken flags p rs);
+  available = staffed.available;
+  all = staffed.all ∙ sym (length_taken flags p rs);
+  by_name = subst (Ascends (IsNamedBelow place)) (sym (nodes_taken flags p rs)) staffed.by_name;
+}
 
 taken_well : (f g : Formed) (ns id : List ℕ) (t : ℕ) (v : ℤ) (outcomes : List (Option Reason)) → IsTaken f ns id t v outcomes g → IsWellFormed f → IsWellFormed g
 taken_well f g ns id t v outcomes taken well =
     let flags = answering outcomes in
+    let shard : ℕ = shard_in f id in
     let p : Point = record { ns = taken.place; id = id; t = t; v = v } in
-    let nodes : map (λ (r : Replica). r.node) g.replicas ≡ map (λ (r : Replica). r.node) f.replicas = ap (map (λ (r : Replica). r.node)) taken.replicas_are ∙ nodes_taken flags p f.replicas in
     let place : g.state.place ≡ f.state.place = ap (λ (s : MetaState). s.place) taken.state_stays in
-    let staffed : IsStaffed f.state.place g.replicas = record {
-      assignments = well.staffed.assignments;
-      one_shard = well.staffed.one_shard;
-      nodes = well.staffed.nodes ∙ sym nodes;
-      available = well.staffed.available;
-      all = well.staffed.all ∙ sym (ap length taken.replicas_are ∙ length_taken flags p f.replicas);
-      by_name = subst (Ascends (IsNamedBelow f.state.place)) (sym nodes) well.staffed.by_name;
-    } in
-    record { staffed = subst (λ x. IsStaffed x g.replicas) (sym place) staffed }
+    let size : length g.shards ≡ length f.shards = ap length taken.shards_are ∙ length-set f.shards shard _ in
+    record {
+      some_replicas = subst (λ (x : Placement). 1 ≤ x.rf) (sym place) well.some_replicas;
+      some_shards = subst (λ n. 1 ≤ n) (sym size) well.some_shards;
+      shards = ap (λ (x : Placement). length x.shards) place ∙ well.shards ∙ sym size;
+      staffed = λ k low.
+          let was : IsStaffed f.state.place k (staff f k) = well.staffed k (subst (λ n. k < n) size low) in
+          subst (λ x. IsStaffed x k (staff g k)) (sym place) (elim (taken_at f g ns id t v outcomes well taken k) as (λ _. IsStaffed f.state.place k (staff g k)) [
+            | inl new ↦ subst (IsStaffed f.state.place k) (sym new.1) (taken_staffed f.state.place k flags p (staff f shard) (subst (λ j. IsStaffed f.state.place k (staff f j)) new.0 was))
+            | inr same ↦ subst (IsStaffed f.state.place k) (sym same) was
+          ]);
+    }
+
+-- the replicas of the shard of the write
+taken_here : (f g : Formed) (ns id : List ℕ) (t : ℕ) (v : ℤ) (outcomes : List (Option Reason)) → IsWellFormed f → (taken : IsTaken f ns id t v outcomes g)
+    → staff g (shard_in g id) ≡ taken_where (answering outcomes) (record { ns = taken.place; id = id; t = t; v = v }) (staff f (shard_in f id))
+taken_here f g ns id t v outcomes well taken =
+    let shard : ℕ = shard_in f id in
+    let size : length g.shards ≡ length f.shards = ap length taken.shards_are ∙ length-set f.shards shard _ in
+    let same : shard_in g id ≡ shard = ap₂ (λ (seed shards : ℕ). shard_of id seed shards) (ap (λ (s : MetaState). s.seed) taken.state_stays) size in
+    ap (staff g) same ∙ ap (λ rs. slice_index_or rs shard []) taken.shards_are ∙ get_or-set_same f.shards shard _ [] (shard_below f id well)
 
 -- replicas took the point of a write that was answered so
 taken_goes : (turns : List InnerTurn) (f g : Formed) (ns id : List ℕ) (t : ℕ) (v : ℤ) (level : WriteLevel) (version : Option ℕ) (outcomes : List (Option Reason)) (b : Answer) → Stands turns (Some f) → IsTaken f ns id t v outcomes g
-    → was_sent b ≡ true → printed b ≡ None → ((acks : List ℕ) → b ≡ answer.Acks acks → acks ≡ map (λ r. r.node) (chosen (answering outcomes) f.replicas)) → Goes (Some f) (record { act = act.Write ns id t v level version; answer = b }) (Some g)
+    → was_sent b ≡ true → printed b ≡ None → ((acks : List ℕ) → b ≡ answer.Acks acks → acks ≡ map (λ r. r.node) (chosen (answering outcomes) (staff f (shard_in f id)))) → Goes (Some f) (record { act = act.Write ns id t v level version; answer = b }) (Some g)
 taken_goes turns f g ns id t v level version outcomes b s taken sent none acks_are =
     let flags = answering outcomes in
+    let rs = staff f (shard_in f id) in
     let p : Point = record { ns = taken.place; id = id; t = t; v = v } in
+    let well = s.well f refl in
+    let here = taken_here f g ns id t v outcomes well taken in
     let same : (x : Formed) → Some g ≡ Some x → g ≡ x = λ x is. cc in
     let was : (x : Formed) → Some f ≡ Some x → f ≡ x = λ x is. cc in
     record {
       rules = ap (λ (st : MetaState). st.rules) (sym taken.state_stays);
       place = ap (λ o. later_placement o (Some f.state.place)) none ∙ ap (λ (st : MetaState). Some st.place) (sym taken.state_stays);
-      well = λ x is. subst IsWellFormed (same x is) (taken_well f g ns id t v outcomes taken (s.well f refl));
-      grows = λ x is. (g, refl, subst (λ y. Grows y (record { act = act.Write ns id t v level version; answer = b }) g) (was x is) (taken_grows f g ns id t v level version outcomes b taken sent));
+      seed = ap (λ (st : MetaState). st.seed) (sym taken.state_stays);
+      well = λ x is. subst IsWellFormed (same x is) (taken_well f g ns id t v outcomes taken well);
+      grows = λ x is. (g, refl, subst (λ y. Grows y (record { act = act.Write ns id t v level version; answer = b }) g) (was x is) (taken_grows f g ns id t v level version outcomes b well taken sent));
       fresh = λ no. cc;
       acked = λ acks e. record {
         cluster = g;
@@ -237,9 +336,9 @@ taken_goes turns f g ns id t v level version outcomes b s taken sent none acks_a
         point = p;
         of_act = taken_point f ns id t v outcomes g taken;
         flags = flags;
-        count = ap length (acks_are acks e) ∙ length-map (chosen flags f.replicas) (λ (r : Replica). r.node) ∙ sym (ap (λ rs. length (chosen flags rs)) taken.replicas_are ∙ length-chosen_taken flags flags p f.replicas);
+        count = ap length (acks_are acks e) ∙ length-map (chosen flags rs) (λ (r : Replica). r.node) ∙ sym (ap (λ xs. length (chosen flags xs)) here ∙ length-chosen_taken flags flags p rs);
         holders = λ r m.
-            let took = chosen_took flags p f.replicas r (subst (λ rs. IsIn (chosen flags rs) r) taken.replicas_are m) in
+            let took = chosen_took flags p rs r (subst (λ xs. IsIn (chosen flags xs) r) here m) in
             subst (λ (x : Replica). Holds x.content p) (sym took.1) (raised_holds took.0.content p);
       };
     }
@@ -263,15 +362,16 @@ written_goes turns f g ns id t v level version _ s h = absurd h
 goes_to : (old : Option Formed) (d : InnerTurn) (new : Option Formed) (g : Formed) → new ≡ Some g → Goes old d (Some g) → Goes old d new
 goes_to old d new g is h = subst (Goes old d) (sym is) h
 
-fetched_goes : (turns : List InnerTurn) (f g : Formed) (ns id : List ℕ) (from to : ℕ) (a : Act) (b : Answer) → Stands turns (Some f) → IsFetched f ns id from to b → g ≡ f → Goes (Some f) (record { act = a; answer = b }) (Some g)
-fetched_goes turns f g ns id from to a (answer.Found series short) s h e = unchanged turns (Some f) (Some g) a (answer.Found series short) s (tells_found series short) (ap Some e)
-fetched_goes turns f g ns id from to a (answer.Consistency got needed reasons shard) s h e = unchanged turns (Some f) (Some g) a (answer.Consistency got needed reasons shard) s (tells_consistency got needed reasons shard) (ap Some e)
-fetched_goes turns f g ns id from to a answer.Memory s h e = unchanged turns (Some f) (Some g) a answer.Memory s tells_memory (ap Some e)
-fetched_goes turns f g ns id from to a (answer.Unknown name) s h e = unchanged turns (Some f) (Some g) a (answer.Unknown name) s (tells_unknown name) (ap Some e)
-fetched_goes turns f g ns id from to a _ s h e = absurd h
+fetched_goes : (turns : List InnerTurn) (f g : Formed) (ns : List ℕ) (pick : ℕ → Pick) (first end from to : ℕ) (a : Act) (b : Answer) → Stands turns (Some f) → IsFetched f ns pick first end from to b → g ≡ f
+    → Goes (Some f) (record { act = a; answer = b }) (Some g)
+fetched_goes turns f g ns pick first end from to a (answer.Found series short) s h e = unchanged turns (Some f) (Some g) a (answer.Found series short) s (tells_found series short) (ap Some e)
+fetched_goes turns f g ns pick first end from to a (answer.Consistency got needed reasons shard) s h e = unchanged turns (Some f) (Some g) a (answer.Consistency got needed reasons shard) s (tells_consistency got needed reasons shard) (ap Some e)
+fetched_goes turns f g ns pick first end from to a answer.Memory s h e = unchanged turns (Some f) (Some g) a answer.Memory s tells_memory (ap Some e)
+fetched_goes turns f g ns pick first end from to a (answer.Unknown name) s h e = unchanged turns (Some f) (Some g) a (answer.Unknown name) s (tells_unknown name) (ap Some e)
+fetched_goes turns f g ns pick first end from to a _ s h e = absurd h
 
 made_goes : (turns : List InnerTurn) (rf shards seed : ℕ) (nodes : List (List ℕ × List ℕ)) (b : Answer) (old new : Option Formed) → MeetsLimits (act.Init rf shards seed nodes) → IsServedAct (act.Init rf shards seed nodes) → Stands turns old
-    → IsMade old rf seed nodes b new → Goes old (record { act = act.Init rf shards seed nodes; answer = b }) new
+    → IsMade old rf shards seed nodes b new → Goes old (record { act = act.Init rf shards seed nodes; answer = b }) new
 made_goes turns rf shards seed nodes (answer.Placed place version) old new limits built s h = init_goes rf shards seed nodes place version old new limits built h
 made_goes turns rf shards seed nodes answer.Order old new limits built s h = unchanged turns old new _ answer.Order s tells_order h.1
 made_goes turns rf shards seed nodes answer.Memory old new limits built s h = unchanged turns old new _ answer.Memory s tells_memory h.1
@@ -287,5 +387,8 @@ step_goes turns (Some f) (act.Now now) b new limits built s h = goes_to (Some f)
 step_goes turns None (act.Write ns id t v level version) b new limits built s h = unordered turns None new _ b s h.0 h.1
 step_goes turns (Some f) (act.Write ns id t v level version) b new limits built s h = goes_to (Some f) _ new h.0 h.1 (written_goes turns f h.0 ns id t v level version b s h.2)
 step_goes turns None (act.Fetch ns id from to level version) b new limits built s h = unordered turns None new _ b s h.0 h.1
-step_goes turns (Some f) (act.Fetch ns id from to level version) b new limits built s h = goes_to (Some f) _ new h.0 h.1 (fetched_goes turns f h.0 ns id from to (act.Fetch ns id from to level version) b s h.2.0 h.2.1)
+step_goes turns (Some f) (act.Fetch ns id from to level version) b new limits built s h = goes_to (Some f) _ new h.0 h.1 (fetched_goes turns f h.0 ns _ _ _ from to (act.Fetch ns id from to level version) b s h.2.0 h.2.1)
+step_goes turns None (act.Match ns wanted from to level version) b new limits built s h = unordered turns None new _ b s h.0 h.1
+step_goes turns (Some f) (act.Match ns wanted from to level version) b new limits built s h =
+    goes_to (Some f) _ new h.0 h.1 (fetched_goes turns f h.0 ns _ _ _ from to (act.Match ns wanted from to level version) b s h.2.0 h.2.1)
 step_goes turns old a b new limits built s h = absurd h

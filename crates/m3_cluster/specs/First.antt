@@ -1,5 +1,5 @@
 -- What `init` makes of its nodes.
-use Rattle.std.specs.Prelude.{ℕ, ◌+◌, List, [], ◌∷◌, map, None}
+use Rattle.std.specs.Prelude.{ℕ, zero, suc, ◌+◌, List, [], ◌∷◌, map, None}
 use Rattle.std.specs.Ordering.{nat_cmp}
 use Rattle.std.specs.Cmp.Lexicographic.{slice_cmp}
 use Rattle.std.specs.FinMap.{FinMap, empty, insert, entries}
@@ -27,10 +27,19 @@ first_assignment node = record { node = node; tenure = 1; state = Available; sou
 abbrev pub empty_replica : ℕ → Replica
 empty_replica node = record { node = node; content = empty }
 
--- the placement of one shard on all nodes
-abbrev pub first_place : ℕ → List Instance → Placement
-first_place rf instances = record { version = 1; rf = rf; instances = instances; shards = map first_assignment (nodes_by_name instances) ∷ [] }
+-- a list of so many equal elements
+abbrev pub copies : {X : Type 0} → ℕ → X → List X
+copies zero x = []
+copies (suc n) x = x ∷ copies n x
+
+-- the placement of so many shards on all nodes
+abbrev pub first_place : ℕ → ℕ → List Instance → Placement
+first_place rf shards instances = record { version = 1; rf = rf; instances = instances; shards = copies shards (map first_assignment (nodes_by_name instances)) }
 
 -- the state after `init`: moment 0 and no namespace
-abbrev pub first_state : ℕ → ℕ → List Instance → MetaState
-first_state rf seed instances = record { rules = record { now = 0; spaces = [] }; seed = seed; place = first_place rf instances }
+abbrev pub first_state : ℕ → ℕ → ℕ → List Instance → MetaState
+first_state rf shards seed instances = record { rules = record { now = 0; spaces = [] }; seed = seed; place = first_place rf shards instances }
+
+-- the replicas after `init`: of each shard one on each node, without points
+abbrev pub first_replicas : ℕ → List Instance → List (List Replica)
+first_replicas shards instances = copies shards (map empty_replica (nodes_by_name instances))

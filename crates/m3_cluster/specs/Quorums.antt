@@ -1,13 +1,9 @@
 -- What the replicas answered, one after the other, and what that gives.
-use Rattle.std.specs.Prelude.{◌≡◌, ℕ, ℤ, List, [], ◌∷◌, map, length, Option, Some, None, Bool, is_none, if◌then◌else◌, fold}
-use Rattle.std.specs.Ordering.{nat_cmp}
-use Rattle.std.specs.FinMap.{FinMap, empty}
-use Rattle.std.specs.List.{flat_map}
+use Rattle.std.specs.Prelude.{◌≡◌, ℕ, List, [], ◌∷◌, map, length, Option, Some, None, Bool, is_none, if◌then◌else◌}
 use Rattle.m3_model.specs.declared.point.Point.{Point}
-use Rattle.m3_model.specs.declared.point.Series.{Series}
 use Rattle.m3_model.specs.declared.reason.Reason.{Reason}
 use Rattle.m3_model.specs.Members.{IsIn}
-use Rattle.m3_model.specs.Contents.{raised, joined_pairs}
+use Rattle.m3_model.specs.Contents.{raised}
 use Rattle.m3_cluster.specs.Replicas.{Replica}
 
 -- the elements whose flags are set; where flags are missing they aren't
@@ -41,11 +37,3 @@ abbrev pub taken_where : List Bool → Point → List Replica → List Replica
 taken_where [] point rs = rs
 taken_where (b ∷ flags) point [] = []
 taken_where (b ∷ flags) point (r ∷ rs) = (if b then with_point point r else r) ∷ taken_where flags point rs
-
--- the pairs of time and value of these series
-abbrev pub pairs_of : List Series → List (ℕ × ℤ)
-pairs_of series = flat_map (λ s. s.points) series
-
--- the values by time of these answers, the higher one at each time
-abbrev pub joined_answers : List (List (ℕ × ℤ)) → FinMap nat_cmp ℤ
-joined_answers answers = fold (λ m pairs. joined_pairs m pairs) empty answers

@@ -3,4 +3,4 @@ use Rattle.m3_cluster.specs.declared.members.Members.{Members}
 use Rattle.m3_cluster.specs.Steps.{Formed}
 
 abbrev pub formed : Members → Formed
-formed m = record { state = m.state; replicas = m.replicas.items }
+formed m = record { state = m.state; shards = m.shards.items }

@@ -4,7 +4,7 @@ ghost use Rattle.m3_model.specs.declared.turn.Turn.{Turn};
 ghost use Rattle.m3_model.specs.Limits.{MeetsLimits, KeepsLimits};
 ghost use Rattle.m3_model.specs.NotYet.{IsServedAct, IsServed};
 ghost use Rattle.m3_model.specs.Placements.{first_instances};
-ghost use Rattle.m3_cluster.specs.First.{first_place, first_state, nodes_by_name, empty_replica};
+ghost use Rattle.m3_cluster.specs.First.{first_place, first_state, first_replicas};
 ghost use Rattle.m3_cluster.specs.Steps.{Answers, IsMade};
 ghost use Rattle.m3_cluster.specs.Serves.{Serves, place_of};
 
@@ -61,14 +61,23 @@ impl Cluster {
         }
     }
 
-    fn init(&mut self, alloc: Global, rf: u32, seed: u32, nodes: Seq<(Text, Text)>) -> Answer
-        requires { length nodes ≤ 16 }
-        ensures { IsMade self.old rf seed nodes result self.new }
+    fn init(
+        &mut self,
+        alloc: Global,
+        rf: u32,
+        shards: u32,
+        seed: u32,
+        nodes: Seq<(Text, Text)>,
+    ) -> Answer
+        requires nodes { length nodes ≤ 16 }
+        requires some_shards { 1 ≤ shards }
+        requires few_shards { shards ≤ 64 }
+        ensures { IsMade self.old rf shards seed nodes result self.new }
     {
         if self.members.is_some() {
             return Answer::Order;
         }
-        match first_members(alloc, rf, seed, nodes) {
+        match first_members(alloc, rf, shards, seed, nodes) {
             Ok((members, placement)) => {
                 self.members = Some(members);
                 Answer::Placed {
@@ -88,10 +97,10 @@ impl Cluster {
         match act {
             Act::Init {
                 rf,
-                shards: _,
+                shards,
                 seed,
                 nodes,
-            } => self.init(alloc, rf, seed, nodes),
+            } => self.init(alloc, rf, shards, seed, nodes),
             Act::Namespace {
                 name,
                 block,
@@ -134,6 +143,17 @@ impl Cluster {
                 None => Answer::Order,
                 Some(members) => members.fetch(alloc, ns, id, from, to),
             },
+            Act::Match {
+                ns,
+                wanted,
+                from,
+                to,
+                level: _,
+                version: _,
+            } => match &self.members {
+                None => Answer::Order,
+                Some(members) => members.find(alloc, ns, wanted, from, to),
+            },
             _ => unreachable!(),
         }
     }
@@ -155,15 +175,18 @@ impl Cluster {
 fn first_members(
     alloc: Global,
     rf: u32,
+    shards: u32,
     seed: u32,
     nodes: Seq<(Text, Text)>,
 ) -> Result<(Members, Placement), Memory>
-    requires { length nodes ≤ 16 }
-    ensures state { IfOk result (λ made. made.0.state ≡ first_state rf seed (first_instances nodes)) }
-    ensures replicas { IfOk result (λ made. made.0.replicas.items ≡ map empty_replica (nodes_by_name (first_instances nodes))) }
-    ensures placement { IfOk result (λ made. made.1 ≡ first_place rf (first_instances nodes)) }
+    requires nodes { length nodes ≤ 16 }
+    requires some_shards { 1 ≤ shards }
+    requires few_shards { shards ≤ 64 }
+    ensures state { IfOk result (λ made. made.0.state ≡ first_state rf shards seed (first_instances nodes)) }
+    ensures replicas { IfOk result (λ made. made.0.shards.items ≡ first_replicas shards (first_instances nodes)) }
+    ensures placement { IfOk result (λ made. made.1 ≡ first_place rf shards (first_instances nodes)) }
 {
-    let members = Members::first(alloc, rf, seed, nodes)?;
+    let members = Members::first(alloc, rf, shards, seed, nodes)?;
     let placement = members.state.place.copy(alloc)?;
     Ok((members, placement))
 }

@@ -1,8 +1,9 @@
 ghost use Rattle.std.specs.Prelude.{◌≡◌, ◌≤◌, map, length, IfOk};
 ghost use Rattle.m3_model.specs.Placements.{first_instances};
-ghost use Rattle.m3_cluster.specs.First.{nodes_by_name, first_assignment, empty_replica};
+ghost use Rattle.m3_cluster.specs.First.{nodes_by_name, first_assignment, empty_replica, copies};
 
 use crate::replica::Replica;
+use crate::shard::Shard;
 use m3_model::duplicate::Duplicate;
 use m3_model::memory::Memory;
 use m3_model::placement::{Assignment, Instance, ShardState};
@@ -49,7 +50,7 @@ fn values_of(alloc: Global, by_name: &BTreeMap<Text, u8>) -> Result<Vec<u8>, Mem
     Ok(nodes)
 }
 
-/// The shard on these nodes: each available from the first placement on.
+/// A shard on these nodes: each available from the first placement on.
 pub fn first_shard(alloc: Global, nodes: &[u8]) -> Result<Seq<Assignment>, Memory>
     ensures { IfOk result (λ assignments. assignments ≡ map first_assignment nodes.now) }
 {
@@ -74,4 +75,30 @@ pub fn empty_replicas(alloc: Global, nodes: &[u8]) -> Result<Vec<Replica>, Memor
         replicas.push(Replica::new(alloc, *node))?;
     }
     Ok(replicas)
+}
+
+/// So many shards on these nodes.
+pub fn first_shards(
+    alloc: Global,
+    shards: u32,
+    nodes: &[u8],
+) -> Result<Seq<Seq<Assignment>>, Memory>
+    ensures { IfOk result (λ made. made ≡ copies shards (map first_assignment nodes.now)) }
+{
+    let mut made = Vec::new(alloc);
+    for _ in 0..shards {
+        made.push(first_shard(alloc, nodes)?)?;
+    }
+    Ok(Seq::from_vec(made))
+}
+
+/// The replicas of so many shards on these nodes, without points.
+pub fn empty_shards(alloc: Global, shards: u32, nodes: &[u8]) -> Result<Vec<Shard>, Memory>
+    ensures { IfOk result (λ made. made.items ≡ copies shards (map empty_replica nodes.now)) }
+{
+    let mut made = Vec::new(alloc);
+    for _ in 0..shards {
+        made.push(Shard::empty(alloc, nodes)?)?;
+    }
+    Ok(made)
 }

@@ -3,7 +3,7 @@
 
 pub mod cluster;
 pub mod first;
-pub mod joined;
 pub mod members;
 pub mod replica;
 pub mod session;
+pub mod shard;

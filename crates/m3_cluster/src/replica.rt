@@ -1,37 +1,35 @@
 ghost use Rattle.std.specs.Prelude.{◌≡◌, ◌<◌, ◌+◌, ◌-◌, ◌^◌, suc, length, Some, IfOk, IfErr, OnOk, OnErr};
 ghost use Rattle.m3_model.specs.Reads.{space_picked};
 ghost use Rattle.m3_model.specs.Rules.{InWindow};
-ghost use Rattle.block_buffer.specs.Ranges.{IsRangeOf};
+ghost use Rattle.m3_model.specs.Answers.{IsAnswer};
 ghost use Rattle.m3_cluster.specs.First.{empty_replica};
 ghost use Rattle.m3_cluster.specs.Quorums.{with_point};
 ghost use Rattle.m3_cluster.specs.Windows.{LiesOutside, MayPut, MayRead, oldest_kept, kept_from};
 
-use block_buffer::buffer::Buffer;
+use crate::session::space_picked;
 use m3_model::point::{Pick, Point, Series};
 use m3_model::reason::Reason;
 use m3_model::rules::{Rules, Space};
 use m3_model::seq::Seq;
+use shard_store::store::Store;
 use std::alloc::Global;
 use std::marker::Model;
 
-/// A node's replica of the shard. Contracts see its node and its content.
+/// A node's replica of a shard. Contracts see its node and its content.
 #[derive(Drop)]
 pub struct Replica {
     node: u8,
-    buffer: Buffer,
+    store: Store,
 }
 
 impl Model for Replica {
-    ghost use Rattle.std.specs.Prelude.{◌≡◌, None};
     ghost use Rattle.m3_cluster.specs.Replicas as replicas;
 
     ghost Value = { replicas.Replica };
 
     ghost coded = { replicas.replica_code };
 
-    ghost view = { λ r. record { node = r.node; content = r.buffer.points } };
-
-    ghost invariant = { λ r. r.buffer.room ≡ None };
+    ghost view = { λ r. record { node = r.node; content = r.store } };
 }
 
 /// Whether a write at this time is taken at this moment: above `now - past` and below `now + future`.
@@ -61,15 +59,6 @@ fn oldest_kept(now: u64, retention: u64) -> u64
     }
 }
 
-fn space_picked(pick: &Pick) -> u8
-    ensures { result ≡ space_picked pick.now }
-{
-    match pick {
-        Pick::One { ns, .. } => *ns,
-        Pick::Match { ns, .. } => *ns,
-    }
-}
-
 impl Replica {
     /// A replica without points. The node is its place in the placement's instances.
     pub fn new(alloc: Global, node: u8) -> Replica
@@ -77,7 +66,7 @@ impl Replica {
     {
         Replica {
             node,
-            buffer: Buffer::new(alloc),
+            store: Store::new(alloc),
         }
     }
 
@@ -99,11 +88,8 @@ impl Replica {
     {
         let space = &rules.spaces.as_slice()[point.ns as usize];
         check_window(space, rules.now, point.t)?;
-        match self.buffer.room(point) {
-            Ok(()) => {
-                self.buffer.put(point);
-                Ok(())
-            }
+        match self.store.put(point) {
+            Ok(()) => Ok(()),
             Err(_) => Err(Reason::Memory),
         }
     }
@@ -112,7 +98,6 @@ impl Replica {
     /// want of memory alone.
     pub fn read(
         &self,
-        alloc: Global,
         rules: &Rules,
         pick: &Pick,
         from: u64,
@@ -120,13 +105,13 @@ impl Replica {
     ) -> Result<Seq<Series>, Reason>
         requires known { space_picked pick.now < length rules.now.spaces }
         requires moment { rules.now.now < 2 ^ 62 }
-        ensures ok { IfOk result (IsRangeOf self.now.content pick.now (kept_from rules.entry.now (space_picked pick.now) from) to) }
+        ensures ok { IfOk result (IsAnswer self.now.content pick.now (kept_from rules.entry.now (space_picked pick.now) from) to) }
         ensures cause { IfErr result (λ reason. MayRead (Some reason)) }
     {
         let space = &rules.spaces.as_slice()[space_picked(pick) as usize];
         let oldest = oldest_kept(rules.now, space.retention);
         let first = if from <= oldest { oldest } else { from };
-        match self.buffer.range(alloc, pick, first, to) {
+        match self.store.fetch(pick, first, to) {
             Ok(series) => Ok(series),
             Err(_) => Err(Reason::Memory),
         }

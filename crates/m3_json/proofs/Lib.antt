@@ -1,6 +1,9 @@
 pub mod Keys
-pub mod Nodes
+pub mod Entries
+pub mod Steps
+pub mod ListLimits
 pub mod NodeLimits
+pub mod MatcherLimits
 pub mod Meanings
 pub mod PutOff
 pub mod Served

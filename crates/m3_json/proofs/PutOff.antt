@@ -9,15 +9,18 @@ use Rattle.serde_json.specs.Find.{get, as_str, as_number, as_u64, as_i64, as_arr
 use Rattle.m3_model.specs.declared.act.Act.{Act}
 use Rattle.m3_model.specs.declared.act.ReadLevel.{ReadLevel}
 use Rattle.m3_model.specs.declared.act.WriteLevel.{WriteLevel}
-use Rattle.m3_model.specs.declared.turn.Request.TheVariants as request
-use Rattle.m3_model.specs.Names.{is_name, has_identifier_length}
+use Rattle.m3_model.specs.declared.point.Matcher.{Matcher}
+use Rattle.m3_model.specs.Names.{is_name}
+use Rattle.m3_model.specs.Tags.{is_tag_name}
 use Rattle.m3_json.specs.declared.fault.LineErr.{LineErr}
 use Rattle.m3_json.specs.declared.fault.LineErr.TheVariants as errors
-use Rattle.m3_json.specs.Fields.{◌>>=◌, needed, tested, is_one_of, text_of, name_of, number_of, field, text_at, name_at, identifier_at, number_at, value_at, optional_at}
-use Rattle.m3_json.specs.Rows.{node_of_two, node_of_items, node_of, nodes_of_items, has_few_items, items_at, names_differ, nodes_at, init_of, namespace_of, now_of, write_level_named, read_level_named, write_level_at, read_level_at, version_at, write_of, fetch_of}
+use Rattle.m3_json.specs.Fields.{◌>>=◌, needed, tested, is_one_of, text_of, name_of, number_of, field, text_at, name_at, number_at, value_at, optional_at}
+use Rattle.m3_json.specs.Lists.{has_count, items_at, entries_of, list_at}
+use Rattle.m3_json.specs.Rows.{node_of_two, node_of_items, node_of, names_differ, nodes_at, init_of, namespace_of, now_of, write_level_named, read_level_named, write_level_at, read_level_at, version_at, write_of, fetch_of, sign_named, matcher_of_three, matcher_of_items, matcher_of, matchers_at, match_of}
 use Rattle.m3_json.specs.NotYet.{later_ops, refusal_of, is_put_off}
-use Rattle.m3_json.specs.Requests.{act_of, request_of}
+use Rattle.m3_json.specs.Requests.{act_of, row_of, NamesSeries, IsPutOff}
 use Rattle.m3_json.specs.Laws.{HasLaterOp, HasLaterForm, PutsOffExactly}
+use Rattle.m3_json.proofs.Steps.{from_steps}
 
 -- reading doesn't end in `Later`
 abbrev pub Decided : {A : Type 0} → Result A LineErr → Type 0
@@ -65,10 +68,6 @@ Decided-text_at key d = Decided-steps (field key d) text_of (Decided-field key d
 Decided-name_at : (key : List ℕ) (d : Data) → Decided (name_at key d)
 unfolding name_at
 Decided-name_at key d = Decided-steps (field key d) name_of (Decided-field key d) Decided-name_of
-
-Decided-identifier_at : (key : List ℕ) (d : Data) → Decided (identifier_at key d)
-unfolding identifier_at
-Decided-identifier_at key d = Decided-steps (text_at key d) (tested has_identifier_length) (Decided-text_at key d) (Decided-tested has_identifier_length)
 
 Decided-number_at : (key : List ℕ) (from limit : ℕ) (d : Data) → Decided (number_at key from limit d)
 unfolding number_at
@@ -123,17 +122,44 @@ Decided-node_of : (d : Data) → Decided (node_of d)
 unfolding node_of
 Decided-node_of d = Decided-steps (needed (as_array d)) node_of_items (Decided-needed (as_array d)) Decided-node_of_items
 
-Decided-nodes_of_items : (items : Items) → Decided (nodes_of_items items)
-Decided-nodes_of_items no_items = λ same. cc
-Decided-nodes_of_items (item d ds) = Decided-steps (node_of d) _ (Decided-node_of d) (λ node. Decided-steps (nodes_of_items ds) _ (Decided-nodes_of_items ds) (λ nodes same. cc))
-
-Decided-items_at : (key : List ℕ) (d : Data) → Decided (items_at key d)
+Decided-items_at : (key : List ℕ) (least most : ℕ) (d : Data) → Decided (items_at key least most d)
 unfolding items_at
-Decided-items_at key d = Decided-steps (field key d) _ (Decided-field key d) (λ array. Decided-steps (needed (as_array array)) (tested has_few_items) (Decided-needed (as_array array)) (Decided-tested has_few_items))
+Decided-items_at key least most d = Decided-steps (field key d) _ (Decided-field key d) (λ array. Decided-steps (needed (as_array array)) (tested (has_count least most)) (Decided-needed (as_array array)) (Decided-tested (has_count least most)))
+
+Decided-entries_of : {A : Type 0} (row : Data → Result A LineErr) → ((d : Data) → Decided (row d)) → (items : Items) → Decided (entries_of row items)
+Decided-entries_of row each no_items = λ same. cc
+Decided-entries_of row each (item d ds) = Decided-steps (row d) _ (each d) (λ entry. Decided-steps (entries_of row ds) _ (Decided-entries_of row each ds) (λ entries same. cc))
+
+Decided-list_at : {A : Type 0} (row : Data → Result A LineErr) → ((d : Data) → Decided (row d)) → (key : List ℕ) (least most : ℕ) (d : Data) → Decided (list_at row key least most d)
+Decided-list_at row each key least most d = Decided-steps (items_at key least most d) (entries_of row) (Decided-items_at key least most d) (Decided-entries_of row each)
 
 Decided-nodes_at : (key : List ℕ) (d : Data) → Decided (nodes_at key d)
 unfolding nodes_at
-Decided-nodes_at key d = Decided-steps (items_at key d) _ (Decided-items_at key d) (λ items. Decided-steps (nodes_of_items items) (tested names_differ) (Decided-nodes_of_items items) (Decided-tested names_differ))
+Decided-nodes_at key d = Decided-steps (list_at node_of key 1 16 d) (tested names_differ) (Decided-list_at node_of Decided-node_of key 1 16 d) (Decided-tested names_differ)
+
+Decided-sign_named : (sign : List ℕ) → Decided (sign_named sign)
+Decided-sign_named sign = Decided-if (pointwise nat_eq sign (codes "=")) _ _ (Decided-if (pointwise nat_eq sign (codes "!=")) _ _ (Decided-Form Bool))
+
+Decided-matcher_of_three : (a b c : Data) → Decided (matcher_of_three a b c)
+Decided-matcher_of_three a b c =
+    Decided-steps (text_of a >>= tested is_tag_name) _ (Decided-steps (text_of a) (tested is_tag_name) (Decided-text_of a) (Decided-tested is_tag_name)) (λ name.
+    Decided-steps (text_of b >>= sign_named) _ (Decided-steps (text_of b) sign_named (Decided-text_of b) Decided-sign_named) (λ equal.
+    Decided-steps (text_of c) _ (Decided-text_of c) (λ value same. cc)))
+
+Decided-matcher_of_items : (items : Items) → Decided (matcher_of_items items)
+Decided-matcher_of_items no_items = Decided-Form Matcher
+Decided-matcher_of_items (item a no_items) = Decided-Form Matcher
+Decided-matcher_of_items (item a (item b no_items)) = Decided-Form Matcher
+Decided-matcher_of_items (item a (item b (item c no_items))) = Decided-matcher_of_three a b c
+Decided-matcher_of_items (item a (item b (item c (item d ds)))) = Decided-Form Matcher
+
+Decided-matcher_of : (d : Data) → Decided (matcher_of d)
+unfolding matcher_of
+Decided-matcher_of d = Decided-steps (needed (as_array d)) matcher_of_items (Decided-needed (as_array d)) Decided-matcher_of_items
+
+Decided-matchers_at : (key : List ℕ) (d : Data) → Decided (matchers_at key d)
+unfolding matchers_at
+Decided-matchers_at key d = Decided-list_at matcher_of Decided-matcher_of key 0 16 d
 
 Decided-init_of : (d : Data) → Decided (init_of d)
 unfolding init_of
@@ -141,26 +167,31 @@ Decided-init_of d = search (Decided-steps, Decided-Ok, Decided-tested, Decided-n
 
 Decided-write_of : (d : Data) → Decided (write_of d)
 unfolding write_of
-Decided-write_of d = search (Decided-steps, Decided-Ok, Decided-tested, Decided-name_at, Decided-identifier_at, Decided-number_at, Decided-value_at, Decided-write_level_at, Decided-version_at) depth 20
+Decided-write_of d = search (Decided-steps, Decided-Ok, Decided-tested, Decided-name_at, Decided-text_at, Decided-number_at, Decided-value_at, Decided-write_level_at, Decided-version_at) depth 20
 
 Decided-fetch_of : (d : Data) → Decided (fetch_of d)
 unfolding fetch_of
-Decided-fetch_of d = search (Decided-steps, Decided-Ok, Decided-tested, Decided-name_at, Decided-identifier_at, Decided-number_at, Decided-read_level_at, Decided-version_at) depth 20
+Decided-fetch_of d = search (Decided-steps, Decided-Ok, Decided-tested, Decided-name_at, Decided-text_at, Decided-number_at, Decided-read_level_at, Decided-version_at) depth 20
+
+Decided-match_of : (d : Data) → Decided (match_of d)
+unfolding match_of
+Decided-match_of d = search (Decided-steps, Decided-Ok, Decided-tested, Decided-name_at, Decided-matchers_at, Decided-number_at, Decided-read_level_at, Decided-version_at) depth 20
 
 -- an op whose row is answered `Later` is one that is put off
 later_op : (op : List ℕ) (d : Data) → act_of op d ≡ Err errors.Later → IsTrue (is_one_of later_ops op)
 unfolding act_of refusal_of
 later_op op d e =
-    by (pointwise nat_eq op (codes "init")) (pointwise nat_eq op (codes "namespace")) (pointwise nat_eq op (codes "now")) (pointwise nat_eq op (codes "write")) (pointwise nat_eq op (codes "fetch")) (is_one_of later_ops op) e
+    by (pointwise nat_eq op (codes "init")) (pointwise nat_eq op (codes "namespace")) (pointwise nat_eq op (codes "now")) (pointwise nat_eq op (codes "write")) (pointwise nat_eq op (codes "fetch")) (pointwise nat_eq op (codes "match")) (is_one_of later_ops op) e
   where
-    by : (i n m w f later : Bool) → (if i then init_of d else (if n then namespace_of d else (if m then now_of d else (if w then write_of d else (if f then fetch_of d else Err (if later then errors.Later else errors.Form)))))) ≡ Err errors.Later → IsTrue later
-    by true n m w f later e = absurd (Decided-init_of d e)
-    by false true m w f later e = absurd (Decided-namespace_of d e)
-    by false false true w f later e = absurd (Decided-now_of d e)
-    by false false false true f later e = absurd (Decided-write_of d e)
-    by false false false false true later e = absurd (Decided-fetch_of d e)
-    by false false false false false true e = refl
-    by false false false false false false e = absurd (Decided-Form Act e)
+    by : (i n m w f q later : Bool) → (if i then init_of d else (if n then namespace_of d else (if m then now_of d else (if w then write_of d else (if f then fetch_of d else (if q then match_of d else Err (if later then errors.Later else errors.Form))))))) ≡ Err errors.Later → IsTrue later
+    by true n m w f q later e = absurd (Decided-init_of d e)
+    by false true m w f q later e = absurd (Decided-namespace_of d e)
+    by false false true w f q later e = absurd (Decided-now_of d e)
+    by false false false true f q later e = absurd (Decided-write_of d e)
+    by false false false false true q later e = absurd (Decided-fetch_of d e)
+    by false false false false false true later e = absurd (Decided-match_of d e)
+    by false false false false false false true e = refl
+    by false false false false false false false e = absurd (Decided-Form Act e)
 
 -- a text that is put off is none that isn't
 is_other_op : (op row : List ℕ) → IsTrue (is_one_of later_ops op) → is_one_of later_ops row ≡ false → pointwise nat_eq op row ≡ false
@@ -171,31 +202,23 @@ is_other_op op row later not_later =
 op_later : (op : List ℕ) (d : Data) → IsTrue (is_one_of later_ops op) → act_of op d ≡ Err errors.Later
 unfolding act_of refusal_of
 op_later op d later =
-    simp (is_other_op op (codes "init") later refl, is_other_op op (codes "namespace") later refl, is_other_op op (codes "now") later refl, is_other_op op (codes "write") later refl, is_other_op op (codes "fetch") later refl, later)
+    simp (is_other_op op (codes "init") later refl, is_other_op op (codes "namespace") later refl, is_other_op op (codes "now") later refl, is_other_op op (codes "write") later refl, is_other_op op (codes "fetch") later refl, is_other_op op (codes "match") later refl, later)
 
-put_off : (d : Data) → request_of d ≡ Err errors.Later → HasLaterOp d ⊎ HasLaterForm d
-unfolding request_of
-put_off d e = by (text_at (codes "op") d) refl e
+put_off : (d : Data) → IsPutOff d → HasLaterOp d ⊎ HasLaterForm d
+put_off d cause = elim cause as (λ _. HasLaterOp d ⊎ HasLaterForm d) [ inl e ↦ by (text_at (codes "op") d) refl e | inr form ↦ inr (whole form.0 form.1.0 form.1.1 form.2) ]
   where
-    end : (op : List ℕ) (one : Act) → text_at (codes "op") d ≡ Ok op → act_of op d ≡ Ok one → (b : Bool) → is_put_off d one ≡ b → (if b then Err errors.Later else Ok (request.One one)) ≡ Err errors.Later → HasLaterOp d ⊎ HasLaterForm d
-    end op one is_op is_row true later same = inr (op, one, is_op, is_row, later)
-    end op one is_op is_row false later same = absurd (Decided-Ok (request.One one) same)
+    by : (r : Result (List ℕ) LineErr) → text_at (codes "op") d ≡ r → (r >>= λ op. act_of op d) ≡ Err errors.Later → HasLaterOp d ⊎ HasLaterForm d
+    by (Ok op) is_op e = inl (op, is_op, later_op op d e)
+    by (Err error) is_op e = let later : error ≡ errors.Later = cc in absurd (Decided-text_at (codes "op") d (is_op ∙ ap Err later))
 
-    row : (op : List ℕ) → text_at (codes "op") d ≡ Ok op → (r : Result Act LineErr) → act_of op d ≡ r → (r >>= λ one. if is_put_off d one then Err errors.Later else Ok (request.One one)) ≡ Err errors.Later → HasLaterOp d ⊎ HasLaterForm d
-    row op is_op (Ok one) is_row same = end op one is_op is_row (is_put_off d one) refl same
-    row op is_op (Err error) is_row same = let later : error ≡ errors.Later = cc in inl (op, is_op, later_op op d (is_row ∙ ap Err later))
+    whole : (one : Act) → row_of d ≡ Ok one → NamesSeries one → IsTrue (is_put_off d one) → HasLaterForm d
+    whole one is_row named later = let steps = from_steps (text_at (codes "op") d) (λ op. act_of op d) one is_row in (steps.0, one, steps.1, steps.2, named, later)
 
-    by : (r : Result (List ℕ) LineErr) → text_at (codes "op") d ≡ r → (r >>= λ op. act_of op d >>= λ one. if is_put_off d one then Err errors.Later else Ok (request.One one)) ≡ Err errors.Later → HasLaterOp d ⊎ HasLaterForm d
-    by (Ok op) is_op same = row op is_op (act_of op d) refl same
-    by (Err error) is_op same = let later : error ≡ errors.Later = cc in absurd (Decided-text_at (codes "op") d (is_op ∙ ap Err later))
+op_put_off : (d : Data) → HasLaterOp d → IsPutOff d
+op_put_off d (op, is_op, later) = inl (ap (λ r. r >>= λ op. act_of op d) is_op ∙ op_later op d later)
 
-op_put_off : (d : Data) → HasLaterOp d → request_of d ≡ Err errors.Later
-unfolding request_of
-op_put_off d (op, is_op, later) = simp (is_op, op_later op d later)
-
-form_put_off : (d : Data) → HasLaterForm d → request_of d ≡ Err errors.Later
-unfolding request_of
-form_put_off d (op, one, is_op, is_row, later) = simp (is_op, is_row, later)
+form_put_off : (d : Data) → HasLaterForm d → IsPutOff d
+form_put_off d (op, one, is_op, is_row, named, later) = inr (one, (ap (λ r. r >>= λ op. act_of op d) is_op ∙ is_row, named), later)
 
 pub puts_off_exactly : (d : Data) → PutsOffExactly d
-puts_off_exactly d = (put_off d, λ cause. elim cause as (λ _. request_of d ≡ Err errors.Later) [ inl op ↦ op_put_off d op | inr later ↦ form_put_off d later ])
+puts_off_exactly d = (put_off d, λ cause. elim cause as (λ _. IsPutOff d) [ inl op ↦ op_put_off d op | inr form ↦ form_put_off d form ])

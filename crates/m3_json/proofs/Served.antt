@@ -1,9 +1,9 @@
 -- The requests that are served.
 use Rattle.std.proofs.Common.{◌≡◌, ℕ, ℤ, List, refl, ap, subst, ◌∙◌, false, true}
-use Rattle.std.specs.Prelude.{Option, Some, None, Result, Ok, Err, Bool, nat_eq, is_some, ◌&&◌, ◌||◌, ◌==◌, if◌then◌else◌, codes}
+use Rattle.std.specs.Prelude.{Option, Some, None, Result, Ok, Err, Bool, nat_eq, is_some, if◌then◌else◌, codes}
 use Rattle.std.specs.Option.{option_map_or}
 use Rattle.std.specs.Cmp.Lexicographic.{pointwise}
-use Rattle.std.proofs.lemmas.Bool.{or_parts, and_parts, not-false, eqb-true}
+use Rattle.std.proofs.lemmas.Bool.{or_parts, not-false}
 use Rattle.serde_json.specs.Data.{Data}
 use Rattle.serde_json.specs.Find.{get}
 use Rattle.m3_model.specs.declared.act.Act.{Act}
@@ -12,11 +12,12 @@ use Rattle.m3_model.specs.declared.act.ReadLevel.{ReadLevel}
 use Rattle.m3_model.specs.declared.act.ReadLevel.TheVariants as read_level
 use Rattle.m3_model.specs.declared.act.WriteLevel.{WriteLevel}
 use Rattle.m3_model.specs.declared.act.WriteLevel.TheVariants as write_level
+use Rattle.m3_model.specs.declared.point.Matcher.{Matcher}
+use Rattle.m3_model.specs.NotYet.{fills_its_nodes, IsServedAct}
 use Rattle.m3_json.specs.declared.fault.LineErr.{LineErr}
 use Rattle.m3_json.specs.Fields.{◌>>=◌, optional_at}
-use Rattle.m3_json.specs.Rows.{init_of, namespace_of, now_of, write_level_at, read_level_at, version_at, write_of, fetch_of}
-use Rattle.m3_json.specs.NotYet.{refusal_of, begins_with_brace, has_level_or_version, is_put_off}
-use Rattle.m3_model.specs.NotYet.{are_three_groups, IsServedAct}
+use Rattle.m3_json.specs.Rows.{init_of, namespace_of, now_of, write_level_at, read_level_at, version_at, write_of, fetch_of, match_of}
+use Rattle.m3_json.specs.NotYet.{refusal_of, has_level_or_version, is_put_off}
 use Rattle.m3_json.specs.Requests.{act_of}
 
 absent_field : (o : Option Data) → is_some o ≡ false → o ≡ None
@@ -54,15 +55,12 @@ ends : (d : Data) (one : Act) → (is_put_off d one ≡ false → IsServedAct on
 ends d one so other e served = let same : one ≡ other = cc in subst IsServedAct same (so (ap (is_put_off d) same ∙ served))
 
 -- neither field is there
-neither : (id : List ℕ) (d : Data) → (begins_with_brace id || has_level_or_version d) ≡ false → (is_some (get (codes "level") d) ≡ false) × (is_some (get (codes "version") d) ≡ false)
-neither id d e = or_parts _ _ (or_parts (begins_with_brace id) (has_level_or_version d) e).1
+neither : (d : Data) → has_level_or_version d ≡ false → (is_some (get (codes "level") d) ≡ false) × (is_some (get (codes "version") d) ≡ false)
+neither d e = or_parts _ _ e
 
 init_ends : (d : Data) (rf shards seed : ℕ) (nodes : List (List ℕ × List ℕ)) → Serves d (Ok (act.Init rf shards seed nodes))
 unfolding is_put_off
-init_ends d rf shards seed nodes = ends d (act.Init rf shards seed nodes) (λ served.
-    let parts = and_parts (rf == 3 && shards == 1) (are_three_groups nodes) (not-false _ served) in
-    let counts = and_parts (rf == 3) (shards == 1) parts.0 in
-    (eqb-true rf 3 counts.0, eqb-true shards 1 counts.1, parts.1))
+init_ends d rf shards seed nodes = ends d (act.Init rf shards seed nodes) (λ served. not-false (fills_its_nodes rf nodes) served)
 
 namespace_ends : (d : Data) (name : List ℕ) (block past future retention : ℕ) → Serves d (Ok (act.Namespace name block past future retention))
 namespace_ends d name block past future retention = ends d (act.Namespace name block past future retention) (λ served. tt)
@@ -73,13 +71,19 @@ now_ends d now = ends d (act.Now now) (λ served. tt)
 write_ends : (d : Data) (ns id : List ℕ) (t : ℕ) (v : ℤ) (level : WriteLevel) (version : Option ℕ) → write_level_at d ≡ Ok level → version_at d ≡ Ok version → Serves d (Ok (act.Write ns id t v level version))
 unfolding is_put_off
 write_ends d ns id t v level version is_level is_version = ends d (act.Write ns id t v level version) (λ served.
-    let absent = neither id d served in
+    let absent = neither d served in
     (write_level_absent d level absent.0 is_level, version_absent d version absent.1 is_version))
 
 fetch_ends : (d : Data) (ns id : List ℕ) (from to : ℕ) (level : ReadLevel) (version : Option ℕ) → read_level_at d ≡ Ok level → version_at d ≡ Ok version → Serves d (Ok (act.Fetch ns id from to level version))
 unfolding is_put_off
 fetch_ends d ns id from to level version is_level is_version = ends d (act.Fetch ns id from to level version) (λ served.
-    let absent = neither id d served in
+    let absent = neither d served in
+    (read_level_absent d level absent.0 is_level, version_absent d version absent.1 is_version))
+
+match_ends : (d : Data) (ns : List ℕ) (wanted : List Matcher) (from to : ℕ) (level : ReadLevel) (version : Option ℕ) → read_level_at d ≡ Ok level → version_at d ≡ Ok version → Serves d (Ok (act.Match ns wanted from to level version))
+unfolding is_put_off
+match_ends d ns wanted from to level version is_level is_version = ends d (act.Match ns wanted from to level version) (λ served.
+    let absent = neither d served in
     (read_level_absent d level absent.0 is_level, version_absent d version absent.1 is_version))
 
 init_served : (d : Data) → Serves d (init_of d)
@@ -102,16 +106,21 @@ fetch_served : (d : Data) → Serves d (fetch_of d)
 unfolding fetch_of
 fetch_served d = search (steps, fetch_ends) depth 20
 
--- what is in the grammar and not put off is served
+match_served : (d : Data) → Serves d (match_of d)
+unfolding match_of
+match_served d = search (steps, match_ends) depth 20
+
+-- what is in its row and not put off is served
 pub act_served : (op : List ℕ) (d : Data) (one : Act) → act_of op d ≡ Ok one → is_put_off d one ≡ false → IsServedAct one
 unfolding act_of
 act_served op d one e served =
-    by (pointwise nat_eq op (codes "init")) (pointwise nat_eq op (codes "namespace")) (pointwise nat_eq op (codes "now")) (pointwise nat_eq op (codes "write")) (pointwise nat_eq op (codes "fetch")) e
+    by (pointwise nat_eq op (codes "init")) (pointwise nat_eq op (codes "namespace")) (pointwise nat_eq op (codes "now")) (pointwise nat_eq op (codes "write")) (pointwise nat_eq op (codes "fetch")) (pointwise nat_eq op (codes "match")) e
   where
-    by : (i n m w f : Bool) → (if i then init_of d else (if n then namespace_of d else (if m then now_of d else (if w then write_of d else (if f then fetch_of d else Err (refusal_of op)))))) ≡ Ok one → IsServedAct one
-    by true n m w f read = init_served d one read served
-    by false true m w f read = namespace_served d one read served
-    by false false true w f read = now_served d one read served
-    by false false false true f read = write_served d one read served
-    by false false false false true read = fetch_served d one read served
-    by false false false false false read = absurd (cc)
+    by : (i n m w f q : Bool) → (if i then init_of d else (if n then namespace_of d else (if m then now_of d else (if w then write_of d else (if f then fetch_of d else (if q then match_of d else Err (refusal_of op))))))) ≡ Ok one → IsServedAct one
+    by true n m w f q read = init_served d one read served
+    by false true m w f q read = namespace_served d one read served
+    by false false true w f q read = now_served d one read served
+    by false false false true f q read = write_served d one read served
+    by false false false false true q read = fetch_served d one read served
+    by false false false false false true read = match_served d one read served
+    by false false false false false false read = absurd (cc)

@@ -5,7 +5,7 @@ use Rattle.std.specs.Option.{option_map_or}
 use Rattle.std.specs.Cmp.Lexicographic.{pointwise}
 use Rattle.serde_json.specs.Data.{Data, Members, no_members, member}
 use Rattle.serde_json.specs.Find.{get, as_str, as_number, as_u64, as_i64, as_object}
-use Rattle.m3_model.specs.Names.{is_name, has_identifier_length}
+use Rattle.m3_model.specs.Names.{is_name}
 use Rattle.m3_json.specs.declared.fault.LineErr.{LineErr}
 use Rattle.m3_json.specs.declared.fault.LineErr.TheVariants as errors
 
@@ -71,10 +71,6 @@ text_at key d = field key d >>= text_of
 -- the field is a name
 unfoldable pub name_at : List ℕ → Data → Result (List ℕ) LineErr
 name_at key d = field key d >>= name_of
-
--- the field is an identifier
-unfoldable pub identifier_at : List ℕ → Data → Result (List ℕ) LineErr
-identifier_at key d = text_at key d >>= tested has_identifier_length
 
 -- the field is such a number
 unfoldable pub number_at : List ℕ → ℕ → ℕ → Data → Result ℕ LineErr

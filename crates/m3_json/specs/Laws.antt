@@ -9,7 +9,7 @@ use Rattle.m3_json.specs.declared.fault.LineErr.TheVariants as errors
 use Rattle.m3_json.specs.Fields.{is_one_of, text_at}
 use Rattle.m3_json.specs.Rows.{names_differ}
 use Rattle.m3_json.specs.NotYet.{later_ops, is_put_off}
-use Rattle.m3_json.specs.Requests.{act_of, request_of, LineMeans}
+use Rattle.m3_json.specs.Requests.{act_of, NamesSeries, IsPutOff, LineMeans}
 
 -- a line has no two meanings
 abbrev pub HasOneMeaning : List ℕ → Type 0
@@ -23,10 +23,10 @@ TellsNamesApart nodes = IsTrue (names_differ nodes) ↔ Ascends (λ a b. a.0 ≢
 abbrev pub HasLaterOp : Data → Type 0
 HasLaterOp d = (op : List ℕ) × (text_at (codes "op") d ≡ Ok op) × IsTrue (is_one_of later_ops op)
 
--- the object is in the grammar of its row, in a form that is put off
+-- the object is in the grammar, in a form that is put off
 abbrev pub HasLaterForm : Data → Type 0
-HasLaterForm d = (op : List ℕ) × (one : Act) × (text_at (codes "op") d ≡ Ok op) × (act_of op d ≡ Ok one) × IsTrue (is_put_off d one)
+HasLaterForm d = (op : List ℕ) × (one : Act) × (text_at (codes "op") d ≡ Ok op) × (act_of op d ≡ Ok one) × NamesSeries one × IsTrue (is_put_off d one)
 
 -- just these objects are put off
 abbrev pub PutsOffExactly : Data → Type 0
-PutsOffExactly d = (request_of d ≡ Err errors.Later) ↔ (HasLaterOp d ⊎ HasLaterForm d)
+PutsOffExactly d = IsPutOff d ↔ (HasLaterOp d ⊎ HasLaterForm d)

@@ -1,4 +1,5 @@
 pub mod Fields
+pub mod Lists
 pub mod Rows
 pub mod NotYet
 pub mod Requests

@@ -1,15 +1,17 @@
 -- The request that a line spells.
-use Rattle.std.specs.Prelude.{◌≡◌, ℕ, List, Some, None, Result, Ok, Err, if◌then◌else◌, nat_eq, codes, IsUtf8, ⊤, ◌⊎◌}
+use Rattle.std.specs.Prelude.{◌≡◌, ℕ, List, Some, None, Result, Ok, Err, false, if◌then◌else◌, nat_eq, codes, IsTrue, IsUtf8, ⊤, ◌⊎◌}
 use Rattle.std.specs.Cmp.Lexicographic.{pointwise}
 use Rattle.serde_json.specs.Data.{Data}
 use Rattle.serde_json.specs.Read.{read}
+use Rattle.m3_model.specs.Identifiers.{IsIdentifier}
 use Rattle.m3_model.specs.declared.act.Act.{Act}
+use Rattle.m3_model.specs.declared.act.Act.TheVariants as act
 use Rattle.m3_model.specs.declared.turn.Request.{Request}
 use Rattle.m3_model.specs.declared.turn.Request.TheVariants as request
 use Rattle.m3_json.specs.declared.fault.LineErr.{LineErr}
 use Rattle.m3_json.specs.declared.fault.LineErr.TheVariants as errors
 use Rattle.m3_json.specs.Fields.{◌>>=◌, text_at}
-use Rattle.m3_json.specs.Rows.{init_of, namespace_of, now_of, write_of, fetch_of}
+use Rattle.m3_json.specs.Rows.{init_of, namespace_of, now_of, write_of, fetch_of, match_of}
 use Rattle.m3_json.specs.NotYet.{refusal_of, is_put_off}
 
 -- the row of this op
@@ -19,14 +21,37 @@ act_of op d =
     (if pointwise nat_eq op (codes "namespace") then namespace_of d else
     (if pointwise nat_eq op (codes "now") then now_of d else
     (if pointwise nat_eq op (codes "write") then write_of d else
-    (if pointwise nat_eq op (codes "fetch") then fetch_of d else Err (refusal_of op)))))
+    (if pointwise nat_eq op (codes "fetch") then fetch_of d else
+    (if pointwise nat_eq op (codes "match") then match_of d else Err (refusal_of op))))))
 
--- the request that an object spells, by its field `op`
-unfoldable pub request_of : Data → Result Request LineErr
-request_of d = do
-  op ← text_at (codes "op") d
-  one ← act_of op d
-  if is_put_off d one then Err errors.Later else Ok (request.One one)
+-- the act of the row that an object is in by its field `op`; any text stands for an identifier here
+abbrev pub row_of : Data → Result Act LineErr
+row_of d = text_at (codes "op") d >>= λ op. act_of op d
+
+-- the text that stands for the identifier of a series is one
+abbrev pub NamesSeries : Act → Type 0
+NamesSeries (act.Write ns id t v level version) = IsIdentifier id
+NamesSeries (act.Fetch ns id from to level version) = IsIdentifier id
+NamesSeries _ = ⊤
+
+-- the object spells this act: it is in its row, and its identifier is one
+abbrev pub SpellsAct : Data → Act → Type 0
+SpellsAct d one = (row_of d ≡ Ok one) × NamesSeries one
+
+-- the object spells nothing: it is in no row, or its identifier is none
+abbrev pub SpellsNoAct : Data → Type 0
+SpellsNoAct d = (row_of d ≡ Err errors.Form) ⊎ ((one : Act) × (row_of d ≡ Ok one) × (¬ NamesSeries one))
+
+-- the object's op is put off, or the act that it spells is
+abbrev pub IsPutOff : Data → Type 0
+IsPutOff d = (row_of d ≡ Err errors.Later) ⊎ ((one : Act) × SpellsAct d one × IsTrue (is_put_off d one))
+
+-- what an object means: the act that it spells, where that isn't put off; want of memory says nothing of it
+abbrev pub ObjectMeans : Data → Result Request LineErr → Type 0
+ObjectMeans d (Ok r) = (one : Act) × SpellsAct d one × (is_put_off d one ≡ false) × (r ≡ request.One one)
+ObjectMeans d (Err errors.Form) = SpellsNoAct d
+ObjectMeans d (Err errors.Later) = IsPutOff d
+ObjectMeans d (Err errors.Memory) = ⊤
 
 -- the line is the text of this data, as serde_json reads it
 abbrev pub Spells : List ℕ → Data → Type 0
@@ -36,9 +61,9 @@ Spells line d = IsUtf8 line × (read line ≡ Some d)
 abbrev pub SpellsNothing : List ℕ → Type 0
 SpellsNothing line = ¬ IsUtf8 line ⊎ (read line ≡ None)
 
--- what a line means; want of memory says nothing of it
+-- what a line means: what its object means, or no form; want of memory says nothing of it
 abbrev pub LineMeans : List ℕ → Result Request LineErr → Type 0
-LineMeans line (Ok r) = (d : Data) × Spells line d × (request_of d ≡ Ok r)
-LineMeans line (Err errors.Form) = SpellsNothing line ⊎ ((d : Data) × Spells line d × (request_of d ≡ Err errors.Form))
-LineMeans line (Err errors.Later) = (d : Data) × Spells line d × (request_of d ≡ Err errors.Later)
+LineMeans line (Ok r) = (d : Data) × Spells line d × ObjectMeans d (Ok r)
+LineMeans line (Err errors.Form) = SpellsNothing line ⊎ ((d : Data) × Spells line d × SpellsNoAct d)
+LineMeans line (Err errors.Later) = (d : Data) × Spells line d × IsPutOff d
 LineMeans line (Err errors.Memory) = ⊤

@@ -1,5 +1,5 @@
 -- The grammar: one row for each kind of request.
-use Rattle.std.specs.Prelude.{ℕ, suc, ◌^◌, List, [], ◌∷◌, Some, None, Option, Result, Ok, Err, Bool, true, not, ◌&&◌, nat_le, nat_eq, if◌then◌else◌, codes}
+use Rattle.std.specs.Prelude.{ℕ, ◌^◌, List, [], ◌∷◌, Some, None, Option, Result, Ok, Err, Bool, true, false, not, ◌&&◌, nat_eq, if◌then◌else◌, codes}
 use Rattle.std.specs.List.{list_any}
 use Rattle.std.specs.Cmp.Lexicographic.{pointwise}
 use Rattle.serde_json.specs.Data.{Data, Items, no_items, item}
@@ -12,7 +12,10 @@ use Rattle.m3_model.specs.declared.act.WriteLevel.{WriteLevel}
 use Rattle.m3_model.specs.declared.act.WriteLevel.TheVariants as write_level
 use Rattle.m3_json.specs.declared.fault.LineErr.{LineErr}
 use Rattle.m3_json.specs.declared.fault.LineErr.TheVariants as errors
-use Rattle.m3_json.specs.Fields.{◌>>=◌, needed, tested, has_only, field, text_of, name_of, number_of, name_at, identifier_at, number_at, value_at, optional_at}
+use Rattle.m3_model.specs.declared.point.Matcher.{Matcher}
+use Rattle.m3_model.specs.Tags.{is_tag_name}
+use Rattle.m3_json.specs.Fields.{◌>>=◌, needed, tested, has_only, text_of, name_of, number_of, text_at, name_at, number_at, value_at, optional_at}
+use Rattle.m3_json.specs.Lists.{list_at}
 
 -- a node of this name and this group
 abbrev pub node_of_two : Data → Data → Result (List ℕ × List ℕ) LineErr
@@ -27,24 +30,6 @@ node_of_items _ = Err errors.Form
 unfoldable pub node_of : Data → Result (List ℕ × List ℕ) LineErr
 node_of d = needed (as_array d) >>= node_of_items
 
--- each item is a node
-abbrev pub nodes_of_items : Items → Result (List (List ℕ × List ℕ)) LineErr
-nodes_of_items no_items = Ok []
-nodes_of_items (item d ds) = node_of d >>= λ node. nodes_of_items ds >>= λ nodes. Ok (node ∷ nodes)
-
--- how many items there are
-abbrev pub item_count : Items → ℕ
-item_count no_items = 0
-item_count (item d ds) = suc (item_count ds)
-
--- 1 to 16 items
-abbrev pub has_few_items : Items → Bool
-has_few_items ds = nat_le 1 (item_count ds) && nat_le (item_count ds) 16
-
--- the field is an array of 1 to 16 items
-unfoldable pub items_at : List ℕ → Data → Result Items LineErr
-items_at key d = field key d >>= λ array. needed (as_array array) >>= tested has_few_items
-
 -- no two nodes have the same name
 abbrev pub names_differ : List (List ℕ × List ℕ) → Bool
 names_differ [] = true
@@ -52,7 +37,7 @@ names_differ (node ∷ nodes) = not (list_any (λ other. pointwise nat_eq other.
 
 -- the field is an array of 1 to 16 nodes with names of their own
 unfoldable pub nodes_at : List ℕ → Data → Result (List (List ℕ × List ℕ)) LineErr
-nodes_at key d = items_at key d >>= λ items. nodes_of_items items >>= tested names_differ
+nodes_at key d = list_at node_of key 1 16 d >>= tested names_differ
 
 -- init: 1 to 5 replicas, 1 to 64 shards, a seed of 32 bits, the nodes
 unfoldable pub init_of : Data → Result Act LineErr
@@ -109,26 +94,69 @@ read_level_at = optional_at read_level.Majority (codes "level") (λ v. text_of v
 unfoldable pub version_at : Data → Result (Option ℕ) LineErr
 version_at = optional_at None (codes "version") (λ v. number_of 0 (2 ^ 62) v >>= λ n. Ok (Some n))
 
--- write: a value for a series at a time
+-- write: a value for a series at a time; any text stands for the identifier here
 unfoldable pub write_of : Data → Result Act LineErr
 write_of d = do
   whole ← tested (has_only (codes "id" ∷ codes "level" ∷ codes "ns" ∷ codes "op" ∷ codes "t" ∷ codes "v" ∷ codes "version" ∷ [])) d
   ns ← name_at (codes "ns") d
-  id ← identifier_at (codes "id") d
+  id ← text_at (codes "id") d
   t ← number_at (codes "t") 0 (2 ^ 62) d
   v ← value_at (codes "v") d
   level ← write_level_at d
   version ← version_at d
   Ok (act.Write ns id t v level version)
 
--- fetch: the points of a series in a range of times
+-- fetch: the points of a series in a range of times; any text stands for the identifier here
 unfoldable pub fetch_of : Data → Result Act LineErr
 fetch_of d = do
   whole ← tested (has_only (codes "from" ∷ codes "id" ∷ codes "level" ∷ codes "ns" ∷ codes "op" ∷ codes "to" ∷ codes "version" ∷ [])) d
   ns ← name_at (codes "ns") d
-  id ← identifier_at (codes "id") d
+  id ← text_at (codes "id") d
   from ← number_at (codes "from") 0 (2 ^ 62) d
   to ← number_at (codes "to") 0 (2 ^ 62) d
   level ← read_level_at d
   version ← version_at d
   Ok (act.Fetch ns id from to level version)
+
+-- the name of a tag
+abbrev pub tag_name_of : Data → Result (List ℕ) LineErr
+tag_name_of d = text_of d >>= tested is_tag_name
+
+-- whether a matcher of this sign is one of equality
+abbrev pub sign_named : List ℕ → Result Bool LineErr
+sign_named sign =
+    if pointwise nat_eq sign (codes "=") then Ok true else
+    (if pointwise nat_eq sign (codes "!=") then Ok false else Err errors.Form)
+
+-- a matcher of a tag's name, a sign and any text as the value
+abbrev pub matcher_of_three : Data → Data → Data → Result Matcher LineErr
+matcher_of_three name sign value = do
+  n ← tag_name_of name
+  equal ← text_of sign >>= sign_named
+  v ← text_of value
+  Ok (record { name = n; equal = equal; value = v })
+
+-- a matcher: three items, its tag's name, its sign and its value
+abbrev pub matcher_of_items : Items → Result Matcher LineErr
+matcher_of_items (item name (item sign (item value no_items))) = matcher_of_three name sign value
+matcher_of_items _ = Err errors.Form
+
+-- a matcher is such an array
+unfoldable pub matcher_of : Data → Result Matcher LineErr
+matcher_of d = needed (as_array d) >>= matcher_of_items
+
+-- the field is an array of 0 to 16 matchers
+unfoldable pub matchers_at : List ℕ → Data → Result (List Matcher) LineErr
+matchers_at key d = list_at matcher_of key 0 16 d
+
+-- match: the points in a range of times of the series that 0 to 16 matchers pick
+unfoldable pub match_of : Data → Result Act LineErr
+match_of d = do
+  whole ← tested (has_only (codes "from" ∷ codes "level" ∷ codes "ns" ∷ codes "op" ∷ codes "to" ∷ codes "version" ∷ codes "where" ∷ [])) d
+  ns ← name_at (codes "ns") d
+  wanted ← matchers_at (codes "where") d
+  from ← number_at (codes "from") 0 (2 ^ 62) d
+  to ← number_at (codes "to") 0 (2 ^ 62) d
+  level ← read_level_at d
+  version ← version_at d
+  Ok (act.Match ns wanted from to level version)

@@ -2,10 +2,11 @@ ghost use Rattle.std.specs.Prelude.{◌≡◌, IfOk, IfSome};
 ghost use Rattle.serde_json.specs.View.{view};
 ghost use Rattle.m3_model.specs.Limits.{MeetsLimits, IsMoment};
 ghost use Rattle.m3_json.specs.Fields.{Gives};
+ghost use Rattle.m3_json.specs.Requests.{NamesSeries};
 ghost use Rattle.m3_json.specs.Rows.{write_level_named, read_level_named, write_level_at, read_level_at, version_at, write_of, fetch_of};
 
 use crate::fault::LineErr;
-use crate::fields::{has_only, identifier_at, name_at, number_at, number_of, text_of, value_at};
+use crate::fields::{has_only, name_at, number_at, number_of, text_at, text_of, value_at};
 use crate::moment::MOMENT_LIMIT;
 use m3_model::act::{Act, ReadLevel, WriteLevel};
 use m3_model::text::Text;
@@ -45,8 +46,9 @@ fn write_level_at(value: &Value) -> Result<WriteLevel, LineErr>
     }
 }
 
+/// The level of the read that an object spells; a majority where it has none.
 #[tactic(auto, unfolding(crate::specs::Rows::read_level_at))]
-fn read_level_at(value: &Value) -> Result<ReadLevel, LineErr>
+pub fn read_level_at(value: &Value) -> Result<ReadLevel, LineErr>
     ensures { Gives (λ l. l) result (read_level_at (view value.now)) }
 {
     match value.get("level") {
@@ -55,8 +57,9 @@ fn read_level_at(value: &Value) -> Result<ReadLevel, LineErr>
     }
 }
 
+/// The version of the call that an object spells, where it has one.
 #[tactic(auto, unfolding(crate::specs::Rows::version_at))]
-fn version_at(value: &Value) -> Result<Option<u64>, LineErr>
+pub fn version_at(value: &Value) -> Result<Option<u64>, LineErr>
     ensures gives { Gives (λ n. n) result (version_at (view value.now)) }
     ensures within { IfOk result (λ version. IfSome version IsMoment) }
 {
@@ -66,17 +69,17 @@ fn version_at(value: &Value) -> Result<Option<u64>, LineErr>
     }
 }
 
-/// The write that an object spells.
+/// The write that an object spells; any text is taken for its identifier.
 #[tactic(auto, unfolding(crate::specs::Rows::write_of))]
 pub fn write_of(alloc: Global, value: &Value) -> Result<Act, LineErr>
     ensures gives { Gives (λ a. a) result (write_of (view value.now)) }
-    ensures within { IfOk result MeetsLimits }
+    ensures within { IfOk result (λ a. NamesSeries a → MeetsLimits a) }
 {
     if !has_only(value, &["id", "level", "ns", "op", "t", "v", "version"]) {
         return Err(LineErr::Form);
     }
     let ns = name_at(value, "ns")?;
-    let id = identifier_at(value, "id")?;
+    let id = text_at(value, "id")?;
     let t = number_at(value, "t", 0, MOMENT_LIMIT)?;
     let v = value_at(value, "v")?;
     let level = write_level_at(value)?;
@@ -91,17 +94,17 @@ pub fn write_of(alloc: Global, value: &Value) -> Result<Act, LineErr>
     })
 }
 
-/// The fetch that an object spells.
+/// The fetch that an object spells; any text is taken for its identifier.
 #[tactic(auto, unfolding(crate::specs::Rows::fetch_of))]
 pub fn fetch_of(alloc: Global, value: &Value) -> Result<Act, LineErr>
     ensures gives { Gives (λ a. a) result (fetch_of (view value.now)) }
-    ensures within { IfOk result MeetsLimits }
+    ensures within { IfOk result (λ a. NamesSeries a → MeetsLimits a) }
 {
     if !has_only(value, &["from", "id", "level", "ns", "op", "to", "version"]) {
         return Err(LineErr::Form);
     }
     let ns = name_at(value, "ns")?;
-    let id = identifier_at(value, "id")?;
+    let id = text_at(value, "id")?;
     let from = number_at(value, "from", 0, MOMENT_LIMIT)?;
     let to = number_at(value, "to", 0, MOMENT_LIMIT)?;
     let level = read_level_at(value)?;

@@ -3,11 +3,11 @@ ghost use Rattle.std.specs.BTreeMap.{keys};
 ghost use Rattle.std.specs.List.{list_all, list_any};
 ghost use Rattle.std.specs.Cmp.Lexicographic.{pointwise};
 ghost use Rattle.serde_json.specs.View.{view};
-ghost use Rattle.m3_model.specs.Names.{is_name, has_identifier_length};
-ghost use Rattle.m3_json.specs.Fields.{Gives, has_only, text_of, name_of, number_of, field, text_at, name_at, identifier_at, number_at, value_at};
+ghost use Rattle.m3_model.specs.Names.{is_name};
+ghost use Rattle.m3_json.specs.Fields.{Gives, has_only, text_of, name_of, number_of, field, text_at, name_at, number_at, value_at};
 
 use crate::fault::LineErr;
-use crate::names::{has_identifier_length, is_name};
+use crate::names::is_name;
 use serde_json::{Map, Value};
 
 /// Whether the text is one of these.
@@ -90,20 +90,6 @@ pub fn name_at<'a>(value: &'a Value, key: &str) -> Result<&'a str, LineErr>
     ensures within { IfOk result (λ s. IsTrue (is_name s.now)) }
 {
     name_of(field(value, key)?)
-}
-
-/// The field as an identifier; `Form` where it is none.
-#[tactic(auto, unfolding(crate::specs::Fields::identifier_at))]
-pub fn identifier_at<'a>(value: &'a Value, key: &str) -> Result<&'a str, LineErr>
-    ensures gives { Gives (λ s. s.now) result (identifier_at key.now (view value.now)) }
-    ensures within { IfOk result (λ s. IsTrue (has_identifier_length s.now)) }
-{
-    let id = text_at(value, key)?;
-    if has_identifier_length(id) {
-        Ok(id)
-    } else {
-        Err(LineErr::Form)
-    }
 }
 
 /// The field as a whole number, at least `from` and below `limit`; `Form` where it is none such.

@@ -4,10 +4,11 @@ ghost use Rattle.std.specs.Cmp.Lexicographic.{pointwise};
 ghost use Rattle.serde_json.specs.View.{view, items_view};
 ghost use Rattle.m3_model.specs.Limits.{MeetsLimits};
 ghost use Rattle.m3_json.specs.Fields.{Gives};
-ghost use Rattle.m3_json.specs.Rows.{node_of_two, node_of_items, node_of, nodes_of_items, has_few_items, items_at, names_differ, nodes_at, init_of};
+ghost use Rattle.m3_json.specs.Rows.{node_of_two, node_of_items, node_of, names_differ, nodes_at, init_of};
 
 use crate::fault::LineErr;
-use crate::fields::{field, has_only, name_of, number_at};
+use crate::fields::{has_only, name_of, number_at};
+use crate::lists::{Entry, list_at};
 use m3_model::act::Act;
 use m3_model::seq::Seq;
 use m3_model::text::Text;
@@ -34,7 +35,7 @@ fn node_of_two(alloc: Global, name: &Value, group: &Value) -> Result<(Text, Text
     Ok((Text::from_str(alloc, name)?, Text::from_str(alloc, group)?))
 }
 
-#[tactic(auto, using(crate::proofs::Nodes::not_two_items))]
+#[tactic(auto, using(crate::proofs::Entries::not_two_items))]
 fn node_of_items(alloc: Global, items: &[Value]) -> Result<(Text, Text), LineErr>
     ensures { Gives (λ node. node) result (node_of_items (items_view items.now)) }
 {
@@ -45,42 +46,16 @@ fn node_of_items(alloc: Global, items: &[Value]) -> Result<(Text, Text), LineErr
     }
 }
 
-#[tactic(auto, unfolding(crate::specs::Rows::node_of))]
-fn node_of(alloc: Global, value: &Value) -> Result<(Text, Text), LineErr>
-    ensures { Gives (λ node. node) result (node_of (view value.now)) }
-{
-    match value.as_array() {
-        None => Err(LineErr::Form),
-        Some(items) => node_of_items(alloc, items.as_slice()),
-    }
-}
+impl Entry for (Text, Text) {
+    ghost reading = { node_of };
 
-fn nodes_of_items(alloc: Global, items: &[Value]) -> Result<Vec<(Text, Text)>, LineErr>
-    ensures { Gives (λ nodes. nodes.items) result (nodes_of_items (items_view items.now)) }
-{
-    let mut nodes = Vec::new(alloc);
-    for item in items {
-        let node = node_of(alloc, item)?;
-        nodes.push(node)?;
+    #[tactic(auto, unfolding(crate::specs::Rows::node_of))]
+    fn of_item(alloc: Global, item: &Value) -> Result<(Text, Text), LineErr> {
+        match item.as_array() {
+            None => Err(LineErr::Form),
+            Some(items) => node_of_items(alloc, items.as_slice()),
+        }
     }
-    Ok(nodes)
-}
-
-#[tactic(auto, using(crate::proofs::Nodes::count_of_values), unfolding(crate::specs::Rows::items_at))]
-fn items_at<'a>(value: &'a Value, key: &str) -> Result<&'a [Value], LineErr>
-    ensures { Gives (λ items. items_view items.now) result (items_at key.now (view value.now)) }
-{
-    match field(value, key)?.as_array() {
-        Some(items) if has_few_items(items.as_slice()) => Ok(items.as_slice()),
-        _ => Err(LineErr::Form),
-    }
-}
-
-#[tactic(auto, using(crate::proofs::Nodes::count_of_values))]
-fn has_few_items(items: &[Value]) -> bool
-    ensures { result ≡ has_few_items (items_view items.now) }
-{
-    (1..=NODES).contains(&items.len())
 }
 
 fn is_taken(name: &Text, nodes: &[(Text, Text)]) -> bool
@@ -102,10 +77,9 @@ fn names_differ(nodes: &[(Text, Text)]) -> bool
 fn nodes_at(alloc: Global, value: &Value, key: &str) -> Result<Seq<(Text, Text)>, LineErr>
     ensures { Gives (λ nodes. nodes) result (nodes_at key.now (view value.now)) }
 {
-    let items = items_at(value, key)?;
-    let nodes = nodes_of_items(alloc, items)?;
+    let nodes = list_at(alloc, value, key, 1, NODES)?;
     if names_differ(nodes.as_slice()) {
-        Ok(Seq::from_vec(nodes))
+        Ok(nodes)
     } else {
         Err(LineErr::Form)
     }

@@ -7,6 +7,8 @@ mod fields;
 mod init;
 pub mod laws;
 pub mod lines;
+mod lists;
+mod matches;
 mod moment;
 mod names;
 mod namespace;

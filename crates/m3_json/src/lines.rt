@@ -1,27 +1,28 @@
-ghost use Rattle.std.specs.Prelude.{◌≡◌, Ok, Err, IfOk, IfErr};
+ghost use Rattle.std.specs.Prelude.{◌≡◌, ◌↔◌, Ok, Err, IfOk, IfErr, IsTrue};
 ghost use Rattle.serde_json.specs.View.{view};
-ghost use Rattle.m3_model.specs.Limits.{MeetsLimits};
-ghost use Rattle.m3_json.specs.Fields.{Gives};
+ghost use Rattle.m3_model.specs.Limits.{MeetsLimits, KeepsLimits};
 ghost use Rattle.m3_model.specs.NotYet.{IsServed};
-ghost use Rattle.m3_json.specs.Requests.{act_of, request_of, LineMeans};
-ghost use Rattle.m3_model.specs.Limits.{KeepsLimits};
+ghost use Rattle.m3_json.specs.Fields.{Gives};
+ghost use Rattle.m3_json.specs.Requests.{act_of, NamesSeries, ObjectMeans, LineMeans};
 
 use crate::calls::{fetch_of, write_of};
 use crate::fault::LineErr;
 use crate::fields::text_at;
 use crate::init::init_of;
+use crate::matches::match_of;
 use crate::moment::now_of;
 use crate::namespace::namespace_of;
 use crate::not_yet::{is_put_off, refusal_of};
 use m3_model::act::Act;
 use m3_model::turn::Request;
 use serde_json::Value;
+use series_id::valid;
 use std::alloc::Global;
 
 #[tactic(auto, using(crate::proofs::Meanings::fails_as), unfolding(crate::specs::Requests::act_of))]
 fn act_of(alloc: Global, op: &str, value: &Value) -> Result<Act, LineErr>
     ensures gives { Gives (λ a. a) result (act_of op.now (view value.now)) }
-    ensures within { IfOk result MeetsLimits }
+    ensures within { IfOk result (λ a. NamesSeries a → MeetsLimits a) }
 {
     match op {
         "init" => init_of(alloc, value),
@@ -29,27 +30,40 @@ fn act_of(alloc: Global, op: &str, value: &Value) -> Result<Act, LineErr>
         "now" => now_of(value),
         "write" => write_of(alloc, value),
         "fetch" => fetch_of(alloc, value),
+        "match" => match_of(alloc, value),
         _ => Err(refusal_of(op)),
     }
 }
 
-#[tactic(auto, unfolding(crate::specs::Requests::request_of))]
-fn request_of(alloc: Global, value: &Value) -> Result<Request, LineErr>
-    ensures gives { Gives (λ r. r) result (request_of (view value.now)) }
-    ensures within { IfOk result KeepsLimits }
-    ensures served { IfOk result IsServed }
+fn names_series(act: &Act) -> bool
+    ensures { IsTrue result ↔ NamesSeries act.now }
 {
-    let op = text_at(value, "op")?;
-    let act = act_of(alloc, op, value)?;
-    if is_put_off(value, &act) {
-        Err(LineErr::Later)
-    } else {
-        Ok(Request::One(act))
+    match act {
+        Act::Write { id, .. } | Act::Fetch { id, .. } => valid(id.as_str()),
+        _ => true,
     }
 }
 
+fn request_of(alloc: Global, value: &Value) -> Result<Request, LineErr>
+    ensures ok { IfOk result (λ r. ObjectMeans (view value.now) (Ok r)) }
+    ensures within { IfOk result KeepsLimits }
+    ensures served { IfOk result IsServed }
+    ensures err { IfErr result (λ e. ObjectMeans (view value.now) (Err e)) }
+{
+    let op = text_at(value, "op")?;
+    let act = act_of(alloc, op, value)?;
+    if !names_series(&act) {
+        return Err(LineErr::Form);
+    }
+    if is_put_off(value, &act) {
+        return Err(LineErr::Later);
+    }
+    Ok(Request::One(act))
+}
+
 /// The request that a line spells: a JSON object with `op` and the fields of that op's row. Of a key that comes twice
-/// the last value counts, and a field that is `null` isn't absent.
+/// the last value counts, and a field that is `null` isn't absent. The identifier of a series is in the grammar of
+/// identifiers, tags included.
 ///
 /// `Form` says that the line isn't in the grammar, `Later` that it is and no part of the program serves it yet, and
 /// `Memory` that memory ran out first. An error leaves nothing behind.

@@ -1,12 +1,10 @@
-ghost use Rattle.std.specs.Prelude.{◌≡◌};
+ghost use Rattle.std.specs.Prelude.{◌≡◌, ◌||◌, ◌==◌};
 ghost use Rattle.std.specs.List.{list_all};
-ghost use Rattle.m3_model.specs.Names.{is_name_byte, is_name, has_identifier_length};
+ghost use Rattle.m3_model.specs.Names.{is_letter, is_digit, is_name_byte, is_name};
+ghost use Rattle.m3_model.specs.Tags.{is_tag_name};
 
 /// The most bytes of a name.
 const NAME_LENGTH: usize = 32;
-
-/// The most bytes of an identifier.
-const IDENTIFIER_LENGTH: usize = 512;
 
 fn is_name_byte(byte: u8) -> bool
     ensures { result ≡ is_name_byte byte }
@@ -27,9 +25,30 @@ pub fn is_name(text: &str) -> bool
     (1..=NAME_LENGTH).contains(&text.len()) && are_name_bytes(text.as_bytes())
 }
 
-/// Whether it has 1 to 512 bytes.
-pub fn has_identifier_length(text: &str) -> bool
-    ensures { result ≡ has_identifier_length text.now }
+fn begins_tag_name(byte: u8) -> bool
+    ensures { result ≡ (is_letter byte || byte == 95) }
 {
-    (1..=IDENTIFIER_LENGTH).contains(&text.len())
+    byte.is_ascii_alphabetic() || byte == b'_'
+}
+
+fn is_tag_name_byte(byte: u8) -> bool
+    ensures { result ≡ ((is_letter byte || is_digit byte) || byte == 95) }
+{
+    byte.is_ascii_alphanumeric() || byte == b'_'
+}
+
+fn are_tag_name_bytes(bytes: &[u8]) -> bool
+    ensures { result ≡ list_all (λ byte. (is_letter byte || is_digit byte) || byte == 95) bytes.now }
+{
+    bytes.iter().all(|&byte| is_tag_name_byte(byte))
+}
+
+/// Whether it is the name of a tag.
+pub fn is_tag_name(text: &str) -> bool
+    ensures { result ≡ is_tag_name text.now }
+{
+    match text.as_bytes() {
+        [first, others @ ..] => begins_tag_name(*first) && are_tag_name_bytes(others),
+        [] => false,
+    }
 }

@@ -1,7 +1,9 @@
-ghost use Rattle.std.specs.Prelude.{◌≡◌};
+ghost use Rattle.std.specs.Prelude.{◌≡◌, ◌==◌};
+ghost use Rattle.std.specs.List.{list_any};
+ghost use Rattle.std.specs.Cmp.Lexicographic.{pointwise};
 ghost use Rattle.serde_json.specs.View.{view};
-ghost use Rattle.m3_json.specs.NotYet.{refusal_of, begins_with_brace, has_level_or_version, is_put_off};
-ghost use Rattle.m3_model.specs.NotYet.{are_three_groups};
+ghost use Rattle.m3_model.specs.NotYet.{groups_differ, fills_its_nodes};
+ghost use Rattle.m3_json.specs.NotYet.{refusal_of, has_level_or_version, is_put_off};
 
 use crate::fault::LineErr;
 use crate::fields::is_one_of;
@@ -15,7 +17,6 @@ pub fn refusal_of(op: &str) -> LineErr
     ensures { result ≡ refusal_of op.now }
 {
     let later_ops = [
-        "match",
         "fates",
         "deliver",
         "stop",
@@ -40,19 +41,25 @@ pub fn refusal_of(op: &str) -> LineErr
     }
 }
 
-fn are_three_groups(nodes: &[(Text, Text)]) -> bool
-    ensures { result ≡ are_three_groups nodes.now }
+fn is_group(group: &Text, nodes: &[(Text, Text)]) -> bool
+    ensures { result ≡ list_any (λ other. pointwise ◌==◌ other.1 group.now) nodes.now }
 {
-    match nodes {
-        [a, b, c] => a.1 != b.1 && a.1 != c.1 && b.1 != c.1,
-        _ => false,
+    nodes.iter().any(|other| other.1 == *group)
+}
+
+fn groups_differ(nodes: &[(Text, Text)]) -> bool
+    ensures { result ≡ groups_differ nodes.now }
+{
+    match nodes.split_first() {
+        None => true,
+        Some((first, others)) => !is_group(&first.1, others) && groups_differ(others),
     }
 }
 
-fn begins_with_brace(id: &Text) -> bool
-    ensures { result ≡ begins_with_brace id.now }
+fn fills_its_nodes(rf: u32, nodes: &[(Text, Text)]) -> bool
+    ensures { result ≡ fills_its_nodes rf nodes.now }
 {
-    id.as_str().as_bytes().first() == Some(&b'{')
+    nodes.len() == rf as usize && groups_differ(nodes)
 }
 
 fn has_level_or_version(value: &Value) -> bool
@@ -67,15 +74,8 @@ pub fn is_put_off(value: &Value, act: &Act) -> bool
     ensures { result ≡ is_put_off (view value.now) act.now }
 {
     match act {
-        Act::Init {
-            rf,
-            shards,
-            nodes,
-            ..
-        } => !(*rf == 3 && *shards == 1 && are_three_groups(nodes.as_slice())),
-        Act::Write { id, .. } | Act::Fetch { id, .. } => {
-            begins_with_brace(id) || has_level_or_version(value)
-        }
+        Act::Init { rf, nodes, .. } => !fills_its_nodes(*rf, nodes.as_slice()),
+        Act::Write { .. } | Act::Fetch { .. } | Act::Match { .. } => has_level_or_version(value),
         _ => false,
     }
 }

@@ -1,6 +1,7 @@
 use crate::fault::LineErr;
 use crate::lines::read_line;
 use m3_model::act::{Act, ReadLevel, WriteLevel};
+use m3_model::point::Matcher;
 use m3_model::turn::Request;
 use std::alloc::Global;
 use std::test::Fail;
@@ -16,7 +17,7 @@ form {"op":"frob"}
 later {"op":"tick"}
 later {"op":"tick","now":"x"}
 later {"op":"par"}
-form {"op":"match","op":"frob"}
+form {"op":"tick","op":"frob"}
 later {"op":"frob","op":"status"}
 form {"op":"tick"} x
 form {"op":"tick","x":"\ud800"}
@@ -25,13 +26,16 @@ later {"op":"tick","x":"\ud800\udc00"}"#;
 // Lines of init, each with its outcome before it.
 const INITS: &str =
     r#"ok {"op":"init","rf":3,"shards":1,"seed":0,"nodes":[["a","x"],["b","y"],["c","z"]]}
-ok {"op":"init","rf":3,"shards":1,"seed":4294967295,"nodes":[["a","x"],["b","y"],["c","z"]]}
+ok {"op":"init","rf":3,"shards":64,"seed":4294967295,"nodes":[["a","x"],["b","y"],["c","z"]]}
+ok {"op":"init","rf":1,"shards":8,"seed":0,"nodes":[["a","x"]]}
+ok {"op":"init","rf":5,"shards":64,"seed":0,"nodes":[["a","1"],["b","2"],["c","3"],["d","4"],["e","5"]]}
 form {"op":"init","rf":3,"shards":1,"seed":4294967296,"nodes":[["a","x"],["b","y"],["c","z"]]}
 later {"op":"init","rf":1,"shards":1,"seed":0,"nodes":[["a","x"],["b","y"],["c","z"]]}
 later {"op":"init","rf":5,"shards":64,"seed":0,"nodes":[["a","x"]]}
 form {"op":"init","rf":0,"shards":1,"seed":0,"nodes":[["a","x"],["b","y"],["c","z"]]}
 form {"op":"init","rf":6,"shards":1,"seed":0,"nodes":[["a","x"],["b","y"],["c","z"]]}
 form {"op":"init","rf":3,"shards":65,"seed":0,"nodes":[["a","x"],["b","y"],["c","z"]]}
+form {"op":"init","rf":3,"shards":0,"seed":0,"nodes":[["a","x"],["b","y"],["c","z"]]}
 form {"op":"init","rf":3,"shards":1,"seed":0,"nodes":[["a","x"],["a","y"],["c","z"]]}
 later {"op":"init","rf":3,"shards":1,"seed":0,"nodes":[["a","x"],["b","y"],["c","x"]]}
 later {"op":"init","rf":3,"shards":1,"seed":0,"nodes":[["a","x"],["b","y"]]}
@@ -79,7 +83,12 @@ ok {"op":"write","ns":"m","id":"hello","t":100,"v":9223372036854775807}
 form {"op":"write","ns":"m","id":"hello","t":100,"v":9223372036854775808}
 ok {"op":"write","ns":"m","id":"hello","t":100,"v":-9223372036854775808}
 form {"op":"write","ns":"m","id":"hello","t":100,"v":-9223372036854775809}
-later {"op":"write","ns":"m","id":"{dc=\"x\"}","t":100,"v":1}
+ok {"op":"write","ns":"m","id":"{dc=\"x\"}","t":100,"v":1}
+ok {"op":"write","ns":"m","id":"{dc=\"x\",host=\"\"}","t":100,"v":1}
+form {"op":"write","ns":"m","id":"{host=\"x\",dc=\"x\"}","t":100,"v":1}
+form {"op":"write","ns":"m","id":"{dc=\"x\"","t":100,"v":1,"level":"one"}
+later {"op":"write","ns":"m","id":"{dc=\"x\"}","t":100,"v":1,"level":"one"}
+form {"op":"write","ns":"m","id":7,"t":100,"v":1}
 form {"op":"write","ns":"m","id":"{dc=\"x\"}","t":100,"v":1.5}
 form {"op":"write","ns":"m","id":"","t":100,"v":1}
 later {"op":"write","ns":"m","id":"a","t":100,"v":1,"level":"one"}
@@ -98,8 +107,32 @@ ok {"op":"fetch","ns":"m","id":"a","from":9,"to":0}
 later {"op":"fetch","ns":"m","id":"a","from":0,"to":9,"level":"unstrict"}
 later {"op":"fetch","ns":"m","id":"a","from":0,"to":9,"level":"all"}
 form {"op":"fetch","ns":"m","id":"a","from":0,"to":9,"level":"Majority"}
-later {"op":"fetch","ns":"m","id":"{","from":0,"to":9}
+form {"op":"fetch","ns":"m","id":"{","from":0,"to":9}
+form {"op":"fetch","ns":"m","id":"{}","from":0,"to":9,"version":1}
+ok {"op":"fetch","ns":"m","id":"{dc=\"\\\\\"}","from":0,"to":9}
 form {"op":"fetch","ns":"m","id":"a","from":0,"to":9,"t":1}"#;
+
+// Lines of match, each with its outcome before it.
+const MATCHES: &str = r#"ok {"op":"match","ns":"m","where":[],"from":0,"to":9}
+ok {"op":"match","ns":"m","where":[["dc","=","x"],["dc","=","x"],["_h1","!=",""]],"from":9,"to":0}
+form {"op":"match","ns":"m","from":0,"to":9}
+form {"op":"match","ns":"m","where":{},"from":0,"to":9}
+form {"op":"match","ns":"m","where":["dc","=","x"],"from":0,"to":9}
+form {"op":"match","ns":"m","where":[["dc","x"]],"from":0,"to":9}
+form {"op":"match","ns":"m","where":[["dc","=","x","y"]],"from":0,"to":9}
+form {"op":"match","ns":"m","where":[["1c","=","x"]],"from":0,"to":9}
+form {"op":"match","ns":"m","where":[["d-c","=","x"]],"from":0,"to":9}
+form {"op":"match","ns":"m","where":[["","=","x"]],"from":0,"to":9}
+form {"op":"match","ns":"m","where":[["dc","==","x"]],"from":0,"to":9}
+form {"op":"match","ns":"m","where":[["dc","!==","x"]],"from":0,"to":9}
+form {"op":"match","ns":"m","where":[["dc","=",1]],"from":0,"to":9}
+form {"op":"match","ns":"m","where":[],"from":0,"to":9,"id":"a"}
+form {"op":"match","ns":"m","where":[],"from":0,"to":4611686018427387904}
+later {"op":"match","ns":"m","where":[],"from":0,"to":9,"level":"unstrict"}
+form {"op":"match","ns":"m","where":[],"from":0,"to":9,"level":"some"}
+later {"op":"match","ns":"m","where":[],"from":0,"to":9,"version":1}
+ok {"op":"match","ns":"m","where":[["a","=",""],["a","=",""],["a","=",""],["a","=",""],["a","=",""],["a","=",""],["a","=",""],["a","=",""],["a","=",""],["a","=",""],["a","=",""],["a","=",""],["a","=",""],["a","=",""],["a","=",""],["a","=",""]],"from":0,"to":9}
+form {"op":"match","ns":"m","where":[["a","=",""],["a","=",""],["a","=",""],["a","=",""],["a","=",""],["a","=",""],["a","=",""],["a","=",""],["a","=",""],["a","=",""],["a","=",""],["a","=",""],["a","=",""],["a","=",""],["a","=",""],["a","=",""],["a","=",""]],"from":0,"to":9}"#;
 
 fn outcome(alloc: Global, line: &[u8]) -> &'static str {
     match read_line(alloc, line) {
@@ -120,7 +153,7 @@ fn wrong_row(alloc: Global, rows: &str) -> Option<&str> {
 
 #[test]
 fn rows(rt: HostRuntime) {
-    for rows in [OBJECTS, INITS, NAMESPACES, MOMENTS, CALLS] {
+    for rows in [OBJECTS, INITS, NAMESPACES, MOMENTS, CALLS, MATCHES] {
         assert_eq!(rt; wrong_row(rt.alloc(), rows), None);
     }
 }
@@ -229,4 +262,35 @@ fn fields(rt: HostRuntime) {
             _ => false,
         })
     );
+    let wanted =
+        br#"{"where":[["dc","=","x"],["h","!=",""]],"to":9,"from":2,"ns":"m","op":"match"}"#;
+    assert!(rt;
+        read_line(rt.alloc(), wanted).is_ok_and(|request| match request {
+            Request::One(
+                Act::Match {
+                    ns,
+                    wanted,
+                    from,
+                    to,
+                    ..
+                }
+            ) => { ns.as_str() == "m" && (from, to) == (2, 9) && are_two(wanted.as_slice()) }
+            _ => false,
+        })
+    );
+}
+
+// The matchers of the line in `fields`.
+fn are_two(wanted: &[Matcher]) -> bool {
+    match wanted {
+        [a, b] => {
+            a.name.as_str() == "dc"
+                && a.equal
+                && a.value.as_str() == "x"
+                && b.name.as_str() == "h"
+                && !b.equal
+                && b.value.as_str() == ""
+        }
+        _ => false,
+    }
 }

@@ -93,13 +93,14 @@ abbrev pub MayServe : Rules → Act → Type 0
 MayServe rules (act.Write ns id t v level version) = TakesPoint rules (act.Write ns id t v level version)
 MayServe rules _ = ⊤
 
--- fewer replicas than are needed answered: each counted one that didn't has its reason, by name, and the others are the answers
+-- fewer replicas than are needed answered, of the first shard where it is so: each counted one that didn't has its reason, by name, and the others are the answers
 pub record IsUnmet (start : Option MetaState) (p : TurnPlace) (got needed : ℕ) (reasons : List (ℕ × Reason)) (shard : ℕ) : Type 0 where
   pub call : Call
   pub of_act : call_of p.turn.act ≡ Some call
   pub place : Placement
   pub may_use : MayUse start p call.version place
   pub asked : IsAsked call.id (seed_after start (inner_turns p.lines)) (length place.shards) shard
+  pub first : (lower : ℕ) → lower < shard → IsAsked call.id (seed_after start (inner_turns p.lines)) (length place.shards) lower → needed ≤ length (counted_nodes place lower)
   pub needed_is : needed ≡ call.needed place.rf
   pub fewer : got < needed
   pub counted : (r : ℕ × Reason) → IsIn reasons r → IsCounted place shard r.0
@@ -121,6 +122,8 @@ IsOwn start p (act.Write ns id t v level version) (answer.Acks acks) = IsAcked s
 IsOwn start p (act.Write ns id t v level version) (answer.Consistency got needed reasons shard) = IsUnmet start p got needed reasons shard
 IsOwn start p (act.Fetch ns id from to level version) (answer.Found series short) = MayBeShort level short
 IsOwn start p (act.Fetch ns id from to level version) (answer.Consistency got needed reasons shard) = IsUnmet start p got needed reasons shard
+IsOwn start p (act.Match ns wanted from to level version) (answer.Found series short) = MayBeShort level short
+IsOwn start p (act.Match ns wanted from to level version) (answer.Consistency got needed reasons shard) = IsUnmet start p got needed reasons shard
 IsOwn start p _ _ = ⊥
 
 -- the refusal that is due, or the act's own answer where none is due

@@ -1,6 +1,7 @@
 pub mod Members
 pub mod Ascends
 pub mod Names
+pub mod Identifiers
 pub mod Limits
 pub mod Keys
 pub mod Contents
@@ -12,6 +13,7 @@ pub mod Rules
 pub mod Placements
 pub mod Points
 pub mod Reads
+pub mod Answers
 pub mod Kept
 pub mod NotYet
 pub mod Refusals

@@ -2,13 +2,16 @@
 use Rattle.std.specs.Prelude.{◌≡◌, ◌≢◌, ℕ, ◌^◌, ◌<◌, ◌≤◌, List, length, IsTrue, Option, IfSome, ⊤}
 use Rattle.m3_model.specs.Ascends.{Ascends}
 use Rattle.m3_model.specs.Members.{IsIn}
-use Rattle.m3_model.specs.Names.{is_name, has_identifier_length}
+use Rattle.m3_model.specs.Identifiers.{IsIdentifier}
+use Rattle.m3_model.specs.Names.{is_name}
+use Rattle.m3_model.specs.Tags.{is_tag_name}
 use Rattle.m3_model.specs.declared.act.Act.{Act}
 use Rattle.m3_model.specs.declared.act.Act.TheVariants as act
 use Rattle.m3_model.specs.declared.turn.Request.{Request}
 use Rattle.m3_model.specs.declared.turn.Request.TheVariants as request
 use Rattle.m3_model.specs.declared.act.Fate.{Fate}
 use Rattle.m3_model.specs.declared.act.Fate.TheVariants.{Deliver}
+use Rattle.m3_model.specs.declared.point.Matcher.{Matcher}
 
 -- a moment, a timestamp or a number of a request that has no closer bound
 abbrev pub IsMoment : ℕ → Type 0
@@ -49,6 +52,11 @@ pub record IsRange (from to : ℕ) : Type 0 where
   pub from_fits : IsMoment from
   pub to_fits : IsMoment to
 
+-- at most 16 matchers, each of a tag's name; their values are any texts
+pub record AreMatchers (wanted : List Matcher) : Type 0 where
+  pub few : length wanted ≤ 16
+  pub named : (m : Matcher) → IsIn wanted m → IsTrue (is_tag_name m.name)
+
 -- a fate of the call of a client (0 for lines outside `par`) to a node
 pub record IsFate (fate : ℕ × ℕ × List ℕ × Fate) : Type 0 where
   pub client_fits : fate.0 ≤ 8
@@ -65,9 +73,9 @@ abbrev pub MeetsLimits : Act → Type 0
 MeetsLimits (act.Init rf shards seed nodes) = IsInit rf shards seed nodes
 MeetsLimits (act.Namespace name block past future retention) = IsSpace name block past future retention
 MeetsLimits (act.Now now) = IsMoment now
-MeetsLimits (act.Write ns id t v level version) = IsCall ns version × IsTrue (has_identifier_length id) × IsMoment t
-MeetsLimits (act.Fetch ns id from to level version) = IsCall ns version × IsTrue (has_identifier_length id) × IsRange from to
-MeetsLimits (act.Match ns wanted from to level version) = IsCall ns version × (length wanted ≤ 16) × IsRange from to
+MeetsLimits (act.Write ns id t v level version) = IsCall ns version × IsIdentifier id × IsMoment t
+MeetsLimits (act.Fetch ns id from to level version) = IsCall ns version × IsIdentifier id × IsRange from to
+MeetsLimits (act.Match ns wanted from to level version) = IsCall ns version × AreMatchers wanted × IsRange from to
 MeetsLimits (act.Fates list) = (length list ≤ 1024) × ((fate : _) → IsIn list fate → IsFate fate) × Ascends (λ a b. ¬ IsSameMessage a b) list
 MeetsLimits (act.Stop node) = IsTrue (is_name node)
 MeetsLimits (act.Restart node pick) = IsTrue (is_name node) × IsMoment pick

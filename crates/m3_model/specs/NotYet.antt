@@ -1,5 +1,6 @@
 -- What no part of the program serves yet. It goes away with the last part.
-use Rattle.std.specs.Prelude.{◌≡◌, ℕ, List, [], ◌∷◌, None, Bool, true, false, not, ◌&&◌, nat_eq, IsTrue, ⊤}
+use Rattle.std.specs.Prelude.{◌≡◌, ℕ, List, [], ◌∷◌, length, None, Bool, true, false, not, ◌&&◌, nat_eq, IsTrue, ⊤}
+use Rattle.std.specs.List.{list_any}
 use Rattle.std.specs.Cmp.Lexicographic.{pointwise}
 use Rattle.m3_model.specs.declared.act.Act.{Act}
 use Rattle.m3_model.specs.declared.act.Act.TheVariants as act
@@ -8,18 +9,23 @@ use Rattle.m3_model.specs.declared.act.WriteLevel.TheVariants as write
 use Rattle.m3_model.specs.declared.turn.Request.{Request}
 use Rattle.m3_model.specs.declared.turn.Request.TheVariants as request
 
--- three nodes, each in a group of its own
-abbrev pub are_three_groups : List (List ℕ × List ℕ) → Bool
-are_three_groups (a ∷ b ∷ c ∷ []) = (not (pointwise nat_eq a.1 b.1) && not (pointwise nat_eq a.1 c.1)) && not (pointwise nat_eq b.1 c.1)
-are_three_groups _ = false
+-- no two nodes are of the same isolation group
+abbrev pub groups_differ : List (List ℕ × List ℕ) → Bool
+groups_differ [] = true
+groups_differ (node ∷ nodes) = not (list_any (λ other. pointwise nat_eq other.1 node.1) nodes) && groups_differ nodes
 
--- an act of a kind that is served: three replicas of one shard in groups of their own, and calls at majority and the present version
+-- each shard is on all nodes: there are as many as replicas, in groups of their own
+abbrev pub fills_its_nodes : ℕ → List (List ℕ × List ℕ) → Bool
+fills_its_nodes rf nodes = nat_eq (length nodes) rf && groups_differ nodes
+
+-- an act of a kind that is served: shards that are on all nodes, and calls at majority and the present version
 abbrev pub IsServedAct : Act → Type 0
-IsServedAct (act.Init rf shards seed nodes) = (rf ≡ 3) × (shards ≡ 1) × IsTrue (are_three_groups nodes)
+IsServedAct (act.Init rf shards seed nodes) = IsTrue (fills_its_nodes rf nodes)
 IsServedAct (act.Namespace name block past future retention) = ⊤
 IsServedAct (act.Now now) = ⊤
 IsServedAct (act.Write ns id t v level version) = (level ≡ write.Majority) × (version ≡ None)
 IsServedAct (act.Fetch ns id from to level version) = (level ≡ read.Majority) × (version ≡ None)
+IsServedAct (act.Match ns wanted from to level version) = (level ≡ read.Majority) × (version ≡ None)
 IsServedAct _ = ⊥
 
 -- one act of such a kind
@@ -27,11 +33,12 @@ abbrev pub IsServed : Request → Type 0
 IsServed (request.One one) = IsServedAct one
 IsServed (request.Par clients workers) = ⊥
 
--- the act is of another kind than these five
+-- the act is of another kind than these six
 abbrev pub is_put_off : Act → Bool
 is_put_off (act.Init rf shards seed nodes) = false
 is_put_off (act.Namespace name block past future retention) = false
 is_put_off (act.Now now) = false
 is_put_off (act.Write ns id t v level version) = false
 is_put_off (act.Fetch ns id from to level version) = false
+is_put_off (act.Match ns wanted from to level version) = false
 is_put_off _ = true

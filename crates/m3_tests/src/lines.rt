@@ -1,8 +1,8 @@
 // What lines are answered with.
 use crate::script::{INIT, NAMESPACE, PLACED, ended};
 use crate::stories::{
-    BEFORE_INIT, EXPIRY, FETCH_RETURNS_WRITE, HIGHER_VALUE_STAYS, NAMESPACES, RANGES, REFUSALS,
-    WINDOW,
+    BEFORE_INIT, EXPIRY, FETCH_RETURNS_WRITE, HIGHER_VALUE_STAYS, INITS, MATCHES, NAMESPACES,
+    RANGES, REFUSALS, WINDOW,
 };
 use m3_program::status::Status;
 use std::alloc::Global;
@@ -64,8 +64,11 @@ fn stories_after_init(rt: HostRuntime) -> Result<(), Fail> {
 }
 
 #[test]
-fn story_before_init(rt: HostRuntime) -> Result<(), Fail> {
-    answers(&rt, rt.alloc(), "", "", BEFORE_INIT)
+fn stories_from_the_start(rt: HostRuntime) -> Result<(), Fail> {
+    for story in [BEFORE_INIT, INITS, MATCHES] {
+        answers(&rt, rt.alloc(), "", "", story)?;
+    }
+    Ok(())
 }
 
 // Blank lines are passed over, and a last line without its newline is a line.

@@ -155,7 +155,7 @@ pub const REFUSALS: &str = r#"{"op":"now","now":100}
 {"op":"write","ns":"m","id":"hello","t":100,"v":1,"level":"majority"}
 {"code":16,"error":"later","ok":false}
 {"op":"write","ns":"m","id":"{","t":100,"v":1}
-{"code":16,"error":"later","ok":false}
+{"code":1,"error":"form","ok":false}
 {"op":"namespace","name":"m","block":200,"past":100,"future":50,"retention":500}
 {"code":3,"error":"order","ok":false}
 {"op":"init","rf":3,"shards":1,"seed":0,"nodes":[["a","g1"],["b","g2"],["c","g3"]]}
@@ -198,3 +198,58 @@ pub const BEFORE_INIT: &str = r#"{"op":"write","ns":"m","id":"hello","t":100,"v"
 {"ok":true,"placement":{"instances":[["a","g1",false],["b","g2",false],["c","g3",false]],"rf":3,"shards":[[["a","available",1],["b","available",1],["c","available",1]]]},"version":1}
 {"op":"fetch","ns":"m","id":"hello","from":0,"to":1}
 {"code":4,"error":"unknown","name":"m","ok":false}"#;
+
+
+// Matches over shards: by equal tags, by other tags, by both and by none, of one namespace alone.
+pub const MATCHES: &str = r#"{"op":"init","rf":3,"shards":4,"seed":0,"nodes":[["a","g1"],["b","g2"],["c","g3"]]}
+{"ok":true,"placement":{"instances":[["a","g1",false],["b","g2",false],["c","g3",false]],"rf":3,"shards":[[["a","available",1],["b","available",1],["c","available",1]],[["a","available",1],["b","available",1],["c","available",1]],[["a","available",1],["b","available",1],["c","available",1]],[["a","available",1],["b","available",1],["c","available",1]]]},"version":1}
+{"op":"namespace","name":"m","block":200,"past":100,"future":50,"retention":500}
+{"ok":true}
+{"op":"namespace","name":"n","block":200,"past":100,"future":50,"retention":500}
+{"ok":true}
+{"op":"now","now":100}
+{"ok":true}
+{"op":"write","ns":"m","id":"{dc=\"x\",host=\"h1\"}","t":100,"v":1}
+{"acks":["a","b","c"],"ok":true}
+{"op":"write","ns":"m","id":"{dc=\"y\",host=\"h1\"}","t":100,"v":1}
+{"acks":["a","b","c"],"ok":true}
+{"op":"write","ns":"m","id":"up","t":100,"v":1}
+{"acks":["a","b","c"],"ok":true}
+{"op":"write","ns":"n","id":"{host=\"h1\"}","t":100,"v":2}
+{"acks":["a","b","c"],"ok":true}
+{"op":"match","ns":"m","where":[["host","=","h1"],["dc","!=","x"]],"from":0,"to":200}
+{"ok":true,"series":[{"id":"{dc=\"y\",host=\"h1\"}","points":[[100,1]]}],"short":false}
+{"op":"match","ns":"m","where":[["zone","!=","q"]],"from":0,"to":200}
+{"ok":true,"series":[{"id":"up","points":[[100,1]]},{"id":"{dc=\"x\",host=\"h1\"}","points":[[100,1]]},{"id":"{dc=\"y\",host=\"h1\"}","points":[[100,1]]}],"short":false}
+{"op":"match","ns":"m","where":[["zone","=","q"]],"from":0,"to":200}
+{"ok":true,"series":[],"short":false}
+{"op":"match","ns":"n","where":[],"from":0,"to":101}
+{"ok":true,"series":[{"id":"{host=\"h1\"}","points":[[100,2]]}],"short":false}
+{"op":"match","ns":"m","where":[["host","=","h1"]],"from":0,"to":100}
+{"ok":true,"series":[],"short":false}
+{"op":"fetch","ns":"m","id":"{dc=\"x\",host=\"h1\"}","from":100,"to":101}
+{"ok":true,"series":[{"id":"{dc=\"x\",host=\"h1\"}","points":[[100,1]]}],"short":false}
+{"op":"match","ns":"o","where":[],"from":0,"to":200}
+{"code":4,"error":"unknown","name":"o","ok":false}
+{"op":"match","ns":"m","where":[["1","=","x"]],"from":0,"to":200}
+{"code":1,"error":"form","ok":false}
+{"op":"write","ns":"m","id":"{host=\"h1\",dc=\"x\"}","t":100,"v":1}
+{"code":1,"error":"form","ok":false}"#;
+
+// Which nodes an `init` takes, and nodes that aren't named in order.
+pub const INITS: &str = r#"{"op":"match","ns":"m","where":[],"from":0,"to":1}
+{"code":3,"error":"order","ok":false}
+{"op":"init","rf":1,"shards":1,"seed":0,"nodes":[["a","g1"],["b","g2"]]}
+{"code":16,"error":"later","ok":false}
+{"op":"init","rf":2,"shards":1,"seed":0,"nodes":[["a","g1"],["b","g1"]]}
+{"code":16,"error":"later","ok":false}
+{"op":"init","rf":2,"shards":2,"seed":4294967295,"nodes":[["b","g1"],["a","g2"]]}
+{"ok":true,"placement":{"instances":[["a","g2",false],["b","g1",false]],"rf":2,"shards":[[["a","available",1],["b","available",1]],[["a","available",1],["b","available",1]]]},"version":1}
+{"op":"namespace","name":"m","block":200,"past":100,"future":50,"retention":500}
+{"ok":true}
+{"op":"write","ns":"m","id":"hello","t":1,"v":1}
+{"acks":["a","b"],"ok":true}
+{"op":"write","ns":"m","id":"hello, world","t":1,"v":2}
+{"acks":["a","b"],"ok":true}
+{"op":"match","ns":"m","where":[],"from":0,"to":2}
+{"ok":true,"series":[{"id":"hello","points":[[1,1]]},{"id":"hello, world","points":[[1,2]]}],"short":false}"#;

@@ -130,6 +130,7 @@ unmet_by lines rules a needed got reasons stood is two fewer others counted by_n
   place = place;
   may_use = inl stood.place_is;
   asked = subst (λ seed. 0 ≡ shard_of (codes "hello") seed (length place.shards)) (sym stood.seed_is) refl;
+  first = λ lower below too. absurd (omega (arith, below));
   needed_is = sym two;
   fewer = fewer;
   counted = each_in (λ r. IsCounted place 0 r.0) reasons counted;
@@ -267,6 +268,7 @@ second_unmet = record {
   place = place_of_two;
   may_use = inl refl;
   asked = refl;
+  first = λ lower below same. absurd (omega (arith, below, same));
   needed_is = refl;
   fewer = omega arith;
   counted = each_in (λ r. IsCounted place_of_two 1 r.0) ((1, reason.Memory) ∷ []) (counted_of_two also tt);

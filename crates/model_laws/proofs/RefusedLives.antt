@@ -1,21 +1,25 @@
 -- Why the broken transcripts are not kept.
 use Rattle.std.proofs.Common.{◌≡◌, ◌≢◌, ◌<◌, ◌+◌, ◌≤ℤ◌, ℕ, ℤ, [], ◌∷◌, refl, ap, subst, inl, inr, arith}
-use Rattle.std.specs.Prelude.{Some, None, pos, codes, ◌<ℤ◌}
+use Rattle.std.specs.Prelude.{Some, None, true, false, pos, codes, ◌<ℤ◌}
 use Rattle.std.proofs.lemmas.Int.{ints}
 use Rattle.m3_model.specs.Kept.{Kept}
 use Rattle.m3_model.specs.Members.{IsIn}
 use Rattle.m3_model.specs.Rules.{rules_at}
 use Rattle.m3_model.specs.Points.{sent_at}
-use Rattle.m3_model.specs.Reads.{Covers, read_of}
+use Rattle.m3_model.specs.Reads.{Covers, Matches, read_of}
 use Rattle.m3_model.specs.declared.answer.Answer.{Answer}
 use Rattle.m3_model.specs.declared.point.Series.{Series}
 use Rattle.m3_model.specs.declared.act.Act.TheVariants as act
 use Rattle.m3_model.specs.declared.act.WriteLevel.TheVariants as write_level
-use Rattle.model_laws.specs.Building.{begun, fetch_in, moved, wrote, read, line, write, fetch, acks, found, series_of, life_of}
-use Rattle.model_laws.specs.Refused.{without_the_point, with_lower_value, with_other_point, with_higher_value, with_later_first, with_point_twice, with_empty_series, without_kept_point, with_expired_point, with_point_at_end, with_other_series, with_unknown_namespace, with_point_answered}
+use Rattle.model_laws.specs.Building.{zone_is, begun, fetch_in, moved, wrote, read, line, write, fetch, acks, found, series_of, life_of}
+use Rattle.model_laws.specs.Refused.{without_the_point, with_lower_value, with_other_point, with_higher_value, with_later_first, with_point_twice, with_empty_series, without_kept_point, with_expired_point, with_point_at_end, with_other_series, without_untagged, with_other_tags, with_unknown_namespace, with_point_answered}
 use Rattle.model_laws.proofs.PlaceLemmas.{place_after, place_after-stands}
 use Rattle.model_laws.proofs.EachLemmas.{not_in_each, texts_differ}
-use Rattle.model_laws.proofs.SampleLemmas.{hello, reading, whole, sought, sought-live, last_keeps}
+use Rattle.model_laws.proofs.SampleLemmas.{hello, reading, whole, sought, sought-live, last_keeps, last_matches}
+use Rattle.model_laws.proofs.TagLemmas.{hello_has_none, hello_without_tags}
+use Rattle.m3_model.specs.declared.point.Matcher.{Matcher}
+use Rattle.m3_model.specs.declared.point.Pick.TheVariants as pick
+use Rattle.m3_model.specs.Tags.{MatcherHolds}
 
 pub without_the_point-refused : ¬ Kept (life_of without_the_point)
 without_the_point-refused kept =
@@ -94,6 +98,25 @@ with_other_series-refused kept =
     let lines = begun 100 (line (act.Write (codes "m") (codes "world") 100 (pos 5) write_level.Majority None) (acks (0 ∷ 1 ∷ 2 ∷ [])) ∷ []) in
     let keeps = last_keeps lines 0 200 (record { id = codes "world"; points = (100, pos 5) ∷ [] } ∷ []) [] kept refl in
     texts_differ (codes "world") (codes "hello") refl refl (keeps.nothing_else (record { ns = 0; id = codes "world"; t = 100; v = pos 5 }) (inl refl)).1.matches.1
+
+pub without_untagged-refused : ¬ Kept (life_of without_untagged)
+without_untagged-refused kept =
+    let keeps = last_matches (begun 100 (wrote 100 (pos 5) ∷ [])) (zone_is false) 0 200 [] kept refl in
+    let same = sought 100 0 200 100 (pos 5) (omega arith) (omega arith) (omega arith) in
+    let matches : Matches (pick.Match 0 (zone_is false)) (hello 100 (pos 5)) = (
+      refl,
+      λ tags has m among.
+          elim among as (λ _. MatcherHolds tags m) [
+            | inl one ↦ subst (λ (x : Matcher). MatcherHolds tags x) one (λ there. subst (λ ts. IsIn ts (codes "zone", codes "q")) (hello_has_none tags has) there)
+            | inr none ↦ absurd none
+          ],
+    ) in
+    (keeps.acknowledged refl (hello 100 (pos 5)) (inl refl) (record { matches = matches; in_range = same.in_range; live = same.live })).stands
+
+pub with_other_tags-refused : ¬ Kept (life_of with_other_tags)
+with_other_tags-refused kept =
+    let keeps = last_matches (begun 100 (wrote 100 (pos 5) ∷ [])) (zone_is true) 0 200 (series_of ((100, pos 5) ∷ [])) kept refl in
+    (keeps.nothing_else (hello 100 (pos 5)) (inl refl)).1.matches.1 [] hello_without_tags (record { name = codes "zone"; equal = true; value = codes "q" }) (inl refl)
 
 pub with_unknown_namespace-refused : ¬ Kept (life_of with_unknown_namespace)
 with_unknown_namespace-refused kept =

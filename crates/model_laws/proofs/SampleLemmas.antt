@@ -9,12 +9,13 @@ use Rattle.m3_model.specs.Points.{sent_at, acked_at}
 use Rattle.m3_model.specs.Reads.{Read, Found, read_of, IsSought}
 use Rattle.m3_model.specs.Kept.{Kept, KeepsPoints}
 use Rattle.m3_model.specs.declared.point.Point.{Point}
+use Rattle.m3_model.specs.declared.point.Matcher.{Matcher}
 use Rattle.m3_model.specs.declared.point.Series.{Series}
 use Rattle.m3_model.specs.declared.point.Pick.TheVariants as pick
 use Rattle.m3_model.specs.declared.rules.Rules.{Rules}
 use Rattle.m3_model.specs.declared.act.ReadLevel.TheVariants as read_level
 use Rattle.m3_model.specs.declared.turn.Turn.{Turn}
-use Rattle.model_laws.specs.Building.{space, place, line, fetch, found, life_of}
+use Rattle.model_laws.specs.Building.{space, place, line, fetch, matching, found, life_of}
 use Rattle.model_laws.proofs.EachLemmas.{same_of_some}
 use Rattle.model_laws.proofs.PlaceLemmas.{place_after, place_after-stands, points_kept}
 
@@ -68,3 +69,16 @@ pub last_keeps : (lines : List Turn) (from to : ℕ) (series : List Series) (aft
 last_keeps lines from to series after kept asked =
     let p = place_after lines (fetch from to) (found series) in
     points_kept [] None p (reading from to) (whole series) (kept p (place_after-stands lines (fetch from to) (found series) after)) refl asked
+
+-- a match at level majority
+abbrev pub picking : List Matcher → ℕ → ℕ → Read
+picking wanted from to = record { pick = pick.Match 0 wanted; from = from; to = to; level = read_level.Majority }
+
+-- what the match at the end of a kept life keeps
+pub last_matches : (lines : List Turn) (wanted : List Matcher) (from to : ℕ) (series : List Series) → Kept (life_of (lines ++ line (matching wanted from to) (found series) ∷ []))
+    → read_of (rules_at None (place_after lines (matching wanted from to) (found series))).spaces (matching wanted from to) ≡ Some (picking wanted from to)
+    → KeepsPoints (rules_at None (place_after lines (matching wanted from to) (found series))) (acked_at [] None (place_after lines (matching wanted from to) (found series))) (sent_at [] None (place_after lines (matching wanted from to) (found series)))
+    (picking wanted from to) (whole series)
+last_matches lines wanted from to series kept asked =
+    let p = place_after lines (matching wanted from to) (found series) in
+    points_kept [] None p (picking wanted from to) (whole series) (kept p (place_after-stands lines (matching wanted from to) (found series) [])) refl asked

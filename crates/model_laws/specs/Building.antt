@@ -1,11 +1,12 @@
 -- The turns of which the worked transcripts are made: mostly one cluster of three nodes, one namespace, one series.
-use Rattle.std.specs.Prelude.{ℕ, ℤ, List, [], ◌∷◌, ◌++◌, map, None, false, codes}
+use Rattle.std.specs.Prelude.{ℕ, ℤ, List, [], ◌∷◌, ◌++◌, map, None, Bool, false, codes}
 use Rattle.m3_model.specs.Record.{Life}
 use Rattle.m3_model.specs.Placements.{first_instances}
 use Rattle.m3_model.specs.declared.placement.Assignment.{Assignment}
 use Rattle.m3_model.specs.declared.placement.Placement.{Placement}
 use Rattle.m3_model.specs.declared.placement.ShardState.TheVariants.{Available}
 use Rattle.m3_model.specs.declared.point.Series.{Series}
+use Rattle.m3_model.specs.declared.point.Matcher.{Matcher}
 use Rattle.m3_model.specs.declared.reason.Reason.{Reason}
 use Rattle.m3_model.specs.declared.rules.Space.{Space}
 use Rattle.m3_model.specs.declared.act.Act.{Act}
@@ -145,6 +146,14 @@ fetch_in ns from to = act.Fetch ns (codes "hello") from to read_level.Majority N
 -- a fetch from `m`
 abbrev pub fetch : ℕ → ℕ → Act
 fetch from to = fetch_in (codes "m") from to
+
+-- a match in `m`
+abbrev pub matching : List Matcher → ℕ → ℕ → Act
+matching wanted from to = act.Match (codes "m") wanted from to read_level.Majority None
+
+-- the tag `zone` has the value `q`, or hasn't
+abbrev pub zone_is : Bool → List Matcher
+zone_is equal = record { name = codes "zone"; equal = equal; value = codes "q" } ∷ []
 
 -- one series of these points, or none where there are none
 abbrev pub series_of : List (ℕ × ℤ) → List Series

@@ -1,10 +1,10 @@
 -- Transcripts that are not kept, each broken in one way.
-use Rattle.std.specs.Prelude.{List, [], ◌∷◌, None, pos, codes}
+use Rattle.std.specs.Prelude.{List, [], ◌∷◌, None, true, false, pos, codes}
 use Rattle.m3_model.specs.declared.act.Act.TheVariants as act
 use Rattle.m3_model.specs.declared.act.WriteLevel.TheVariants as write_level
 use Rattle.m3_model.specs.declared.answer.Answer.{Answer}
 use Rattle.m3_model.specs.declared.turn.Turn.{Turn}
-use Rattle.model_laws.specs.Building.{begun, fetch_in, moved, wrote, read, line, write, fetch, acks, found}
+use Rattle.model_laws.specs.Building.{begun, fetch_in, moved, wrote, read, line, write, fetch, matching, zone_is, series_of, acks, found}
 
 -- an acknowledged write, and a fetch that finds nothing
 abbrev pub without_the_point : List Turn
@@ -53,6 +53,14 @@ with_other_series =
     line (act.Write (codes "m") (codes "world") 100 (pos 5) write_level.Majority None) (acks (0 ∷ 1 ∷ 2 ∷ []))
     ∷ line (fetch 0 200) (found (record { id = codes "world"; points = (100, pos 5) ∷ [] } ∷ []))
     ∷ [])
+
+-- a write of a series without tags, and a match of the series whose `zone` isn't `q` that finds nothing
+abbrev pub without_untagged : List Turn
+without_untagged = begun 100 (wrote 100 (pos 5) ∷ line (matching (zone_is false) 0 200) (found []) ∷ [])
+
+-- the same, and a match of the series whose `zone` is `q` that finds it
+abbrev pub with_other_tags : List Turn
+with_other_tags = begun 100 (wrote 100 (pos 5) ∷ line (matching (zone_is true) 0 200) (found (series_of ((100, pos 5) ∷ []))) ∷ [])
 
 -- an answered fetch of a namespace that nothing made
 abbrev pub with_unknown_namespace : List Turn

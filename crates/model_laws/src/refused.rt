@@ -3,7 +3,7 @@ ghost use Rattle.std.specs.Prelude.{codes};
 ghost use Rattle.m3_model.specs.Kept.{Kept};
 ghost use Rattle.m3_model.specs.declared.answer.Answer.TheVariants as answer;
 ghost use Rattle.model_laws.specs.Building.{life_of};
-ghost use Rattle.model_laws.specs.Refused.{without_the_point, with_lower_value, with_other_point, with_higher_value, with_later_first, with_point_twice, with_empty_series, without_kept_point, with_expired_point, with_point_at_end, with_other_series, with_unknown_namespace, with_point_answered};
+ghost use Rattle.model_laws.specs.Refused.{without_the_point, with_lower_value, with_other_point, with_higher_value, with_later_first, with_point_twice, with_empty_series, without_kept_point, with_expired_point, with_point_at_end, with_other_series, without_untagged, with_other_tags, with_unknown_namespace, with_point_answered};
 
 /// An acknowledged point is missing.
 pub fn dropped_point()
@@ -58,6 +58,16 @@ pub fn read_at_range_end()
 /// A series has another identifier than the one that was asked for.
 pub fn other_series()
     ensures { ¬ Kept (life_of with_other_series) }
+{}
+
+/// A series without tags is missing, though it meets a matcher of `!=`.
+pub fn untagged_left_out()
+    ensures { ¬ Kept (life_of without_untagged) }
+{}
+
+/// A series is in a match whose tag it hasn't.
+pub fn other_tags_matched()
+    ensures { ¬ Kept (life_of with_other_tags) }
 {}
 
 /// A read of a namespace that isn't there is answered.

@@ -10,7 +10,7 @@ use Rattle.m3_model.specs.Tags.{IsBelow, is_tag_name, escaped, tag_text, tags_te
 use Rattle.series_id.specs.declared.id_err.IdErr.{IdErr}
 use Rattle.series_id.specs.declared.id_err.IdErr.TheVariants.{Empty, Long, Name, Order, Repeat, Escape, Brace, Memory}
 use Rattle.series_id.specs.Names.{is_later_byte, begins_no_name, BeginsWithName}
-use Rattle.series_id.specs.Identifiers.{begins_tagged, IsIdentifier}
+use Rattle.m3_model.specs.Identifiers.{begins_tagged, IsIdentifier}
 use Rattle.series_id.specs.Faults.{IsNameFault, IsSpellingFault, IsValueFault, IsTagFault, BeginsWithTag, IsEndFault, listed, last_name, MayFollow, FaultsAfter}
 use Rattle.series_id.specs.Places.{Closes}
 use Rattle.series_id.proofs.Orders.{below_trans, not_below_itself, not_both_below}

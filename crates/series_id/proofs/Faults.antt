@@ -9,7 +9,7 @@ use Rattle.m3_model.specs.Names.{has_identifier_length}
 use Rattle.series_id.specs.declared.id_err.IdErr.{IdErr}
 use Rattle.series_id.specs.declared.id_err.IdErr.TheVariants.{Empty, Long, Name, Order, Repeat, Escape, Brace, Memory}
 use Rattle.series_id.specs.Names.{begins_no_name, BeginsWithName, BeginsAbove}
-use Rattle.series_id.specs.Identifiers.{IsIdentifier}
+use Rattle.m3_model.specs.Identifiers.{IsIdentifier}
 use Rattle.series_id.specs.Faults.{escapes_nothing, IsNameFault, IsSpellingFault, IsValueFault, IsTagFault, BeginsWithTag, IsEndFault, listed, last_name, MayFollow, FaultsAfter, IsFirstFault}
 use Rattle.series_id.proofs.Orders.{not_below_itself, not_both_below}
 use Rattle.series_id.proofs.Unique.{same_name, name_bytes, same_value, same_tag}

@@ -6,7 +6,7 @@ use Rattle.m3_model.specs.Tags.{IsSpelledBy, HasTags}
 use Rattle.series_id.specs.declared.id_err.IdErr.{IdErr}
 use Rattle.series_id.specs.declared.place.Place.{Place}
 use Rattle.series_id.specs.declared.place.Tag.{Tag}
-use Rattle.series_id.specs.Identifiers.{begins_tagged, IsPlain, IsIdentifier}
+use Rattle.m3_model.specs.Identifiers.{begins_tagged, IsPlain, IsIdentifier}
 use Rattle.series_id.specs.Faults.{listed, FaultsAfter, IsFirstFault}
 use Rattle.series_id.specs.Places.{Stands, Closes, Reads, IsReading}
 use Rattle.series_id.proofs.Places.{length-push}

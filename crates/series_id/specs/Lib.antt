@@ -1,4 +1,3 @@
-pub mod Identifiers
 pub mod Names
 pub mod Faults
 pub mod Places

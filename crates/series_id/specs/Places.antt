@@ -1,7 +1,7 @@
 -- How far a text of tags was read.
 use Rattle.std.specs.Prelude.{◌≡◌, ℕ, ◌+◌, ◌<◌, ◌≤◌, List, [], ◌∷◌, ◌++◌, length, Option, MatchOption}
 use Rattle.m3_model.specs.Tags.{escaped, tag_text, tags_text, HasTags}
-use Rattle.series_id.specs.Identifiers.{IsIdentifier}
+use Rattle.m3_model.specs.Identifiers.{IsIdentifier}
 use Rattle.series_id.specs.Faults.{listed, last_name, MayFollow, GoesOn}
 use Rattle.series_id.specs.declared.place.Place.{Place}
 use Rattle.series_id.specs.declared.place.Tag.{Tag}

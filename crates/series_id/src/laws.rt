@@ -2,7 +2,7 @@
 ghost use Rattle.std.specs.Prelude.{◌≡◌, ℕ, List};
 ghost use Rattle.m3_model.specs.Tags.{IsSpelledBy, HasTags};
 ghost use Rattle.series_id.specs.declared.id_err.IdErr.{IdErr};
-ghost use Rattle.series_id.specs.Identifiers.{IsIdentifier};
+ghost use Rattle.m3_model.specs.Identifiers.{IsIdentifier};
 ghost use Rattle.series_id.specs.Faults.{IsFirstFault};
 
 /// What tags spell is an identifier with these tags and no other ones.

@@ -1,7 +1,7 @@
 ghost use Rattle.std.specs.Prelude.{◌≡◌, ◌≢◌, ℕ, ◌<◌, ◌≤◌, List, [], ◌∷◌, ◌++◌, length, IfOk, IfErr, OnOk, OnErr, IfSome, IsTrue, IsUtf8, MatchOption, ◌↔◌, ◌⊎◌};
 ghost use Rattle.m3_model.specs.Members.{IsIn};
 ghost use Rattle.m3_model.specs.Tags.{escaped, HasTags};
-ghost use Rattle.series_id.specs.Identifiers.{IsPlain, IsIdentifier};
+ghost use Rattle.m3_model.specs.Identifiers.{IsPlain, IsIdentifier};
 ghost use Rattle.series_id.specs.Faults.{IsFirstFault};
 ghost use Rattle.series_id.specs.Places.{Stands};
 ghost use Rattle.series_id.specs.declared.id_err.IdErr.TheVariants as errors;

@@ -1,7 +1,7 @@
 ghost use Rattle.std.specs.Prelude.{◌≡◌, ◌≢◌, ℕ, List, IfOk, IfErr, IsTrue, ◌↔◌};
 ghost use Rattle.m3_model.specs.Members.{IsIn};
 ghost use Rattle.m3_model.specs.Tags.{HasTags, IsSpelledBy};
-ghost use Rattle.series_id.specs.Identifiers.{IsIdentifier};
+ghost use Rattle.m3_model.specs.Identifiers.{IsIdentifier};
 ghost use Rattle.series_id.specs.Faults.{IsFirstFault};
 ghost use Rattle.series_id.specs.Given.{IsGivenFault};
 ghost use Rattle.series_id.specs.declared.id_err.IdErr.TheVariants as errors;

@@ -2,5 +2,5 @@ use Rattle.std.proofs.Common.{sym, ◌∙◌}
 use Rattle.m3_json.proofs.Served.{act_served}
 use Rattle.m3_json.proofs.lines.request_of.Goals as goal
 
-pub returns-else-is_put_off-clause-served : goal.returns-else-is_put_off-clause-served
-returns-else-is_put_off-clause-served c = act_served _ _ c.in_ok-act.act c.in_ok-act.ensures.gives (sym c.is_put_off.ensures ∙ c.if-is_put_off.false)
+pub returns-clause-served : goal.returns-clause-served
+returns-clause-served c = act_served _ _ c.in_ok-act.act c.in_ok-act.ensures.gives (sym c.is_put_off.ensures ∙ c.if-is_put_off.false)

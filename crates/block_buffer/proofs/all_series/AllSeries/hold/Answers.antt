@@ -10,26 +10,9 @@ use Rattle.block_buffer.proofs.PointLemmas.{series_cmp-IsAntisymmetric}
 use Rattle.block_buffer.proofs.SlotLemmas.{none_of}
 use Rattle.block_buffer.proofs.SeriesLemmas.{came_of, slot-insert, empty-value}
 use Rattle.block_buffer.proofs.all_series.AllSeries.hold.Goals as goal
-use Rattle.block_buffer.proofs.all_series.AllSeries.hold.Goals.{in-Some-1, in-None-1}
 
 pub hold_in-requires : goal.hold_in-requires
-hold_in-requires c = rw (← c.self.view_is) (ap is_some (get_of series_cmp c.self.inside.map.entries c.args.series c.self.invariant) ∙ sym c.if-contains_key.ensures)
+hold_in-requires c = rw (← c.self.view_is) (ap is_some (get_of series_cmp c.self.inside.map.entries c.args.series.now c.self.invariant) ∙ sym c.if-contains_key.ensures)
 
-pub invariant_of-self-2 : goal.invariant_of-self-2
-invariant_of-self-2 c = sorted_of series_cmp c.insert.new.self.entries c.insert.ensures.ordered
-
-pub returns-clause-kept : goal.returns-clause-kept
-returns-clause-kept c k =
-    let is : is_sorted series_cmp c.insert.new.self.entries ≡ true = sorted_of series_cmp c.insert.new.self.entries c.insert.ensures.ordered in
-    let after : from_sorted {R = series_cmp} c.insert.new.self.entries ≡ finite.insert (from_sorted {R = series_cmp} c.self.inside.map.entries) c.args.series c.hold.new.self =
-    inserted series_cmp series_cmp_total series_cmp-IsAntisymmetric c.self.inside.map.entries c.insert.new.self.entries c.args.series _ c.self.invariant is c.in_ok-insert.ensures.updates.0 in
-    let gone : finite.get (from_sorted {R = series_cmp} c.self.inside.map.entries) c.args.series ≡ None = get_of series_cmp c.self.inside.map.entries c.args.series c.self.invariant ∙ none_of _ c.if-contains_key.ensures in
-    rw (← c.self.view_is) (ap (λ (m : AllSlots). value_of m k) after
-    ∙ came_of (from_sorted {R = series_cmp} c.self.inside.map.entries) c.args.series _ gone (λ q. c.hold.ensures.kept q ∙ ap (λ (s : Slots). value_at s q) c.new-buffer.ensures ∙ empty-value q) k)
-
-pub returns-clause-stands : goal.returns-clause-stands
-returns-clause-stands c =
-    let is : is_sorted series_cmp c.insert.new.self.entries ≡ true = sorted_of series_cmp c.insert.new.self.entries c.insert.ensures.ordered in
-    let after : from_sorted {R = series_cmp} c.insert.new.self.entries ≡ finite.insert (from_sorted {R = series_cmp} c.self.inside.map.entries) c.args.series c.hold.new.self =
-    inserted series_cmp series_cmp_total series_cmp-IsAntisymmetric c.self.inside.map.entries c.insert.new.self.entries c.args.series _ c.self.invariant is c.in_ok-insert.ensures.updates.0 in
-    ap is_some (ap (λ (m : AllSlots). slot_at m (key_at c.args.series c.args.t)) after ∙ slot-insert (from_sorted {R = series_cmp} c.self.inside.map.entries) c.args.series _ c.args.t) ∙ c.in_ok-hold.ensures.stands
+pub hold_new-requires : goal.hold_new-requires
+hold_new-requires c = rw (← c.self.view_is) (ap (λ k. finite.get (from_sorted {R = series_cmp} c.self.inside.map.entries) k) c.in_ok-copy.ensures ∙ get_of series_cmp c.self.inside.map.entries c.args.series.now c.self.invariant ∙ none_of _ c.if-contains_key.ensures)

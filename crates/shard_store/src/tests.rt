@@ -1,0 +1,82 @@
+use crate::store::Store;
+use m3_model::point::{Matcher, Pick, Point};
+use m3_model::seq::Seq;
+use m3_model::text::Text;
+use std::alloc::Global;
+use std::test::Fail;
+
+// Namespaces and series, each with a point at 10.
+const SERIES: &str = r#"0 {a="x"}
+1 {a="x",c="q"}
+0 plain
+0 {a="x",b="y"}
+0 {a="z"}
+0 {a="x"}"#;
+
+// Namespaces, matchers, upper ends of the range, and what is found.
+const MATCHES: &str = r#"0 a=x 11 {a="x",b="y"};{a="x"}
+0 a=x 10 -
+0 a!x 11 plain;{a="z"}
+0 a=x;b=y 11 {a="x",b="y"}
+0 a=x;b!y 11 {a="x"}
+0 c!q;b!y 11 plain;{a="x"};{a="z"}
+1 a=x 11 {a="x",c="q"}
+0 c=q 11 -
+0 a=x;a=z 11 -"#;
+
+fn matchers_of(alloc: Global, text: &str) -> Result<Seq<Matcher>, Fail> {
+    let mut matchers = Vec::new(alloc);
+    for part in text.split(';') {
+        let equal = part.contains('=');
+        let sign = if equal { '=' } else { '!' };
+        if let Some((name, value)) = part.split_once(sign) {
+            let name = Text::from_str(alloc, name)?;
+            let value = Text::from_str(alloc, value)?;
+            matchers.push(Matcher { name, equal, value })?;
+        }
+    }
+    Ok(Seq::from_vec(matchers))
+}
+
+fn filled(alloc: Global) -> Result<Store, Fail> {
+    let mut store = Store::new(alloc);
+    for row in SERIES.lines() {
+        if let Some((ns, id)) = row.split_once(' ') {
+            let ns = if ns == "0" { 0 } else { 1 };
+            let id = Text::from_str(alloc, id)?;
+            store.put(&Point {
+                ns,
+                id,
+                t: 10,
+                v: 5,
+            })?;
+        }
+    }
+    Ok(store)
+}
+
+#[test]
+fn series_are_matched(rt: HostRuntime) -> Result<(), Fail> {
+    let store = filled(rt.alloc())?;
+    for row in MATCHES.lines() {
+        let (ns, rest) = row.split_once(' ').expect(&rt, "four parts");
+        let (matchers, rest) = rest.split_once(' ').expect(&rt, "four parts");
+        let (to, names) = rest.split_once(' ').expect(&rt, "four parts");
+        let wanted = matchers_of(rt.alloc(), matchers)?;
+        let ns = if ns == "0" { 0 } else { 1 };
+        let to = if to == "10" { 10 } else { 11 };
+        let found = store.fetch(&Pick::Match { ns, wanted }, 10, to)?;
+        let mut count = 0;
+        for name in names.split(';') {
+            match found.as_slice().get(count) {
+                Some(series) => {
+                    assert!(rt; series.id.equals(name), "{row}");
+                    count += 1;
+                }
+                None => assert_eq!(rt; name, "-", "{row}"),
+            }
+        }
+        assert_eq!(rt; count, found.len(), "{row}");
+    }
+    Ok(())
+}
