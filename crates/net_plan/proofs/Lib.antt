@@ -1,4 +1,4 @@
 pub mod KeyLemmas
 pub mod ListLemmas
 pub mod RowLemmas
-pub mod TestLemmas
+pub mod ItemLemmas

@@ -23,9 +23,11 @@ key_of item = record { client = item.0; call = item.1; node = item.2 }
 abbrev pub entry_of : Item → FateKey × Fate
 entry_of item = (key_of item, item.3)
 
+-- the fates of some messages
 abbrev pub FateMap : Type 0
 FateMap = finite.FinMap fate_key_cmp Fate
 
+-- the fates that a list gives its messages
 abbrev pub fates_of : List Item → FateMap
 fates_of list = finite.from_entries (map entry_of list)
 
@@ -38,12 +40,13 @@ pub record IsFatesRow (list : List Item) : Type 0 where
   pub distinct : Ascends (λ a b. key_of a ≢ key_of b) list
   pub none_delivered : (item : Item) → IsIn list item → item.3 ≢ Deliver
 
--- a row in the order of its messages
+-- such a row in the order of its messages
 pub record IsSortedRow (list : List Item) : Type 0 where
   pub sorted : IsSortedByKey key_of fate_key_cmp list
   pub distinct : IsDistinct (eq_by_cmp fate_key_cmp) (map key_of list)
   pub none_delivered : All (λ item. item.3 ≢ Deliver) list
 
+-- a fate is stored as two bits
 abbrev pub bits_of : Fate → Bool × Bool
 bits_of Deliver = (false, false)
 bits_of Lose = (false, true)

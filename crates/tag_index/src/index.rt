@@ -154,8 +154,6 @@ impl Index {
     /// The ordinal of the series with this identifier, which is added with these tags if it isn't present; one that is
     /// present keeps its tags, and takes no memory. Ordinals of removed series are given out again. Want of memory, also of
     /// room for more than 2^32 series, changes nothing.
-    ///
-    /// See M3DB's page "Inverted Index".
     pub fn add(&mut self, id: &Text, tags: &Seq<(Text, Text)>) -> Result<u32, Memory>
         ensures present { (o : ℕ) → IsAt self.old o id.now → result ≡ Ok o }
         ensures ok { IfOk result (λ o. IsFound self.old self.new id.now o ⊎ IsAdded self.old self.new id.now tags.now o) }

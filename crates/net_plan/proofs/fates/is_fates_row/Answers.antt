@@ -4,7 +4,7 @@ use Rattle.m3_model.specs.contracts.act.Fate.{the_type}
 use Rattle.m3_model.specs.declared.act.Fate.{Fate}
 use Rattle.m3_model.specs.declared.act.Fate.TheVariants.{Deliver}
 use Rattle.net_plan.specs.Fates.{key_of, IsFatesRow}
-use Rattle.net_plan.proofs.TestLemmas.{has_item_of, later_row, more_row, delivered_item, repeated_item}
+use Rattle.net_plan.proofs.ItemLemmas.{has_item_of, later_row, more_row, delivered_item, repeated_item}
 use Rattle.net_plan.proofs.fates.is_fates_row.Goals as goal
 use Rattle.net_plan.proofs.fates.is_fates_row.Goals.{then-eq-via-then-eq, then-eq-via-else-eq+then-has_item_of}
 

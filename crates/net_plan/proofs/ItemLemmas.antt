@@ -9,11 +9,9 @@ use Rattle.net_plan.specs.Fates.{Item, key_of, IsFatesRow}
 use Rattle.net_plan.specs.declared.fate_key.FateKey.{FateKey}
 use Rattle.net_plan.proofs.KeyLemmas.{same_key, own_key}
 
+-- whether some item is of this message
 abbrev pub has_item_of : FateKey → List Item → Bool
 has_item_of key list = list_any (λ item. eq_by_cmp fate_key_cmp key (key_of item)) list
-
-pub empty_row : IsFatesRow []
-empty_row = record { distinct = tt; none_delivered = λ item h. absurd h }
 
 pub later_row : (x : Item) (xs : List Item) → IsFatesRow (x ∷ xs) → IsFatesRow xs
 later_row x xs row = record { distinct = row.distinct.1; none_delivered = λ item h. row.none_delivered item (inr h) }
