@@ -199,9 +199,9 @@ pub const BEFORE_INIT: &str = r#"{"op":"write","ns":"m","id":"hello","t":100,"v"
 {"op":"fetch","ns":"m","id":"hello","from":0,"to":1}
 {"code":4,"error":"unknown","name":"m","ok":false}"#;
 
-
 // Matches over shards: by equal tags, by other tags, by both and by none, of one namespace alone.
-pub const MATCHES: &str = r#"{"op":"init","rf":3,"shards":4,"seed":0,"nodes":[["a","g1"],["b","g2"],["c","g3"]]}
+pub const MATCHES: &str =
+    r#"{"op":"init","rf":3,"shards":4,"seed":0,"nodes":[["a","g1"],["b","g2"],["c","g3"]]}
 {"ok":true,"placement":{"instances":[["a","g1",false],["b","g2",false],["c","g3",false]],"rf":3,"shards":[[["a","available",1],["b","available",1],["c","available",1]],[["a","available",1],["b","available",1],["c","available",1]],[["a","available",1],["b","available",1],["c","available",1]],[["a","available",1],["b","available",1],["c","available",1]]]},"version":1}
 {"op":"namespace","name":"m","block":200,"past":100,"future":50,"retention":500}
 {"ok":true}

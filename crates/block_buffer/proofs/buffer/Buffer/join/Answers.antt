@@ -17,7 +17,8 @@ returns-in_err-add-clause-err c = always_err c.from_residual-in_err-add.result (
   front = map (timed_point c.args.ns c.args.series.now.id) (take c.loop-t.t-index c.args.series.now.points);
   back = map (timed_point c.args.ns c.args.series.now.id) (drop c.loop-t.t-index c.args.series.now.points);
   parts = first_points c.args.ns c.args.series.now c.loop-t.t-index;
-  joins = ap (λ h. h.points) (c.in_err-add.ensures.err ∙ c.loop-t.invariant) })
+  joins = ap (λ h. h.points) (c.in_err-add.ensures.err ∙ c.loop-t.invariant);
+})
 
 pub loop-t-preserved : goal.loop-t-preserved
 loop-t-preserved c =
