@@ -11,18 +11,22 @@ const SERIES: &str = r#"0 {a="x"}
 0 plain
 0 {a="x",b="y"}
 0 {a="z"}
+0 {bad
 0 {a="x"}"#;
 
-// Namespaces, matchers, upper ends of the range, and what is found.
-const MATCHES: &str = r#"0 a=x 11 {a="x",b="y"};{a="x"}
+// Namespaces, matchers or an identifier, upper ends of the range, and what is found.
+const PICKS: &str = r#"0 a=x 11 {a="x",b="y"};{a="x"}
 0 a=x 10 -
-0 a!x 11 plain;{a="z"}
+0 a!x 11 plain;{a="z"};{bad
 0 a=x;b=y 11 {a="x",b="y"}
 0 a=x;b!y 11 {a="x"}
-0 c!q;b!y 11 plain;{a="x"};{a="z"}
+0 c!q;b!y 11 plain;{a="x"};{a="z"};{bad
 1 a=x 11 {a="x",c="q"}
 0 c=q 11 -
-0 a=x;a=z 11 -"#;
+0 a=x;a=z 11 -
+0 plain 11 plain
+0 plain 10 -
+1 plain 11 -"#;
 
 fn matchers_of(alloc: Global, text: &str) -> Result<Seq<Matcher>, Fail> {
     let mut matchers = Vec::new(alloc);
@@ -36,6 +40,15 @@ fn matchers_of(alloc: Global, text: &str) -> Result<Seq<Matcher>, Fail> {
         }
     }
     Ok(Seq::from_vec(matchers))
+}
+
+fn pick_of(alloc: Global, ns: u8, text: &str) -> Result<Pick, Fail> {
+    if text.contains('=') || text.contains('!') {
+        let wanted = matchers_of(alloc, text)?;
+        return Ok(Pick::Match { ns, wanted });
+    }
+    let id = Text::from_str(alloc, text)?;
+    Ok(Pick::One { ns, id })
 }
 
 fn filled(alloc: Global) -> Result<Store, Fail> {
@@ -56,16 +69,16 @@ fn filled(alloc: Global) -> Result<Store, Fail> {
 }
 
 #[test]
-fn series_are_matched(rt: HostRuntime) -> Result<(), Fail> {
+fn series_are_found(rt: HostRuntime) -> Result<(), Fail> {
     let store = filled(rt.alloc())?;
-    for row in MATCHES.lines() {
+    for row in PICKS.lines() {
         let (ns, rest) = row.split_once(' ').expect(&rt, "four parts");
-        let (matchers, rest) = rest.split_once(' ').expect(&rt, "four parts");
+        let (pick, rest) = rest.split_once(' ').expect(&rt, "four parts");
         let (to, names) = rest.split_once(' ').expect(&rt, "four parts");
-        let wanted = matchers_of(rt.alloc(), matchers)?;
         let ns = if ns == "0" { 0 } else { 1 };
         let to = if to == "10" { 10 } else { 11 };
-        let found = store.fetch(&Pick::Match { ns, wanted }, 10, to)?;
+        let pick = pick_of(rt.alloc(), ns, pick)?;
+        let found = store.fetch(&pick, 10, to)?;
         let mut count = 0;
         for name in names.split(';') {
             match found.as_slice().get(count) {
