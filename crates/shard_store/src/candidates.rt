@@ -1,6 +1,7 @@
 ghost use Rattle.std.specs.Prelude.{◌≡◌, ℕ, ◌<◌, List, IfOk, OnOk, IfSome, MatchOption, ◌↔◌, ◌⊎◌};
 ghost use Rattle.m3_model.specs.Ascends.{Ascends};
 ghost use Rattle.m3_model.specs.Members.{IsIn};
+ghost use Rattle.m3_model.specs.Tags.{IsBelow};
 ghost use Rattle.tag_index.specs.Listed.{IsAt, HasTagAt};
 ghost use Rattle.shard_store.specs.Matched.{HasNoEqual, AreCandidates, MeetsUnequal, IsNamed};
 
@@ -69,18 +70,28 @@ fn add_name(
     Ok(())
 }
 
-// The identifiers of the ordinals for which every matcher of inequality holds.
+// The identifiers of the set, ascending by bytes.
+fn ascending(alloc: Global, ids: BTreeSet<Text>) -> Result<Seq<Text>, Memory>
+    ensures ascend { IfOk result (Ascends IsBelow) }
+    ensures all { IfOk result (λ listed. listed ≡ ids.keys) }
+{
+    let listed: Vec<Text> = ids.into_iter().collect(alloc)?;
+    Ok(Seq::from_vec(listed))
+}
+
+// The identifiers of the ordinals for which every matcher of inequality holds, ascending by bytes.
 pub(crate) fn names(
     alloc: Global,
     index: &Index,
     wanted: &[Matcher],
     ordinals: &[u32],
-) -> Result<BTreeSet<Text>, Memory>
-    ensures { IfOk result (λ ids. (id : List ℕ) → IsIn ids.keys id ↔ IsNamed index.now wanted.now ordinals.now id) }
+) -> Result<Seq<Text>, Memory>
+    ensures ascend { IfOk result (Ascends IsBelow) }
+    ensures exact { IfOk result (λ ids. (id : List ℕ) → IsIn ids id ↔ IsNamed index.now wanted.now ordinals.now id) }
 {
     let mut ids = BTreeSet::new(alloc);
     for ordinal in ordinals {
         add_name(alloc, index, wanted, *ordinal, &mut ids)?;
     }
-    Ok(ids)
+    ascending(alloc, ids)
 }

@@ -1,5 +1,7 @@
 ghost use Rattle.std.specs.Prelude.{◌≡◌, List, ◌++◌, IfOk, OnOk};
+ghost use Rattle.m3_model.specs.Ascends.{Ascends};
 ghost use Rattle.m3_model.specs.Members.{IsIn};
+ghost use Rattle.m3_model.specs.Tags.{IsBelow};
 ghost use Rattle.m3_model.specs.declared.point.Series.{Series};
 ghost use Rattle.block_buffer.specs.Ranges.{IsRangeOf};
 ghost use Rattle.shard_store.specs.Selected.{IsSelection};
@@ -10,7 +12,6 @@ use m3_model::point::{Pick, Series};
 use m3_model::seq::Seq;
 use m3_model::text::Text;
 use std::alloc::Global;
-use std::collections::BTreeSet;
 
 // Adds the points of one series in the range, if there are any.
 fn add_range(
@@ -28,19 +29,21 @@ fn add_range(
     Ok(())
 }
 
-// The points of these series of a namespace with `from <= t < to`. Each series costs logarithmic time beside its points.
+// The points of these series of a namespace with `from <= t < to`, in the order of their identifiers. Each series costs
+// logarithmic time beside its points.
 pub(crate) fn ranges(
     alloc: Global,
     buffer: &Buffer,
     ns: u8,
-    ids: BTreeSet<Text>,
+    ids: Seq<Text>,
     from: u64,
     to: u64,
 ) -> Result<Seq<Series>, Memory>
-    ensures { IfOk result (IsSelection buffer.now.points ns (IsIn ids.keys) from to) }
+    requires { Ascends IsBelow ids }
+    ensures { IfOk result (IsSelection buffer.now.points ns (IsIn ids) from to) }
 {
     let mut all = Vec::new(alloc);
-    for id in ids {
+    for id in ids.into_vec() {
         let pick = Pick::One { ns, id };
         add_range(alloc, buffer, &mut all, pick, from, to)?;
     }

@@ -3,12 +3,8 @@ use Rattle.std.proofs.Common.{◌≡◌, ℕ, ◌<◌, ◌^◌, List, [], ◌∷
 use Rattle.std.specs.Prelude.{Option, Some, None, option_map, IsSome, is_some}
 use Rattle.std.specs.FinMap as finite
 use Rattle.std.specs.FinMap.{nat_cmp-IsAntisymmetric, same_map, get-empty}
-use Rattle.std.specs.Cmp.{nat_cmp_total, tied_itself}
-use Rattle.std.specs.Cmp.Lexicographic.{slice_cmp, nat_list_cmp_total}
-use Rattle.std.specs.Ordering.{nat_cmp, ordering_then, is_gt}
-use Rattle.std.specs.List.{list_any}
-use Rattle.std.specs.BTreeMap.{is_at}
-use Rattle.std.specs.BTreeMap.Range.{IsLeBy}
+use Rattle.std.specs.Cmp.{nat_cmp_total}
+use Rattle.std.specs.Ordering.{nat_cmp}
 use Rattle.std.specs.declared.cmp.Ordering.TheVariants.{Less}
 use Rattle.std.proofs.lemmas.Bool.Decides.{nat_tests}
 use Rattle.slab.specs.Slab.{Slab, entries, get}
@@ -17,12 +13,10 @@ use Rattle.m3_model.specs.Members.{IsIn}
 use Rattle.m3_model.proofs.MemberLemmas.{IsIn-map, map-IsIn}
 use Rattle.m3_model.proofs.FindLemmas.{get-IsIn, IsIn-get, entries_ascend}
 use Rattle.tag_index.specs.declared.entry.Entry.{Entry}
-use Rattle.tag_index.specs.declared.link.Link.{Link}
-use Rattle.tag_index.specs.Links.{link_cmp, link_of, is_linked}
+use Rattle.tag_index.specs.Links.{link_of, is_linked}
 use Rattle.tag_index.specs.Listed.{Listed, IsAt, IsPresent, HasTagAt, AreDistinct}
 use Rattle.tag_index.specs.Sound.{listed, IsSound}
 use Rattle.tag_index.proofs.LinkLemmas.{link_names, names_link}
-use Rattle.tag_index.proofs.PostingLemmas.{ordinals, ordinal_linked, linked_ordinal, found_link, link_found}
 use Rattle.tag_index.proofs.SlotLemmas.{get-listed, entries-listed}
 use Rattle.tag_index.proofs.SoundLemmas.{Numbers, Linked}
 
@@ -106,13 +100,12 @@ module _ (n : Numbers) (s : Slab Entry) (l : Linked) (m : Listed) (view : listed
       keys_ascend (e ∷ es) h =
           ((λ o m. let found = IsIn-map (λ (e : ℕ × Entry). e.0) es o m in subst (λ p. e.0 < p) found.2 (less e.0 found.0.0 (h.0 found.0 found.1))), keys_ascend es h.1)
 
-  -- the links of a tag are those of the series that have it
-  pub posted : (ks : List Link) → ((q : Link) → l q ≡ list_any (is_at (link_cmp q)) ks) → (name value : List ℕ) (o : ℕ) → IsIn (ordinals name value ks) o ↔ HasTagAt m name value o
-  posted ks links name value o = (
-    (λ h. by_slot (get s o) refl (sym (sound.links (link_of o (name, value))) ∙ links (link_of o (name, value)) ∙ link_found ks _ (ordinal_linked name value ks o h))),
+  -- a tag is linked to the ordinals of the series that have it
+  pub posted : (name value : List ℕ) (o : ℕ) → IsTrue (l (link_of o (name, value))) ↔ HasTagAt m name value o
+  posted name value o = (
+    (λ h. by_slot (get s o) refl (sym (sound.links (link_of o (name, value))) ∙ h)),
     (λ has. let at = sym (slot_at o) ∙ has.1 in
-        linked_ordinal name value ks o (sound.small o has.0 at)
-        (found_link ks _ (sym (links (link_of o (name, value))) ∙ sound.links (link_of o (name, value)) ∙ ap (λ slot. is_linked slot (link_of o (name, value))) at ∙ names_link has.0.tags o (name, value) has.2))),
+        sound.links (link_of o (name, value)) ∙ ap (λ slot. is_linked slot (link_of o (name, value))) at ∙ names_link has.0.tags o (name, value) has.2),
   )
     where
       by_slot : (slot : Option Entry) → get s o ≡ slot → is_linked (get s o) (link_of o (name, value)) ≡ true → HasTagAt m name value o
@@ -123,9 +116,3 @@ module _ (n : Numbers) (s : Slab Entry) (l : Linked) (m : Listed) (view : listed
 -- slots without series are the empty map
 pub listed_empty : (s : Slab Entry) → s.slots ≡ [] → listed s ≡ finite.empty
 listed_empty s e = same_map nat_cmp_total nat_cmp-IsAntisymmetric _ _ (λ q. get-listed s q ∙ ap (λ slots. get_or slots q None) e ∙ sym (get-empty nat_cmp q))
-
--- the first link of a tag isn't above its last
-pub low_to_high : (name value : List ℕ) → IsLeBy link_cmp (link_of 0 (name, value)) (link_of 4294967295 (name, value))
-low_to_high name value =
-    ap (λ a. is_gt (ordering_then a (ordering_then (slice_cmp nat_cmp value value) (nat_cmp 0 4294967295)))) (tied_itself nat_list_cmp_total name)
-    ∙ ap (λ a. is_gt (ordering_then a (nat_cmp 0 4294967295))) (tied_itself nat_list_cmp_total value)

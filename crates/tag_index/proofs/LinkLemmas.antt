@@ -1,37 +1,30 @@
 -- Links: which ones a series has.
-use Rattle.std.proofs.Common.{◌≡◌, ℕ, ◌<◌, List, [], ◌∷◌, ◌++◌, length, take, get_or, refl, sym, ap, ◌∙◌, inl, inr, Bool, true, false, not, cond, ◌||◌, ◌&&◌, arith, zero, suc}
-use Rattle.std.specs.Prelude.{◌⊎◌}
-use Rattle.std.specs.FinMap.{IsAntisymmetric, nat_cmp-IsAntisymmetric, slice_cmp-IsAntisymmetric}
-use Rattle.std.specs.Ordering.{nat_cmp, ordering_then, is_eq, eq_by_cmp}
-use Rattle.std.specs.Cmp.{tied_itself}
-use Rattle.std.specs.Cmp.Lexicographic.{slice_cmp}
-use Rattle.std.specs.declared.cmp.Ordering.{Ordering}
-use Rattle.std.specs.declared.cmp.Ordering.TheVariants.{Less, Equal, Greater}
+use Rattle.std.proofs.Common.{◌≡◌, ℕ, ◌<◌, List, [], ◌∷◌, ◌++◌, length, take, get_or, refl, sym, ap, ◌∙◌, inl, inr, Bool, true, false, not, ◌||◌, ◌&&◌, arith, zero, suc}
+use Rattle.std.specs.Prelude.{◌⊎◌, nat_eq}
+use Rattle.std.specs.Str.{bytes_eq}
+use Rattle.std.proofs.lemmas.Slice.Eq.{bytes_eq-Decides}
+use Rattle.std.proofs.lemmas.Bool.{eqb-true, eq-eqb}
 use Rattle.m3_model.specs.Members.{IsIn}
-use Rattle.m3_model.proofs.Keyed.{equal_of}
-use Rattle.tag_index.specs.declared.link.Link.{Link}
-use Rattle.tag_index.specs.Links.{link_cmp, link_cmp_total, link_of, is_link_of}
+use Rattle.m3_model.proofs.RangeLemmas.{both_true}
+use Rattle.tag_index.specs.Links.{Link, link_of, is_same, is_link_of}
 
 abbrev pub Pair : Type 0
 Pair = List ℕ × List ℕ
 
-both_equal : (a b : Ordering) → ordering_then a b ≡ Equal → (a ≡ Equal) × (b ≡ Equal)
-both_equal Less b e = cc
-both_equal Equal b e = (refl, e)
-both_equal Greater b e = cc
+pub same_link : (x y : Link) → is_same x y ≡ true → x ≡ y
+same_link x y e =
+    let first = both_true (bytes_eq x.name y.name) _ e in
+    let second = both_true (bytes_eq x.value y.value) _ first.1 in
+    let names = (bytes_eq-Decides x.name y.name).0 first.0 in
+    let values = (bytes_eq-Decides x.value y.value).0 second.0 in
+    let ordinals = eqb-true x.ordinal y.ordinal second.1 in
+    λ i. record { name = names i; value = values i; ordinal = ordinals i }
 
--- only equal links tie
-pub link_cmp-IsAntisymmetric : IsAntisymmetric link_cmp
-link_cmp-IsAntisymmetric x y e =
-    let first = both_equal (slice_cmp nat_cmp x.name y.name) (ordering_then (slice_cmp nat_cmp x.value y.value) (nat_cmp x.ordinal y.ordinal)) e in
-    let second = both_equal (slice_cmp nat_cmp x.value y.value) (nat_cmp x.ordinal y.ordinal) first.1 in
-    λ i. record { name = slice_cmp-IsAntisymmetric nat_cmp-IsAntisymmetric x.name y.name first.0 i; value = slice_cmp-IsAntisymmetric nat_cmp-IsAntisymmetric x.value y.value second.0 i; ordinal = nat_cmp-IsAntisymmetric x.ordinal y.ordinal second.1 i }
-
-pub same_link : (x y : Link) → eq_by_cmp link_cmp x y ≡ true → x ≡ y
-same_link x y e = link_cmp-IsAntisymmetric x y (equal_of _ e)
-
-pub link_itself : (x : Link) → eq_by_cmp link_cmp x x ≡ true
-link_itself x = ap is_eq (tied_itself link_cmp_total x)
+pub link_itself : (x : Link) → is_same x x ≡ true
+link_itself x =
+    ap (λ b. b && (bytes_eq x.value x.value && nat_eq x.ordinal x.ordinal)) ((bytes_eq-Decides x.name x.name).1 refl)
+    ∙ ap (λ b. b && nat_eq x.ordinal x.ordinal) ((bytes_eq-Decides x.value x.value).1 refl)
+    ∙ eq-eqb x.ordinal x.ordinal refl
 
 or_true : (b : Bool) → (b || true) ≡ true
 or_true true = refl
@@ -48,9 +41,9 @@ both_false false b e = (refl, e)
 -- a link of the tags to the ordinal names one of them and the ordinal
 pub link_names : (tags : List Pair) (o : ℕ) (q : Link) → is_link_of tags o q ≡ true → IsIn tags (q.name, q.value) × (o ≡ q.ordinal)
 link_names [] o q e = cc
-link_names (tag ∷ tags) o q e = by_test (eq_by_cmp link_cmp (link_of o tag) q) refl (link_names tags o q) e
+link_names (tag ∷ tags) o q e = by_test (is_same (link_of o tag) q) refl (link_names tags o q) e
   where
-    by_test : (b : Bool) → eq_by_cmp link_cmp (link_of o tag) q ≡ b → (is_link_of tags o q ≡ true → IsIn tags (q.name, q.value) × (o ≡ q.ordinal)) → (b || is_link_of tags o q) ≡ true
+    by_test : (b : Bool) → is_same (link_of o tag) q ≡ b → (is_link_of tags o q ≡ true → IsIn tags (q.name, q.value) × (o ≡ q.ordinal)) → (b || is_link_of tags o q) ≡ true
         → ((tag ≡ (q.name, q.value)) ⊎ IsIn tags (q.name, q.value)) × (o ≡ q.ordinal)
     by_test true t later e =
         let same = same_link (link_of o tag) q t in
@@ -61,9 +54,9 @@ link_names (tag ∷ tags) o q e = by_test (eq_by_cmp link_cmp (link_of o tag) q)
 pub names_link : (tags : List Pair) (o : ℕ) (tag : Pair) → IsIn tags tag → is_link_of tags o (link_of o tag) ≡ true
 names_link [] o tag h = absurd h
 names_link (x ∷ tags) o tag h =
-    elim h as (λ _. (eq_by_cmp link_cmp (link_of o x) (link_of o tag) || is_link_of tags o (link_of o tag)) ≡ true) [
-      | inl same ↦ ap (λ (t : Pair). eq_by_cmp link_cmp (link_of o t) (link_of o tag) || is_link_of tags o (link_of o tag)) same ∙ ap (λ b. b || is_link_of tags o (link_of o tag)) (link_itself (link_of o tag))
-      | inr later ↦ ap (λ b. eq_by_cmp link_cmp (link_of o x) (link_of o tag) || b) (names_link tags o tag later) ∙ or_true _
+    elim h as (λ _. (is_same (link_of o x) (link_of o tag) || is_link_of tags o (link_of o tag)) ≡ true) [
+      | inl same ↦ ap (λ (t : Pair). is_same (link_of o t) (link_of o tag) || is_link_of tags o (link_of o tag)) same ∙ ap (λ b. b || is_link_of tags o (link_of o tag)) (link_itself (link_of o tag))
+      | inr later ↦ ap (λ b. is_same (link_of o x) (link_of o tag) || b) (names_link tags o tag later) ∙ or_true _
     ]
 
 -- a link to another ordinal is none of them
@@ -76,7 +69,7 @@ other_ordinal tags o q apart = by_test (is_link_of tags o q) refl
 
 pub is_link_of-append : (xs ys : List Pair) (o : ℕ) (q : Link) → is_link_of (xs ++ ys) o q ≡ (is_link_of xs o q || is_link_of ys o q)
 is_link_of-append [] ys o q = refl
-is_link_of-append (x ∷ xs) ys o q = ap (λ b. eq_by_cmp link_cmp (link_of o x) q || b) (is_link_of-append xs ys o q) ∙ or_assoc (eq_by_cmp link_cmp (link_of o x) q) _ _
+is_link_of-append (x ∷ xs) ys o q = ap (λ b. is_same (link_of o x) q || b) (is_link_of-append xs ys o q) ∙ or_assoc (is_same (link_of o x) q) _ _
   where
     or_assoc : (a b c : Bool) → (a || (b || c)) ≡ ((a || b) || c)
     or_assoc true b c = refl
@@ -88,13 +81,13 @@ none_taken [] zero o q e = refl
 none_taken [] (suc i) o q e = refl
 none_taken (x ∷ tags) zero o q e = refl
 none_taken (x ∷ tags) (suc i) o q e =
-    let parts = both_false (eq_by_cmp link_cmp (link_of o x) q) (is_link_of tags o q) e in
+    let parts = both_false (is_same (link_of o x) q) (is_link_of tags o q) e in
     ap (λ b. b || is_link_of (take i tags) o q) parts.0 ∙ none_taken tags i o q parts.1
 
 pub none_at : (tags : List Pair) (i o : ℕ) (d : Pair) (q : Link) → i < length tags → is_link_of tags o q ≡ false → is_link_of (get_or tags i d ∷ []) o q ≡ false
 none_at [] i o d q h e = absurd (omega arith)
-none_at (x ∷ tags) zero o d q h e = ap (λ b. b || false) (both_false (eq_by_cmp link_cmp (link_of o x) q) (is_link_of tags o q) e).0
-none_at (x ∷ tags) (suc i) o d q h e = none_at tags i o d q (omega arith) (both_false (eq_by_cmp link_cmp (link_of o x) q) (is_link_of tags o q) e).1
+none_at (x ∷ tags) zero o d q h e = ap (λ b. b || false) (both_false (is_same (link_of o x) q) (is_link_of tags o q) e).0
+none_at (x ∷ tags) (suc i) o d q h e = none_at tags i o d q (omega arith) (both_false (is_same (link_of o x) q) (is_link_of tags o q) e).1
 
 -- one more tag is linked
 pub linked_more : (was b now more : Bool) → now ≡ (b || more) → (old : Bool) → b ≡ (old || was) → now ≡ (old || (was || more))
@@ -104,16 +97,14 @@ linked_more was b now more e old h = e ∙ ap (λ c. c || more) h ∙ assoc old 
     assoc true b c = refl
     assoc false b c = refl
 
--- one tag's link left
-pub unlinked_more : (c rest e : Bool) → (cond e false c && not rest) ≡ (c && not (rest || (e || false)))
-unlinked_more true true true = refl
-unlinked_more true true false = refl
-unlinked_more true false true = refl
-unlinked_more true false false = refl
-unlinked_more false true true = refl
-unlinked_more false true false = refl
-unlinked_more false false true = refl
-unlinked_more false false false = refl
+-- one more tag is unlinked
+pub unlinked_more : (was b now more : Bool) → now ≡ (b && not more) → (old : Bool) → b ≡ (old && not was) → now ≡ (old && not (was || more))
+unlinked_more was b now more e old h = e ∙ ap (λ c. c && not more) h ∙ assoc old was more
+  where
+    assoc : (a b c : Bool) → ((a && not b) && not c) ≡ (a && not (b || c))
+    assoc true true c = refl
+    assoc true false c = refl
+    assoc false b c = refl
 
 pub and_true : (b : Bool) → (b && true) ≡ b
 and_true true = refl

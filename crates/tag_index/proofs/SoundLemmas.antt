@@ -5,8 +5,7 @@ use Rattle.std.specs.Str.{bytes_eq}
 use Rattle.std.proofs.lemmas.Slice.Eq.{bytes_eq-Decides}
 use Rattle.std.proofs.lemmas.Bool.{eqb-true, eq-eqb}
 use Rattle.tag_index.specs.declared.entry.Entry.{Entry}
-use Rattle.tag_index.specs.declared.link.Link.{Link}
-use Rattle.tag_index.specs.Links.{is_link_of, is_linked}
+use Rattle.tag_index.specs.Links.{Link, is_link_of, is_linked}
 use Rattle.tag_index.specs.Sound.{IsSound}
 use Rattle.tag_index.proofs.LinkLemmas.{other_ordinal, or_false, and_true}
 

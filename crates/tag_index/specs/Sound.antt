@@ -3,9 +3,8 @@ use Rattle.std.specs.Prelude.{◌≡◌, ℕ, ◌<◌, ◌^◌, List, Option, So
 use Rattle.std.specs.FinMap as finite
 use Rattle.slab.specs.Slab.{Slab, entries}
 use Rattle.tag_index.specs.declared.entry.Entry.{Entry}
-use Rattle.tag_index.specs.declared.link.Link.{Link}
 use Rattle.tag_index.specs.Listed.{Listed}
-use Rattle.tag_index.specs.Links.{is_linked}
+use Rattle.tag_index.specs.Links.{Link, is_linked}
 
 -- the series of the slots
 abbrev pub listed : Slab Entry → Listed

@@ -3,18 +3,15 @@ ghost use Rattle.std.specs.Bool.{OnFalse};
 ghost use Rattle.std.specs.FinMap as finite;
 ghost use Rattle.std.specs.HashMap.{get_by_text};
 ghost use Rattle.std.specs.Str.{bytes_eq};
-ghost use Rattle.std.specs.BTreeSet.{contains};
 ghost use Rattle.slab.specs.Slab as slab;
 ghost use Rattle.m3_model.specs.Ascends.{Ascends};
 ghost use Rattle.m3_model.specs.Members.{IsIn};
 ghost use Rattle.tag_index.specs.declared.entry.Entry.{Entry};
-ghost use Rattle.tag_index.specs.declared.link.Link.{Link};
-ghost use Rattle.tag_index.specs.Links.{link_cmp, is_link_of};
+ghost use Rattle.tag_index.specs.Links.{Link, is_link_of, is_linked_in};
 ghost use Rattle.tag_index.specs.Listed.{id_at, IsAt, IsPresent, HasTagAt, AreDistinct, IsAdded, IsFound};
 
 use crate::entry::Entry;
-use crate::link::Link;
-use crate::links::{link, linked, unlink};
+use crate::links::{Links, link, linked, unlink};
 use indexmap::IndexMap;
 use m3_model::duplicate::Duplicate;
 use m3_model::memory::Memory;
@@ -22,7 +19,6 @@ use m3_model::seq::Seq;
 use m3_model::text::Text;
 use slab::Slab;
 use std::alloc::Global;
-use std::collections::BTreeSet;
 use std::marker::Model;
 
 /// Series by ordinals and by tags. Contracts see the finite map from the ordinals of the series present to their
@@ -34,17 +30,16 @@ pub struct Index {
     numbers: IndexMap<String, u32>,
     // The series at each ordinal.
     slots: Slab<Entry>,
-    // The tags of all series.
-    links: BTreeSet<Link>,
+    // The ordinals of each tag.
+    links: Links,
 }
 
 impl Model for Index {
     ghost use Rattle.std.specs.Coded.{coded_ℕ};
     ghost use Rattle.std.specs.FinMap as finite;
     ghost use Rattle.std.specs.HashMap.{get_by_text};
-    ghost use Rattle.std.specs.BTreeSet.{contains};
     ghost use Rattle.slab.specs.Slab as slab;
-    ghost use Rattle.tag_index.specs.Links.{link_cmp};
+    ghost use Rattle.tag_index.specs.Links.{is_linked_in};
     ghost use Rattle.tag_index.specs.Listed.{Listed, entry_code};
     ghost use Rattle.tag_index.specs.Sound.{listed, IsSound};
 
@@ -54,7 +49,7 @@ impl Model for Index {
 
     ghost view = { λ i. listed i.slots };
 
-    ghost invariant = { λ i. IsSound (get_by_text i.numbers) (slab.get i.slots) (contains link_cmp i.links) };
+    ghost invariant = { λ i. IsSound (get_by_text i.numbers) (slab.get i.slots) (is_linked_in i.links) };
 }
 
 // The ordinal that the next series gets. There is none where 2^32 series are present.
@@ -87,15 +82,15 @@ fn number(
 // Links the series and then numbers it. Want of memory leaves it without a number and some of its tags linked.
 fn link_and_number(
     numbers: &mut IndexMap<String, u32>,
-    links: &mut BTreeSet<Link>,
+    links: &mut Links,
     alloc: Global,
     entry: &Entry,
     ordinal: u32,
 ) -> Result<(), Memory>
     ensures numbered { OnOk result ((t : List ℕ) → get_by_text numbers.new t ≡ cond (bytes_eq t entry.now.id) (Some ordinal) (get_by_text numbers.old t)) }
     ensures unnumbered { OnErr result ((t : List ℕ) → get_by_text numbers.new t ≡ get_by_text numbers.old t) }
-    ensures kept { (q : Link) → is_link_of entry.now.tags ordinal q ≡ false → contains link_cmp links.new q ≡ contains link_cmp links.old q }
-    ensures linked { OnOk result ((q : Link) → contains link_cmp links.new q ≡ (contains link_cmp links.old q || is_link_of entry.now.tags ordinal q)) }
+    ensures kept { (q : Link) → is_link_of entry.now.tags ordinal q ≡ false → is_linked_in links.new q ≡ is_linked_in links.old q }
+    ensures linked { OnOk result ((q : Link) → is_linked_in links.new q ≡ (is_linked_in links.old q || is_link_of entry.now.tags ordinal q)) }
 {
     link(links, alloc, entry.tags.as_slice(), ordinal)?;
     number(numbers, alloc, &entry.id, ordinal)
@@ -104,23 +99,22 @@ fn link_and_number(
 // Links the series and numbers it, or does neither. The ordinal is one that has no links yet.
 fn enter(
     numbers: &mut IndexMap<String, u32>,
-    links: &mut BTreeSet<Link>,
+    links: &mut Links,
     alloc: Global,
     entry: Entry,
     ordinal: u32,
 ) -> Result<Entry, Memory>
-    requires { (q : Link) → q.ordinal ≡ ordinal → contains link_cmp links.old q ≡ false }
+    requires { (q : Link) → q.ordinal ≡ ordinal → is_linked_in links.old q ≡ false }
     ensures back { IfOk result (λ e. e ≡ entry) }
     ensures numbered { OnOk result ((t : List ℕ) → get_by_text numbers.new t ≡ cond (bytes_eq t entry.id) (Some ordinal) (get_by_text numbers.old t)) }
     ensures unnumbered { OnErr result ((t : List ℕ) → get_by_text numbers.new t ≡ get_by_text numbers.old t) }
-    ensures linked { OnOk result ((q : Link) → contains link_cmp links.new q ≡ (contains link_cmp links.old q || is_link_of entry.tags ordinal q)) }
-    ensures unlinked { OnErr result ((q : Link) → contains link_cmp links.new q ≡ contains link_cmp links.old q) }
+    ensures linked { OnOk result ((q : Link) → is_linked_in links.new q ≡ (is_linked_in links.old q || is_link_of entry.tags ordinal q)) }
+    ensures unlinked { OnErr result ((q : Link) → is_linked_in links.new q ≡ is_linked_in links.old q) }
 {
     match link_and_number(numbers, links, alloc, &entry, ordinal) {
         Ok(()) => Ok(entry),
         Err(Memory) => {
-            let Entry { tags, .. } = entry;
-            unlink(links, tags.into_vec(), ordinal);
+            unlink(links, entry.tags.as_slice(), ordinal);
             Err(Memory)
         }
     }
@@ -147,7 +141,7 @@ impl Index {
             alloc,
             numbers: IndexMap::new(alloc),
             slots: Slab::new(alloc),
-            links: BTreeSet::new(alloc),
+            links: IndexMap::new(alloc),
         }
     }
 
@@ -196,16 +190,16 @@ impl Index {
     {
         match self.numbers.swap_remove(id) {
             Some(ordinal) => {
-                let Entry { tags, .. } = self.slots.remove(ordinal as usize);
-                unlink(&mut self.links, tags.into_vec(), ordinal);
+                let entry = self.slots.remove(ordinal as usize);
+                unlink(&mut self.links, entry.tags.as_slice(), ordinal);
                 true
             }
             None => false,
         }
     }
 
-    /// The ordinals of the series with this tag, ascending. Costs time in proportion to their number, and the logarithm of
-    /// the number of tags of all series.
+    /// The ordinals of the series with this tag, ascending. Costs time in proportion to their number, and constant expected
+    /// time to find them.
     pub fn posting(&self, name: &str, value: &str) -> Result<Seq<u32>, Memory>
         ensures ascends { IfOk result (Ascends ◌<◌) }
         ensures exact { IfOk result (λ posting. (o : ℕ) → IsIn posting o ↔ HasTagAt self.now name.now value.now o) }

@@ -26,7 +26,15 @@ add d dc:x => 1
 id 1 => d
 id 3 => none
 posting dc:x => 0 1
-all => 0 1 2";
+all => 0 1 2
+remove c => true
+posting dc:y =>
+posting dc:x => 0 1
+add e dc:y => 2
+posting dc:y => 2
+remove a => true
+posting host:h1 =>
+posting dc:x => 1";
 
 fn tags_of(alloc: Global, text: &str) -> Result<Seq<(Text, Text)>, Fail> {
     let mut tags = Vec::new(alloc);

@@ -1,6 +1,7 @@
 use Rattle.std.proofs.Common.{ℕ, ◌+◌, List, drop, get_or, sym, subst, inl, inr}
 use Rattle.std.specs.Prelude.{◌⊎◌}
 use Rattle.std.proofs.lemmas.List.{drop_all}
+use Rattle.std.proofs.lemmas.Result.{IfOk-weaker}
 use Rattle.m3_model.specs.Members.{IsIn}
 use Rattle.tag_index.specs.Listed.{IsAt}
 use Rattle.tag_query.proofs.Members.{at_or_later, IsIn-get_or}
@@ -28,11 +29,14 @@ loop-ordinal-preserved c =
       ];
     }
 
-pub returns : goal.returns
-returns c = λ id. (
-  (λ m. c.loop-ordinal.invariant.sound id m),
-  (λ is. elim (c.loop-ordinal.invariant.whole is.0 id is.1 is.2 is.3) as (λ _. IsIn c.loop-ordinal.ids.keys id) [
-    | inl there ↦ there
-    | inr rest ↦ absurd (subst (λ (os : List ℕ). IsIn os is.0) (drop_all c.loop-ordinal.ordinal-index c.args.ordinals.now c.loop-ordinal-test.false) rest)
-  ]),
-)
+pub returns-clause-exact : goal.returns-clause-exact
+returns-clause-exact c =
+    IfOk-weaker c.ascending.result _ _
+    (λ listed all id. (
+      (λ m. c.loop-ordinal.invariant.sound id (subst (λ (ids : List (List ℕ)). IsIn ids id) all m)),
+      (λ is. subst (λ (ids : List (List ℕ)). IsIn ids id) (sym all) (elim (c.loop-ordinal.invariant.whole is.0 id is.1 is.2 is.3) as (λ _. IsIn c.loop-ordinal.ids.keys id) [
+        | inl there ↦ there
+        | inr rest ↦ absurd (subst (λ (os : List ℕ). IsIn os is.0) (drop_all c.loop-ordinal.ordinal-index c.args.ordinals.now c.loop-ordinal-test.false) rest)
+      ])),
+    ))
+    c.ascending.ensures.all

@@ -1,13 +1,13 @@
-use Rattle.std.proofs.Common.{◌&&◌, ◌∙◌, ◌∷◌, [], ap, sym, not}
-use Rattle.std.specs.BTreeSet.{contains}
-use Rattle.tag_index.specs.Links.{link_cmp, is_link_of}
+use Rattle.std.proofs.Common.{◌||◌, ◌&&◌, ◌∙◌, ◌∷◌, [], ap, sym, not, take, get_or}
+use Rattle.std.proofs.lemmas.List.{take_more}
+use Rattle.tag_index.specs.Links.{is_link_of, is_linked_in}
 use Rattle.tag_index.proofs.LinkLemmas.{is_link_of-append, unlinked_more}
 use Rattle.tag_index.proofs.links.unlink.Goals as goal
 
-pub loop-name-preserved : goal.loop-name-preserved
-loop-name-preserved c q =
-    ap (λ b. b && not (is_link_of c.pop.new.self.items c.args.ordinal q)) (c.remove.ensures.updates.0 q)
-    ∙ unlinked_more (contains link_cmp c.loop-name.links q) (is_link_of c.pop.new.self.items c.args.ordinal q) _
-    ∙ ap (λ b. contains link_cmp c.loop-name.links q && not b)
-    (sym (ap (λ tags. is_link_of tags c.args.ordinal q) c.in-Some.ensures.items ∙ is_link_of-append c.pop.new.self.items ((c.in-Some.name, c.in-Some.value) ∷ []) c.args.ordinal q))
-    ∙ c.loop-name.invariant q
+pub loop-tag-preserved : goal.loop-tag-preserved
+loop-tag-preserved c q =
+    unlinked_more _ _ _ _ (c.unlink_one.ensures q) _ (c.loop-tag.invariant q)
+    ∙ ap (λ b. is_linked_in c.args.links.now q && not b)
+    (sym (ap (λ tags. is_link_of tags c.args.ordinal q) (take_more c.args.tags.now c.loop-tag.tag-index c.tag-item.result c.loop-tag-test.true)
+    ∙ is_link_of-append (take c.loop-tag.tag-index c.args.tags.now) (get_or c.args.tags.now c.loop-tag.tag-index c.tag-item.result ∷ []) c.args.ordinal q
+    ∙ ap (λ tag. is_link_of (take c.loop-tag.tag-index c.args.tags.now) c.args.ordinal q || is_link_of (tag ∷ []) c.args.ordinal q) (sym c.tag-item.is)))

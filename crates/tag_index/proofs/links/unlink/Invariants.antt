@@ -1,11 +1,6 @@
-use Rattle.std.proofs.Common.{◌≡◌, ◌&&◌, not, length}
-use Rattle.std.specs.BTreeSet.{contains}
-use Rattle.tag_index.specs.declared.link.Link.{Link}
-use Rattle.tag_index.specs.Links.{link_cmp, is_link_of}
+use Rattle.std.proofs.Common.{◌≡◌, ◌&&◌, not, take}
+use Rattle.tag_index.specs.Links.{Link, is_link_of, is_linked_in}
 use Rattle.tag_index.proofs.links.unlink.Given as goal
 
-abbrev pub invariant-loop-name : goal.invariant-loop-name
-invariant-loop-name l = (q : Link) → (contains link_cmp l.links q && not (is_link_of l.rest.items l.ordinal q)) ≡ (contains link_cmp l.fn.links q && not (is_link_of l.fn.tags.items l.ordinal q))
-
-abbrev pub decreases-loop-name : goal.decreases-loop-name
-decreases-loop-name l = length l.rest.items
+abbrev pub invariant-loop-tag : goal.invariant-loop-tag
+invariant-loop-tag l = (q : Link) → is_linked_in l.links q ≡ (is_linked_in l.fn.links q && not (is_link_of (take l.tag-index l.tags) l.ordinal q))

@@ -17,10 +17,10 @@ returns-in_ok-ids-in-Some c =
     let points = c.self.inside.buffer.points in
     let index = c.self.inside.index in
     let wanted = c.as_slice-wanted.result.now in
-    let ids = c.in_ok-ids-in-Some.ids.keys in
+    let ids = c.in_ok-ids-in-Some.ids in
     let pick_is : c.args.pick.now ≡ pick.Match c.in-Match.ns wanted = c.in-Match.is ∙ ap (pick.Match c.in-Match.ns) (sym c.as_slice-wanted.ensures) in
     let candidates = subst (λ (o : Option (List ℕ)). MatchOption o (HasNoEqual wanted) (AreCandidates index wanted)) c.in-Some.is c.in_ok-ordinals-in-Match.ensures in
-    let named = subst (λ (os : List ℕ). (id : List ℕ) → IsIn ids id ↔ IsNamed index wanted os id) c.as_slice.ensures c.in_ok-ids-in-Some.ensures in
+    let named = subst (λ (os : List ℕ). (id : List ℕ) → IsIn ids id ↔ IsNamed index wanted os id) c.as_slice.ensures c.in_ok-ids-in-Some.ensures.exact in
     IfOk-weaker c.ranges-in-Some.result (IsSelection points c.in-Match.ns (IsIn ids) c.args.from c.args.to) (IsAnswer c.args.self.now c.args.pick.now c.args.from c.args.to)
     (λ series is.
     subst (λ (held : Contents). IsAnswer held c.args.pick.now c.args.from c.args.to series) c.self.view_is

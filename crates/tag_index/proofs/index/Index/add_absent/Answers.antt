@@ -2,11 +2,10 @@ use Rattle.std.proofs.Common.{◌≡◌, ◌∙◌, ◌||◌, ap, sym, subst, So
 use Rattle.std.specs.Prelude.{nat_eq}
 use Rattle.std.specs.FinMap as finite
 use Rattle.std.specs.HashMap.{get_by_text}
-use Rattle.std.specs.BTreeSet.{contains}
 use Rattle.std.specs.Str.{bytes_eq}
 use Rattle.slab.specs.Slab.{Slab, Updates, get}
 use Rattle.tag_index.specs.declared.entry.Entry.{Entry}
-use Rattle.tag_index.specs.Links.{link_cmp, is_link_of}
+use Rattle.tag_index.specs.Links.{is_link_of, is_linked_in}
 use Rattle.tag_index.specs.Sound.{listed}
 use Rattle.tag_index.proofs.SlotLemmas.{listed-insert, updated_at}
 use Rattle.tag_index.proofs.SoundLemmas.{sound_added}
@@ -20,13 +19,13 @@ invariant_of-self-2 c =
     let id : c.in_ok-entry.entry.id ≡ c.args.id.now = ap (λ (e : Entry). e.id) back ∙ c.in_ok-copy.ensures in
     let key : c.insert_reserved.result ≡ o = c.insert_reserved.ensures.key ∙ ap (λ (s : Slab Entry). s.vacant_key) c.reserve.ensures.rest_kept ∙ sym c.in_ok-ordinal.ensures.next in
     let updates : Updates c.reserve.new.self c.insert_reserved.new.self o (Some c.in_ok-entry.entry) = subst (λ k. Updates c.reserve.new.self c.insert_reserved.new.self k (Some c.in_ok-entry.entry)) key c.insert_reserved.ensures.updates in
-    sound_added (get_by_text c.self.inside.numbers) _ (get c.self.inside.slots) _ (contains link_cmp c.self.inside.links) _ c.in_ok-entry.entry o c.self.invariant
+    sound_added (get_by_text c.self.inside.numbers) _ (get c.self.inside.slots) _ (is_linked_in c.self.inside.links) _ c.in_ok-entry.entry o c.self.invariant
     (ap (get_by_text c.self.inside.numbers) id ∙ unnumbered _ c.self.inside.slots _ c.args.self.now c.self.view_is c.self.invariant c.args.id.now c.requires)
     c.in_ok-ordinal.ensures.free
     c.in_ok-ordinal.ensures.small
     (λ t. c.in_ok-entry.ensures.numbered t ∙ ap (λ (e : Entry). cond (bytes_eq t e.id) (Some o) (get_by_text c.self.inside.numbers t)) (sym back))
     (λ k. updated_at c.reserve.new.self c.insert_reserved.new.self o (Some c.in_ok-entry.entry) updates k ∙ ap (λ (s : Slab Entry). cond (nat_eq k o) (Some c.in_ok-entry.entry) (get s k)) c.reserve.ensures.rest_kept)
-    (λ q. c.in_ok-entry.ensures.linked q ∙ ap (λ (e : Entry). contains link_cmp c.self.inside.links q || is_link_of e.tags o q) (sym back))
+    (λ q. c.in_ok-entry.ensures.linked q ∙ ap (λ (e : Entry). is_linked_in c.self.inside.links q || is_link_of e.tags o q) (sym back))
 
 pub returns-clause-ok : goal.returns-clause-ok
 returns-clause-ok c =
