@@ -44,7 +44,7 @@ distinct_turned n st shard d =
     ascends-map (λ (a b : Assignment). a.node ≢ b.node) (turned n st) shard
     (ascends-weaken (λ (a b : Assignment). a.node ≢ b.node) (λ a b. (turned n st a).node ≢ (turned n st b).node) shard (λ a b ne e. ne (sym (turned_node n st a) ∙ e ∙ turned_node n st b)) d)
 
-ascends-push : {X : Type 0} (R : X → X → Type 0) (xs : List X) (y : X) → Ascends R xs → ((x : X) → IsIn xs x → R x y) → Ascends R (xs ++ y ∷ [])
+pub ascends-push : {X : Type 0} (R : X → X → Type 0) (xs : List X) (y : X) → Ascends R xs → ((x : X) → IsIn xs x → R x y) → Ascends R (xs ++ y ∷ [])
 ascends-push R [] y h each = (λ z m. absurd m, tt)
 ascends-push R (x ∷ xs) y h each = (
   λ z m. elim (IsIn-append_cases xs (y ∷ []) z m) as (λ _. R x z) [

@@ -13,7 +13,7 @@ use Rattle.placement_core.proofs.DoneLemmas.{one_done_list, from_start}
 use Rattle.placement_core.proofs.HolderLemmas.{chosen_node, node_chosen, available_of}
 use Rattle.placement_core.proofs.ChangeLemmas.{step_shard, step_holders, step_counted, one_end}
 
-shard_stands : (place : Placement) (shard : ℕ) → shard < length place.shards → slice_get place.shards shard ≡ Some (shard_at place shard)
+pub shard_stands : (place : Placement) (shard : ℕ) → shard < length place.shards → slice_get place.shards shard ≡ Some (shard_at place shard)
 shard_stands place shard lt = at_index place.shards shard (shard_at place shard) lt (get_or_default place.shards shard [] (shard_at place shard) lt)
 
 pub counted_as_in_transcripts : CountedAsInTranscripts

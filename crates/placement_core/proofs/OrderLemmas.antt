@@ -73,7 +73,7 @@ ways_differ a b i j p q v w ne =
       ]
     ]
 
-came : {X : Type 0} (xs : List X) (a b m : ℕ) (d : X) → a < length xs → b < length xs → m < length xs → (n : ℕ) × (n < length xs) × Way a b m n × (get_or (swap xs a b) m d ≡ get_or xs n d)
+pub came : {X : Type 0} (xs : List X) (a b m : ℕ) (d : X) → a < length xs → b < length xs → m < length xs → (n : ℕ) × (n < length xs) × Way a b m n × (get_or (swap xs a b) m d ≡ get_or xs n d)
 came xs a b m d la lb lm =
     let s = swapped_from_swap xs (swap xs a b) a b d la lb refl in
     elim (cases_eq m a) as (λ _. (n : ℕ) × (n < length xs) × Way a b m n × (get_or (swap xs a b) m d ≡ get_or xs n d)) [
@@ -149,7 +149,7 @@ at_in [] i x e = cc
 at_in (y ∷ ys) zero x e = let same : y ≡ x = cc in inl same
 at_in (y ∷ ys) (suc i) x e = inr (at_in ys i x e)
 
-names_at : (instances : List Instance) (i j : ℕ) (x y : Instance) → Ascends (λ a b. a.name ≢ b.name) instances → slice_get instances i ≡ Some x → slice_get instances j ≡ Some y → i ≢ j → x.name ≢ y.name
+pub names_at : (instances : List Instance) (i j : ℕ) (x y : Instance) → Ascends (λ a b. a.name ≢ b.name) instances → slice_get instances i ≡ Some x → slice_get instances j ≡ Some y → i ≢ j → x.name ≢ y.name
 names_at [] i j x y h ei ej ne = cc
 names_at (z ∷ zs) zero zero x y h ei ej ne = absurd (ne refl)
 names_at (z ∷ zs) zero (suc j) x y h ei ej ne = let same : z ≡ x = cc in subst (λ w. w.name ≢ y.name) same (h.0 y (at_in zs j y ej))

@@ -1,0 +1,14 @@
+pub mod PlaceLemmas
+pub mod NodeLemmas
+pub mod SpreadLemmas
+pub mod ShardLemmas
+pub mod PlanLemmas
+pub mod JoinLemmas
+pub mod ReplaceLemmas
+pub mod ChoiceLemmas
+pub mod LoadLemmas
+pub mod DrainLemmas
+pub mod FirstLemmas
+pub mod InitialLemmas
+pub mod AddLemmas
+pub mod PlanLaws

@@ -1,0 +1,10 @@
+use Rattle.std.proofs.Common.{◌≢◌}
+use Rattle.m3_model.specs.declared.placement.Assignment.{Assignment}
+use Rattle.placement_core.proofs.ListLemmas.{each-from_All, All-from_each}
+use Rattle.placement_plan.specs.Choices.{group_of}
+use Rattle.placement_plan.proofs.readiness.is_free.Goals as goal
+
+pub returns : goal.returns
+returns c =
+    let Beside : Assignment → Type 0 = λ a. a.node ≢ c.args.from → group_of c.args.instances.now a.node ≢ c.args.group.now in
+    (λ t. each-from_All Beside c.args.shard.now (c.are_beside.ensures.0 t), λ h. c.are_beside.ensures.1 (All-from_each Beside c.args.shard.now h))

@@ -1,0 +1,8 @@
+use Rattle.m3_model.specs.declared.placement.Assignment.{Assignment}
+use Rattle.m3_model.specs.declared.placement.ShardState.TheVariants.{Initializing}
+use Rattle.std.proofs.Common.{◌≡◌}
+use Rattle.placement_plan.proofs.PlaceLemmas.{NoneBelow}
+use Rattle.placement_plan.proofs.readiness.joining_node.Given as goal
+
+abbrev pub invariant-loop-a : goal.invariant-loop-a
+invariant-loop-a l = NoneBelow (λ (a : Assignment). a.state ≡ Initializing) l.shard l.a-index

@@ -1,0 +1,56 @@
+-- The first placement.
+use Rattle.std.specs.Prelude.{◌≡◌, ◌≢◌, ◌<◌, ℕ, List, [], ◌∷◌, ◌++◌, length, take, Some, None, slice_get, ⊤}
+use Rattle.m3_model.specs.Ascends.{Ascends}
+use Rattle.m3_model.specs.Members.{IsIn}
+use Rattle.m3_model.specs.Placements.{first_instances}
+use Rattle.m3_model.specs.declared.placement.ShardState.TheVariants.{Available}
+use Rattle.m3_model.specs.declared.placement.Assignment.{Assignment}
+use Rattle.m3_model.specs.declared.placement.Instance.{Instance}
+use Rattle.m3_model.specs.declared.placement.Placement.{Placement}
+use Rattle.placement_core.specs.Shards.{Shard}
+use Rattle.placement_plan.specs.Nodes.{load}
+use Rattle.placement_plan.specs.Choices.{group_of, IsLeastLoaded}
+use Rattle.placement_plan.specs.declared.plan_err.PlaceErr.{PlaceErr}
+use Rattle.placement_plan.specs.declared.plan_err.PlaceErr.TheVariants.{Group, Memory}
+
+-- the node may have the shard: there is a node, and its group doesn't have the shard yet
+pub record MayHold (instances : List Instance) (shard : Shard) (node : ℕ) : Type 0 where
+  pub within : node < length instances
+  pub free : (a : Assignment) → IsIn shard a → group_of instances a.node ≢ group_of instances node
+
+-- a replica of the first placement
+abbrev pub first_at : ℕ → Assignment
+first_at node = record { node = node; tenure = 1; state = Available; source = None }
+
+-- the replica is on the least loaded node that may have the shard
+abbrev pub IsPlaced : List Instance → (ℕ → ℕ) → Shard → Assignment → Type 0
+IsPlaced instances load_at shard a = (node : ℕ) × IsLeastLoaded instances load_at (MayHold instances shard) node × (a ≡ first_at node)
+
+-- `rf` replicas, placed one after the other; the loads are those of the lower shards and of the replicas before
+pub record IsPlacedShard (rf : ℕ) (instances : List Instance) (lower : List Shard) (shard : Shard) : Type 0 where
+  pub all : length shard ≡ rf
+  pub each : (r : ℕ) (a : Assignment) → slice_get shard r ≡ Some a → IsPlaced instances (λ n. load n (lower ++ take r shard ∷ [])) (take r shard) a
+
+-- the placement that a cluster begins with
+pub record IsInitial (rf shards : ℕ) (nodes : List (List ℕ × List ℕ)) (place : Placement) : Type 0 where
+  pub version : place.version ≡ 1
+  pub rf_is : place.rf ≡ rf
+  pub instances : place.instances ≡ first_instances nodes
+  pub count : length place.shards ≡ shards
+  pub each : (s : ℕ) (shard : Shard) → slice_get place.shards s ≡ Some shard → IsPlacedShard rf place.instances (take s place.shards) shard
+
+-- so many of the nodes are in different groups
+pub record HasGroups (many : ℕ) (instances : List Instance) : Type 0 where
+  pub nodes : List ℕ
+  pub all : length nodes ≡ many
+  pub within : (n : ℕ) → IsIn nodes n → n < length instances
+  pub differ : Ascends (λ a b. group_of instances a ≢ group_of instances b) nodes
+
+-- there are fewer groups than replicas: no shard can be placed, from the first one on
+abbrev pub IsShort : ℕ → List Instance → PlaceErr → Type 0
+IsShort rf instances (Group shard) = (shard ≡ 0) × ¬ HasGroups rf instances
+IsShort rf instances Memory = ⊤
+IsShort rf instances _ = ⊥
+
+abbrev pub RefusesInitial : ℕ → List (List ℕ × List ℕ) → PlaceErr → Type 0
+RefusesInitial rf nodes = IsShort rf (first_instances nodes)

@@ -1,0 +1,19 @@
+//! Which placement a request to add, drain, cancel, remove or replace a node leads to, and when there is none.
+#![tactic(auto)]
+
+pub mod addition;
+mod choice;
+pub mod completion;
+pub mod drainage;
+pub mod initial;
+pub mod laws;
+mod loads;
+mod nodes;
+pub mod plan_err;
+mod readiness;
+pub mod removal;
+pub mod replacement;
+mod shards;
+#[cfg(test)]
+mod tests;
+mod version;

@@ -1,0 +1,46 @@
+ghost use Rattle.std.specs.Prelude.{◌≡◌};
+ghost use Rattle.placement_plan.specs.declared.plan_err.PlaceErr.TheVariants as errors;
+
+use m3_model::memory;
+use std::alloc::{AllocError, AllocFailed};
+
+/// Why there is no plan. The placement that was asked about stays as it is.
+#[derive(Clone, Copy, Debug, PartialEq, Eq)]
+pub enum PlaceErr {
+    /// The least shard in the way, and the node that is in the way there.
+    Busy { shard: u32, node: u8 },
+    /// The least shard for which no isolation group is left.
+    Group { shard: u32 },
+    /// No listed node has the name.
+    Unknown,
+    /// A listed node has the name already.
+    Exists,
+    /// So many node names stand, and no more may.
+    Limit { limit: u64 },
+    /// There is no memory, or no further version, for the plan.
+    Memory,
+}
+
+impl From<memory::Memory> for PlaceErr {
+    ghost from_gives = { λ _ e. e ≡ errors.Memory };
+
+    fn from(_: memory::Memory) -> PlaceErr {
+        PlaceErr::Memory
+    }
+}
+
+impl From<AllocError> for PlaceErr {
+    ghost from_gives = { λ _ e. e ≡ errors.Memory };
+
+    fn from(_: AllocError) -> PlaceErr {
+        PlaceErr::Memory
+    }
+}
+
+impl<T: Drop> From<AllocFailed<T>> for PlaceErr {
+    ghost from_gives = { λ _ e. e ≡ errors.Memory };
+
+    fn from(_: AllocFailed<T>) -> PlaceErr {
+        PlaceErr::Memory
+    }
+}
