@@ -1,0 +1,4 @@
+pub mod Names
+pub mod Patches
+pub mod Moments
+pub mod DiskLawLemmas

@@ -24,3 +24,13 @@ pub record CountsStalls {E : Type 0} (before now : ℕ) (result : Result ℕ E) 
   pub later : before ≤ now
   pub stays : before ≡ last_count → now ≡ last_count
   pub stalled : result ≡ Ok 0 → 0 < length bytes → Rose before now
+
+-- the count of faults never falls, stays at its last value, and rose where a call failed
+pub record CountsFaults (failed : Type 0) (before now : ℕ) : Type 0 where
+  pub later : before ≤ now
+  pub stays : before ≡ last_count → now ≡ last_count
+  pub rose : failed → Rose before now
+
+-- the count rose by at least so much, or stands at its last value
+abbrev pub RoseBy : ℕ → ℕ → ℕ → Type 0
+RoseBy n before now = min (before + n) last_count ≤ now

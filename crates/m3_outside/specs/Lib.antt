@@ -2,3 +2,8 @@ pub mod Causes
 pub mod Laws
 pub mod Feed
 pub mod Intake
+pub mod Files
+pub mod DiskState
+pub mod DiskCalls
+pub mod Slots
+pub mod DiskLaws

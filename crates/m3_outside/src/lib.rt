@@ -1,12 +1,18 @@
-//! What lies outside the program: the traits of sources and sinks, and objects in memory that meet them.
+//! What lies outside the program: the traits of sources, sinks and disks, and sources and sinks in memory.
 #![tactic(auto)]
 
+pub mod disk;
+pub mod disk_err;
+pub mod disks;
 pub mod failed;
+pub mod file_name;
 pub mod laws;
 pub mod mem_sink;
 pub mod mem_source;
+pub mod name_list;
 mod schedule;
 pub mod sink;
+pub mod slot;
 pub mod source;
 #[cfg(test)]
 mod tests;

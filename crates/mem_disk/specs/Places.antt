@@ -1,0 +1,54 @@
+-- The slots of a set of disks in memory.
+use Rattle.std.specs.Prelude.{◌≡◌, ℕ, ◌+◌, ◌*◌, ◌&&◌, true, nat_eq, nat_lt, if◌then◌else◌, List, [], ◌∷◌, Option, Some, None, slice_get, is_some}
+use Rattle.m3_outside.specs.declared.slot.Slot.{Slot}
+use Rattle.m3_outside.specs.Slots.{Held, Unused, Here, Out}
+use Rattle.mem_disk.specs.declared.disk.MemDisk.{MemDisk}
+use Rattle.mem_disk.specs.declared.place.Place.{Place}
+use Rattle.mem_disk.specs.declared.place.Place.TheVariants.{Empty, Full, Lent}
+
+-- the place of a slot: of a node below 16 and a shard below 64, or of the meta disk
+abbrev pub place_of : Slot → Option ℕ
+place_of s = if nat_lt s.node 16 && nat_lt s.shard 64 then Some (s.node * 64 + s.shard) else if nat_eq s.node 255 && nat_eq s.shard 4294967295 then Some 1024 else None
+
+-- what lies in a place
+abbrev pub held_in : Option Place → Held MemDisk
+held_in None = Unused
+held_in (Some Empty) = Unused
+held_in (Some (Full disk)) = Here disk
+held_in (Some (Lent faults)) = Out
+
+-- how many faults of the place's disk are counted
+abbrev pub counted_in : Option Place → ℕ
+counted_in None = 0
+counted_in (Some Empty) = 0
+counted_in (Some (Full disk)) = disk.schedule.faults
+counted_in (Some (Lent faults)) = faults
+
+abbrev pub full : MemDisk → Place
+full disk = Full disk
+
+abbrev pub at_place : List Place → Option ℕ → Option Place
+at_place places None = None
+at_place places (Some i) = slice_get places i
+
+-- what lies in a slot, and how many faults of its disk are counted
+abbrev pub held_at : List Place → Slot → Held MemDisk
+held_at places s = held_in (at_place places (place_of s))
+
+abbrev pub counted_at : List Place → Slot → ℕ
+counted_at places s = counted_in (at_place places (place_of s))
+
+-- there is such a slot
+abbrev pub HasSlot : Slot → Type 0
+HasSlot s = is_some (place_of s) ≡ true
+
+-- the disk that lies there
+abbrev pub disk_in : Held MemDisk → Option MemDisk
+disk_in Unused = None
+disk_in (Here disk) = Some disk
+disk_in Out = None
+
+-- no disk lies in any of them
+abbrev pub AreEmpty : List Place → Type 0
+AreEmpty [] = Unit {0}
+AreEmpty (p ∷ ps) = (p ≡ Empty) × AreEmpty ps

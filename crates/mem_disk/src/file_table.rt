@@ -1,0 +1,93 @@
+ghost use Rattle.std.specs.Prelude.{◌≡◌, IfOk, OnOk, OnErr, length};
+ghost use Rattle.std.specs.Option.{option_copied};
+ghost use Rattle.std.specs.FinMap as finite;
+ghost use Rattle.m3_outside.specs.Files.{IsInside};
+ghost use Rattle.mem_disk.specs.Tables.{with_bytes};
+
+use crate::file_bytes::FileBytes;
+use m3_model::memory::Memory;
+use m3_outside::file_name::FileName;
+use std::alloc::Global;
+use std::collections::BTreeMap;
+use std::marker::Model;
+
+// Files by their names. Contracts see the finite map.
+#[derive(Drop)]
+pub struct FileTable {
+    map: BTreeMap<FileName, FileBytes>,
+}
+
+impl Model for FileTable {
+    ghost use Rattle.std.specs.Prelude.{IsTrue};
+    ghost use Rattle.std.specs.FinMap.{from_sorted, is_sorted};
+    ghost use Rattle.m3_outside.specs.Files.{Files, name_cmp};
+    ghost use Rattle.mem_disk.specs.Tables.{files_code};
+
+    ghost Value = { Files };
+
+    ghost coded = { files_code };
+
+    ghost view = { λ t. from_sorted t.map.entries };
+
+    ghost invariant = { λ t. IsTrue (is_sorted name_cmp t.map.entries) };
+}
+
+impl FileTable {
+    pub fn new(alloc: Global) -> FileTable
+        ensures { result ≡ finite.empty }
+    {
+        FileTable {
+            map: BTreeMap::new(alloc),
+        }
+    }
+
+    // The bytes of a file, in logarithmic time, as all look-ups below.
+    pub fn get(&self, name: FileName) -> Option<&FileBytes>
+        ensures { option_copied result ≡ finite.get self.now name }
+    {
+        self.map.get(&name)
+    }
+
+    pub fn insert(&mut self, name: FileName, bytes: FileBytes) -> Result<(), Memory>
+        ensures ok { OnOk result (self.new ≡ finite.insert self.old name bytes) }
+        ensures err { OnErr result (self.new ≡ self.old) }
+    {
+        self.map.insert(name, bytes)?;
+        Ok(())
+    }
+
+    pub fn remove(&mut self, name: FileName)
+        ensures { self.new ≡ finite.remove self.old name }
+    {
+        self.map.remove(&name);
+    }
+
+    // Writes over a part of a file.
+    pub fn write(&mut self, name: FileName, at: usize, bytes: &[u8])
+        requires { IsInside name at (length bytes.now) self.old }
+        ensures { self.new ≡ with_bytes name at bytes.now self.old }
+    {
+        if let Some(file) = self.map.get_mut(&name) {
+            file.write(at, bytes);
+        }
+    }
+
+    // All names, ascending.
+    pub fn names(&self, alloc: Global) -> Result<Vec<FileName>, Memory>
+        ensures { IfOk result (λ names. names.items ≡ finite.keys self.now) }
+    {
+        let mut names = Vec::new(alloc);
+        for (name, _) in &self.map {
+            names.push(*name)?;
+        }
+        Ok(names)
+    }
+
+    // Another table of the same files.
+    pub fn copy(&self) -> Result<FileTable, Memory>
+        ensures { IfOk result (λ table. table ≡ self.now) }
+    {
+        let map = self.map.clone()?;
+        Ok(FileTable { map })
+    }
+}

@@ -1,0 +1,6 @@
+pub mod FieldLemmas
+pub mod NumberLemmas
+pub mod Characters
+pub mod TextLemmas
+pub mod PointLemmas
+pub mod EntryLemmas

@@ -1,0 +1,20 @@
+//! The bytes of numbers, points and entries, as they lie in files: one spelling for each value, written and read exactly.
+#![tactic(auto)]
+
+mod digests;
+mod due;
+mod entries;
+mod entry_read;
+mod numbers;
+mod points;
+#[cfg(test)]
+mod tests;
+mod texts;
+mod wire_err;
+
+pub use digests::digest;
+pub use entries::{put_fence, put_points, put_tenure};
+pub use entry_read::{EntryAt, get_entry};
+pub use numbers::{get_between, get_number, put_number};
+pub use points::{PointAt, get_point, put_point};
+pub use wire_err::WireErr;
