@@ -1,35 +1,48 @@
 -- A read's answer keeps what a majority acknowledged and makes nothing up.
-use Rattle.std.proofs.Common.{◌≡◌, ℕ, ◌<◌, ◌≤◌, ℤ, ◌≤ℤ◌, List, length, refl, sym, ap, ◌∙◌, subst, arith, Bool, true, false, cond}
-use Rattle.std.specs.Prelude.{Option, Some, None, slice_get}
+use Rattle.std.proofs.Common.{◌≡◌, ℕ, ◌<◌, ◌≤◌, ℤ, ◌≤ℤ◌, List, [], length, refl, sym, ap, ◌∙◌, subst, inl, inr, arith, Bool, true, false, cond}
+use Rattle.std.specs.Prelude.{Option, Some, None}
+use Rattle.std.specs.FinMap as finite
 use Rattle.std.specs.List.{filter_map}
 use Rattle.std.proofs.lemmas.Int.{ints}
-use Rattle.std.proofs.lemmas.Bool.{leb-true}
-use Rattle.m3_model.specs.declared.point.Point.{Point}
-use Rattle.m3_model.specs.declared.point.Series.{Series}
-use Rattle.m3_model.specs.declared.point.Pick.{Pick}
-use Rattle.m3_model.specs.declared.point.Pick.TheVariants as pick
-use Rattle.m3_model.specs.declared.rules.Space.{Space}
-use Rattle.m3_model.specs.declared.answer.Answer.{Answer}
-use Rattle.m3_model.specs.declared.answer.Answer.TheVariants as answer
-use Rattle.m3_model.specs.declared.act.ReadLevel.{ReadLevel}
+use Rattle.std.proofs.lemmas.Bool.{cases_lt, leb-true}
+use Rattle.m3_model.specs.Contents.{Holds}
+use Rattle.m3_model.specs.Kept.{KeepsPoints}
+use Rattle.m3_model.specs.Levels.{majority, needed_read, is_strong}
+use Rattle.m3_model.specs.Ascends.{Ascends}
+use Rattle.m3_model.specs.Caused.{IsNamedBelow}
 use Rattle.m3_model.specs.Members.{IsIn}
-use Rattle.m3_model.specs.Levels.{majority}
-use Rattle.m3_model.specs.Contents.{Contents, Holds, key_of}
-use Rattle.m3_model.specs.Record.{InnerTurn}
 use Rattle.m3_model.specs.Points.{point_of, was_acked, acked_point, sent_point}
 use Rattle.m3_model.specs.Reads.{points_in, space_picked, Matches, Covers}
-use Rattle.m3_model.specs.Answers.{IsWanted}
-use Rattle.m3_model.specs.Kept.{KeepsPoints}
+use Rattle.m3_model.specs.Record.{InnerTurn, inner_turns}
+use Rattle.m3_model.specs.declared.act.Act.TheVariants as act
+use Rattle.m3_model.specs.declared.act.ReadLevel.{ReadLevel}
+use Rattle.m3_model.specs.declared.act.ReadLevel.TheVariants as read
+use Rattle.m3_model.specs.declared.answer.Answer.{Answer}
+use Rattle.m3_model.specs.declared.answer.Answer.TheVariants as answer
+use Rattle.m3_model.specs.declared.point.Pick.{Pick}
+use Rattle.m3_model.specs.declared.point.Pick.TheVariants as pick
+use Rattle.m3_model.specs.declared.point.Point.{Point}
+use Rattle.m3_model.specs.declared.point.Series.{Series}
+use Rattle.m3_model.specs.declared.turn.Turn.{Turn}
 use Rattle.m3_model.proofs.MemberLemmas.{IsIn-filter_map, filter_map-IsIn}
-use Rattle.m3_cluster.specs.Replicas.{Replica}
-use Rattle.m3_cluster.specs.Quorums.{chosen, answering}
-use Rattle.m3_cluster.specs.Windows.{kept_from}
-use Rattle.m3_cluster.specs.Gathering.{IsAllOf}
-use Rattle.m3_cluster.specs.Steps.{Formed, spaces_in, staff, shard_in, IsSeries, IsJoined}
-use Rattle.m3_cluster.specs.Serves.{rules_of, Stands}
-use Rattle.m3_cluster.proofs.ChosenLemmas.{quorums_meet}
-use Rattle.m3_cluster.proofs.StepLemmas.{shard_below}
-use Rattle.m3_cluster.proofs.WindowLemmas.{kept_reached, reached_kept}
+use Rattle.placement_core.specs.Shards.{shard_at, holders}
+use Rattle.placement_core.proofs.HolderLemmas.{many_holders, counted_hold}
+use Rattle.placement_core.proofs.ListLemmas.{IsIn-from_index}
+use Rattle.cluster_core.specs.Lists.{IsMajority}
+use Rattle.cluster_core.proofs.QuorumLemmas.{meet}
+use Rattle.replica_machine.specs.Machines.{MachineState}
+use Rattle.session.specs.Changes.{IsHeld}
+use Rattle.session.specs.Outcomes.{answering}
+use Rattle.session.specs.Reads.{Wish, IsGiven, IsFound, first_asked, end_asked}
+use Rattle.session.specs.Slots.{slot_at}
+use Rattle.session.proofs.AskedLemmas.{answering-asked, answering_ascend}
+use Rattle.m3_cluster.specs.Acts.{next_call}
+use Rattle.m3_cluster.specs.Serves.{IsKept, counted_in, shard_in}
+use Rattle.m3_cluster.specs.Steps.{spaces_in}
+use Rattle.m3_cluster.specs.declared.cluster.Cluster.{Cluster}
+use Rattle.m3_cluster.specs.declared.members.Members.{Members}
+use Rattle.m3_cluster.proofs.CallLemmas.{At, on}
+use Rattle.m3_cluster.proofs.CallCauses.{read_heard, end_low, distinct_by_name}
 
 -- a point that matches is of the pick's namespace
 pub matches_space : (pick : Pick) (p : Point) → Matches pick p → p.ns ≡ space_picked pick
@@ -41,101 +54,114 @@ matches_value : (pick : Pick) (p : Point) (v : ℤ) → Matches pick p → Match
 matches_value (pick.One ns id) p v h = h
 matches_value (pick.Match ns wanted) p v h = h
 
--- the series of what was gathered have what it holds
-covered : (c : Contents) (ns to : ℕ) (series : List Series) (p : Point) → IsSeries c ns to series → Holds c p → p.ns ≡ ns → p.t < to → Covers (points_in ns series) p
-covered c ns to series p h holds here below = record {
-  value = holds.value;
-  at_least = holds.at_least;
-  stands = h.whole (record p { v = holds.value }) holds.stands here (omega arith, below);
-}
-
--- what was gathered of the shards is a read
-pub read_found : (f : Formed) (place : ℕ) (pick : Pick) (first end from to needed : ℕ) (c : Contents) (series : List Series) → place ≡ space_picked pick → needed ≡ majority f.state.place.rf → IsAllOf f.shards first end needed pick (kept_from f.state.rules place from) to c
-    → IsSeries c place to series → IsJoined f place pick first end from to series
-read_found f place pick first end from to needed c series place_is needs all h = record {
-  answered = λ k low high.
-      let heard = all.heard k low high in
-      record {
-        outcomes = heard.outcomes;
-        may = heard.may;
-        enough = subst (λ n. n ≤ length (chosen (answering heard.outcomes) (staff f k))) needs heard.enough;
-        covers = λ r m p wanted. covered c place to series p h (heard.covers r m p wanted) (matches_space pick p wanted.matches ∙ sym place_is) wanted.in_range.1;
-      };
-  nothing_else = λ p m. all.nothing_else p (h.nothing_else p m).0;
-  ordered = h.ordered;
-}
+-- at least a majority answered a read that is strong
+strong_enough : (rf n : ℕ) (level : ReadLevel) (short : Bool) → 1 ≤ rf → is_strong level short ≡ true → needed_read level rf ≤ n → (short ≡ false → level ≡ read.Unstrict → majority rf ≤ n) → majority rf ≤ n
+strong_enough rf n read.One short some strong enough whole = cc
+strong_enough rf n read.Unstrict true some strong enough whole = cc
+strong_enough rf n read.Unstrict false some strong enough whole = whole refl refl
+strong_enough rf n read.Majority short some strong enough whole = enough
+strong_enough rf n read.All short some strong enough whole = omega arith
 
 acks_of : (rf : ℕ) (b : Answer) → was_acked rf b ≡ true → (acks : List ℕ) × (b ≡ answer.Acks acks) × (majority rf ≤ length acks)
 acks_of rf (answer.Acks acks) e = (acks, refl, leb-true (majority rf) (length acks) e)
 acks_of rf _ e = cc
 
-same_cluster : (f g : Formed) (c : Option Formed) → c ≡ Some f → c ≡ Some g → f ≡ g
-same_cluster f g c p q = cc
+same_members : (f g : Members) (c : Option Members) → c ≡ Some f → c ≡ Some g → f ≡ g
+same_members f g c p q = cc
 
 same_point : (o : Option Point) (p q : Point) → o ≡ Some p → o ≡ Some q → p ≡ q
 same_point o p q a b = cc
 
--- two majorities of one base share a replica
-majorities_meet : (rf : ℕ) (rs : List Replica) (fs gs : List Bool) → rf ≡ length rs → majority rf ≤ length (chosen fs rs) → majority rf ≤ length (chosen gs rs) → (r : Replica) × IsIn (chosen fs rs) r × IsIn (chosen gs rs) r
-majorities_meet rf rs fs gs size a b = quorums_meet rs fs gs (omega arith)
+-- a machine that has the point
+held_some : (o : Option MachineState) (p : Point) → IsHeld o p → (x : MachineState) × (o ≡ Some x) × Holds x.content p
+held_some None p h = absurd h
+held_some (Some x) p h = (x, refl, h)
 
--- a point that a majority acknowledged stands in one of the replicas of each other majority of its shard
-held_in : (turns : List InnerTurn) (f : Formed) (flags : List Bool) (turn : InnerTurn) (p : Point) → Stands turns (Some f) → majority f.state.place.rf ≤ length (chosen flags (staff f (shard_in f p.id))) → IsIn turns turn
-    → acked_point f.state.place.rf (spaces_in f) turn ≡ Some p → (r : Replica) × IsIn (chosen flags (staff f (shard_in f p.id))) r × Holds r.content p
-held_in turns f flags turn p s enough m e = by_test (was_acked f.state.place.rf turn.answer) refl e
+-- What a node that acknowledged and answered holds.
+record Shared (m : Members) (shard : ℕ) (nodes : List ℕ) (p : Point) : Type 0 where
+  node : ℕ
+  among : IsIn nodes node
+  machine : MachineState
+  stands : finite.get m.net.machines (slot_at node shard) ≡ Some machine
+  holds : Holds machine.content p
+
+-- a point that a majority acknowledged stands in one of the machines of each other majority of its shard
+held_in : {lines : List Turn} {c : Cluster} {m : Members} (h : At lines c m) (nodes : List ℕ) (turn : InnerTurn) (p : Point) → shard_in m p.id < length m.net.state.place.shards
+    → IsMajority m.net.state.place.rf (holders (shard_at m.net.state.place (shard_in m p.id))) nodes → IsIn (inner_turns lines) turn → acked_point m.net.state.place.rf (spaces_in m) turn ≡ Some p → Shared m (shard_in m p.id) nodes p
+held_in {lines} {c} {m} h nodes turn p low most i e = by_test (was_acked m.net.state.place.rf turn.answer) refl e
   where
-    by_test : (b : Bool) → was_acked f.state.place.rf turn.answer ≡ b → cond b (point_of (spaces_in f) turn.act) None ≡ Some p → (r : Replica) × IsIn (chosen flags (staff f (shard_in f p.id))) r × Holds r.content p
+    by_kept : (acks : List ℕ) → majority m.net.state.place.rf ≤ length acks → point_of (spaces_in m) turn.act ≡ Some p → IsKept c turn acks → Shared m (shard_in m p.id) nodes p
+    by_kept acks enough is kept =
+        let same : kept.members ≡ m = same_members kept.members m c.members kept.stands h.members in
+        let point : kept.point ≡ p = same_point (point_of (spaces_in m) turn.act) kept.point p (ap (λ g. point_of (spaces_in g) turn.act) (sym same) ∙ kept.of_act) is in
+        let k = shard_in m p.id in
+        let place = m.net.state.place in
+        let shard_is : shard_in kept.members kept.point.id ≡ k = ap (λ g. shard_in g kept.point.id) same ∙ ap (λ (q : Point). shard_in m q.id) point in
+        let counts : (n : ℕ) → IsIn acks n → IsIn (counted_in m k) n = λ n a. subst (λ g. IsIn (counted_in g k) n) same (subst (λ s. IsIn (counted_in kept.members s) n) shard_is (kept.counted n a)) in
+        let acked : IsMajority place.rf (holders (shard_at place k)) acks = record {
+          distinct = distinct_by_name place acks (subst (λ (g : Members). Ascends (IsNamedBelow g.net.state.place) acks) same kept.by_name);
+          within = λ n a. counted_hold (shard_at place k) n (counts n a);
+          enough = enough;
+        } in
+        let size : length (holders (shard_at place k)) ≤ place.rf = let all = many_holders place.rf place.version (shard_at place k) ((on h).well.lawful.shards (shard_at place k) (IsIn-from_index place.shards k [] low)) in omega arith in
+        let shared = meet place.rf (holders (shard_at place k)) acks nodes size acked most in
+        let held : IsHeld (finite.get m.net.machines (slot_at shared.0 k)) p = subst (λ q. IsHeld (finite.get m.net.machines (slot_at shared.0 k)) q) point
+        (subst (λ (g : Members). IsHeld (finite.get g.net.machines (slot_at shared.0 k)) kept.point) same (subst (λ s. IsHeld (finite.get kept.members.net.machines (slot_at shared.0 s)) kept.point) shard_is (kept.held shared.0 shared.1))) in
+        let machine = held_some (finite.get m.net.machines (slot_at shared.0 k)) p held in
+        record { node = shared.0; among = shared.2; machine = machine.0; stands = machine.1; holds = machine.2 }
+
+    by_test : (b : Bool) → was_acked m.net.state.place.rf turn.answer ≡ b → cond b (point_of (spaces_in m) turn.act) None ≡ Some p → Shared m (shard_in m p.id) nodes p
     by_test false t is = cc
-    by_test true t is =
-        let rs = staff f (shard_in f p.id) in
-        let acks = acks_of f.state.place.rf turn.answer t in
-        let held = s.acked turn m acks.0 acks.1 in
-        let same : held.cluster ≡ f = same_cluster held.cluster f (Some f) held.stands refl in
-        let point : held.point ≡ p = same_point (point_of (spaces_in f) turn.act) held.point p (ap (λ g. point_of (spaces_in g) turn.act) (sym same) ∙ held.of_act) is in
-        let group : staff held.cluster (shard_in held.cluster held.point.id) ≡ rs = ap (λ g. staff g (shard_in g held.point.id)) same ∙ ap (λ (q : Point). staff f (shard_in f q.id)) point in
-        let all = ((s.well f refl).staffed (shard_in f p.id) (shard_below f p.id (s.well f refl))).all in
-        let size : length (chosen held.flags rs) ≡ length acks.0 = ap (λ xs. length (chosen held.flags xs)) (sym group) ∙ sym held.count in
-        let shared = majorities_meet f.state.place.rf rs held.flags flags all (let a = acks.2 in omega arith) enough in
-        (shared.0, shared.2, subst (Holds shared.0.content) point (held.holders shared.0 (subst (λ xs. IsIn (chosen held.flags xs) shared.0) (sym group) shared.1)))
+    by_test true t is = let acks = acks_of m.net.state.place.rf turn.answer t in by_kept acks.0 acks.2 is (h.stands.acked turn i acks.0 acks.1)
 
 -- the value that covers a higher one covers a lower one
 covers_lower : (points : List Point) (p : Point) (v : ℤ) → p.v ≤ℤ v → Covers points (record p { v = v }) → Covers points p
 covers_lower points p v lower h = let higher : v ≤ℤ h.value = h.at_least in record { value = h.value; at_least = grind (arith, ints); stands = h.stands }
 
 -- a joined answer keeps the points of the turns so far
-pub read_keeps : (turns : List InnerTurn) (f : Formed) (place : ℕ) (pick : Pick) (first end from to : ℕ) (level : ReadLevel) (short : Bool) (series : List Series) (space : Space) → Stands turns (Some f) → slice_get (spaces_in f) place ≡ Some space → place ≡ space_picked pick
-    → ((p : Point) → Matches pick p → (first ≤ shard_in f p.id) × (shard_in f p.id < end)) → IsJoined f place pick first end from to series
-    → KeepsPoints (rules_of (Some f)) (filter_map (acked_point f.state.place.rf (spaces_in f)) turns) (filter_map (sent_point (spaces_in f)) turns)
-    (record { pick = pick; from = from; to = to; level = level }) (record { series = series; short = short })
-read_keeps turns f place pick first end from to level short series space s there place_is asks j =
-    let rules = f.state.rules in
-    let start = kept_from rules place from in
+pub read_keeps : {lines : List Turn} {c : Cluster} {m : Members} (h : At lines c m) (w : Wish) (level : ReadLevel) (series : List Series) (short : Bool)
+    → ((p : Point) → Matches w.pick p → (first_asked m.net.state w.pick ≤ shard_in m p.id) × (shard_in m p.id < end_asked m.net.state w.pick)) → IsFound m.net (next_call c None) w level series short
+    → KeepsPoints m.net.state.rules (filter_map (acked_point m.net.state.place.rf (spaces_in m)) (inner_turns lines)) (filter_map (sent_point (spaces_in m)) (inner_turns lines))
+    (record { pick = w.pick; from = w.from; to = w.to; level = level }) (record { series = series; short = short })
+read_keeps {lines} {c} {m} h w level series short asks found =
+    let place = m.net.state.place in
     record {
-      acknowledged = λ strong p m sought.
-          let turn = IsIn-filter_map (acked_point f.state.place.rf (spaces_in f)) turns p m in
+      acknowledged = λ strong p i sought.
+          let turn = IsIn-filter_map (acked_point place.rf (spaces_in m)) (inner_turns lines) p i in
+          let k = shard_in m p.id in
           let asked = asks p sought.matches in
-          let answered = j.answered (shard_in f p.id) asked.0 asked.1 in
-          let held = held_in turns f (answering answered.outcomes) turn.0 p s answered.enough turn.1 turn.2 in
-          let here : p.ns ≡ place = matches_space pick p sought.matches ∙ sym place_is in
-          let stands : slice_get (spaces_in f) place ≡ Some sought.live.space = ap (slice_get (spaces_in f)) (sym here) ∙ sought.live.stands in
-          let reached = kept_reached rules place from p.t sought.live.space stands sought.in_range.0 sought.live.kept in
-          let wanted : IsWanted held.0.content pick start to (record p { v = held.2.value }) = record {
-            stands = held.2.stands;
-            matches = matches_value pick p held.2.value sought.matches;
-            in_range = (reached, sought.in_range.1);
+          let end = end_low h w.pick in
+          let low : k < length place.shards = omega (arith, asked.1, end) in
+          let told = found.told k in
+          let heard = read_heard h act.Deliver answer.Memory w k told low (found.asked k asked.0 asked.1) in
+          let most : majority place.rf ≤ length (answering told) = strong_enough place.rf (length (answering told)) level short (on h).well.lawful.limits.some_replicas strong (found.enough k asked.0 asked.1) (λ whole is. whole_enough k asked.0 asked.1 whole is) in
+          let answered : IsMajority place.rf (holders (shard_at place k)) (answering told) = record {
+            distinct = distinct_by_name place (answering told) (answering_ascend (IsNamedBelow place) told heard.by_name);
+            within = λ n a. counted_hold (shard_at place k) n (heard.each n (answering-asked told n a));
+            enough = most;
           } in
-          subst (λ n. Covers (points_in n series) p) place_is (covers_lower (points_in place series) p held.2.value held.2.at_least (answered.covers held.0 held.1 (record p { v = held.2.value }) wanted));
-      nothing_else = λ p m.
-          let given = j.nothing_else p (subst (λ n. IsIn (points_in n series) p) (sym place_is) m) in
-          let here : p.ns ≡ place = matches_space pick p given.3.matches ∙ sym place_is in
-          let kept = reached_kept rules place from p.t space there given.3.in_range.0 in
-          let sent = s.sent f refl given.0 given.1 given.2 (key_of p) p.v given.3.stands in (
-            filter_map-IsIn (sent_point (spaces_in f)) turns sent.turn p sent.served sent.of_act,
-            record {
-              matches = given.3.matches;
-              in_range = (kept.0, given.3.in_range.1);
-              live = record { space = space; stands = ap (slice_get (spaces_in f)) here ∙ there; kept = kept.1 };
-            },
+          let shared = held_in h (answering told) turn.0 p low answered turn.1 turn.2 in
+          let higher : Point = record p { v = shared.holds.value } in
+          let given : IsGiven m.net.state.rules w (finite.get m.net.machines (slot_at shared.node k)) higher = (
+            shared.machine,
+            shared.stands,
+            record { stands = shared.holds.stands; matches = matches_value w.pick p shared.holds.value sought.matches; in_range = sought.in_range },
+            record { space = sought.live.space; stands = sought.live.stands; kept = sought.live.kept },
+          ) in
+          covers_lower (points_in (space_picked w.pick) series) p shared.holds.value shared.holds.at_least (found.covers k asked.0 asked.1 higher (shared.node, shared.among, given));
+      nothing_else = λ p i.
+          let from = found.nothing_else p i in
+          let given = from.3.2 in
+          let sent = (on h).sent (slot_at from.3.0 from.0) given.0 given.1 p given.2.stands in (
+            filter_map-IsIn (sent_point (spaces_in m)) (inner_turns lines) sent.turn p sent.served sent.of_act,
+            record { matches = given.2.matches; in_range = given.2.in_range; live = given.3 },
           );
-      ordered = j.ordered;
+      ordered = found.ordered;
     }
+  where
+    whole_enough : (k : ℕ) → first_asked m.net.state w.pick ≤ k → k < end_asked m.net.state w.pick → short ≡ false → level ≡ read.Unstrict → majority m.net.state.place.rf ≤ length (answering (found.told k))
+    whole_enough k above below whole is =
+        elim (cases_lt (length (answering (found.told k))) (majority m.net.state.place.rf)) as (λ _. majority m.net.state.place.rf ≤ length (answering (found.told k))) [
+          | inl less ↦ let is_short = found.short_where.1 (is, (k, above, below, less)) in (let bad : true ≡ false = sym is_short ∙ whole in absurd (cc))
+          | inr enough ↦ enough
+        ]

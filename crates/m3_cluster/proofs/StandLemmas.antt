@@ -1,118 +1,179 @@
 -- The cluster is what the turns left, one turn after the other.
-use Rattle.std.proofs.Common.{◌≡◌, ℕ, ℤ, List, [], ◌∷◌, ◌++◌, length, refl, sym, ap, ap₂, ◌∙◌, subst, inl, inr, Bool, true, false, cond}
-use Rattle.std.specs.Prelude.{◌⊎◌, Option, Some, None, option_map}
+use Rattle.std.proofs.Common.{◌≡◌, ◌+◌, ◌-◌, ◌^◌, ◌<◌, ◌⊎◌, ℕ, List, [], ◌∷◌, ◌++◌, length, min, sym, ap, subst, ◌∙◌, inl, inr, true, false, cond}
+use Rattle.std.specs.Prelude.{Option, Some, None, slice_get, slice_index}
 use Rattle.std.specs.FinMap.{get}
-use Rattle.std.proofs.lemmas.List.Concat.{flat_map-append}
 use Rattle.std.proofs.lemmas.List.Sums.{fold_push}
-use Rattle.m3_model.specs.declared.point.Key.{Key}
-use Rattle.m3_model.specs.declared.point.Point.{Point}
-use Rattle.m3_model.specs.declared.rules.Space.{Space}
+use Rattle.m3_model.specs.Answers.{HasPoint}
+use Rattle.m3_model.specs.Ascends.{Ascends}
+use Rattle.m3_model.specs.Caused.{IsNamedBelow}
+use Rattle.m3_model.specs.Fates.{Numbering, calls_in, fate_in, fates_set, is_call, is_stopped, numbering_after, stopped_by}
+use Rattle.m3_model.specs.Members.{IsIn}
+use Rattle.m3_model.specs.Placements.{printed, later_placement, placement_after, seed_after, seed_by}
+use Rattle.m3_model.specs.Points.{point_of, sent_point}
+use Rattle.m3_model.specs.Record.{InnerTurn, inner_turns}
+use Rattle.m3_model.specs.Rules.{rules_by, rules_after, start_rules}
 use Rattle.m3_model.specs.declared.act.Act.{Act}
-use Rattle.m3_model.specs.declared.act.Act.TheVariants as act
+use Rattle.m3_model.specs.declared.act.Fate.{Fate}
 use Rattle.m3_model.specs.declared.answer.Answer.{Answer}
 use Rattle.m3_model.specs.declared.answer.Answer.TheVariants as answer
-use Rattle.m3_model.specs.declared.turn.Request.TheVariants as request
+use Rattle.m3_model.specs.declared.placement.Placement.{Placement}
+use Rattle.m3_model.specs.declared.point.Point.{Point}
+use Rattle.m3_model.specs.declared.rules.Space.{Space}
 use Rattle.m3_model.specs.declared.turn.Reply.TheVariants as reply
+use Rattle.m3_model.specs.declared.turn.Request.TheVariants as request
 use Rattle.m3_model.specs.declared.turn.Turn.{Turn}
-use Rattle.m3_model.specs.Members.{IsIn}
-use Rattle.m3_model.specs.Contents.{Holds, point_at}
-use Rattle.m3_model.specs.Record.{InnerTurn, inner_turns}
-use Rattle.m3_model.specs.Rules.{rules_by, start_rules, namespace_place}
-use Rattle.m3_model.specs.Hash.{shard_of}
-use Rattle.m3_model.specs.Placements.{printed, later_placement, seed_by}
-use Rattle.m3_model.specs.Points.{point_of, sent_point, was_sent}
 use Rattle.m3_model.proofs.MemberLemmas.{IsIn-append_left, IsIn-append_cases, IsIn-push}
-use Rattle.m3_cluster.specs.Replicas.{Replica}
-use Rattle.m3_cluster.specs.Quorums.{chosen}
-use Rattle.m3_cluster.specs.Steps.{Formed, spaces_in, staff, shard_in}
-use Rattle.m3_cluster.specs.Serves.{place_of, rules_of, seed_of, IsWellFormed, IsHeld, WasSent, Stands}
-use Rattle.m3_cluster.proofs.SpaceLemmas.{namespace_place-append}
+use Rattle.net_plan.specs.Fates.{fate_of}
+use Rattle.placement_core.specs.Lawful.{IsLawful}
+use Rattle.placement_core.specs.Shards.{shard_at}
+use Rattle.replica_machine.specs.Machines.{MachineState}
+use Rattle.session.specs.Changes.{IsHeld}
+use Rattle.session.specs.Slots.{slot_at}
+use Rattle.session.specs.declared.slot.Slot.{Slot}
+use Rattle.m3_cluster.specs.Acts.{after_call}
+use Rattle.m3_cluster.specs.Serves.{Stands, StandsOn, EachNode, HoldsLate, IsKept, IsManned, IsWellFormed, WasSent, counted_in, shard_in, place_of, rules_of, seed_of}
+use Rattle.m3_cluster.specs.Steps.{spaces_in}
+use Rattle.m3_cluster.specs.declared.cluster.Cluster.{Cluster}
+use Rattle.m3_cluster.specs.declared.members.Members.{Members}
+use Rattle.m3_cluster.proofs.LateLemmas.{Extends, shard_same, counted_same, point_of-append, sent_point-append}
+use Rattle.m3_cluster.proofs.NumberLemmas.{turn_of, and_then, inner_turns-push, numbering_more, number_on, number_stays, nine_on}
 
-pub inner_turns-push : (turns : List Turn) (a : Act) (b : Answer) → inner_turns (turns ++ record { request = request.One a; reply = reply.One b } ∷ []) ≡ inner_turns turns ++ record { act = a; answer = b } ∷ []
-inner_turns-push turns a b = flat_map-append _ turns _
-
-pub some_place : {A B : Type 0} (f : A → B) (o : Option A) (y : B) → option_map f o ≡ Some y → (x : A) × (o ≡ Some x) × (f x ≡ y)
-some_place f None y e = cc
-some_place f (Some x) y e = let same : f x ≡ y = cc in (x, refl, same)
-
-pub point_of-append : (spaces more : List Space) (a : Act) (p : Point) → point_of spaces a ≡ Some p → point_of (spaces ++ more) a ≡ Some p
-point_of-append spaces more (act.Write ns id t v level version) p e =
-    let found = some_place (λ k. record { ns = k; id = id; t = t; v = v }) (namespace_place ns spaces) p e in
-    ap (option_map (λ k. record { ns = k; id = id; t = t; v = v })) (namespace_place-append ns spaces more found.0 found.1) ∙ ap Some found.2
-point_of-append spaces more _ p e = cc
-
-sent_by : (spaces more : List Space) (a : Act) (b : Bool) (p : Point) → cond b (point_of spaces a) None ≡ Some p → cond b (point_of (spaces ++ more) a) None ≡ Some p
-sent_by spaces more a true p e = point_of-append spaces more a p e
-sent_by spaces more a false p e = e
-
-pub sent_point-append : (spaces more : List Space) (d : InnerTurn) (p : Point) → sent_point spaces d ≡ Some p → sent_point (spaces ++ more) d ≡ Some p
-sent_point-append spaces more d p e = sent_by spaces more d.act (was_sent d.answer) p e
+-- ---- a cluster that stands
 
 -- What a turn may do to a cluster that stands.
-pub record Grows (f : Formed) (d : InnerTurn) (g : Formed) : Type 0 where
-  pub more : List Space
-  pub spaces : spaces_in g ≡ spaces_in f ++ more
-  pub shards : length g.shards ≡ length f.shards
-  pub seed : g.state.seed ≡ f.state.seed
-  pub size : (k : ℕ) (flags : List Bool) → length (chosen flags (staff g k)) ≡ length (chosen flags (staff f k))
-  pub keeps : (k : ℕ) (flags : List Bool) (p : Point) → ((r : Replica) → IsIn (chosen flags (staff f k)) r → Holds r.content p) → (r : Replica) → IsIn (chosen flags (staff g k)) r → Holds r.content p
-  pub source : (k : ℕ) (r : Replica) → IsIn (staff g k) r → (key : Key) (v : ℤ) → get r.content key ≡ Some v
-      → ((q : Replica) × IsIn (staff f k) q × (get q.content key ≡ Some v)) ⊎ (sent_point (spaces_in g) d ≡ Some (point_at key v))
+pub record Grows (lines : List Turn) (m : Members) (a : Act) (b : Answer) (g : Members) : Type 0 where
+  pub extends : Extends lines m a b g
+  pub manned : (shard node : ℕ) → IsIn (counted_in m shard) node → IsManned m shard node → IsManned g shard node
+  pub held : (s : Slot) (p : Point) → IsHeld (get m.net.machines s) p → IsHeld (get g.net.machines s) p
+  pub source : (s : Slot) (y : MachineState) → get g.net.machines s ≡ Some y → (p : Point) → HasPoint y.content p
+      → ((x : MachineState) × (get m.net.machines s ≡ Some x) × HasPoint x.content p) ⊎ WasSent (spaces_in g) (inner_turns (and_then lines a b)) p
+  pub fates : (client call : ℕ) → EachNode g (λ node name. fate_of g.net.fates (record { client = client; call = call; node = node }) ≡ fate_in (numbering_after 0 (and_then lines a b)).fates client call name)
+  pub stops : EachNode g (λ node name. slice_get g.stopped.items node ≡ Some (is_stopped (inner_turns (and_then lines a b)) name))
+  pub late : HoldsLate g (and_then lines a b)
 
--- What a turn may do.
-pub record Goes (old : Option Formed) (d : InnerTurn) (new : Option Formed) : Type 0 where
-  pub rules : rules_by d.act d.answer (rules_of old) ≡ rules_of new
-  pub place : later_placement (printed d.answer) (place_of old) ≡ place_of new
-  pub seed : seed_by d.act d.answer (seed_of old) ≡ seed_of new
-  pub well : (g : Formed) → new ≡ Some g → IsWellFormed g
-  pub grows : (f : Formed) → old ≡ Some f → (g : Formed) × (new ≡ Some g) × Grows f d g
-  pub fresh : old ≡ None → (g : Formed) → new ≡ Some g → (k : ℕ) (r : Replica) → IsIn (staff g k) r → (key : Key) → get r.content key ≡ None
-  pub acked : (acks : List ℕ) → d.answer ≡ answer.Acks acks → IsHeld new d acks
+-- what was sent was sent, one line on
+pub sent_on : (lines : List Turn) (a : Act) (b : Answer) (spaces more new : List Space) (p : Point) → new ≡ spaces ++ more → WasSent spaces (inner_turns lines) p → WasSent new (inner_turns (and_then lines a b)) p
+sent_on lines a b spaces more new p is sent = record {
+  turn = sent.turn;
+  served = subst (λ turns. IsIn turns sent.turn) (sym (inner_turns-push lines a b)) (IsIn-append_left (inner_turns lines) (turn_of a b ∷ []) sent.turn sent.served);
+  of_act = ap (λ s. sent_point s sent.turn) is ∙ sent_point-append spaces more sent.turn p sent.of_act;
+}
 
-held_on : (old : Option Formed) (d e : InnerTurn) (new : Option Formed) (acks : List ℕ) → Goes old d new → IsHeld old e acks → IsHeld new e acks
-held_on old d e new acks g h =
-    let next = g.grows h.cluster h.stands in
-    let k : ℕ = shard_in h.cluster h.point.id in
-    let same : shard_in next.0 h.point.id ≡ k = ap₂ (λ (seed shards : ℕ). shard_of h.point.id seed shards) next.2.seed next.2.shards in
+-- the turn itself sent it
+pub sent_now : (lines : List Turn) (a : Act) (b : Answer) (spaces : List Space) (p : Point) → sent_point spaces (turn_of a b) ≡ Some p → WasSent spaces (inner_turns (and_then lines a b)) p
+sent_now lines a b spaces p is = record { turn = turn_of a b; served = subst (λ turns. IsIn turns (turn_of a b)) (sym (inner_turns-push lines a b)) (IsIn-push (inner_turns lines) (turn_of a b)); of_act = is }
+
+pub well_on : {lines : List Turn} {m g : Members} {a : Act} {b : Answer} → IsWellFormed m → Grows lines m a b g → IsWellFormed g
+well_on {lines} {m} {g} {a} {b} well grows = record {
+  lawful = subst IsLawful (sym (grows.extends).place) well.lawful;
+  version = ap (λ (p : Placement). p.version) (grows.extends).place ∙ well.version;
+  available = λ shard x i. well.available shard x (subst (λ (p : Placement). IsIn (shard_at p shard) x) (grows.extends).place i);
+  manned = λ shard node i. let counts = subst (λ ns. IsIn ns node) (counted_same grows.extends shard) i in grows.manned shard node counts (well.manned shard node counts);
+}
+
+pub stands_on : {lines : List Turn} {m g : Members} {a : Act} {b : Answer} → StandsOn lines m → Grows lines m a b g → StandsOn (and_then lines a b) g
+stands_on {lines} {m} {g} {a} {b} s grows = record {
+  well = well_on s.well grows;
+  fates = grows.fates;
+  stops = grows.stops;
+  sent = λ slot y is p has. elim (grows.source slot y is p has) as (λ _. WasSent (spaces_in g) (inner_turns (and_then lines a b)) p) [
+    | inl before ↦ sent_on lines a b (spaces_in m) (grows.extends).more (spaces_in g) p (grows.extends).spaces (s.sent slot before.0 before.1 p before.2)
+    | inr now ↦ now
+  ];
+  late = grows.late;
+}
+
+-- a write that was kept stays kept
+pub kept_on : {lines : List Turn} {old new : Cluster} {m g : Members} {a : Act} {b : Answer} → old.members ≡ Some m → new.members ≡ Some g → Grows lines m a b g → (turn : InnerTurn) (acks : List ℕ) → IsKept old turn acks → IsKept new turn acks
+kept_on {lines} {old} {new} {m} {g} {a} {b} was is grows turn acks kept =
+    let same : kept.members ≡ m = one_cluster old.members kept.members m kept.stands was in
+    let e = grows.extends in
+    let k = shard_in m kept.point.id in
+    let of_shard : shard_in kept.members kept.point.id ≡ k = ap (λ (x : Members). shard_in x kept.point.id) same in
     record {
-      cluster = next.0;
-      stands = next.1;
-      point = h.point;
-      of_act = ap (λ s. point_of s e.act) next.2.spaces ∙ point_of-append (spaces_in h.cluster) next.2.more e.act h.point h.of_act;
-      flags = h.flags;
-      count = h.count ∙ sym (next.2.size k h.flags) ∙ ap (λ j. length (chosen h.flags (staff next.0 j))) (sym same);
-      holders = λ r m. next.2.keeps k h.flags h.point h.holders r (subst (λ j. IsIn (chosen h.flags (staff next.0 j)) r) same m);
+      members = g;
+      stands = is;
+      point = kept.point;
+      of_act = ap (λ spaces. point_of spaces turn.act) e.spaces ∙ point_of-append (spaces_in m) e.more turn.act kept.point (ap (λ (x : Members). point_of (spaces_in x) turn.act) (sym same) ∙ kept.of_act);
+      counted = λ n i.
+          let counts : IsIn (counted_in m k) n = subst (λ (x : Members). IsIn (counted_in x (shard_in x kept.point.id)) n) same (kept.counted n i) in
+          subst (λ shard. IsIn (counted_in g shard) n) (sym (shard_same e kept.point.id)) (subst (λ ns. IsIn ns n) (sym (counted_same e k)) counts);
+      by_name = subst (λ place. Ascends (IsNamedBelow place) acks) (sym e.place) (subst (λ (x : Members). Ascends (IsNamedBelow x.net.state.place) acks) same kept.by_name);
+      held = λ n i.
+          let was_held : IsHeld (get m.net.machines (slot_at n k)) kept.point = subst (λ (x : Members). IsHeld (get x.net.machines (slot_at n (shard_in x kept.point.id))) kept.point) same (kept.held n i) in
+          subst (λ shard. IsHeld (get g.net.machines (slot_at n shard)) kept.point) (sym (shard_same e kept.point.id)) (grows.held (slot_at n k) kept.point was_held);
+    }
+  where
+    one_cluster : (o : Option Members) (x y : Members) → o ≡ Some x → o ≡ Some y → x ≡ y
+    one_cluster o x y p q = cc
+
+-- ---- all of it
+
+-- What the lines number, after a turn.
+pub record Numbered (lines : List Turn) (a : Act) (b : Answer) (new : Cluster) : Type 0 where
+  pub number : slice_index new.calls 0 ≡ min (numbering_after 0 (and_then lines a b)).calls (2 ^ 64 - 1)
+  pub calls : length new.calls ≡ 9
+  pub few_calls : (item : ℕ × ℕ × List ℕ × Fate) → IsIn (numbering_after 0 (and_then lines a b)).fates item → item.1 < 2 ^ 62
+  pub no_fates : new.members ≡ None → (numbering_after 0 (and_then lines a b)).fates ≡ []
+
+numbered_by : {lines : List Turn} {old new : Cluster} {a : Act} {b : Answer} → Stands lines old → fates_set (request.One a) (reply.One b) ≡ None → (new.members ≡ None → old.members ≡ None)
+    → slice_index new.calls 0 ≡ min ((numbering_after 0 lines).calls + calls_in (turn_of a b ∷ [])) (2 ^ 64 - 1) → length new.calls ≡ 9 → Numbered lines a b new
+numbered_by {lines} {old} {new} {a} {b} s none still number nine =
+    let same = numbering_more lines a b none in
+    record {
+      number = number ∙ ap (λ (n : Numbering). min n.calls (2 ^ 64 - 1)) (sym same);
+      calls = nine;
+      few_calls = λ item i. s.few_calls item (subst (λ (n : Numbering). IsIn n.fates item) same i);
+      no_fates = λ gone. ap (λ (n : Numbering). n.fates) same ∙ s.no_fates (still gone);
     }
 
-same_formed : (f g : Formed) (c : Option Formed) → c ≡ Some f → c ≡ Some g → f ≡ g
-same_formed f g c p q = cc
+-- a call has the next number
+pub call_numbered : {lines : List Turn} {old new : Cluster} {a : Act} {b : Answer} → Stands lines old → fates_set (request.One a) (reply.One b) ≡ None → (new.members ≡ None → old.members ≡ None) → is_call a ≡ true
+    → new.calls ≡ after_call old.calls → Numbered lines a b new
+call_numbered {lines} {old} {new} {a} {b} s none still calls is =
+    numbered_by s none still
+    (number_on old.calls new.calls (numbering_after 0 lines).calls (calls_in (turn_of a b ∷ [])) s.calls s.number is (ap (λ t. 0 + cond t 1 0) calls))
+    (nine_on old.calls new.calls s.calls is)
 
-sent_on : (turns : List InnerTurn) (old : Option Formed) (d : InnerTurn) (new : Option Formed) → Stands turns old → Goes old d new → (g : Formed) → new ≡ Some g → (shard : ℕ) (r : Replica) → IsIn (staff g shard) r → (k : Key) (v : ℤ)
-    → get r.content k ≡ Some v → (o : Option Formed) → old ≡ o → WasSent (spaces_in g) (turns ++ d ∷ []) k v
-sent_on turns old d new s g next is shard r m k v e None was = let none = g.fresh was next is shard r m k in cc
-sent_on turns old d new s g next is shard r m k v e (Some f) was =
-    let grown = g.grows f was in
-    let same : grown.0 ≡ next = same_formed grown.0 next new grown.1 is in
-    let grows : Grows f d next = subst (Grows f d) same grown.2 in
-    elim (grows.source shard r m k v e) as (λ _. WasSent (spaces_in next) (turns ++ d ∷ []) k v) [
-      | inl before ↦ let sent = s.sent f was shard before.0 before.1 k v before.2 in
-          record {
-            turn = sent.turn;
-            served = IsIn-append_left turns (d ∷ []) sent.turn sent.served;
-            of_act = ap (λ s. sent_point s sent.turn) grows.spaces ∙ sent_point-append (spaces_in f) grows.more sent.turn (point_at k v) sent.of_act;
-          }
-      | inr now ↦ record { turn = d; served = IsIn-push turns d; of_act = now }
-    ]
+-- and what isn't a call has none
+pub other_numbered : {lines : List Turn} {old new : Cluster} {a : Act} {b : Answer} → Stands lines old → fates_set (request.One a) (reply.One b) ≡ None → (new.members ≡ None → old.members ≡ None) → is_call a ≡ false
+    → new.calls ≡ old.calls → Numbered lines a b new
+other_numbered {lines} {old} {new} {a} {b} s none still calls is =
+    numbered_by s none still
+    (number_stays old.calls new.calls (numbering_after 0 lines).calls (calls_in (turn_of a b ∷ [])) s.number is (ap (λ t. 0 + cond t 1 0) calls))
+    (ap length is ∙ s.calls)
 
-pub stands_push : (turns : List InnerTurn) (old : Option Formed) (d : InnerTurn) (new : Option Formed) → Stands turns old → Goes old d new → Stands (turns ++ d ∷ []) new
-stands_push turns old d new s g = record {
-  rules = fold_push _ (start_rules None) turns d ∙ ap (rules_by d.act d.answer) s.rules ∙ g.rules;
-  place = fold_push _ None turns d ∙ ap (later_placement (printed d.answer)) s.place ∙ g.place;
-  seed = fold_push _ 0 turns d ∙ ap (seed_by d.act d.answer) s.seed ∙ g.seed;
-  well = g.well;
-  acked = λ e m acks is. elim (IsIn-append_cases turns (d ∷ []) e m) as (λ _. IsHeld new e acks) [
-    | inl was ↦ held_on old d e new acks g (s.acked e was acks is)
-    | inr last ↦ elim last as (λ _. IsHeld new e acks) [ inl same ↦ subst (λ x. IsHeld new x acks) same (g.acked acks (ap (λ (x : InnerTurn). x.answer) same ∙ is)) | inr none ↦ absurd none ]
+-- What a turn may do.
+pub record Goes (lines : List Turn) (old : Cluster) (a : Act) (b : Answer) (new : Cluster) : Type 0 where
+  pub rules : rules_by a b (rules_of old) ≡ rules_of new
+  pub place : later_placement (printed b) (place_of old) ≡ place_of new
+  pub seed : seed_by a b (seed_of old) ≡ seed_of new
+  pub numbers : Numbered lines a b new
+  pub no_stops : new.members ≡ None → (name : List ℕ) → stopped_by name a b (is_stopped (inner_turns lines) name) ≡ false
+  pub members : (g : Members) → new.members ≡ Some g → StandsOn (and_then lines a b) g
+  pub kept : (turn : InnerTurn) (acks : List ℕ) → IsKept old turn acks → IsKept new turn acks
+  pub acked : (acks : List ℕ) → b ≡ answer.Acks acks → IsKept new (turn_of a b) acks
+
+-- whether a node is stopped, one turn on
+pub stopped_push : (lines : List Turn) (a : Act) (b : Answer) (name : List ℕ) → is_stopped (inner_turns (and_then lines a b)) name ≡ stopped_by name a b (is_stopped (inner_turns lines) name)
+stopped_push lines a b name = ap (λ turns. is_stopped turns name) (inner_turns-push lines a b) ∙ fold_push _ false (inner_turns lines) (turn_of a b)
+
+pub rules_push : (lines : List Turn) (a : Act) (b : Answer) → rules_after (start_rules None) (inner_turns (and_then lines a b)) ≡ rules_by a b (rules_after (start_rules None) (inner_turns lines))
+rules_push lines a b = ap (rules_after (start_rules None)) (inner_turns-push lines a b) ∙ fold_push _ (start_rules None) (inner_turns lines) (turn_of a b)
+
+pub stands_push : {lines : List Turn} {old new : Cluster} {a : Act} {b : Answer} → Stands lines old → Goes lines old a b new → Stands (and_then lines a b) new
+stands_push {lines} {old} {new} {a} {b} s g = record {
+  rules = rules_push lines a b ∙ ap (rules_by a b) s.rules ∙ g.rules;
+  place = ap (placement_after None) (inner_turns-push lines a b) ∙ fold_push _ None (inner_turns lines) (turn_of a b) ∙ ap (later_placement (printed b)) s.place ∙ g.place;
+  seed = ap (seed_after None) (inner_turns-push lines a b) ∙ fold_push _ 0 (inner_turns lines) (turn_of a b) ∙ ap (seed_by a b) s.seed ∙ g.seed;
+  number = (g.numbers).number;
+  calls = (g.numbers).calls;
+  few_calls = (g.numbers).few_calls;
+  no_fates = (g.numbers).no_fates;
+  no_stops = λ none name. stopped_push lines a b name ∙ g.no_stops none name;
+  members = g.members;
+  acked = λ turn i acks e. elim (IsIn-append_cases (inner_turns lines) (turn_of a b ∷ []) turn (subst (λ turns. IsIn turns turn) (inner_turns-push lines a b) i)) as (λ _. IsKept new turn acks) [
+    | inl was ↦ g.kept turn acks (s.acked turn was acks e)
+    | inr last ↦ elim last as (λ _. IsKept new turn acks) [ inl same ↦ subst (λ x. IsKept new x acks) same (g.acked acks (ap (λ (x : InnerTurn). x.answer) same ∙ e)) | inr none ↦ absurd none ]
   ];
-  sent = λ f is shard r m k v e. sent_on turns old d new s g f is shard r m k v e old refl;
 }

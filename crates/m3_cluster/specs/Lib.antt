@@ -1,8 +1,5 @@
-pub mod Replicas
-pub mod Quorums
-pub mod Windows
-pub mod Gathering
+pub mod Acts
 pub mod First
-pub mod Steps
-pub mod Standing
+pub mod Nodes
 pub mod Serves
+pub mod Steps

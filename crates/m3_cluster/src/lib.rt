@@ -1,9 +1,8 @@
 //! The cluster: a request in, its reply out.
 #![tactic(auto)]
 
+mod calls;
 pub mod cluster;
-pub mod first;
+mod first;
 pub mod members;
-pub mod replica;
-pub mod session;
-pub mod shard;
+mod nodes;

@@ -1,43 +1,35 @@
-ghost use Rattle.std.specs.Prelude.{◌≡◌, ◌≤◌, ◌<◌, ◌^◌, length, IfOk, IfSome};
-ghost use Rattle.m3_model.specs.Placements.{first_instances};
-ghost use Rattle.m3_model.specs.Reads.{space_picked};
+ghost use Rattle.std.specs.Prelude.{◌≡◌, ◌≤◌, ◌<◌, ◌^◌, length, IfSome};
 ghost use Rattle.m3_model.specs.Rules.{namespace_place};
-ghost use Rattle.m3_cluster.specs.First.{first_state, first_replicas};
-ghost use Rattle.m3_cluster.specs.Steps.{IsWriteAnswer, IsSeries};
-ghost use Rattle.m3_model.specs.declared.answer.Answer.TheVariants as answer;
 
-use crate::first::{empty_shards, first_instances, first_shards, nodes_by_name};
-use crate::session::{Gathered, Written, gather, space_picked};
-use crate::shard::Shard;
-use block_buffer::buffer::Buffer;
+use crate::first::{first_machines, none_stopped};
 use m3_model::answer::Answer;
 use m3_model::memory::Memory;
-use m3_model::placement::Placement;
-use m3_model::point::{Matcher, Pick, Point, Series};
-use m3_model::reason::Reason;
 use m3_model::rules::{MetaState, Rules, Space};
 use m3_model::seq::Seq;
 use m3_model::text::Text;
-use quorum_count::majority;
-use series_id::shard_of;
+use net_plan::bag::Bag;
+use net_plan::fates::Fates;
+use placement_plan::initial::initial;
+use session::net::Net;
 use std::alloc::Global;
 
 /// How many namespaces there may be.
 const NAMESPACE_LIMIT: usize = 8;
 
-/// A cluster that stands: its state and the replicas of each shard, by node name.
+/// A cluster that stands: what its calls meet, and which of its nodes are stopped.
 #[derive(Drop)]
 pub struct Members {
-    pub state: MetaState,
-    pub shards: Vec<Shard>,
-    ghost few: { length state.rules.spaces ≤ 8 },
-    ghost moment: { state.rules.now < 2 ^ 62 },
-    ghost some_shards: { 1 ≤ length shards.items },
-    ghost few_shards: { length shards.items ≤ 64 },
+    pub net: Net,
+    /// By the number of the node.
+    pub stopped: Vec<bool>,
+    ghost few: { length net.state.rules.spaces ≤ 8 },
+    ghost moment: { net.state.rules.now < 2 ^ 62 },
+    ghost few_nodes: { length net.state.place.instances ≤ 16 },
+    ghost one_each: { length stopped.items ≡ length net.state.place.instances },
 }
 
 /// The place of a namespace, by its name. There are at most 8.
-fn namespace_place(spaces: &[Space], name: &str) -> Option<usize>
+pub(crate) fn namespace_place(spaces: &[Space], name: &str) -> Option<usize>
     ensures place { result ≡ namespace_place name.now spaces.now }
     ensures below { IfSome result (λ place. place < length spaces.now) }
 {
@@ -49,50 +41,14 @@ fn namespace_place(spaces: &[Space], name: &str) -> Option<usize>
     None
 }
 
-fn too_few(shard: usize, got: usize, needed: u32, reasons: Vec<(u8, Reason)>) -> Answer
-    requires fewer { got < needed }
-    requires shard { shard < 2 ^ 32 }
-    ensures { result ≡ answer.Consistency got needed reasons.items shard }
-{
-    Answer::Consistency {
-        got: got as u32,
-        needed,
-        reasons: Seq::from_vec(reasons),
-        shard: shard as u32,
-    }
-}
-
-/// Acknowledged where enough nodes took it.
-fn answer_of_write(shard: usize, needed: u32, written: Written) -> Answer
-    requires { shard < 2 ^ 32 }
-    ensures { IsWriteAnswer shard needed written.acks.items written.reasons.items result }
-{
-    if written.acks.len() < needed as usize {
-        return too_few(shard, written.acks.len(), needed, written.reasons);
-    }
-    Answer::Acks {
-        acks: Seq::from_vec(written.acks),
-    }
-}
-
-/// The joined points below `to` as series.
-fn series_below(alloc: Global, joined: &Buffer, ns: u8, to: u64) -> Result<Seq<Series>, Memory>
-    ensures { IfOk result (IsSeries joined.now.points ns to) }
-{
-    let all = Pick::Match {
-        ns,
-        wanted: Seq::new(alloc),
-    };
-    joined.range(alloc, &all, 0, to)
-}
-
 impl Members {
-    ghost use Rattle.std.specs.Prelude.{suc};
-    ghost use Rattle.m3_cluster.specs.Standing.{formed};
-    ghost use Rattle.m3_cluster.specs.Steps.{staff, shard_in, IsWritten, IsRead, IsFetched, IsNamed, IsMoved};
-    ghost use Rattle.m3_model.specs.declared.point.Pick.TheVariants as pick;
+    ghost use Rattle.std.specs.Prelude.{IfOk, IsTrue};
+    ghost use Rattle.m3_model.specs.NotYet.{fills_its_nodes};
+    ghost use Rattle.m3_model.specs.Limits.{IsInit};
+    ghost use Rattle.m3_cluster.specs.Steps.{IsNamed, IsMoved, IsFirst};
 
-    /// The cluster that `init` makes: so many shards, each with a replica on each node.
+    /// The cluster that `init` makes: each shard on the nodes that its plan names, with a machine on each. Refused for
+    /// want of memory alone: the nodes' groups differ, so each shard finds its nodes.
     pub fn first(
         alloc: Global,
         rf: u32,
@@ -100,36 +56,34 @@ impl Members {
         seed: u32,
         nodes: Seq<(Text, Text)>,
     ) -> Result<Members, Memory>
-        requires nodes { length nodes ≤ 16 }
-        requires some_shards { 1 ≤ shards }
-        requires few_shards { shards ≤ 64 }
-        ensures state { IfOk result (λ members. members.state ≡ first_state rf shards seed (first_instances nodes)) }
-        ensures replicas { IfOk result (λ members. members.shards.items ≡ first_replicas shards (first_instances nodes)) }
+        requires limits { IsInit rf shards seed nodes }
+        requires apart { IsTrue (fills_its_nodes rf nodes) }
+        ensures { IfOk result (IsFirst rf shards seed nodes) }
     {
-        let instances = first_instances(alloc, nodes)?;
-        let by_name = nodes_by_name(alloc, instances.as_slice())?;
-        let place = Placement {
-            version: 1,
-            rf,
-            shards: first_shards(alloc, shards, by_name.as_slice())?,
-            instances,
+        let Ok(place) = initial(alloc, rf, shards, nodes) else {
+            return Err(Memory);
         };
+        let stopped = none_stopped(alloc, place.instances.len())?;
+        let machines = first_machines(alloc, &place)?;
         let rules = Rules {
             now: 0,
             spaces: Seq::new(alloc),
         };
-        Ok(Members {
+        let net = Net {
             state: MetaState { rules, seed, place },
-            shards: empty_shards(alloc, shards, by_name.as_slice())?,
-        })
+            machines,
+            fates: Fates::empty(alloc),
+            bag: Bag::new(alloc)?,
+        };
+        Ok(Members { net, stopped })
     }
 
     /// Makes a namespace. `Order` says that its name is there, and `Limit` that there are as many as may be; nothing
     /// changes then.
     pub fn name_space(&mut self, space: Space) -> Answer
-        ensures { IsNamed (formed self.old) space result (formed self.new) }
+        ensures { IsNamed self.old space result self.new }
     {
-        let spaces = self.state.rules.spaces.as_slice();
+        let spaces = self.net.state.rules.spaces.as_slice();
         if namespace_place(spaces, space.name.as_str()).is_some() {
             return Answer::Order;
         }
@@ -138,7 +92,7 @@ impl Members {
                 limit: NAMESPACE_LIMIT as u64,
             };
         }
-        match self.state.rules.spaces.push(space) {
+        match self.net.state.rules.spaces.push(space) {
             Ok(()) => Answer::Done,
             Err(_) => Answer::Memory,
         }
@@ -147,110 +101,13 @@ impl Members {
     /// Moves the moment on. `Clock` says that it would fall; it stays then.
     pub fn set_moment(&mut self, now: u64) -> Answer
         requires { now < 2 ^ 62 }
-        ensures { IsMoved (formed self.old) now result (formed self.new) }
+        ensures { IsMoved self.old now result self.new }
     {
-        let moment = self.state.rules.now;
+        let moment = self.net.state.rules.now;
         if now < moment {
             return Answer::Clock { now: moment };
         }
-        self.state.rules.now = now;
+        self.net.state.rules.now = now;
         Answer::Done
-    }
-
-    /// The shard of an identifier.
-    fn shard_of(&self, id: &str) -> usize
-        ensures shard { result ≡ shard_in (formed self.now) id.now }
-        ensures below { result < length self.now.shards.items }
-    {
-        shard_of(id, self.state.seed, self.shards.len() as u32) as usize
-    }
-
-    /// Writes a point at majority, to the shard of its identifier.
-    pub fn write(&mut self, alloc: Global, ns: Text, id: Text, t: u64, v: i64) -> Answer
-        ensures { IsWritten (formed self.old) ns id t v result (formed self.new) }
-    {
-        let Some(place) = namespace_place(self.state.rules.spaces.as_slice(), ns.as_str()) else {
-            return Answer::Unknown { name: ns };
-        };
-        let shard = self.shard_of(id.as_str());
-        let point = Point {
-            ns: place as u8,
-            id,
-            t,
-            v,
-        };
-        let needed = majority(self.state.place.rf);
-        let replicas = &mut self.shards[shard];
-        match replicas.write(alloc, &self.state.rules, &point) {
-            Ok(written) => answer_of_write(shard, needed, written),
-            Err(_) => Answer::Memory,
-        }
-    }
-
-    /// Fetches the points of an identifier at majority, from its shard.
-    pub fn fetch(&self, alloc: Global, ns: Text, id: Text, from: u64, to: u64) -> Answer
-        ensures { IsFetched (formed self.now) ns (λ k. pick.One k id) (shard_in (formed self.now) id) (suc (shard_in (formed self.now) id)) from to result }
-    {
-        let Some(place) = namespace_place(self.state.rules.spaces.as_slice(), ns.as_str()) else {
-            return Answer::Unknown { name: ns };
-        };
-        let shard = self.shard_of(id.as_str());
-        let pick = Pick::One {
-            ns: place as u8,
-            id,
-        };
-        self.read(alloc, &pick, shard, shard + 1, from, to)
-    }
-
-    /// Fetches the points of all series whose tags meet the matchers at majority, from all shards.
-    pub fn find(&self, alloc: Global, ns: Text, wanted: Seq<Matcher>, from: u64, to: u64) -> Answer
-        ensures { IsFetched (formed self.now) ns (λ k. pick.Match k wanted) 0 (length self.now.shards.items) from to result }
-    {
-        let Some(place) = namespace_place(self.state.rules.spaces.as_slice(), ns.as_str()) else {
-            return Answer::Unknown { name: ns };
-        };
-        let pick = Pick::Match {
-            ns: place as u8,
-            wanted,
-        };
-        self.read(alloc, &pick, 0, self.shards.len(), from, to)
-    }
-
-    /// Reads what is picked at majority from the shards from `first` up to `end`.
-    fn read(
-        &self,
-        alloc: Global,
-        pick: &Pick,
-        first: usize,
-        end: usize,
-        from: u64,
-        to: u64,
-    ) -> Answer
-        requires known { space_picked pick.now < length self.now.state.rules.spaces }
-        requires there { end ≤ length self.now.shards.items }
-        ensures { IsRead (formed self.now) (space_picked pick.now) pick.now first end from to result }
-    {
-        let rules = &self.state.rules;
-        let needed = majority(self.state.place.rf);
-        let shards = self.shards.as_slice();
-        match gather(alloc, shards, first, end, needed, rules, pick, from, to) {
-            Ok(Gathered::Found { joined }) => {
-                match series_below(alloc, &joined, space_picked(pick), to) {
-                    Ok(series) => Answer::Found {
-                        series,
-                        short: false,
-                    },
-                    Err(_) => Answer::Memory,
-                }
-            }
-            Ok(
-                Gathered::TooFew {
-                    shard,
-                    got,
-                    reasons,
-                },
-            ) => too_few(shard, got, needed, reasons),
-            Err(_) => Answer::Memory,
-        }
     }
 }

@@ -1,5 +1,5 @@
 -- The entries of an array, read one after the other.
-use Rattle.std.proofs.Common.{◌≡◌, ◌≢◌, ℕ, zero, suc, ◌+◌, ◌<◌, List, [], ◌∷◌, ◌++◌, drop, length, get_or, refl, sym, ap, ◌∙◌, append_assoc, arith, add-one}
+use Rattle.std.proofs.Common.{◌≡◌, ◌≢◌, ℕ, suc, ◌+◌, ◌<◌, List, [], ◌∷◌, ◌++◌, drop, length, get_or, refl, sym, ap, ◌∙◌, append_assoc, drop-cons, add-one}
 use Rattle.std.specs.Prelude.{Result, Ok, Err}
 use Rattle.serde_json.specs.Data.{Data}
 use Rattle.serde_json.specs.View.{view, items_view}
@@ -9,6 +9,7 @@ use Rattle.m3_json.specs.declared.fault.LineErr.TheVariants as errors
 use Rattle.m3_json.specs.Fields.{◌>>=◌, Fails}
 use Rattle.m3_json.specs.Lists.{item_count, entries_of}
 use Rattle.m3_json.specs.Rows.{node_of_items, matcher_of_items}
+use Rattle.m3_json.specs.Fates.{fate_of_items}
 
 pub count_of_values : (values : List Value) → item_count (items_view values) ≡ length values
 count_of_values [] = refl
@@ -18,10 +19,9 @@ count_of_values (value ∷ values) = ap suc (count_of_values values)
 abbrev pub with_front : {A : Type 0} → List A → Result (List A) LineErr → Result (List A) LineErr
 with_front front rest = rest >>= λ entries. Ok (front ++ entries)
 
-drop_value : (values : List Value) (i : ℕ) (value : Value) → i < length values → value ≡ get_or values i value → drop i values ≡ value ∷ drop (suc i) values
-drop_value [] i value h e = absurd (omega arith)
-drop_value (first ∷ values) zero value h e = ap (λ one. one ∷ values) (sym e)
-drop_value (first ∷ values) (suc i) value h e = drop_value values i value (omega arith) e
+-- what stands from the i-th place on begins with what stands there
+pub drop_at : {A : Type 0} (xs : List A) (i : ℕ) (x : A) → i < length xs → x ≡ get_or xs i x → drop i xs ≡ x ∷ drop (suc i) xs
+drop_at xs i x h e = drop-cons xs i x h ∙ ap (λ one. one ∷ drop (suc i) xs) (sym e)
 
 with_front-push : {A : Type 0} (front : List A) (entry : A) (rest : Result (List A) LineErr) → with_front (front ++ entry ∷ []) rest ≡ with_front front (rest >>= λ entries. Ok (entry ∷ entries))
 with_front-push front entry (Ok entries) = ap Ok (append_assoc front (entry ∷ []) entries)
@@ -33,7 +33,7 @@ after row first values = first >>= λ entry. entries_of row (items_view values) 
 
 entries_of-drop : {A : Type 0} (row : Data → Result A LineErr) (values : List Value) (i : ℕ) (value : Value) (front : List A) → i < length values → value ≡ get_or values i value
     → with_front front (entries_of row (items_view (drop i values))) ≡ with_front front (after row (row (view value)) (drop (suc i) values))
-entries_of-drop row values i value front h at_i = ap (λ vs. with_front front (entries_of row (items_view vs))) (drop_value values i value h at_i)
+entries_of-drop row values i value front h at_i = ap (λ vs. with_front front (entries_of row (items_view vs))) (drop_at values i value h at_i)
 
 -- one more entry is read
 pub one_more_entry : {A : Type 0} (row : Data → Result A LineErr) (values : List Value) (i : ℕ) (value : Value) (front new : List A) (entry : A) → i < length values → value ≡ get_or values i value → row (view value) ≡ Ok entry → new ≡ front ++ entry ∷ []
@@ -70,3 +70,12 @@ not_three_items (a ∷ []) other = refl
 not_three_items (a ∷ b ∷ []) other = refl
 not_three_items (a ∷ b ∷ c ∷ []) other = absurd (other refl)
 not_three_items (a ∷ b ∷ c ∷ d ∷ values) other = refl
+
+-- a list of another length than four is no fate
+pub not_four_items : (values : List Value) → length values ≢ 4 → fate_of_items (items_view values) ≡ Err errors.Form
+not_four_items [] other = refl
+not_four_items (a ∷ []) other = refl
+not_four_items (a ∷ b ∷ []) other = refl
+not_four_items (a ∷ b ∷ c ∷ []) other = refl
+not_four_items (a ∷ b ∷ c ∷ d ∷ []) other = absurd (other refl)
+not_four_items (a ∷ b ∷ c ∷ d ∷ e ∷ values) other = refl

@@ -38,10 +38,10 @@ spells_one d one a none = elim none as (λ _. ⊥) [
   | inr other ↦ other.2 (let rows : Ok one ≡ Ok other.0 = sym a.0 ∙ other.1 in let same : one ≡ other.0 = cc in subst NamesSeries same a.1)
 ]
 
-put_off_one : (d : Data) (one : Act) → SpellsAct d one → IsPutOff d → IsTrue (is_put_off d one)
-put_off_one d one a off = elim off as (λ _. IsTrue (is_put_off d one)) [
+put_off_one : (d : Data) (one : Act) → SpellsAct d one → IsPutOff d → IsTrue (is_put_off one)
+put_off_one d one a off = elim off as (λ _. IsTrue (is_put_off one)) [
   | inl e ↦ let clash : Ok one ≡ Err errors.Later = sym a.0 ∙ e in cc
-  | inr other ↦ subst (λ x. IsTrue (is_put_off d x)) (same_act d other.0 one other.1 a) other.2
+  | inr other ↦ subst (λ x. IsTrue (is_put_off x)) (same_act d other.0 one other.1 a) other.2
 ]
 
 put_off_some : (d : Data) → IsPutOff d → SpellsNoAct d → ⊥
@@ -78,11 +78,11 @@ one_meaning line = by
         let same : one ≡ other = same_act d one other spells (subst (λ x. SpellsAct x other) (same_data line d e a b) spelled) in
         ap Ok (is ∙ ap (λ x. request.One x) same ∙ sym was)
     by (Ok r) (Err errors.Form) m n (d, a, (one, spells, served, is)) form = absurd (spells_one d one spells (formless line d a form))
-    by (Ok r) (Err errors.Later) m n (d, a, (one, spells, served, is)) (e, b, off) = absurd (both_ways (is_put_off d one) served (put_off_one d one spells (subst IsPutOff (same_data line d e a b) off)))
+    by (Ok r) (Err errors.Later) m n (d, a, (one, spells, served, is)) (e, b, off) = absurd (both_ways (is_put_off one) served (put_off_one d one spells (subst IsPutOff (same_data line d e a b) off)))
     by (Err errors.Form) (Ok s) m n form (d, a, (one, spells, served, is)) = absurd (spells_one d one spells (formless line d a form))
     by (Err errors.Form) (Err errors.Form) m n a b = refl
     by (Err errors.Form) (Err errors.Later) m n form (d, a, off) = absurd (put_off_some d off (formless line d a form))
-    by (Err errors.Later) (Ok s) m n (e, b, off) (d, a, (one, spells, served, is)) = absurd (both_ways (is_put_off d one) served (put_off_one d one spells (subst IsPutOff (same_data line d e a b) off)))
+    by (Err errors.Later) (Ok s) m n (e, b, off) (d, a, (one, spells, served, is)) = absurd (both_ways (is_put_off one) served (put_off_one d one spells (subst IsPutOff (same_data line d e a b) off)))
     by (Err errors.Later) (Err errors.Form) m n (d, a, off) form = absurd (put_off_some d off (formless line d a form))
     by (Err errors.Later) (Err errors.Later) m n a b = refl
     by (Err errors.Memory) b m n a means = absurd (m refl)

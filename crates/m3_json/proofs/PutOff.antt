@@ -7,6 +7,7 @@ use Rattle.std.proofs.lemmas.Bool.{both_ways, false_from_ne_true}
 use Rattle.serde_json.specs.Data.{Data, Items, no_items, item}
 use Rattle.serde_json.specs.Find.{get, as_str, as_number, as_u64, as_i64, as_array}
 use Rattle.m3_model.specs.declared.act.Act.{Act}
+use Rattle.m3_model.specs.declared.act.Fate.{Fate}
 use Rattle.m3_model.specs.declared.act.ReadLevel.{ReadLevel}
 use Rattle.m3_model.specs.declared.act.WriteLevel.{WriteLevel}
 use Rattle.m3_model.specs.declared.point.Matcher.{Matcher}
@@ -16,7 +17,8 @@ use Rattle.m3_json.specs.declared.fault.LineErr.{LineErr}
 use Rattle.m3_json.specs.declared.fault.LineErr.TheVariants as errors
 use Rattle.m3_json.specs.Fields.{◌>>=◌, needed, tested, is_one_of, text_of, name_of, number_of, field, text_at, name_at, number_at, value_at, optional_at}
 use Rattle.m3_json.specs.Lists.{has_count, items_at, entries_of, list_at}
-use Rattle.m3_json.specs.Rows.{node_of_two, node_of_items, node_of, names_differ, nodes_at, init_of, namespace_of, now_of, write_level_named, read_level_named, write_level_at, read_level_at, version_at, write_of, fetch_of, sign_named, matcher_of_three, matcher_of_items, matcher_of, matchers_at, match_of}
+use Rattle.m3_json.specs.Rows.{node_of_two, node_of_items, node_of, names_differ, nodes_at, init_of, namespace_of, now_of, write_level_named, read_level_named, write_level_at, read_level_at, version_at, write_of, fetch_of, sign_named, matcher_of_three, matcher_of_items, matcher_of, matchers_at, match_of, stop_of}
+use Rattle.m3_json.specs.Fates.{fate_named, fate_of_four, fate_of_items, fate_of, messages_differ, fates_at, fates_of, deliver_of}
 use Rattle.m3_json.specs.NotYet.{later_ops, refusal_of, is_put_off}
 use Rattle.m3_json.specs.Requests.{act_of, row_of, NamesSeries, IsPutOff}
 use Rattle.m3_json.specs.Laws.{HasLaterOp, HasLaterForm, PutsOffExactly}
@@ -177,21 +179,64 @@ Decided-match_of : (d : Data) → Decided (match_of d)
 unfolding match_of
 Decided-match_of d = search (Decided-steps, Decided-Ok, Decided-tested, Decided-name_at, Decided-matchers_at, Decided-number_at, Decided-read_level_at, Decided-version_at) depth 20
 
+Decided-fate_named : (name : List ℕ) → Decided (fate_named name)
+Decided-fate_named name = Decided-if (pointwise nat_eq name (codes "lose")) _ _ (Decided-if (pointwise nat_eq name (codes "twice")) _ _ (Decided-if (pointwise nat_eq name (codes "late")) _ _ (Decided-Form Fate)))
+
+Decided-fate_of_four : (a b c d : Data) → Decided (fate_of_four a b c d)
+Decided-fate_of_four a b c d =
+    Decided-steps (number_of 0 9 a) _ (Decided-number_of 0 9 a) (λ client.
+    Decided-steps (number_of 0 (2 ^ 62) b) _ (Decided-number_of 0 (2 ^ 62) b) (λ call.
+    Decided-steps (name_of c) _ (Decided-name_of c) (λ node.
+    Decided-steps (text_of d >>= fate_named) _ (Decided-steps (text_of d) fate_named (Decided-text_of d) Decided-fate_named) (λ fate same. cc))))
+
+Decided-fate_of_items : (items : Items) → Decided (fate_of_items items)
+Decided-fate_of_items no_items = Decided-Form (ℕ × ℕ × List ℕ × Fate)
+Decided-fate_of_items (item a no_items) = Decided-Form (ℕ × ℕ × List ℕ × Fate)
+Decided-fate_of_items (item a (item b no_items)) = Decided-Form (ℕ × ℕ × List ℕ × Fate)
+Decided-fate_of_items (item a (item b (item c no_items))) = Decided-Form (ℕ × ℕ × List ℕ × Fate)
+Decided-fate_of_items (item a (item b (item c (item d no_items)))) = Decided-fate_of_four a b c d
+Decided-fate_of_items (item a (item b (item c (item d (item e ds))))) = Decided-Form (ℕ × ℕ × List ℕ × Fate)
+
+Decided-fate_of : (d : Data) → Decided (fate_of d)
+unfolding fate_of
+Decided-fate_of d = Decided-steps (needed (as_array d)) fate_of_items (Decided-needed (as_array d)) Decided-fate_of_items
+
+Decided-fates_at : (key : List ℕ) (d : Data) → Decided (fates_at key d)
+unfolding fates_at
+Decided-fates_at key d = Decided-steps (list_at fate_of key 0 1024 d) (tested messages_differ) (Decided-list_at fate_of Decided-fate_of key 0 1024 d) (Decided-tested messages_differ)
+
+Decided-fates_of : (d : Data) → Decided (fates_of d)
+unfolding fates_of
+Decided-fates_of d = search (Decided-steps, Decided-Ok, Decided-tested, Decided-fates_at) depth 20
+
+Decided-deliver_of : (d : Data) → Decided (deliver_of d)
+unfolding deliver_of
+Decided-deliver_of d = search (Decided-steps, Decided-Ok, Decided-tested) depth 20
+
+Decided-stop_of : (d : Data) → Decided (stop_of d)
+unfolding stop_of
+Decided-stop_of d = search (Decided-steps, Decided-Ok, Decided-tested, Decided-name_at) depth 20
+
 -- an op whose row is answered `Later` is one that is put off
 later_op : (op : List ℕ) (d : Data) → act_of op d ≡ Err errors.Later → IsTrue (is_one_of later_ops op)
 unfolding act_of refusal_of
 later_op op d e =
-    by (pointwise nat_eq op (codes "init")) (pointwise nat_eq op (codes "namespace")) (pointwise nat_eq op (codes "now")) (pointwise nat_eq op (codes "write")) (pointwise nat_eq op (codes "fetch")) (pointwise nat_eq op (codes "match")) (is_one_of later_ops op) e
+    by (pointwise nat_eq op (codes "init")) (pointwise nat_eq op (codes "namespace")) (pointwise nat_eq op (codes "now")) (pointwise nat_eq op (codes "write")) (pointwise nat_eq op (codes "fetch")) (pointwise nat_eq op (codes "match"))
+    (pointwise nat_eq op (codes "fates")) (pointwise nat_eq op (codes "deliver")) (pointwise nat_eq op (codes "stop")) (is_one_of later_ops op) e
   where
-    by : (i n m w f q later : Bool) → (if i then init_of d else (if n then namespace_of d else (if m then now_of d else (if w then write_of d else (if f then fetch_of d else (if q then match_of d else Err (if later then errors.Later else errors.Form))))))) ≡ Err errors.Later → IsTrue later
-    by true n m w f q later e = absurd (Decided-init_of d e)
-    by false true m w f q later e = absurd (Decided-namespace_of d e)
-    by false false true w f q later e = absurd (Decided-now_of d e)
-    by false false false true f q later e = absurd (Decided-write_of d e)
-    by false false false false true q later e = absurd (Decided-fetch_of d e)
-    by false false false false false true later e = absurd (Decided-match_of d e)
-    by false false false false false false true e = refl
-    by false false false false false false false e = absurd (Decided-Form Act e)
+    by : (i n m w f q t v s later : Bool) → (if i then init_of d else (if n then namespace_of d else (if m then now_of d else (if w then write_of d else (if f then fetch_of d else (if q then match_of d else
+        (if t then fates_of d else (if v then deliver_of d else (if s then stop_of d else Err (if later then errors.Later else errors.Form)))))))))) ≡ Err errors.Later → IsTrue later
+    by true n m w f q t v s later e = absurd (Decided-init_of d e)
+    by false true m w f q t v s later e = absurd (Decided-namespace_of d e)
+    by false false true w f q t v s later e = absurd (Decided-now_of d e)
+    by false false false true f q t v s later e = absurd (Decided-write_of d e)
+    by false false false false true q t v s later e = absurd (Decided-fetch_of d e)
+    by false false false false false true t v s later e = absurd (Decided-match_of d e)
+    by false false false false false false true v s later e = absurd (Decided-fates_of d e)
+    by false false false false false false false true s later e = absurd (Decided-deliver_of d e)
+    by false false false false false false false false true later e = absurd (Decided-stop_of d e)
+    by false false false false false false false false false true e = refl
+    by false false false false false false false false false false e = absurd (Decided-Form Act e)
 
 -- a text that is put off is none that isn't
 is_other_op : (op row : List ℕ) → IsTrue (is_one_of later_ops op) → is_one_of later_ops row ≡ false → pointwise nat_eq op row ≡ false
@@ -202,7 +247,7 @@ is_other_op op row later not_later =
 op_later : (op : List ℕ) (d : Data) → IsTrue (is_one_of later_ops op) → act_of op d ≡ Err errors.Later
 unfolding act_of refusal_of
 op_later op d later =
-    simp (is_other_op op (codes "init") later refl, is_other_op op (codes "namespace") later refl, is_other_op op (codes "now") later refl, is_other_op op (codes "write") later refl, is_other_op op (codes "fetch") later refl, is_other_op op (codes "match") later refl, later)
+    simp (is_other_op op (codes "init") later refl, is_other_op op (codes "namespace") later refl, is_other_op op (codes "now") later refl, is_other_op op (codes "write") later refl, is_other_op op (codes "fetch") later refl, is_other_op op (codes "match") later refl, is_other_op op (codes "fates") later refl, is_other_op op (codes "deliver") later refl, is_other_op op (codes "stop") later refl, later)
 
 put_off : (d : Data) → IsPutOff d → HasLaterOp d ⊎ HasLaterForm d
 put_off d cause = elim cause as (λ _. HasLaterOp d ⊎ HasLaterForm d) [ inl e ↦ by (text_at (codes "op") d) refl e | inr form ↦ inr (whole form.0 form.1.0 form.1.1 form.2) ]
@@ -211,7 +256,7 @@ put_off d cause = elim cause as (λ _. HasLaterOp d ⊎ HasLaterForm d) [ inl e 
     by (Ok op) is_op e = inl (op, is_op, later_op op d e)
     by (Err error) is_op e = let later : error ≡ errors.Later = cc in absurd (Decided-text_at (codes "op") d (is_op ∙ ap Err later))
 
-    whole : (one : Act) → row_of d ≡ Ok one → NamesSeries one → IsTrue (is_put_off d one) → HasLaterForm d
+    whole : (one : Act) → row_of d ≡ Ok one → NamesSeries one → IsTrue (is_put_off one) → HasLaterForm d
     whole one is_row named later = let steps = from_steps (text_at (codes "op") d) (λ op. act_of op d) one is_row in (steps.0, one, steps.1, steps.2, named, later)
 
 op_put_off : (d : Data) → HasLaterOp d → IsPutOff d

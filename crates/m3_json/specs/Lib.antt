@@ -1,6 +1,7 @@
 pub mod Fields
 pub mod Lists
 pub mod Rows
+pub mod Fates
 pub mod NotYet
 pub mod Requests
 pub mod Laws

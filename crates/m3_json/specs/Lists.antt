@@ -1,5 +1,6 @@
 -- How the arrays of a request object are read.
-use Rattle.std.specs.Prelude.{ℕ, suc, List, [], ◌∷◌, Result, Ok, Bool, ◌&&◌, nat_le}
+use Rattle.std.specs.Prelude.{ℕ, suc, List, [], ◌∷◌, Result, Ok, Bool, true, not, ◌&&◌, nat_le}
+use Rattle.std.specs.List.{list_any}
 use Rattle.serde_json.specs.Data.{Data, Items, no_items, item}
 use Rattle.serde_json.specs.Find.{as_array}
 use Rattle.m3_json.specs.declared.fault.LineErr.{LineErr}
@@ -26,3 +27,8 @@ entries_of row (item d ds) = row d >>= λ entry. entries_of row ds >>= λ entrie
 -- the field is an array of so many items, each of its row
 abbrev pub list_at : {A : Type 0} → (Data → Result A LineErr) → List ℕ → ℕ → ℕ → Data → Result (List A) LineErr
 list_at row key least most d = items_at key least most d >>= entries_of row
+
+-- no entry is alike to a later one
+abbrev pub differ_by : {A : Type 0} → (A → A → Bool) → List A → Bool
+differ_by is_alike [] = true
+differ_by is_alike (entry ∷ entries) = not (list_any (is_alike entry) entries) && differ_by is_alike entries

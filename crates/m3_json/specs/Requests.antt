@@ -11,7 +11,8 @@ use Rattle.m3_model.specs.declared.turn.Request.TheVariants as request
 use Rattle.m3_json.specs.declared.fault.LineErr.{LineErr}
 use Rattle.m3_json.specs.declared.fault.LineErr.TheVariants as errors
 use Rattle.m3_json.specs.Fields.{◌>>=◌, text_at}
-use Rattle.m3_json.specs.Rows.{init_of, namespace_of, now_of, write_of, fetch_of, match_of}
+use Rattle.m3_json.specs.Rows.{init_of, namespace_of, now_of, write_of, fetch_of, match_of, stop_of}
+use Rattle.m3_json.specs.Fates.{fates_of, deliver_of}
 use Rattle.m3_json.specs.NotYet.{refusal_of, is_put_off}
 
 -- the row of this op
@@ -22,7 +23,10 @@ act_of op d =
     (if pointwise nat_eq op (codes "now") then now_of d else
     (if pointwise nat_eq op (codes "write") then write_of d else
     (if pointwise nat_eq op (codes "fetch") then fetch_of d else
-    (if pointwise nat_eq op (codes "match") then match_of d else Err (refusal_of op))))))
+    (if pointwise nat_eq op (codes "match") then match_of d else
+    (if pointwise nat_eq op (codes "fates") then fates_of d else
+    (if pointwise nat_eq op (codes "deliver") then deliver_of d else
+    (if pointwise nat_eq op (codes "stop") then stop_of d else Err (refusal_of op)))))))))
 
 -- the act of the row that an object is in by its field `op`; any text stands for an identifier here
 abbrev pub row_of : Data → Result Act LineErr
@@ -44,11 +48,11 @@ SpellsNoAct d = (row_of d ≡ Err errors.Form) ⊎ ((one : Act) × (row_of d ≡
 
 -- the object's op is put off, or the act that it spells is
 abbrev pub IsPutOff : Data → Type 0
-IsPutOff d = (row_of d ≡ Err errors.Later) ⊎ ((one : Act) × SpellsAct d one × IsTrue (is_put_off d one))
+IsPutOff d = (row_of d ≡ Err errors.Later) ⊎ ((one : Act) × SpellsAct d one × IsTrue (is_put_off one))
 
 -- what an object means: the act that it spells, where that isn't put off; want of memory says nothing of it
 abbrev pub ObjectMeans : Data → Result Request LineErr → Type 0
-ObjectMeans d (Ok r) = (one : Act) × SpellsAct d one × (is_put_off d one ≡ false) × (r ≡ request.One one)
+ObjectMeans d (Ok r) = (one : Act) × SpellsAct d one × (is_put_off one ≡ false) × (r ≡ request.One one)
 ObjectMeans d (Err errors.Form) = SpellsNoAct d
 ObjectMeans d (Err errors.Later) = IsPutOff d
 ObjectMeans d (Err errors.Memory) = ⊤

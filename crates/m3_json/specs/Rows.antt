@@ -1,6 +1,5 @@
 -- The grammar: one row for each kind of request.
-use Rattle.std.specs.Prelude.{ℕ, ◌^◌, List, [], ◌∷◌, Some, None, Option, Result, Ok, Err, Bool, true, false, not, ◌&&◌, nat_eq, if◌then◌else◌, codes}
-use Rattle.std.specs.List.{list_any}
+use Rattle.std.specs.Prelude.{ℕ, ◌^◌, List, [], ◌∷◌, Some, None, Option, Result, Ok, Err, Bool, true, false, nat_eq, if◌then◌else◌, codes}
 use Rattle.std.specs.Cmp.Lexicographic.{pointwise}
 use Rattle.serde_json.specs.Data.{Data, Items, no_items, item}
 use Rattle.serde_json.specs.Find.{as_array}
@@ -15,7 +14,7 @@ use Rattle.m3_json.specs.declared.fault.LineErr.TheVariants as errors
 use Rattle.m3_model.specs.declared.point.Matcher.{Matcher}
 use Rattle.m3_model.specs.Tags.{is_tag_name}
 use Rattle.m3_json.specs.Fields.{◌>>=◌, needed, tested, has_only, text_of, name_of, number_of, text_at, name_at, number_at, value_at, optional_at}
-use Rattle.m3_json.specs.Lists.{list_at}
+use Rattle.m3_json.specs.Lists.{list_at, differ_by}
 
 -- a node of this name and this group
 abbrev pub node_of_two : Data → Data → Result (List ℕ × List ℕ) LineErr
@@ -32,8 +31,7 @@ node_of d = needed (as_array d) >>= node_of_items
 
 -- no two nodes have the same name
 abbrev pub names_differ : List (List ℕ × List ℕ) → Bool
-names_differ [] = true
-names_differ (node ∷ nodes) = not (list_any (λ other. pointwise nat_eq other.0 node.0) nodes) && names_differ nodes
+names_differ = differ_by (λ node other. pointwise nat_eq other.0 node.0)
 
 -- the field is an array of 1 to 16 nodes with names of their own
 unfoldable pub nodes_at : List ℕ → Data → Result (List (List ℕ × List ℕ)) LineErr
@@ -160,3 +158,10 @@ match_of d = do
   level ← read_level_at d
   version ← version_at d
   Ok (act.Match ns wanted from to level version)
+
+-- stop: the node's name
+unfoldable pub stop_of : Data → Result Act LineErr
+stop_of d = do
+  whole ← tested (has_only (codes "node" ∷ codes "op" ∷ [])) d
+  node ← name_at (codes "node") d
+  Ok (act.Stop node)

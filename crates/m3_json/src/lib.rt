@@ -2,6 +2,7 @@
 #![tactic(auto)]
 
 mod calls;
+mod fates;
 pub mod fault;
 mod fields;
 mod init;
@@ -13,5 +14,6 @@ mod moment;
 mod names;
 mod namespace;
 mod not_yet;
+mod stop;
 #[cfg(test)]
 mod tests;

@@ -6,6 +6,7 @@ ghost use Rattle.m3_json.specs.Fields.{Gives};
 ghost use Rattle.m3_json.specs.Requests.{act_of, NamesSeries, ObjectMeans, LineMeans};
 
 use crate::calls::{fetch_of, write_of};
+use crate::fates::{deliver_of, fates_of};
 use crate::fault::LineErr;
 use crate::fields::text_at;
 use crate::init::init_of;
@@ -13,6 +14,7 @@ use crate::matches::match_of;
 use crate::moment::now_of;
 use crate::namespace::namespace_of;
 use crate::not_yet::{is_put_off, refusal_of};
+use crate::stop::stop_of;
 use m3_model::act::Act;
 use m3_model::turn::Request;
 use serde_json::Value;
@@ -31,6 +33,9 @@ fn act_of(alloc: Global, op: &str, value: &Value) -> Result<Act, LineErr>
         "write" => write_of(alloc, value),
         "fetch" => fetch_of(alloc, value),
         "match" => match_of(alloc, value),
+        "fates" => fates_of(alloc, value),
+        "deliver" => deliver_of(value),
+        "stop" => stop_of(alloc, value),
         _ => Err(refusal_of(op)),
     }
 }
@@ -55,7 +60,7 @@ fn request_of(alloc: Global, value: &Value) -> Result<Request, LineErr>
     if !names_series(&act) {
         return Err(LineErr::Form);
     }
-    if is_put_off(value, &act) {
+    if is_put_off(&act) {
         return Err(LineErr::Later);
     }
     Ok(Request::One(act))

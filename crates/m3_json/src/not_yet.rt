@@ -1,15 +1,13 @@
 ghost use Rattle.std.specs.Prelude.{◌≡◌, ◌==◌};
 ghost use Rattle.std.specs.List.{list_any};
 ghost use Rattle.std.specs.Cmp.Lexicographic.{pointwise};
-ghost use Rattle.serde_json.specs.View.{view};
 ghost use Rattle.m3_model.specs.NotYet.{groups_differ, fills_its_nodes};
-ghost use Rattle.m3_json.specs.NotYet.{refusal_of, has_level_or_version, is_put_off};
+ghost use Rattle.m3_json.specs.NotYet.{refusal_of, is_put_off};
 
 use crate::fault::LineErr;
 use crate::fields::is_one_of;
 use m3_model::act::Act;
 use m3_model::text::Text;
-use serde_json::Value;
 
 /// What an op without a row is answered: `Later` where it is put off, else `Form`.
 #[tactic(auto, using(crate::proofs::Keys::one_of_texts), unfolding(crate::specs::NotYet::refusal_of))]
@@ -17,9 +15,6 @@ pub fn refusal_of(op: &str) -> LineErr
     ensures { result ≡ refusal_of op.now }
 {
     let later_ops = [
-        "fates",
-        "deliver",
-        "stop",
         "restart",
         "bootstrap",
         "add",
@@ -62,20 +57,21 @@ fn fills_its_nodes(rf: u32, nodes: &[(Text, Text)]) -> bool
     nodes.len() == rf as usize && groups_differ(nodes)
 }
 
-fn has_level_or_version(value: &Value) -> bool
-    ensures { result ≡ has_level_or_version (view value.now) }
-{
-    value.get("level").is_some() || value.get("version").is_some()
-}
-
-/// Whether the act that an object spells is put off.
+/// Whether the act is put off.
 #[tactic(auto, unfolding(crate::specs::NotYet::is_put_off))]
-pub fn is_put_off(value: &Value, act: &Act) -> bool
-    ensures { result ≡ is_put_off (view value.now) act.now }
+pub fn is_put_off(act: &Act) -> bool
+    ensures { result ≡ is_put_off act.now }
 {
     match act {
         Act::Init { rf, nodes, .. } => !fills_its_nodes(*rf, nodes.as_slice()),
-        Act::Write { .. } | Act::Fetch { .. } | Act::Match { .. } => has_level_or_version(value),
-        _ => false,
+        Act::Write { version, .. } | Act::Fetch { version, .. } | Act::Match { version, .. } => {
+            version.is_some()
+        }
+        Act::Namespace { .. }
+        | Act::Now { .. }
+        | Act::Fates { .. }
+        | Act::Deliver
+        | Act::Stop { .. } => false,
+        _ => true,
     }
 }

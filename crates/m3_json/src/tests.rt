@@ -87,12 +87,13 @@ ok {"op":"write","ns":"m","id":"{dc=\"x\"}","t":100,"v":1}
 ok {"op":"write","ns":"m","id":"{dc=\"x\",host=\"\"}","t":100,"v":1}
 form {"op":"write","ns":"m","id":"{host=\"x\",dc=\"x\"}","t":100,"v":1}
 form {"op":"write","ns":"m","id":"{dc=\"x\"","t":100,"v":1,"level":"one"}
-later {"op":"write","ns":"m","id":"{dc=\"x\"}","t":100,"v":1,"level":"one"}
+ok {"op":"write","ns":"m","id":"{dc=\"x\"}","t":100,"v":1,"level":"one"}
 form {"op":"write","ns":"m","id":7,"t":100,"v":1}
 form {"op":"write","ns":"m","id":"{dc=\"x\"}","t":100,"v":1.5}
 form {"op":"write","ns":"m","id":"","t":100,"v":1}
-later {"op":"write","ns":"m","id":"a","t":100,"v":1,"level":"one"}
-later {"op":"write","ns":"m","id":"a","t":100,"v":1,"level":"majority"}
+ok {"op":"write","ns":"m","id":"a","t":100,"v":1,"level":"all"}
+ok {"op":"write","ns":"m","id":"a","t":100,"v":1,"level":"majority"}
+later {"op":"write","ns":"m","id":"a","t":100,"v":1,"level":"one","version":1}
 form {"op":"write","ns":"m","id":"a","t":100,"v":1,"level":"unstrict"}
 form {"op":"write","ns":"m","id":"a","t":100,"v":1,"level":"frob"}
 form {"op":"write","ns":"m","id":"a","t":100,"v":1,"level":null}
@@ -104,8 +105,9 @@ form {"op":"write","ns":"m","id":"a","t":100,"v":2,"v":1.5}
 form {"op":"write","ns":"m","id":"a","t":100}
 ok {"op":"fetch","ns":"m","id":"a","from":0,"to":4611686018427387903}
 ok {"op":"fetch","ns":"m","id":"a","from":9,"to":0}
-later {"op":"fetch","ns":"m","id":"a","from":0,"to":9,"level":"unstrict"}
-later {"op":"fetch","ns":"m","id":"a","from":0,"to":9,"level":"all"}
+ok {"op":"fetch","ns":"m","id":"a","from":0,"to":9,"level":"unstrict"}
+ok {"op":"fetch","ns":"m","id":"a","from":0,"to":9,"level":"all"}
+later {"op":"fetch","ns":"m","id":"a","from":0,"to":9,"version":0}
 form {"op":"fetch","ns":"m","id":"a","from":0,"to":9,"level":"Majority"}
 form {"op":"fetch","ns":"m","id":"{","from":0,"to":9}
 form {"op":"fetch","ns":"m","id":"{}","from":0,"to":9,"version":1}
@@ -128,11 +130,31 @@ form {"op":"match","ns":"m","where":[["dc","!==","x"]],"from":0,"to":9}
 form {"op":"match","ns":"m","where":[["dc","=",1]],"from":0,"to":9}
 form {"op":"match","ns":"m","where":[],"from":0,"to":9,"id":"a"}
 form {"op":"match","ns":"m","where":[],"from":0,"to":4611686018427387904}
-later {"op":"match","ns":"m","where":[],"from":0,"to":9,"level":"unstrict"}
+ok {"op":"match","ns":"m","where":[],"from":0,"to":9,"level":"one"}
 form {"op":"match","ns":"m","where":[],"from":0,"to":9,"level":"some"}
 later {"op":"match","ns":"m","where":[],"from":0,"to":9,"version":1}
 ok {"op":"match","ns":"m","where":[["a","=",""],["a","=",""],["a","=",""],["a","=",""],["a","=",""],["a","=",""],["a","=",""],["a","=",""],["a","=",""],["a","=",""],["a","=",""],["a","=",""],["a","=",""],["a","=",""],["a","=",""],["a","=",""]],"from":0,"to":9}
 form {"op":"match","ns":"m","where":[["a","=",""],["a","=",""],["a","=",""],["a","=",""],["a","=",""],["a","=",""],["a","=",""],["a","=",""],["a","=",""],["a","=",""],["a","=",""],["a","=",""],["a","=",""],["a","=",""],["a","=",""],["a","=",""],["a","=",""]],"from":0,"to":9}"#;
+
+// Lines of fates, deliver and stop, each with its outcome before it.
+const FATES: &str = r#"ok {"op":"fates","list":[]}
+ok {"op":"fates","list":[[0,0,"b","late"],[0,0,"c","late"],[0,1,"b","lose"],[8,4611686018427387903,"b","twice"]]}
+form {"op":"fates","list":[[9,0,"b","late"]]}
+form {"op":"fates","list":[[0,4611686018427387904,"b","late"]]}
+form {"op":"fates","list":[[0,0,"b","deliver"]]}
+form {"op":"fates","list":[[0,0,"","late"]]}
+form {"op":"fates","list":[[0,0,"b"]]}
+form {"op":"fates","list":[[0,0,"b","late",0]]}
+form {"op":"fates","list":[[0,0,"b","late"],[0,1,"b","late"],[0,0,"b","lose"]]}
+form {"op":"fates"}
+form {"op":"fates","list":{}}
+form {"op":"fates","list":[],"x":1}
+ok {"op":"deliver"}
+form {"op":"deliver","list":[]}
+ok {"op":"stop","node":"a"}
+form {"op":"stop"}
+form {"op":"stop","node":"a b"}
+form {"op":"stop","node":"a","pick":0}"#;
 
 fn outcome(alloc: Global, line: &[u8]) -> &'static str {
     match read_line(alloc, line) {
@@ -153,7 +175,7 @@ fn wrong_row(alloc: Global, rows: &str) -> Option<&str> {
 
 #[test]
 fn rows(rt: HostRuntime) {
-    for rows in [OBJECTS, INITS, NAMESPACES, MOMENTS, CALLS, MATCHES] {
+    for rows in [OBJECTS, INITS, NAMESPACES, MOMENTS, CALLS, MATCHES, FATES] {
         assert_eq!(rt; wrong_row(rt.alloc(), rows), None);
     }
 }

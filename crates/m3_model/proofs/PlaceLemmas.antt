@@ -1,5 +1,5 @@
 -- A run that goes on by one line.
-use Rattle.std.proofs.Common.{◌≡◌, List, [], ◌∷◌, ◌++◌, refl, sym, ap, ◌∙◌, inl, inr}
+use Rattle.std.proofs.Common.{◌≡◌, List, [], ◌∷◌, ◌++◌, length, refl, sym, ap, ◌∙◌, inl, inr}
 use Rattle.std.specs.Prelude.{◌⊎◌, Option}
 use Rattle.m3_model.specs.declared.rules.MetaState.{MetaState}
 use Rattle.m3_model.specs.declared.turn.Turn.{Turn}
@@ -7,7 +7,7 @@ use Rattle.m3_model.specs.declared.act.Act.{Act}
 use Rattle.m3_model.specs.declared.answer.Answer.{Answer}
 use Rattle.m3_model.specs.declared.turn.Request.TheVariants as request
 use Rattle.m3_model.specs.declared.turn.Reply.TheVariants as reply
-use Rattle.m3_model.specs.Record.{InnerTurn, Record, TurnPlace, IsTurnPlace, lists_of, joined}
+use Rattle.m3_model.specs.Record.{InnerTurn, Record, TurnPlace, IsTurnPlace, client_at, lists_of, joined}
 use Rattle.m3_model.specs.Kept.{KeptAt}
 
 pub not_empty : {X : Type 0} (ys : List X) (y : X) (zs : List X) → [] ≡ ys ++ y ∷ zs → ⊥
@@ -38,14 +38,15 @@ pub record IsLastTurnPlace (turns : List Turn) (line : Turn) (s : TurnPlace) : T
   pub lines_are : s.lines ≡ turns
   pub in_line : lists_of line ≡ front ++ (s.earlier ++ s.turn ∷ later) ∷ back
   pub others : s.beside ≡ joined front ++ joined back
+  pub client_is : s.client ≡ client_at line.request (length front)
 
 -- what holds at the places of a run that goes on by one line: what held before, and what holds in the last line
 pub at_push : (Holds : TurnPlace → Type 0) (turns : List Turn) (line : Turn) → ((p : TurnPlace) → IsTurnPlace turns p → Holds p) → ((p : TurnPlace) → IsLastTurnPlace turns line p → Holds p)
     → (p : TurnPlace) → IsTurnPlace (turns ++ line ∷ []) p → Holds p
 at_push Holds turns line before last p h =
     elim (split_push turns line p.lines h.line h.after h.in_run) as (λ _. Holds p) [
-      | inl here ↦ last p (record { front = h.front; later = h.later; back = h.back; lines_are = here.0; in_line = ap lists_of (sym here.1) ∙ h.in_line; others = h.others })
-      | inr there ↦ before p (record { line = h.line; after = there.0; front = h.front; later = h.later; back = h.back; in_run = there.1; in_line = h.in_line; others = h.others })
+      | inl here ↦ last p (record { front = h.front; later = h.later; back = h.back; lines_are = here.0; in_line = ap lists_of (sym here.1) ∙ h.in_line; others = h.others; client_is = h.client_is ∙ ap (λ (l : Turn). client_at l.request (length h.front)) here.1 })
+      | inr there ↦ before p (record { line = h.line; after = there.0; front = h.front; later = h.later; back = h.back; in_run = there.1; in_line = h.in_line; others = h.others; client_is = h.client_is })
     ]
 
 -- a run that goes on by one line stays kept
@@ -57,6 +58,7 @@ kept_push past start turns line = at_push (KeptAt past start) turns line
 -- a line outside `par` has one deed, and nothing stands beside it
 pub record IsOnly (turns : List Turn) (d : InnerTurn) (s : TurnPlace) : Type 0 where
   pub lines_are : s.lines ≡ turns
+  pub client_is : s.client ≡ 0
   pub earlier_is : s.earlier ≡ []
   pub beside_is : s.beside ≡ []
   pub turn_is : s.turn ≡ d
@@ -77,6 +79,7 @@ only_place turns a b p h =
     let turns_are = only_in d p.earlier p.turn h.later (sym lists.1) in
     record {
       lines_are = h.lines_are;
+      client_is = h.client_is;
       earlier_is = turns_are.0;
       beside_is = h.others ∙ ap (λ xs. joined xs ++ joined h.back) lists.0 ∙ ap joined lists.2;
       turn_is = turns_are.1;

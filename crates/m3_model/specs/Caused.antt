@@ -1,14 +1,17 @@
 -- Why an answer is what it is: a refusal has its cause, and what has none is answered in its own way.
-use Rattle.std.specs.Prelude.{◌≡◌, ℕ, ◌+◌, ◌≤◌, ◌<◌, List, ◌++◌, length, Option, Some, None, Bool, true, slice_get, ◌⊎◌, ⊤}
-use Rattle.std.specs.List.{filter_map}
+use Rattle.std.specs.Prelude.{◌≡◌, ℕ, ◌+◌, ◌≤◌, ◌<◌, List, ◌++◌, length, map, count_by, Option, Some, None, Bool, true, false, not, slice_get, IsTrue, [], ◌∷◌, ◌⊎◌, ⊤}
+use Rattle.std.specs.List.{filter_map, list_any}
 use Rattle.m3_model.specs.Ascends.{Ascends}
 use Rattle.m3_model.specs.Members.{IsIn}
 use Rattle.m3_model.specs.Hash.{shard_of}
-use Rattle.m3_model.specs.Levels.{needed_write, needed_read}
+use Rattle.m3_model.specs.Levels.{majority, needed_write, needed_read}
 use Rattle.m3_model.specs.Record.{Life, TurnPlace, IsTurnPlace, inner_turns}
 use Rattle.m3_model.specs.Rules.{InWindow, IsPast, IsFuture, rules_at}
 use Rattle.m3_model.specs.Placements.{printed, placements, placement_after, start_placement, seed_after, counted_nodes, IsCounted, IsFirstPlacement}
-use Rattle.m3_model.specs.Points.{point_of}
+use Rattle.m3_model.specs.Points.{point_of, was_sent}
+use Rattle.m3_model.specs.Fates.{fate_at, is_stopped, reaches, OfNode, IsCutAt, IsStoppedAt}
+use Rattle.m3_model.specs.declared.act.Fate.TheVariants.{Late}
+use Rattle.m3_model.specs.declared.turn.Turn.{Turn}
 use Rattle.m3_model.specs.Refusals.{refusal_by}
 use Rattle.m3_model.specs.Tags.{IsBelow}
 use Rattle.m3_model.specs.declared.placement.Instance.{Instance}
@@ -55,6 +58,7 @@ pub record IsAcked (start : Option MetaState) (p : TurnPlace) (id : List ℕ) (l
   pub may_use : MayUse start p version place
   pub counted : (node : ℕ) → IsIn acks node → IsCounted place (shard_of id (seed_after start (inner_turns p.lines)) (length place.shards)) node
   pub by_name : Ascends (IsNamedBelow place) acks
+  pub reached : (node : ℕ) → IsIn acks node → reaches p place node ≡ true
   pub enough : needed_write level place.rf ≤ length acks
   pub takes : TakesPoint (rules_at start p) p.turn.act
 
@@ -81,12 +85,15 @@ pub record IsOutside (Outside : Rules → Point → Type 0) (rules : Rules) (a :
   pub of_act : point_of rules.spaces a ≡ Some point
   pub outside : Outside rules point
 
--- why a replica may refuse a call: its point isn't in the window, or memory is wanted, which may come at any place
-abbrev pub MayRefuse : Rules → Act → Reason → Type 0
-MayRefuse rules a reason.Past = IsOutside IsPast rules a
-MayRefuse rules a reason.Future = IsOutside IsFuture rules a
-MayRefuse rules a reason.Memory = ⊤
-MayRefuse rules a _ = ⊥
+-- why the replica of a node may refuse a call: its messages aren't delivered, the node is stopped, the point isn't in the
+-- window, or memory is wanted, which may come at any place
+abbrev pub MayRefuse : Option MetaState → TurnPlace → Placement → ℕ → Reason → Type 0
+MayRefuse start p place node reason.Cut = IsCutAt p place node
+MayRefuse start p place node reason.Down = IsStoppedAt p place node
+MayRefuse start p place node reason.Past = IsOutside IsPast (rules_at start p) p.turn.act
+MayRefuse start p place node reason.Future = IsOutside IsFuture (rules_at start p) p.turn.act
+MayRefuse start p place node reason.Memory = ⊤
+MayRefuse start p place node _ = ⊥
 
 -- a replica may do as a call asks: a write's point is one that is taken at this moment
 abbrev pub MayServe : Rules → Act → Type 0
@@ -106,23 +113,92 @@ pub record IsUnmet (start : Option MetaState) (p : TurnPlace) (got needed : ℕ)
   pub counted : (r : ℕ × Reason) → IsIn reasons r → IsCounted place shard r.0
   pub by_name : Ascends (λ a b. IsNamedBelow place a.0 b.0) reasons
   pub others : got + length reasons ≡ length (counted_nodes place shard)
-  pub refused : (r : ℕ × Reason) → IsIn reasons r → MayRefuse (rules_at start p) p.turn.act r.1
+  pub silent : (node : ℕ) → IsCounted place shard node → reaches p place node ≡ false → IsIn (map (λ r. r.0) reasons) node
+  pub refused : (r : ℕ × Reason) → IsIn reasons r → MayRefuse start p place r.0 r.1
   pub served : 0 < got → MayServe (rules_at start p) p.turn.act
 
--- only an unstrict read may be short
-abbrev pub MayBeShort : ReadLevel → Bool → Type 0
-MayBeShort level short = short ≡ true → level ≡ read.Unstrict
+-- how many counted replicas of a shard the messages of the call reach
+abbrev pub reached_of : TurnPlace → Placement → ℕ → ℕ
+reached_of p place shard = count_by (reaches p place) (counted_nodes place shard)
+
+-- a read is answered where its messages reach enough replicas of each shard that it asks; only an unstrict read may be short,
+-- and one that isn't reached a majority of each
+pub record IsFoundFor (start : Option MetaState) (p : TurnPlace) (id : Option (List ℕ)) (level : ReadLevel) (version : Option ℕ) (short : Bool) : Type 0 where
+  pub place : Placement
+  pub may_use : MayUse start p version place
+  pub enough : (shard : ℕ) → IsAsked id (seed_after start (inner_turns p.lines)) (length place.shards) shard → needed_read level place.rf ≤ reached_of p place shard
+  pub may_be_short : short ≡ true → level ≡ read.Unstrict
+  pub not_short : short ≡ false → level ≡ read.Unstrict → (shard : ℕ) → IsAsked id (seed_after start (inner_turns p.lines)) (length place.shards) shard → majority place.rf ≤ reached_of p place shard
+
+-- A message of an earlier write that was made late: the write's place, the node and its point.
+pub record LateMessage : Type 0 where
+  pub place : TurnPlace
+  pub node : ℕ
+  pub point : Point
+
+-- no writes made late were delivered in this line
+abbrev pub delivers_nothing : Turn → Bool
+delivers_nothing line = not (list_any (λ turn. is_delivery turn.answer) (inner_turns (line ∷ [])))
+  where
+    is_delivery : Answer → Bool
+    is_delivery (answer.Outcomes outcomes) = true
+    is_delivery _ = false
+
+-- the message was made late in an earlier line, and none were delivered since
+pub record IsLateMessage (start : Option MetaState) (p : TurnPlace) (place : Placement) (m : LateMessage) : Type 0 where
+  pub at : IsTurnPlace p.lines m.place
+  pub of_act : point_of (rules_at start p).spaces m.place.turn.act ≡ Some m.point
+  pub was_sent : was_sent m.place.turn.answer ≡ true
+  pub late : OfNode place m.node (λ name. fate_at m.place name ≡ Late)
+  pub not_yet : (line : Turn) → IsIn at.after line → IsTrue (delivers_nothing line)
+
+-- one message was made late before another: by its line, and then by the node's name
+abbrev pub IsLateBefore : Placement → LateMessage → LateMessage → Type 0
+IsLateBefore place a b = (length a.place.lines < length b.place.lines) ⊎ ((length a.place.lines ≡ length b.place.lines) × IsNamedBelow place a.node b.node)
+
+-- what may come of a late message: the point is taken within its window, or refused for it, or the node is stopped
+abbrev pub MayComeOf : Option MetaState → TurnPlace → Placement → LateMessage → Option Reason → Type 0
+MayComeOf start p place m None = InWindow (rules_at start p) m.point
+MayComeOf start p place m (Some reason.Down) = IsStoppedAt p place m.node
+MayComeOf start p place m (Some reason.Past) = IsPast (rules_at start p) m.point
+MayComeOf start p place m (Some reason.Future) = IsFuture (rules_at start p) m.point
+MayComeOf start p place m (Some reason.Memory) = ⊤
+MayComeOf start p place m (Some _) = ⊥
+
+-- an outcome is of this message
+pub record IsOutcome (start : Option MetaState) (p : TurnPlace) (place : Placement) (m : LateMessage) (outcome : ℕ × ℕ × Option Reason) : Type 0 where
+  pub message : IsLateMessage start p place m
+  pub node_is : outcome.0 ≡ m.node
+  pub shard_is : outcome.1 ≡ shard_of m.point.id (seed_after start (inner_turns p.lines)) (length place.shards)
+  pub came : MayComeOf start p place m outcome.2
+
+-- one outcome of each of these messages
+abbrev pub AreOutcomes : Option MetaState → TurnPlace → Placement → List LateMessage → List (ℕ × ℕ × Option Reason) → Type 0
+AreOutcomes start p place [] [] = ⊤
+AreOutcomes start p place (m ∷ messages) (outcome ∷ outcomes) = IsOutcome start p place m outcome × AreOutcomes start p place messages outcomes
+AreOutcomes start p place _ _ = ⊥
+
+-- outcomes of messages that were made late, each once, in the order in which they were
+pub record IsDelivered (start : Option MetaState) (p : TurnPlace) (outcomes : List (ℕ × ℕ × Option Reason)) : Type 0 where
+  pub place : Placement
+  pub stands : placement_at start p ≡ Some place
+  pub messages : List LateMessage
+  pub in_order : Ascends (IsLateBefore place) messages
+  pub each : AreOutcomes start p place messages outcomes
 
 -- the answer is the act's own: ok, or too few replicas answered; what a read finds is said by what it keeps
 abbrev pub IsOwn : Option MetaState → TurnPlace → Act → Answer → Type 0
 IsOwn start p (act.Init rf shards seed nodes) (answer.Placed place version) = IsFirstPlacement rf shards nodes place × (version ≡ place.version)
 IsOwn start p (act.Namespace name block past future retention) answer.Done = Unit {0}
 IsOwn start p (act.Now now) answer.Done = Unit {0}
+IsOwn start p (act.Fates list) answer.Done = Unit {0}
+IsOwn start p act.Deliver (answer.Outcomes outcomes) = IsDelivered start p outcomes
+IsOwn start p (act.Stop node) answer.Done = Unit {0}
 IsOwn start p (act.Write ns id t v level version) (answer.Acks acks) = IsAcked start p id level version acks
 IsOwn start p (act.Write ns id t v level version) (answer.Consistency got needed reasons shard) = IsUnmet start p got needed reasons shard
-IsOwn start p (act.Fetch ns id from to level version) (answer.Found series short) = MayBeShort level short
+IsOwn start p (act.Fetch ns id from to level version) (answer.Found series short) = IsFoundFor start p (Some id) level version short
 IsOwn start p (act.Fetch ns id from to level version) (answer.Consistency got needed reasons shard) = IsUnmet start p got needed reasons shard
-IsOwn start p (act.Match ns wanted from to level version) (answer.Found series short) = MayBeShort level short
+IsOwn start p (act.Match ns wanted from to level version) (answer.Found series short) = IsFoundFor start p None level version short
 IsOwn start p (act.Match ns wanted from to level version) (answer.Consistency got needed reasons shard) = IsUnmet start p got needed reasons shard
 IsOwn start p _ _ = ⊥
 
@@ -133,7 +209,7 @@ IsDue start p None = IsOwn start p p.turn.act p.turn.answer
 
 -- an answer is the one that is due; want of memory may come at any place
 abbrev pub CausedAt : Option MetaState → TurnPlace → Type 0
-CausedAt start p = (p.turn.answer ≡ answer.Memory) ⊎ IsDue start p (refusal_by (placement_at start p) (rules_at start p) p.turn.act)
+CausedAt start p = (p.turn.answer ≡ answer.Memory) ⊎ IsDue start p (refusal_by (placement_at start p) (rules_at start p) (is_stopped (inner_turns p.lines)) p.turn.act)
 
 -- each answer of the present run is caused
 abbrev pub Caused : Life → Type 0

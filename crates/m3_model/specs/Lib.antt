@@ -10,6 +10,7 @@ pub mod Hash
 pub mod Tags
 pub mod Record
 pub mod Rules
+pub mod Fates
 pub mod Placements
 pub mod Points
 pub mod Reads

@@ -4,8 +4,6 @@ use Rattle.std.specs.List.{list_any}
 use Rattle.std.specs.Cmp.Lexicographic.{pointwise}
 use Rattle.m3_model.specs.declared.act.Act.{Act}
 use Rattle.m3_model.specs.declared.act.Act.TheVariants as act
-use Rattle.m3_model.specs.declared.act.ReadLevel.TheVariants as read
-use Rattle.m3_model.specs.declared.act.WriteLevel.TheVariants as write
 use Rattle.m3_model.specs.declared.turn.Request.{Request}
 use Rattle.m3_model.specs.declared.turn.Request.TheVariants as request
 
@@ -18,14 +16,17 @@ groups_differ (node ∷ nodes) = not (list_any (λ other. pointwise nat_eq other
 abbrev pub fills_its_nodes : ℕ → List (List ℕ × List ℕ) → Bool
 fills_its_nodes rf nodes = nat_eq (length nodes) rf && groups_differ nodes
 
--- an act of a kind that is served: shards that are on all nodes, and calls at majority and the present version
+-- an act of a kind that is served: shards that are on all nodes, and calls at the present version
 abbrev pub IsServedAct : Act → Type 0
 IsServedAct (act.Init rf shards seed nodes) = IsTrue (fills_its_nodes rf nodes)
 IsServedAct (act.Namespace name block past future retention) = ⊤
 IsServedAct (act.Now now) = ⊤
-IsServedAct (act.Write ns id t v level version) = (level ≡ write.Majority) × (version ≡ None)
-IsServedAct (act.Fetch ns id from to level version) = (level ≡ read.Majority) × (version ≡ None)
-IsServedAct (act.Match ns wanted from to level version) = (level ≡ read.Majority) × (version ≡ None)
+IsServedAct (act.Write ns id t v level version) = version ≡ None
+IsServedAct (act.Fetch ns id from to level version) = version ≡ None
+IsServedAct (act.Match ns wanted from to level version) = version ≡ None
+IsServedAct (act.Fates list) = ⊤
+IsServedAct act.Deliver = ⊤
+IsServedAct (act.Stop node) = ⊤
 IsServedAct _ = ⊥
 
 -- one act of such a kind
@@ -33,7 +34,7 @@ abbrev pub IsServed : Request → Type 0
 IsServed (request.One one) = IsServedAct one
 IsServed (request.Par clients workers) = ⊥
 
--- the act is of another kind than these six
+-- the act is of another kind than these nine
 abbrev pub is_put_off : Act → Bool
 is_put_off (act.Init rf shards seed nodes) = false
 is_put_off (act.Namespace name block past future retention) = false
@@ -41,4 +42,7 @@ is_put_off (act.Now now) = false
 is_put_off (act.Write ns id t v level version) = false
 is_put_off (act.Fetch ns id from to level version) = false
 is_put_off (act.Match ns wanted from to level version) = false
+is_put_off (act.Fates list) = false
+is_put_off act.Deliver = false
+is_put_off (act.Stop node) = false
 is_put_off _ = true

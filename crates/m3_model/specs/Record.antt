@@ -1,5 +1,5 @@
 -- What runs did: their turns, and what stands before and beside one of them.
-use Rattle.std.specs.Prelude.{◌≡◌, List, [], ◌∷◌, ◌++◌, Option, Some, None}
+use Rattle.std.specs.Prelude.{◌≡◌, ℕ, suc, List, [], ◌∷◌, ◌++◌, length, Option, Some, None}
 use Rattle.std.specs.List.{flat_map}
 use Rattle.m3_model.specs.Members.{IsIn}
 use Rattle.m3_model.specs.declared.rules.MetaState.{MetaState}
@@ -67,9 +67,15 @@ pub record Life : Type 0 where
 -- An inner turn of the present run, with what stands before and beside it.
 pub record TurnPlace : Type 0 where
   pub lines : List Turn  -- the earlier lines of the run
+  pub client : ℕ  -- whose list it is in: 0 outside `par`, and in it one more than the list's place
   pub earlier : List InnerTurn  -- earlier in its own list of its own line
   pub beside : List InnerTurn  -- in the other lists of its own line
   pub turn : InnerTurn
+
+-- who makes the turns of the list at this place of a line; workers' lists come after those of the clients
+abbrev pub client_at : Request → ℕ → ℕ
+client_at (request.One a) place = 0
+client_at (request.Par clients workers) place = suc place
 
 -- a place of an inner turn in the turns of a run
 pub record IsTurnPlace (turns : List Turn) (p : TurnPlace) : Type 0 where
@@ -81,6 +87,7 @@ pub record IsTurnPlace (turns : List Turn) (p : TurnPlace) : Type 0 where
   pub in_run : turns ≡ p.lines ++ line ∷ after
   pub in_line : lists_of line ≡ front ++ (p.earlier ++ p.turn ∷ later) ∷ back
   pub others : p.beside ≡ joined front ++ joined back
+  pub client_is : p.client ≡ client_at line.request (length front)
 
 -- all that earlier runs, earlier lines and its own list did before an inner turn
 abbrev pub turns_before : List Record → TurnPlace → List InnerTurn

@@ -1,5 +1,5 @@
 -- What the turns before an act refuse it for: its place among the lines, a name, a limit, a moment.
-use Rattle.std.specs.Prelude.{ℕ, List, length, Option, Some, None, option_map, Bool, true, false, if◌then◌else◌, is_some, nat_le, nat_lt}
+use Rattle.std.specs.Prelude.{ℕ, List, length, Option, Some, None, option_map, Bool, true, false, if◌then◌else◌, not, is_some, nat_le, nat_lt, ◌∷◌, []}
 use Rattle.std.specs.Option.{option_map_or, option_or}
 use Rattle.m3_model.specs.Rules.{namespace_place}
 use Rattle.m3_model.specs.Placements.{is_listed}
@@ -9,6 +9,7 @@ use Rattle.m3_model.specs.declared.rules.Space.{Space}
 use Rattle.m3_model.specs.declared.rules.Rules.{Rules}
 use Rattle.m3_model.specs.declared.act.Act.{Act}
 use Rattle.m3_model.specs.declared.act.Act.TheVariants as act
+use Rattle.m3_model.specs.declared.act.Fate.{Fate}
 use Rattle.m3_model.specs.declared.answer.Answer.{Answer}
 use Rattle.m3_model.specs.declared.answer.Answer.TheVariants as answer
 
@@ -36,11 +37,17 @@ missing_space spaces name = if is_some (namespace_place name spaces) then None e
 abbrev pub missing_node : Option Placement → List ℕ → Option (List ℕ)
 missing_node place name = if option_map_or (is_listed name) place false then None else Some name
 
+-- the first name in a list of fates that no listed node has
+abbrev pub missing_in : Option Placement → List (ℕ × ℕ × List ℕ × Fate) → Option (List ℕ)
+missing_in place [] = None
+missing_in place (item ∷ list) = option_or (missing_node place item.2) (missing_in place list)
+
 -- the name in an act that should be there and isn't
 abbrev pub missing_name : Option Placement → List Space → Act → Option (List ℕ)
 missing_name place spaces (act.Write ns id t v level version) = missing_space spaces ns
 missing_name place spaces (act.Fetch ns id from to level version) = missing_space spaces ns
 missing_name place spaces (act.Match ns wanted from to level version) = missing_space spaces ns
+missing_name place spaces (act.Fates list) = missing_in place list
 missing_name place spaces (act.Stop node) = missing_node place node
 missing_name place spaces (act.Restart node pick) = missing_node place node
 missing_name place spaces (act.Bootstrap node shard) = missing_node place node
@@ -64,10 +71,17 @@ abbrev pub lowered_moment : ℕ → Act → Option Answer
 lowered_moment moment (act.Now now) = answer_if (nat_lt now moment) (answer.Clock moment)
 lowered_moment moment _ = None
 
--- the first refusal that the turns before decide: put off, out of order, unknown, limit, clock
-abbrev pub refusal_by : Option Placement → Rules → Act → Option Answer
-refusal_by place rules a =
+-- a node to be stopped or bootstrapped that is stopped, or one to be restarted that isn't
+abbrev pub wrong_state : (List ℕ → Bool) → Act → Option Answer
+wrong_state stopped (act.Stop node) = answer_if (stopped node) (answer.State node)
+wrong_state stopped (act.Bootstrap node shard) = answer_if (stopped node) (answer.State node)
+wrong_state stopped (act.Restart node pick) = answer_if (not (stopped node)) (answer.State node)
+wrong_state stopped _ = None
+
+-- the first refusal that the turns before decide: put off, out of order, unknown, limit, clock, state
+abbrev pub refusal_by : Option Placement → Rules → (List ℕ → Bool) → Act → Option Answer
+refusal_by place rules stopped a =
     option_or (answer_if (is_put_off a) answer.Later)
     (option_or (answer_if (is_out_of_order place rules.spaces a) answer.Order)
     (option_or (option_map (λ name. answer.Unknown name) (missing_name place rules.spaces a))
-    (option_or (limit_reached rules.spaces a) (lowered_moment rules.now a))))
+    (option_or (limit_reached rules.spaces a) (option_or (lowered_moment rules.now a) (wrong_state stopped a)))))

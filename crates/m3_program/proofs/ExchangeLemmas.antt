@@ -1,6 +1,6 @@
 -- A run goes on by one line.
 use Rattle.std.proofs.Common.{◌≡◌, ℕ, List, [], ◌∷◌, ◌++◌, refl, sym, ap, ◌∙◌, subst, inl, inr, append-nil, true, false}
-use Rattle.std.specs.Prelude.{Option, None, Ok}
+use Rattle.std.specs.Prelude.{None, Ok}
 use Rattle.std.proofs.lemmas.List.Concat.{flat_map-append}
 use Rattle.m3_model.specs.declared.answer.Answer.{Answer}
 use Rattle.m3_model.specs.declared.turn.Request.{Request}
@@ -9,7 +9,7 @@ use Rattle.m3_model.specs.declared.turn.Reply.TheVariants as reply
 use Rattle.m3_model.specs.declared.turn.Turn.{Turn}
 use Rattle.m3_model.proofs.PlaceLemmas.{split_push}
 use Rattle.m3_json.specs.Requests.{LineMeans}
-use Rattle.m3_cluster.specs.Steps.{Formed}
+use Rattle.m3_cluster.specs.declared.cluster.Cluster.{Cluster}
 use Rattle.m3_cluster.specs.Serves.{Serves, place_of}
 use Rattle.m3_program.specs.Exchanges.{Exchange, Outcome, Passed, Refused, Answered, AreExchanges, IsExchange, IsOutcome, IsRefusal, is_blank, turns_by, turns_of, known_place, reply_line}
 use Rattle.m3_program.specs.Streams.{Progress, Advances}
@@ -26,11 +26,11 @@ pub turns_of-push : (xs : List Exchange) (x : Exchange) → turns_of (xs ++ x �
 turns_of-push xs x = flat_map-append (λ y. turns_by y.outcome) xs (x ∷ []) ∙ ap (λ ts. turns_of xs ++ ts) (append-nil (turns_by x.outcome))
 
 -- the placement that the turns printed is the cluster's
-pub place_known : (turns : List Turn) (c : Option Formed) → Serves turns c → known_place None turns ≡ place_of c
+pub place_known : (turns : List Turn) (c : Cluster) → Serves turns c → known_place None turns ≡ place_of c
 place_known turns c s = s.stands.place
 
 -- a line that makes no turn
-pub still : (c : Option Formed) (line text : List ℕ) (outcome : Outcome) → turns_by outcome ≡ [] → ((xs : List Exchange) → Progress xs c → IsOutcome None (turns_of xs) line outcome text) → Advances c line text c
+pub still : (c : Cluster) (line text : List ℕ) (outcome : Outcome) → turns_by outcome ≡ [] → ((xs : List Exchange) → Progress xs c → IsOutcome None (turns_of xs) line outcome text) → Advances c line text c
 still c line text outcome none said = λ xs p. (
   outcome,
   record {
@@ -40,16 +40,16 @@ still c line text outcome none said = λ xs p. (
 )
 
 -- a blank line
-pub passes : (c : Option Formed) (line text : List ℕ) → is_blank line ≡ true → text ≡ [] → Advances c line text c
+pub passes : (c : Cluster) (line text : List ℕ) → is_blank line ≡ true → text ≡ [] → Advances c line text c
 passes c line text blank empty = still c line text Passed refl (λ xs p. (blank, empty))
 
 -- a line that is refused
-pub refuses : (c : Option Formed) (line text : List ℕ) (refusal : Answer) → is_blank line ≡ false → IsRefusal line refusal → text ≡ reply_line (place_of c) (reply.One refusal) → Advances c line text c
+pub refuses : (c : Cluster) (line text : List ℕ) (refusal : Answer) → is_blank line ≡ false → IsRefusal line refusal → text ≡ reply_line (place_of c) (reply.One refusal) → Advances c line text c
 refuses c line text refusal some why printed =
     still c line text (Refused refusal) refl (λ xs p. (some, why, printed ∙ ap (λ place. reply_line place (reply.One refusal)) (sym (place_known (turns_of xs) c p.serves))))
 
 -- a line that makes a turn
-pub answers : (old new : Option Formed) (line text : List ℕ) (request : Request) (r : Reply) → is_blank line ≡ false → LineMeans line (Ok request) → text ≡ reply_line (place_of new) r
+pub answers : (old new : Cluster) (line text : List ℕ) (request : Request) (r : Reply) → is_blank line ≡ false → LineMeans line (Ok request) → text ≡ reply_line (place_of new) r
     → ((turns : List Turn) → Serves turns old → Serves (turns ++ record { request = request; reply = r } ∷ []) new) → Advances old line text new
 answers old new line text request r some means printed goes = λ xs p.
     let turn : Turn = record { request = request; reply = r } in

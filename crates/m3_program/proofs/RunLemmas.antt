@@ -1,8 +1,8 @@
 -- What is known of a run so far, where its source and its sink tell, and how it ends.
 use Rattle.std.proofs.Common.{◌≡◌, ℕ, ◌+◌, ◌<◌, List, [], ◌++◌, length, length-append, refl, sym, ap, ◌∙◌, subst, append_assoc, append-nil, arith}
-use Rattle.std.specs.Prelude.{Option, Some, None, ◌^◌}
+use Rattle.std.specs.Prelude.{Option, Some, None, ◌^◌, replicate}
 use Rattle.std.specs.Io.KnownBytes.{Appends, Consumes, IsAtEnd}
-use Rattle.m3_cluster.specs.Steps.{Formed}
+use Rattle.m3_cluster.specs.declared.cluster.Cluster.{Cluster}
 use Rattle.m3_cluster.specs.Serves.{Serves}
 use Rattle.m3_cluster.proofs.ServeLemmas.{serves_nothing}
 use Rattle.m3_program.specs.declared.status.Status.{Status}
@@ -13,7 +13,7 @@ use Rattle.m3_program.specs.Streams.{StreamState, TakesOn, Cuts, CutShort, Finis
 use Rattle.m3_program.proofs.StreamLemmas.{cut_at, stream_begins}
 
 -- these bytes were read, these are left, and these were written after what stood there
-pub record Heard (input before : List ℕ) (left written : Option (List ℕ)) (n : ℕ) (c : Option Formed) (line : List ℕ) : Type 0 where
+pub record Heard (input before : List ℕ) (left written : Option (List ℕ)) (n : ℕ) (c : Cluster) (line : List ℕ) : Type 0 where
   pub got : List ℕ
   pub rest : List ℕ
   pub told : List ℕ
@@ -23,7 +23,7 @@ pub record Heard (input before : List ℕ) (left written : Option (List ℕ)) (n
   pub count : length got ≡ n
   pub stream : StreamState got told c line
 
-abbrev pub Known : Option (List ℕ) → Option (List ℕ) → Option (List ℕ) → Option (List ℕ) → ℕ → Option Formed → List ℕ → Type 0
+abbrev pub Known : Option (List ℕ) → Option (List ℕ) → Option (List ℕ) → Option (List ℕ) → ℕ → Cluster → List ℕ → Type 0
 Known left0 written0 left written n c line = (input before : List ℕ) → left0 ≡ Some input → written0 ≡ Some before → Heard input before left written n c line
 
 -- what a run tells at its end
@@ -48,7 +48,7 @@ at_end : (a : Option (List ℕ)) (rest : List ℕ) → IsAtEnd a → a ≡ Some 
 at_end None rest h e = cc
 at_end (Some xs) rest h e = let same : xs ≡ rest = cc in sym same ∙ h
 
-pub known_begins : (left written : Option (List ℕ)) (c : Option Formed) (line : List ℕ) → Serves [] c → line ≡ [] → Known left written left written 0 c line
+pub known_begins : (left written : Option (List ℕ)) (c : Cluster) (line : List ℕ) → Serves [] c → line ≡ [] → Known left written left written 0 c line
 known_begins left written c line serves empty = λ input before p q. record {
   got = [];
   rest = input;
@@ -60,7 +60,7 @@ known_begins left written c line serves empty = λ input before p q. record {
   stream = subst (λ l. StreamState [] [] c l) (sym empty) (stream_begins c serves);
 }
 
-pub known_more : (left0 written0 l l2 w w2 : Option (List ℕ)) (n k m : ℕ) (c c2 : Option Formed) (line line2 piece text : List ℕ) → Known left0 written0 l w n c line → Consumes l l2 piece → length piece ≡ k → n + k ≡ m
+pub known_more : (left0 written0 l l2 w w2 : Option (List ℕ)) (n k m : ℕ) (c c2 : Cluster) (line line2 piece text : List ℕ) → Known left0 written0 l w n c line → Consumes l l2 piece → length piece ≡ k → n + k ≡ m
     → Appends w w2 text → TakesOn c line piece text c2 line2 → Known left0 written0 l2 w2 m c2 line2
 known_more left0 written0 l l2 w w2 n k m c c2 line line2 piece text known took size sum wrote takes = λ input before p q.
     let h = known input before p q in
@@ -77,7 +77,7 @@ known_more left0 written0 l l2 w w2 n k m c c2 line line2 piece text known took 
     }
 
 -- it stopped within a piece
-pub known_cuts : (left0 written0 l l2 w w2 : Option (List ℕ)) (n : ℕ) (c : Option Formed) (line piece part : List ℕ) → Known left0 written0 l w n c line → Consumes l l2 piece → Appends w w2 part → Cuts c line piece part
+pub known_cuts : (left0 written0 l l2 w w2 : Option (List ℕ)) (n : ℕ) (c : Cluster) (line piece part : List ℕ) → Known left0 written0 l w n c line → Consumes l l2 piece → Appends w w2 part → Cuts c line piece part
     → (input before : List ℕ) → left0 ≡ Some input → written0 ≡ Some before → Stopped input before l2 w2
 known_cuts left0 written0 l l2 w w2 n c line piece part known took wrote cuts input before p q =
     let h = known input before p q in
@@ -93,11 +93,11 @@ known_cuts left0 written0 l l2 w w2 n c line piece part known took wrote cuts in
     )
 
 -- all that was taken is the input
-heard_all : (input before : List ℕ) (l w : Option (List ℕ)) (n : ℕ) (c : Option Formed) (line : List ℕ) → (h : Heard input before l w n c line) → IsAtEnd l → input ≡ h.got
+heard_all : (input before : List ℕ) (l w : Option (List ℕ)) (n : ℕ) (c : Cluster) (line : List ℕ) → (h : Heard input before l w n c line) → IsAtEnd l → input ≡ h.got
 heard_all input before l w n c line h ended = h.parts ∙ ap (λ r. h.got ++ r) (at_end l h.rest ended h.left_is) ∙ append-nil h.got
 
 -- it stopped within the last line
-pub known_stops : (left0 written0 l w w2 : Option (List ℕ)) (n : ℕ) (c : Option Formed) (line part : List ℕ) → Known left0 written0 l w n c line → IsAtEnd l → Appends w w2 part
+pub known_stops : (left0 written0 l w w2 : Option (List ℕ)) (n : ℕ) (c : Cluster) (line part : List ℕ) → Known left0 written0 l w n c line → IsAtEnd l → Appends w w2 part
     → ((taken told : List ℕ) → StreamState taken told c line → CutShort taken (told ++ part)) → (input before : List ℕ) → left0 ≡ Some input → written0 ≡ Some before → Stopped input before l w2
 known_stops left0 written0 l w w2 n c line part known ended wrote stops input before p q =
     let h = known input before p q in (
@@ -111,7 +111,7 @@ known_stops left0 written0 l w w2 n c line part known ended wrote stops input be
     )
 
 -- it came to the end
-pub known_finishes : (left0 written0 l w w2 : Option (List ℕ)) (n : ℕ) (c : Option Formed) (line text : List ℕ) → Known left0 written0 l w n c line → n < 2 ^ 32 → IsAtEnd l → Appends w w2 text
+pub known_finishes : (left0 written0 l w w2 : Option (List ℕ)) (n : ℕ) (c : Cluster) (line text : List ℕ) → Known left0 written0 l w n c line → n < 2 ^ 32 → IsAtEnd l → Appends w w2 text
     → ((taken told : List ℕ) → StreamState taken told c line → Finished taken (told ++ text)) → (input before : List ℕ) → left0 ≡ Some input → written0 ≡ Some before → Told status.Done input before l w2
 known_finishes left0 written0 l w w2 n c line text known below ended wrote finishes input before p q =
     let h = known input before p q in
@@ -125,7 +125,7 @@ known_finishes left0 written0 l w w2 n c line text known below ended wrote finis
     )
 
 -- it took as much as may be taken
-pub known_limit : (left0 written0 l w : Option (List ℕ)) (n : ℕ) (c : Option Formed) (line : List ℕ) → Known left0 written0 l w n c line → n ≡ 2 ^ 32
+pub known_limit : (left0 written0 l w : Option (List ℕ)) (n : ℕ) (c : Cluster) (line : List ℕ) → Known left0 written0 l w n c line → n ≡ 2 ^ 32
     → (input before : List ℕ) → left0 ≡ Some input → written0 ≡ Some before → Told status.TooLong input before l w
 known_limit left0 written0 l w n c line known full input before p q =
     let h = known input before p q in
@@ -137,14 +137,21 @@ known_limit left0 written0 l w n c line known full input before p q =
       record { taken = h.got; parts = h.parts; course = cut.course; promises = cut.promises; got_to = (cut.written, h.count ∙ full) },
     )
 
+-- the cluster with which a run begins
+abbrev first_cluster : Cluster
+first_cluster = record { members = None; calls = replicate 9 0 }
+
+serves_first : Serves [] first_cluster
+serves_first = serves_nothing first_cluster refl refl
+
 -- nothing was taken yet
 pub stopped_at_once : (left written : Option (List ℕ)) (input before : List ℕ) → left ≡ Some input → written ≡ Some before → Stopped input before left written
 stopped_at_once left written input before p q =
-    (input, [], [], p, q ∙ ap Some (sym (append-nil before)), refl, cut_at [] [] input None [] None (stream_begins None serves_nothing) tt)
+    (input, [], [], p, q ∙ ap Some (sym (append-nil before)), refl, cut_at [] [] input first_cluster [] None (stream_begins first_cluster serves_first) tt)
 
 pub told_of_usage : (left written : Option (List ℕ)) (input before : List ℕ) → left ≡ Some input → written ≡ Some before → Told status.Usage input before left written
 told_of_usage left written input before p q =
-    let cut = cut_at [] [] input None [] None (stream_begins None serves_nothing) tt in
+    let cut = cut_at [] [] input first_cluster [] None (stream_begins first_cluster serves_first) tt in
     (input, [], p, q ∙ ap Some (sym (append-nil before)), record { taken = []; parts = refl; course = cut.course; promises = cut.promises; got_to = (refl, refl) })
 
 pub step_told : (s : Status) (a b x y u v : ℕ) → EndsStep s a b x y u v → (input before : List ℕ) (left written : Option (List ℕ)) → Stopped input before left written → Told s input before left written

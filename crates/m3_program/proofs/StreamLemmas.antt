@@ -7,14 +7,14 @@ use Rattle.m3_model.specs.declared.turn.Request.{Request}
 use Rattle.m3_model.specs.Members.{IsIn}
 use Rattle.m3_model.proofs.MemberLemmas.{IsIn-append_cases}
 use Rattle.m3_model.proofs.PlaceLemmas.{not_empty}
-use Rattle.m3_cluster.specs.Steps.{Formed}
+use Rattle.m3_cluster.specs.declared.cluster.Cluster.{Cluster}
 use Rattle.m3_cluster.specs.Serves.{Serves}
 use Rattle.m3_program.specs.Exchanges.{Exchange, replies_text}
 use Rattle.m3_program.specs.Runs.{Course, Promises, IsNext, lines_of, record_of}
 use Rattle.m3_program.specs.Streams.{Progress, Advances, MayMean, Halts, NoNewline, lines_text, StreamState, CutShort, Finished, TakesOn, Cuts}
 use Rattle.m3_program.proofs.LineLemmas.{lines_of-line, lines_of-last, lines_of-lines}
 
-pub promised : (xs : List Exchange) (c : Option Formed) (unanswered : Option Request) → Progress xs c → Promises [] (record_of None xs unanswered)
+pub promised : (xs : List Exchange) (c : Cluster) (unanswered : Option Request) → Progress xs c → Promises [] (record_of None xs unanswered)
 promised xs c unanswered p = record { kept = p.serves.kept; caused = p.serves.caused }
 
 whole_push : (xs : List Exchange) (x : Exchange) → ((y : Exchange) → IsIn xs y → NoNewline y.line) → NoNewline x.line → (y : Exchange) → IsIn (xs ++ x ∷ []) y → NoNewline y.line
@@ -30,7 +30,7 @@ replies_push : (xs : List Exchange) (x : Exchange) → replies_text (xs ++ x ∷
 replies_push xs x = flat_map-append (λ (y : Exchange). y.text) xs (x ∷ []) ∙ ap (λ l. replies_text xs ++ l) (append-nil x.text)
 
 -- the course of a run that ends where these bytes were read, whatever comes after them
-abbrev pub course_at : (taken told tail : List ℕ) (c : Option Formed) (line : List ℕ) (unanswered : Option Request) → StreamState taken told c line → IsNext unanswered (lines_of (line ++ tail)) → Course None (taken ++ tail)
+abbrev pub course_at : (taken told tail : List ℕ) (c : Cluster) (line : List ℕ) (unanswered : Option Request) → StreamState taken told c line → IsNext unanswered (lines_of (line ++ tail)) → Course None (taken ++ tail)
 course_at taken told tail c line unanswered t next = record {
   exchanges = t.exchanges;
   unanswered = unanswered;
@@ -41,7 +41,7 @@ course_at taken told tail c line unanswered t next = record {
 }
 
 -- nothing more is written
-pub cut_at : (taken told tail : List ℕ) (c : Option Formed) (line : List ℕ) (unanswered : Option Request) → StreamState taken told c line → IsNext unanswered (lines_of (line ++ tail)) → CutShort (taken ++ tail) (told ++ [])
+pub cut_at : (taken told tail : List ℕ) (c : Cluster) (line : List ℕ) (unanswered : Option Request) → StreamState taken told c line → IsNext unanswered (lines_of (line ++ tail)) → CutShort (taken ++ tail) (told ++ [])
 cut_at taken told tail c line unanswered t next = record {
   course = course_at taken told tail c line unanswered t next;
   promises = promised t.exchanges c unanswered t.progress;
@@ -53,7 +53,7 @@ next_is None line lines h = tt
 next_is (Some request) line lines h = h
 
 -- a line goes on
-pub takes_more : (c : Option Formed) (line more line2 : List ℕ) → NoNewline more → line2 ≡ line ++ more → TakesOn c line more [] c line2
+pub takes_more : (c : Cluster) (line more line2 : List ℕ) → NoNewline more → line2 ≡ line ++ more → TakesOn c line more [] c line2
 takes_more c line more line2 none is = λ taken told t. record {
   exchanges = t.exchanges;
   progress = t.progress;
@@ -67,7 +67,7 @@ no_end_of : (line rest : List ℕ) → NoNewline line → NoNewline rest → NoN
 no_end_of line rest a b = λ m. elim (IsIn-append_cases line rest 10 m) as (λ _. ⊥) [ inl x ↦ a x | inr y ↦ b y ]
 
 -- a line ends, and its reply is written
-pub takes_line : (old new : Option Formed) (line rest text whole line2 : List ℕ) → NoNewline rest → whole ≡ line ++ rest → line2 ≡ [] → Advances old whole text new → TakesOn old line (rest ++ 10 ∷ []) text new line2
+pub takes_line : (old new : Cluster) (line rest text whole line2 : List ℕ) → NoNewline rest → whole ≡ line ++ rest → line2 ≡ [] → Advances old whole text new → TakesOn old line (rest ++ 10 ∷ []) text new line2
 takes_line old new line rest text whole line2 none is empty goes = λ taken told t.
     let next = goes t.exchanges t.progress in
     let x : Exchange = record { line = whole; outcome = next.0; text = text } in
@@ -83,7 +83,7 @@ takes_line old new line rest text whole line2 none is empty goes = λ taken told
     }
 
 -- the course of a run of which the last line was answered
-abbrev pub answered_course : (taken told input : List ℕ) (old new : Option Formed) (line whole text : List ℕ) (later : List (List ℕ)) → (t : StreamState taken told old line) → (goes : Advances old whole text new)
+abbrev pub answered_course : (taken told input : List ℕ) (old new : Cluster) (line whole text : List ℕ) (later : List (List ℕ)) → (t : StreamState taken told old line) → (goes : Advances old whole text new)
     → lines_of input ≡ map (λ x. x.line) t.exchanges ++ whole ∷ later → Course None input
 answered_course taken told input old new line whole text later t goes lines =
     let next = goes t.exchanges t.progress in
@@ -97,7 +97,7 @@ answered_course taken told input old new line whole text later t goes lines =
       next = tt;
     }
 
-cut_in_reply : (taken told input : List ℕ) (old new : Option Formed) (line whole part rest : List ℕ) (later : List (List ℕ)) → (t : StreamState taken told old line) → (goes : Advances old whole (part ++ rest) new)
+cut_in_reply : (taken told input : List ℕ) (old new : Cluster) (line whole part rest : List ℕ) (later : List (List ℕ)) → (t : StreamState taken told old line) → (goes : Advances old whole (part ++ rest) new)
     → lines_of input ≡ map (λ x. x.line) t.exchanges ++ whole ∷ later → CutShort input (told ++ part)
 cut_in_reply taken told input old new line whole part rest later t goes lines =
     let next = goes t.exchanges t.progress in
@@ -109,14 +109,14 @@ cut_in_reply taken told input old new line whole part rest later t goes lines =
     }
 
 -- a line that ends, in the input
-line_in : (taken told left : List ℕ) (c : Option Formed) (line rest whole : List ℕ) → NoNewline rest → whole ≡ line ++ rest → (t : StreamState taken told c line)
+line_in : (taken told left : List ℕ) (c : Cluster) (line rest whole : List ℕ) → NoNewline rest → whole ≡ line ++ rest → (t : StreamState taken told c line)
     → lines_of (line ++ ((rest ++ 10 ∷ []) ++ left)) ≡ whole ∷ lines_of left
 line_in taken told left c line rest whole none is t =
     ap lines_of (sym (append_assoc line (rest ++ 10 ∷ []) left) ∙ ap (λ l. l ++ left) (sym (append_assoc line rest (10 ∷ []))) ∙ ap (λ l. (l ++ 10 ∷ []) ++ left) (sym is))
     ∙ lines_of-line whole left (subst NoNewline (sym is) (no_end_of line rest t.no_end none))
 
 -- a line ends, and its reply isn't written whole
-pub cuts_line : (old : Option Formed) (line rest part whole : List ℕ) → NoNewline rest → whole ≡ line ++ rest → Halts old whole part → Cuts old line (rest ++ 10 ∷ []) part
+pub cuts_line : (old : Cluster) (line rest part whole : List ℕ) → NoNewline rest → whole ≡ line ++ rest → Halts old whole part → Cuts old line (rest ++ 10 ∷ []) part
 cuts_line old line rest part whole none is h = λ taken told left t.
     let input_is : taken ++ ((rest ++ 10 ∷ []) ++ left) ≡ (taken ++ (rest ++ 10 ∷ [])) ++ left = sym (append_assoc taken (rest ++ 10 ∷ []) left) in
     let here = line_in taken told left old line rest whole none is t in
@@ -128,17 +128,17 @@ cuts_line old line rest part whole none is h = λ taken told left t.
     ])
 
 -- memory was wanted for a piece
-pub cuts_silently : (c : Option Formed) (line piece : List ℕ) → Cuts c line piece []
+pub cuts_silently : (c : Cluster) (line piece : List ℕ) → Cuts c line piece []
 cuts_silently c line piece = λ taken told left t. subst (λ i. CutShort i (told ++ [])) (sym (append_assoc taken piece left)) (cut_at taken told (piece ++ left) c line None t tt)
 
 -- one piece after the other
-pub takes_both : (a b c : Option Formed) (line line2 line3 : List ℕ) (piece piece2 text text2 : List ℕ) → TakesOn a line piece text b line2 → TakesOn b line2 piece2 text2 c line3 → TakesOn a line (piece ++ piece2) (text ++ text2) c line3
+pub takes_both : (a b c : Cluster) (line line2 line3 : List ℕ) (piece piece2 text text2 : List ℕ) → TakesOn a line piece text b line2 → TakesOn b line2 piece2 text2 c line3 → TakesOn a line (piece ++ piece2) (text ++ text2) c line3
 takes_both a b c line line2 line3 piece piece2 text text2 f g = λ taken told t.
     let next = g (taken ++ piece) (told ++ text) (f taken told t) in
     subst (λ x. StreamState x (told ++ (text ++ text2)) c line3) (append_assoc taken piece piece2) (subst (λ y. StreamState ((taken ++ piece) ++ piece2) y c line3) (append_assoc told text text2) next)
 
 -- a piece, and then one in which it is cut short, and what wasn't looked at
-pub cuts_after : (a b : Option Formed) (line line2 : List ℕ) (piece piece2 more text part : List ℕ) → TakesOn a line piece text b line2 → Cuts b line2 piece2 part → Cuts a line (piece ++ (piece2 ++ more)) (text ++ part)
+pub cuts_after : (a b : Cluster) (line line2 : List ℕ) (piece piece2 more text part : List ℕ) → TakesOn a line piece text b line2 → Cuts b line2 piece2 part → Cuts a line (piece ++ (piece2 ++ more)) (text ++ part)
 cuts_after a b line line2 piece piece2 more text part f g = λ taken told left t.
     let next = g (taken ++ piece) (told ++ text) (more ++ left) (f taken told t) in
     let bytes : ((taken ++ piece) ++ piece2) ++ (more ++ left) ≡ (taken ++ (piece ++ (piece2 ++ more))) ++ left =
@@ -146,7 +146,7 @@ cuts_after a b line line2 piece piece2 more text part f g = λ taken told left t
     subst (λ i. CutShort i (told ++ (text ++ part))) bytes (subst (CutShort (((taken ++ piece) ++ piece2) ++ (more ++ left))) (append_assoc told text part) next)
 
 -- before anything is read
-pub stream_begins : (c : Option Formed) → Serves [] c → StreamState [] [] c []
+pub stream_begins : (c : Cluster) → Serves [] c → StreamState [] [] c []
 stream_begins c s = record {
   exchanges = [];
   progress = record { each = λ before x after e. absurd (not_empty before x after e); serves = s };
@@ -157,7 +157,7 @@ stream_begins c s = record {
 }
 
 -- the input ends with a newline, or is empty
-pub finish_empty : (c : Option Formed) (line : List ℕ) → line ≡ [] → (taken told : List ℕ) → StreamState taken told c line → Finished taken (told ++ [])
+pub finish_empty : (c : Cluster) (line : List ℕ) → line ≡ [] → (taken told : List ℕ) → StreamState taken told c line → Finished taken (told ++ [])
 finish_empty c line empty taken told t =
     record {
       course = record {
@@ -173,11 +173,11 @@ finish_empty c line empty taken told t =
       written = append-nil told ∙ t.written;
     }
 
-pub last_in : (taken told : List ℕ) (c : Option Formed) (line : List ℕ) → 0 < length line → (t : StreamState taken told c line) → lines_of taken ≡ map (λ x. x.line) t.exchanges ++ line ∷ []
+pub last_in : (taken told : List ℕ) (c : Cluster) (line : List ℕ) → 0 < length line → (t : StreamState taken told c line) → lines_of taken ≡ map (λ x. x.line) t.exchanges ++ line ∷ []
 last_in taken told c line some t = ap lines_of t.read ∙ lines_of-lines t.exchanges line t.whole ∙ ap (λ ls. map (λ x. x.line) t.exchanges ++ ls) (lines_of-last line t.no_end some)
 
 -- the last line has no newline
-pub finish_line : (old new : Option Formed) (line text : List ℕ) → 0 < length line → Advances old line text new → (taken told : List ℕ) → StreamState taken told old line → Finished taken (told ++ text)
+pub finish_line : (old new : Cluster) (line text : List ℕ) → 0 < length line → Advances old line text new → (taken told : List ℕ) → StreamState taken told old line → Finished taken (told ++ text)
 finish_line old new line text some goes taken told t =
     let next = goes t.exchanges t.progress in
     let x : Exchange = record { line = line; outcome = next.0; text = text } in
@@ -188,7 +188,7 @@ finish_line old new line text some goes taken told t =
       written = ap (λ l. l ++ text) t.written ∙ sym (replies_push t.exchanges x);
     }
 
-pub finish_cut : (old : Option Formed) (line part : List ℕ) → 0 < length line → Halts old line part → (taken told : List ℕ) → StreamState taken told old line → CutShort taken (told ++ part)
+pub finish_cut : (old : Cluster) (line part : List ℕ) → 0 < length line → Halts old line part → (taken told : List ℕ) → StreamState taken told old line → CutShort taken (told ++ part)
 finish_cut old line part some h taken told t =
     elim h as (λ _. CutShort taken (told ++ part)) [
       | inl silent ↦ subst (λ p. CutShort taken (told ++ p)) (sym silent.0) (record {

@@ -1,4 +1,5 @@
 // What lines are answered with.
+use crate::messages::{LATE, LEVELS, LOST, NUMBERED, OUTLASTING, STOPS};
 use crate::script::{INIT, NAMESPACE, PLACED, ended};
 use crate::stories::{
     BEFORE_INIT, EXPIRY, FETCH_RETURNS_WRITE, HIGHER_VALUE_STAYS, INITS, MATCHES, NAMESPACES,
@@ -57,6 +58,12 @@ fn stories_after_init(rt: HostRuntime) -> Result<(), Fail> {
         EXPIRY,
         NAMESPACES,
         REFUSALS,
+        LOST,
+        NUMBERED,
+        LEVELS,
+        LATE,
+        OUTLASTING,
+        STOPS,
     ] {
         answers(&rt, alloc, input.as_str(), output.as_str(), story)?;
     }

@@ -152,7 +152,7 @@ pub const REFUSALS: &str = r#"{"op":"now","now":100}
 {"code":4,"error":"unknown","name":"x","ok":false}
 {"op":"tick"}
 {"code":16,"error":"later","ok":false}
-{"op":"write","ns":"m","id":"hello","t":100,"v":1,"level":"majority"}
+{"op":"write","ns":"m","id":"hello","t":100,"v":1,"version":1}
 {"code":16,"error":"later","ok":false}
 {"op":"write","ns":"m","id":"{","t":100,"v":1}
 {"code":1,"error":"form","ok":false}
@@ -173,6 +173,8 @@ pub const REFUSALS: &str = r#"{"op":"now","now":100}
 {"op":"write","ns":"m","id":"hello","t":100}
 {"code":1,"error":"form","ok":false}
 {"op":"fetch","ns":"m","id":"hello","from":0,"to":200,"x":1}
+{"code":1,"error":"form","ok":false}
+{"op":"write","ns":"m","id":"hello","t":100,"v":1,"level":"unstrict"}
 {"code":1,"error":"form","ok":false}
 {"op":"now"}
 {"code":1,"error":"form","ok":false}

@@ -8,3 +8,5 @@ pub mod RefusedLives
 pub mod UncausedLives
 pub mod GeneralLemmas
 pub mod TagLemmas
+pub mod MessageLives
+pub mod BrokenMessages

@@ -1,7 +1,7 @@
 -- All places of a run, one after the other, in place of a claim about any place.
-use Rattle.std.proofs.Common.{◌≡◌, List, [], ◌∷◌, ◌++◌, refl, sym, ap, ◌∙◌, subst, append_assoc}
+use Rattle.std.proofs.Common.{◌≡◌, List, [], ◌∷◌, ◌++◌, length, refl, sym, ap, ◌∙◌, subst, append_assoc}
 use Rattle.std.specs.Prelude.{Option, Some, None}
-use Rattle.m3_model.specs.Record.{Record, Life, TurnPlace, IsTurnPlace, lists_of, joined}
+use Rattle.m3_model.specs.Record.{Record, Life, TurnPlace, IsTurnPlace, client_at, lists_of, joined}
 use Rattle.m3_model.specs.Rules.{rules_at}
 use Rattle.m3_model.specs.Points.{sent_at, acked_at}
 use Rattle.m3_model.specs.Reads.{Read, Found, read_of, found_of}
@@ -38,7 +38,7 @@ each_split Q front (x ∷ xs) (y ∷ ys) z zs each e =
 -- a fact of each place of one line
 abbrev pub EachInLine : (TurnPlace → Type 0) → List Turn → Turn → Type 0
 EachInLine P lines line =
-    EachSplit (λ front list back. EachSplit (λ earlier turn later. P (record { lines = lines; earlier = earlier; beside = joined front ++ joined back; turn = turn })) [] list) [] (lists_of line)
+    EachSplit (λ front list back. EachSplit (λ earlier turn later. P (record { lines = lines; client = client_at line.request (length front); earlier = earlier; beside = joined front ++ joined back; turn = turn })) [] list) [] (lists_of line)
 
 -- a fact of each place of a run
 abbrev pub EachInRun : (TurnPlace → Type 0) → List Turn → Type 0
@@ -47,9 +47,10 @@ EachInRun P turns = EachSplit (λ lines line after. EachInLine P lines line) [] 
 pub each_place : (P : TurnPlace → Type 0) (turns : List Turn) → EachInRun P turns → (p : TurnPlace) → IsTurnPlace turns p → P p
 each_place P turns each p h =
     let in_line : EachInLine P p.lines h.line = each_split (λ lines line after. EachInLine P lines line) [] turns p.lines h.line h.after each h.in_run in
-    let in_list = each_split (λ front list back. EachSplit (λ earlier turn later. P (record { lines = p.lines; earlier = earlier; beside = joined front ++ joined back; turn = turn })) [] list) [] (lists_of h.line) h.front (p.earlier ++ p.turn ∷ h.later) h.back in_line h.in_line in
-    let here = each_split (λ earlier turn later. P (record { lines = p.lines; earlier = earlier; beside = joined h.front ++ joined h.back; turn = turn })) [] (p.earlier ++ p.turn ∷ h.later) p.earlier p.turn h.later in_list refl in
-    subst (λ beside. P (record { lines = p.lines; earlier = p.earlier; beside = beside; turn = p.turn })) (sym h.others) here
+    let in_list = each_split (λ front list back. EachSplit (λ earlier turn later. P (record { lines = p.lines; client = client_at h.line.request (length front); earlier = earlier; beside = joined front ++ joined back; turn = turn })) [] list) [] (lists_of h.line) h.front (p.earlier ++ p.turn ∷ h.later) h.back in_line h.in_line in
+    let here = each_split (λ earlier turn later. P (record { lines = p.lines; client = client_at h.line.request (length h.front); earlier = earlier; beside = joined h.front ++ joined h.back; turn = turn })) [] (p.earlier ++ p.turn ∷ h.later) p.earlier p.turn h.later in_list refl in
+    subst (λ client. P (record { lines = p.lines; client = client; earlier = p.earlier; beside = p.beside; turn = p.turn })) (sym h.client_is)
+    (subst (λ beside. P (record { lines = p.lines; client = client_at h.line.request (length h.front); earlier = p.earlier; beside = beside; turn = p.turn })) (sym h.others) here)
 
 pub kept_by_places : (life : Life) → EachInRun (KeptAt life.past life.present.start) life.present.turns → Kept life
 kept_by_places life each = each_place (KeptAt life.past life.present.start) life.present.turns each
@@ -63,10 +64,10 @@ only a = ((a, tt), tt)
 
 -- the place of an act outside `par`
 abbrev pub place_after : List Turn → Act → Answer → TurnPlace
-place_after lines a b = record { lines = lines; earlier = []; beside = []; turn = record { act = a; answer = b } }
+place_after lines a b = record { lines = lines; client = 0; earlier = []; beside = []; turn = record { act = a; answer = b } }
 
 pub place_after-stands : (lines : List Turn) (a : Act) (b : Answer) (after : List Turn) → IsTurnPlace (lines ++ line a b ∷ after) (place_after lines a b)
-place_after-stands lines a b after = record { line = line a b; after = after; front = []; later = []; back = []; in_run = refl; in_line = refl; others = refl }
+place_after-stands lines a b after = record { line = line a b; after = after; front = []; later = []; back = []; in_run = refl; in_line = refl; others = refl; client_is = refl }
 
 -- what finds nothing keeps all
 pub no_read : (past : List Record) (start : Option MetaState) (p : TurnPlace) → found_of p.turn.answer ≡ None → KeptAt past start p

@@ -1,13 +1,20 @@
 -- The rules, points and reads of the worked transcripts.
-use Rattle.std.proofs.Common.{arith, ◌≡◌, ◌<◌, ◌+◌, ◌≤◌, ℕ, ℤ, List, [], ◌∷◌, ◌++◌, refl, sym, subst}
-use Rattle.std.specs.Prelude.{Some, None, false, codes}
-use Rattle.m3_model.specs.Caused.{Call}
+use Rattle.std.proofs.Common.{arith, ◌≡◌, ◌<◌, ◌+◌, ◌≤◌, ℕ, ℤ, List, [], ◌∷◌, ◌++◌, refl, sym, ap, ap₂, ◌∙◌, subst, Bool, true, not, ◌&&◌}
+use Rattle.std.specs.Prelude.{Some, None, false, codes, slice_get, ⊤}
+use Rattle.m3_model.specs.Caused.{Call, IsOutside}
+use Rattle.m3_model.specs.declared.reason.Reason.{Reason}
+use Rattle.m3_model.specs.declared.reason.Reason.TheVariants as reason
 use Rattle.m3_model.specs.Record.{inner_turns}
-use Rattle.m3_model.specs.Rules.{rules_at, rules_after, start_rules}
+use Rattle.m3_model.specs.Rules.{rules_at, rules_after, start_rules, IsPast, IsFuture}
 use Rattle.m3_model.specs.Placements.{placement_after, seed_after}
 use Rattle.m3_model.specs.Points.{sent_at, acked_at}
 use Rattle.m3_model.specs.Reads.{Read, Found, read_of, IsSought}
 use Rattle.m3_model.specs.Kept.{Kept, KeepsPoints}
+use Rattle.m3_model.specs.Fates.{numbering_after, call_number, fate_in, fate_at, is_cut, is_stopped, is_reached, reaches}
+use Rattle.std.specs.Option.{option_map_or}
+use Rattle.m3_model.specs.declared.act.Act.{Act}
+use Rattle.m3_model.specs.declared.answer.Answer.{Answer}
+use Rattle.m3_model.specs.declared.placement.Instance.{Instance}
 use Rattle.m3_model.specs.declared.point.Point.{Point}
 use Rattle.m3_model.specs.declared.point.Matcher.{Matcher}
 use Rattle.m3_model.specs.declared.point.Series.{Series}
@@ -28,9 +35,22 @@ pub record StandsAt (lines : List Turn) (rules : Rules) : Type 0 where
   pub place_is : placement_after None (inner_turns lines) ≡ Some place
   pub rules_is : rules_after (start_rules None) (inner_turns lines) ≡ rules
   pub seed_is : seed_after None (inner_turns lines) ≡ 0
+  pub no_fates : (numbering_after 0 lines).fates ≡ []
+  pub none_stopped : (name : List ℕ) → is_stopped (inner_turns lines) name ≡ false
 
-pub stands : {lines : List Turn} {rules : Rules} → placement_after None (inner_turns lines) ≡ Some place → rules_after (start_rules None) (inner_turns lines) ≡ rules → seed_after None (inner_turns lines) ≡ 0 → StandsAt lines rules
-stands place_is rules_is seed_is = record { place_is = place_is; rules_is = rules_is; seed_is = seed_is }
+pub stands : {lines : List Turn} {rules : Rules} → placement_after None (inner_turns lines) ≡ Some place → rules_after (start_rules None) (inner_turns lines) ≡ rules → seed_after None (inner_turns lines) ≡ 0
+    → (numbering_after 0 lines).fates ≡ [] → ((name : List ℕ) → is_stopped (inner_turns lines) name ≡ false) → StandsAt lines rules
+stands place_is rules_is seed_is no_fates none_stopped = record { place_is = place_is; rules_is = rules_is; seed_is = seed_is; no_fates = no_fates; none_stopped = none_stopped }
+
+-- nothing is lost or late then
+pub not_cut : (lines : List Turn) (rules : Rules) (a : Act) (b : Answer) (name : List ℕ) → StandsAt lines rules → is_cut (fate_at (place_after lines a b) name) ≡ false
+not_cut lines rules a b name stood = ap (λ list. is_cut (fate_in list 0 (call_number (place_after lines a b)) name)) stood.no_fates
+
+-- and each node that is there is reached
+pub reached_by : (lines : List Turn) (rules : Rules) (a : Act) (b : Answer) (node : ℕ) (one : Instance) → StandsAt lines rules → slice_get place.instances node ≡ Some one → reaches (place_after lines a b) place node ≡ true
+reached_by lines rules a b node one stood there =
+    ap (λ o. option_map_or (λ (i : Instance). is_reached (place_after lines a b) i.name) o false) there
+    ∙ ap₂ (λ (x y : Bool). not x && not y) (not_cut lines rules a b one.name stood) (stood.none_stopped one.name)
 
 -- a call of `hello` at the present version that needs so many replicas
 abbrev pub call_with : (ℕ → ℕ) → Call
@@ -82,3 +102,10 @@ pub last_matches : (lines : List Turn) (wanted : List Matcher) (from to : ℕ) (
 last_matches lines wanted from to series kept asked =
     let p = place_after lines (matching wanted from to) (found series) in
     points_kept [] None p (picking wanted from to) (whole series) (kept p (place_after-stands lines (matching wanted from to) (found series) [])) refl asked
+
+-- what a moment lets a replica refuse
+abbrev pub WindowRefuses : Rules → Act → Reason → Type 0
+WindowRefuses rules a reason.Past = IsOutside IsPast rules a
+WindowRefuses rules a reason.Future = IsOutside IsFuture rules a
+WindowRefuses rules a reason.Memory = ⊤
+WindowRefuses rules a _ = ⊥

@@ -1,11 +1,13 @@
 -- Why the answers without a cause are refused.
-use Rattle.std.proofs.Common.{◌≡◌, ◌≢◌, ◌≤◌, ◌<◌, ◌+◌, ℕ, ℤ, List, [], ◌∷◌, ◌++◌, length, refl, sym, subst, ◌∙◌, inl, inr, arith, true}
+use Rattle.std.proofs.Common.{◌≡◌, ◌≢◌, ◌≤◌, ◌<◌, ◌+◌, ℕ, ℤ, List, [], ◌∷◌, ◌++◌, length, refl, sym, subst, ◌∙◌, inl, inr, arith, true, false}
 use Rattle.std.specs.Prelude.{Some, None, pos, slice_get, codes}
-use Rattle.m3_model.specs.Caused.{Caused, IsDue, IsAcked, IsAsked, IsNamedBelow, IsUnmet, MayRefuse, MayServe, MayUse, TakesPoint, call_of, placement_at}
+use Rattle.m3_model.specs.Caused.{Caused, IsOutside, IsDue, IsAcked, IsAsked, IsNamedBelow, IsUnmet, MayRefuse, MayServe, MayUse, TakesPoint, call_of, placement_at}
 use Rattle.m3_model.specs.Refusals.{refusal_by}
 use Rattle.m3_model.specs.Hash.{murmur3, shard_of}
 use Rattle.m3_model.specs.Members.{IsIn}
-use Rattle.m3_model.specs.Rules.{rules_at}
+use Rattle.m3_model.specs.Rules.{rules_at, IsPast, IsFuture}
+use Rattle.m3_model.specs.Record.{inner_turns}
+use Rattle.m3_model.specs.Fates.{is_stopped}
 use Rattle.m3_model.specs.Placements.{IsCounted, counted_nodes}
 use Rattle.m3_model.specs.Tags.{IsBelow}
 use Rattle.m3_model.specs.Ascends.{Ascends}
@@ -30,18 +32,18 @@ use Rattle.model_laws.specs.Building.{made, begun, at_moment, eight_made, with_e
 use Rattle.model_laws.specs.Uncaused.{write_answered, write_first, made_twice, fetch_short, made_of_two}
 use Rattle.model_laws.proofs.PlaceLemmas.{place_after, place_after-stands}
 use Rattle.model_laws.proofs.EachLemmas.{Each, ◌also◌, each_in, same_of_some, texts_differ}
-use Rattle.model_laws.proofs.SampleLemmas.{hello, rules_when, StandsAt, stands, call_with}
+use Rattle.model_laws.proofs.SampleLemmas.{hello, rules_when, StandsAt, stands, not_cut, WindowRefuses, call_with}
 
 -- an answer that isn't want of memory is the one that is due
 pub due_after : (lines : List Turn) (a : Act) (b : Answer) (after : List Turn) → b ≢ answer.Memory → Caused (life_of (lines ++ line a b ∷ after))
-    → IsDue None (place_after lines a b) (refusal_by (placement_at None (place_after lines a b)) (rules_at None (place_after lines a b)) a)
+    → IsDue None (place_after lines a b) (refusal_by (placement_at None (place_after lines a b)) (rules_at None (place_after lines a b)) (is_stopped (inner_turns lines)) a)
 due_after lines a b after other caused =
     let p = place_after lines a b in
-    elim (caused p (place_after-stands lines a b after)) as (λ _. IsDue None p (refusal_by (placement_at None p) (rules_at None p) a)) [ inl e ↦ absurd (other e) | inr due ↦ due ]
+    elim (caused p (place_after-stands lines a b after)) as (λ _. IsDue None p (refusal_by (placement_at None p) (rules_at None p) (is_stopped (inner_turns lines)) a)) [ inl e ↦ absurd (other e) | inr due ↦ due ]
 
 -- what is due of one request at a moment
-due_at : (now : ℕ) (a : Act) (b : Answer) → b ≢ answer.Memory → Caused (life_of (at_moment now a b))
-    → IsDue None (place_after (begun now []) a b) (refusal_by (placement_at None (place_after (begun now []) a b)) (rules_at None (place_after (begun now []) a b)) a)
+pub due_at : (now : ℕ) (a : Act) (b : Answer) → b ≢ answer.Memory → Caused (life_of (at_moment now a b))
+    → IsDue None (place_after (begun now []) a b) (refusal_by (placement_at None (place_after (begun now []) a b)) (rules_at None (place_after (begun now []) a b)) (is_stopped (inner_turns (begun now []))) a)
 due_at now a b other caused = due_after (begun now []) a b [] other caused
 
 pub write_order-refused : ¬ Caused (life_of (write_answered answer.Order))
@@ -62,7 +64,7 @@ made_twice-refused caused =
 
 pub fetch_short-refused : ¬ Caused (life_of fetch_short)
 fetch_short-refused caused =
-    let level : read_level.Majority ≡ read_level.Unstrict = due_at 100 (fetch 0 200) (answer.Found [] true) (λ e. cc) caused refl in
+    let level : read_level.Majority ≡ read_level.Unstrict = (due_at 100 (fetch 0 200) (answer.Found [] true) (λ e. cc) caused).may_be_short refl in
     cc
 
 pub made_of_two-refused : ¬ Caused (life_of made_of_two)
@@ -98,13 +100,13 @@ taken_by now t v taken stood caused =
 
 -- what is due of the nodes that took the write at 100
 taken_at_100 : (taken : List ℕ) → Caused (life_of (write_answered (acks taken))) → TakenBy 100 100 (pos 5) taken
-taken_at_100 taken caused = taken_by 100 100 (pos 5) taken (stands refl refl refl) caused
+taken_at_100 taken caused = taken_by 100 100 (pos 5) taken (stands refl refl refl refl (λ name. refl)) caused
 
 pub acks_too_few-refused : ¬ Caused (life_of (write_answered (acks (0 ∷ []))))
 acks_too_few-refused caused = let enough : 2 ≤ 1 = (taken_at_100 (0 ∷ []) caused).enough in omega arith
 
 -- two nodes whose names are known
-names_below : (a b : ℕ) (one other : Instance) → slice_get place.instances a ≡ Some one → slice_get place.instances b ≡ Some other → IsNamedBelow place a b → IsBelow one.name other.name
+pub names_below : (a b : ℕ) (one other : Instance) → slice_get place.instances a ≡ Some one → slice_get place.instances b ≡ Some other → IsNamedBelow place a b → IsBelow one.name other.name
 names_below a b one other of_one of_other below =
     let first : below.one ≡ one = same_of_some below.one one (sym below.of_one ∙ of_one) in
     let second : below.other ≡ other = same_of_some below.other other (sym below.of_other ∙ of_other) in
@@ -148,12 +150,12 @@ takes-window now t v takes =
 
 pub taken_past-refused : ¬ Caused (life_of (at_moment 250 (write 150 (pos 5)) (acks (0 ∷ 1 ∷ 2 ∷ []))))
 taken_past-refused caused =
-    let not_past : 250 < 150 + 100 = (takes-window 250 150 (pos 5) (taken_by 250 150 (pos 5) _ (stands refl refl refl) caused).takes).0 in
+    let not_past : 250 < 150 + 100 = (takes-window 250 150 (pos 5) (taken_by 250 150 (pos 5) _ (stands refl refl refl refl (λ name. refl)) caused).takes).0 in
     omega arith
 
 pub taken_future-refused : ¬ Caused (life_of (at_moment 250 (write 300 (pos 5)) (acks (0 ∷ 1 ∷ 2 ∷ []))))
 taken_future-refused caused =
-    let not_future : 300 < 250 + 50 = (takes-window 250 300 (pos 5) (taken_by 250 300 (pos 5) _ (stands refl refl refl) caused).takes).1 in
+    let not_future : 300 < 250 + 50 = (takes-window 250 300 (pos 5) (taken_by 250 300 (pos 5) _ (stands refl refl refl refl (λ name. refl)) caused).takes).1 in
     omega arith
 
 -- What is due where fewer nodes than are needed did as a call asked.
@@ -163,8 +165,17 @@ record UnmetBy (now : ℕ) (a : Act) (due_needed got needed : ℕ) (reasons : Li
   counted : (r : ℕ × Reason) → IsIn reasons r → IsCounted place 0 r.0
   by_name : Ascends (λ r s. IsNamedBelow place r.0 s.0) reasons
   others : got + length reasons ≡ 3
-  refused : (r : ℕ × Reason) → IsIn reasons r → MayRefuse (rules_when now) a r.1
+  refused : (r : ℕ × Reason) → IsIn reasons r → WindowRefuses (rules_when now) a r.1
   served : 0 < got → MayServe (rules_when now) a
+
+-- where nothing is lost, late or stopped, a replica refuses for its window or for want of memory alone
+window_refuses : (lines : List Turn) (rules : Rules) (a : Act) (b : Answer) (used : Placement) (node : ℕ) (why : Reason) → StandsAt lines rules → MayRefuse None (place_after lines a b) used node why → WindowRefuses rules a why
+window_refuses lines rules a b used node reason.Cut stood may = let quiet = not_cut lines rules a b may.instance_.name stood in let bad : false ≡ true = sym quiet ∙ may.holds in cc
+window_refuses lines rules a b used node reason.Down stood may = let up = stood.none_stopped may.instance_.name in let bad : false ≡ true = sym up ∙ may.holds in cc
+window_refuses lines rules a b used node reason.Past stood may = subst (λ r. IsOutside IsPast r a) stood.rules_is may
+window_refuses lines rules a b used node reason.Future stood may = subst (λ r. IsOutside IsFuture r a) stood.rules_is may
+window_refuses lines rules a b used node reason.Memory stood may = tt
+window_refuses lines rules a b used node _ stood may = absurd may
 
 unmet_by : (now : ℕ) (a : Act) (b : Answer) (needs : ℕ → ℕ) (got needed : ℕ) (reasons : List (ℕ × Reason)) → StandsAt (begun now []) (rules_when now) → call_of a ≡ Some (call_with needs)
     → IsUnmet None (place_after (begun now []) a b) got needed reasons 0 → UnmetBy now a (needs 3) got needed reasons
@@ -178,7 +189,7 @@ unmet_by now a b needs got needed reasons stood is due =
       counted = subst (λ x. (r : ℕ × Reason) → IsIn reasons r → IsCounted x 0 r.0) (sym same) due.counted;
       by_name = subst (λ x. Ascends (λ r s. IsNamedBelow x r.0 s.0) reasons) (sym same) due.by_name;
       others = subst (λ x. got + length reasons ≡ length (counted_nodes x 0)) (sym same) due.others;
-      refused = due.refused;
+      refused = λ r m. window_refuses (begun now []) (rules_when now) a b due.place r.0 r.1 stood (due.refused r m);
       served = due.served;
     }
 
@@ -189,49 +200,49 @@ write_unmet now t v got needed reasons stood caused =
 
 -- what is due of the write at 100
 unmet_at_100 : (got needed : ℕ) (reasons : List (ℕ × Reason)) → Caused (life_of (write_answered (answer.Consistency got needed reasons 0))) → UnmetBy 100 (write 100 (pos 5)) 2 got needed reasons
-unmet_at_100 got needed reasons caused = write_unmet 100 100 (pos 5) got needed reasons (stands refl refl refl) caused
+unmet_at_100 got needed reasons caused = write_unmet 100 100 (pos 5) got needed reasons (stands refl refl refl refl (λ name. refl)) caused
 
 -- a write that may be refused as past lies at or below the moment less 100
-past-outside : (now t : ℕ) (v : ℤ) → MayRefuse (rules_when now) (write t v) reason.Past → t + 100 ≤ now
+past-outside : (now t : ℕ) (v : ℤ) → WindowRefuses (rules_when now) (write t v) reason.Past → t + 100 ≤ now
 past-outside now t v may =
     let known = write_known t v may.point may.outside.space may.of_act may.outside.stands in
     subst (λ p. p.t + 100 ≤ now) known.0 (subst (λ s. may.point.t + s.past ≤ now) known.1 may.outside.too_old)
 
 -- a write that may be refused as future lies at or above the moment and 50
-future-outside : (now t : ℕ) (v : ℤ) → MayRefuse (rules_when now) (write t v) reason.Future → now + 50 ≤ t
+future-outside : (now t : ℕ) (v : ℤ) → WindowRefuses (rules_when now) (write t v) reason.Future → now + 50 ≤ t
 future-outside now t v may =
     let known = write_known t v may.point may.outside.space may.of_act may.outside.stands in
     subst (λ p. now + 50 ≤ p.t) known.0 (subst (λ s. now + s.future ≤ may.point.t) known.1 may.outside.too_new)
 
 -- each of the nodes may refuse the write for the one reason that all have
-each_refuses : (now t : ℕ) (v : ℤ) (why : Reason) → StandsAt (begun now []) (rules_when now) → Caused (life_of (at_moment now (write t v) (unmet 0 (by_each why)))) → MayRefuse (rules_when now) (write t v) why
+each_refuses : (now t : ℕ) (v : ℤ) (why : Reason) → StandsAt (begun now []) (rules_when now) → Caused (life_of (at_moment now (write t v) (unmet 0 (by_each why)))) → WindowRefuses (rules_when now) (write t v) why
 each_refuses now t v why stood caused = (write_unmet now t v 0 2 (by_each why) stood caused).refused (0, why) (inl refl)
 
 pub past-refused : (t : ℕ) → 250 < t + 100 → ¬ Caused (life_of (at_moment 250 (write t (pos 5)) (unmet 0 (by_each reason.Past))))
 past-refused t inside caused =
-    let outside : t + 100 ≤ 250 = past-outside 250 t (pos 5) (each_refuses 250 t (pos 5) reason.Past (stands refl refl refl) caused) in
+    let outside : t + 100 ≤ 250 = past-outside 250 t (pos 5) (each_refuses 250 t (pos 5) reason.Past (stands refl refl refl refl (λ name. refl)) caused) in
     omega arith
 
 pub future-refused : (t : ℕ) → t < 250 + 50 → ¬ Caused (life_of (at_moment 250 (write t (pos 5)) (unmet 0 (by_each reason.Future))))
 future-refused t inside caused =
-    let outside : 250 + 50 ≤ t = future-outside 250 t (pos 5) (each_refuses 250 t (pos 5) reason.Future (stands refl refl refl) caused) in
+    let outside : 250 + 50 ≤ t = future-outside 250 t (pos 5) (each_refuses 250 t (pos 5) reason.Future (stands refl refl refl refl (λ name. refl)) caused) in
     omega arith
 
 pub one_took-refused : ¬ Caused (life_of (at_moment 250 (write 150 (pos 5)) (unmet 1 ((1, reason.Past) ∷ (2, reason.Past) ∷ []))))
 one_took-refused caused =
-    let takes = (write_unmet 250 150 (pos 5) 1 2 _ (stands refl refl refl) caused).served (omega arith) in
+    let takes = (write_unmet 250 150 (pos 5) 1 2 _ (stands refl refl refl refl (λ name. refl)) caused).served (omega arith) in
     let not_past : 250 < 150 + 100 = (takes-window 250 150 (pos 5) takes).0 in
     omega arith
 
 pub fetch_past-refused : ¬ Caused (life_of (at_moment 250 (fetch 0 200) (unmet 0 (by_each reason.Past))))
 fetch_past-refused caused =
-    let due = unmet_by 250 (fetch 0 200) (unmet 0 (by_each reason.Past)) (needed_read read_level.Majority) 0 2 (by_each reason.Past) (stands refl refl refl) refl (due_at 250 (fetch 0 200) (unmet 0 (by_each reason.Past)) (λ e. cc) caused) in
+    let due = unmet_by 250 (fetch 0 200) (unmet 0 (by_each reason.Past)) (needed_read read_level.Majority) 0 2 (by_each reason.Past) (stands refl refl refl refl (λ name. refl)) refl (due_at 250 (fetch 0 200) (unmet 0 (by_each reason.Past)) (λ e. cc) caused) in
     let may = due.refused (0, reason.Past) (inl refl) in
     let point : None ≡ Some may.point = may.of_act in
     cc
 
 pub cut-refused : ¬ Caused (life_of (write_answered (unmet 0 (by_each reason.Cut))))
-cut-refused caused = each_refuses 100 100 (pos 5) reason.Cut (stands refl refl refl) caused
+cut-refused caused = each_refuses 100 100 (pos 5) reason.Cut (stands refl refl refl refl (λ name. refl)) caused
 
 pub reason_repeated-refused : ¬ Caused (life_of (write_answered (unmet 0 ((0, reason.Memory) ∷ (0, reason.Memory) ∷ (1, reason.Memory) ∷ []))))
 reason_repeated-refused caused =

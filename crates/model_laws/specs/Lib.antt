@@ -3,3 +3,4 @@ pub mod Accepted
 pub mod Refused
 pub mod Uncaused
 pub mod General
+pub mod Messages

@@ -3,6 +3,7 @@
 
 pub mod accepted;
 pub mod general;
+pub mod messages;
 pub mod numbers;
 pub mod refused;
 pub mod tags;

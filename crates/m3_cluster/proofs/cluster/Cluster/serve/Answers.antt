@@ -1,7 +1,7 @@
 use Rattle.std.proofs.Common.{sym, subst, [], ◌∷◌, ◌++◌}
-use Rattle.m3_model.specs.declared.turn.Reply.TheVariants as reply
 use Rattle.m3_model.specs.Limits.{KeepsLimits}
 use Rattle.m3_model.specs.NotYet.{IsServed}
+use Rattle.m3_model.specs.declared.turn.Reply.TheVariants as reply
 use Rattle.m3_cluster.specs.Serves.{Serves}
 use Rattle.m3_cluster.proofs.ServeLemmas.{answers_serve}
 use Rattle.m3_cluster.proofs.cluster.Cluster.serve.Goals as goal

@@ -1,0 +1,15 @@
+pub mod ListLemmas
+pub mod PastLemmas
+pub mod QuorumLemmas
+pub mod ShardLemmas
+pub mod ReplicaLemmas
+pub mod TraceLemmas
+pub mod HeldLemmas
+pub mod PlaceLemmas
+pub mod MoveLemmas
+pub mod SecuredLemmas
+pub mod OriginLemmas
+pub mod Theorem
+pub mod ShownLemmas
+pub mod ExtendLemmas
+pub mod OwnLemmas

@@ -1,0 +1,13 @@
+pub mod Lists
+pub mod Replicas
+pub mod Answers
+pub mod Sums
+pub mod Refusals
+pub mod Earlier
+pub mod Joins
+pub mod Asks
+pub mod Rows
+pub mod Legal
+pub mod Shown
+pub mod Core
+pub mod Makers

@@ -1,0 +1,28 @@
+//! What is so of each legal list.
+ghost use Rattle.std.specs.Prelude.{true};
+ghost use Rattle.cluster_core.specs.Core.{KeepsPoints};
+ghost use Rattle.cluster_core.specs.Legal.{Legal};
+ghost use Rattle.cluster_core.specs.Makers.{StaysLawful, FollowsFromItsSeat};
+ghost use Rattle.cluster_core.specs.Shown.{FoundShows, PageShows};
+
+use crate::event::Event;
+use m3_model::seq::Seq;
+
+/// The core theorem: whatever is lost, late, repeated, fenced, moved or restarted, a fetch that a majority answered
+/// holds each point that a majority took before it began, and nothing that wasn't written.
+pub fn reads_keep(_events: &Seq<Event>)
+    ensures { Legal true _events.now → KeepsPoints _events.now }
+{}
+
+/// What one maker may add depends on its own events, and on the existence and the number of earlier ones: what others add
+/// leaves it lawful. The state of a replica follows from what its own seat made.
+pub fn others_leave_lawful()
+    ensures stays { StaysLawful }
+    ensures own { FollowsFromItsSeat }
+{}
+
+/// A replica may answer what a content answers that shows it.
+pub fn contents_show()
+    ensures found { FoundShows }
+    ensures page { PageShows }
+{}

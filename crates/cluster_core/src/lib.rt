@@ -1,0 +1,8 @@
+//! The events of a cluster, the lists of them that are legal, and what the reads of a legal list keep.
+#![tactic(auto)]
+
+pub mod event;
+pub mod laws;
+pub mod replica_state;
+#[cfg(test)]
+mod tests;

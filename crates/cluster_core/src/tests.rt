@@ -1,0 +1,45 @@
+use crate::event::{Event, StepCall, StepReply};
+use crate::replica_state::replica_of;
+use m3_model::memory::Memory;
+use m3_model::replica::Standing;
+use m3_model::seq::Seq;
+use std::alloc::Global;
+use std::test::Fail;
+
+fn fence(node: u8, version: u64) -> Event {
+    Event::Step {
+        node,
+        shard: 0,
+        call: StepCall::Fence { version },
+        reply: StepReply::Done,
+    }
+}
+
+// The first node begins and is fenced, and so is another node.
+fn fenced_events(alloc: Global) -> Result<Vec<Event>, Memory> {
+    let mut events = Vec::new(alloc);
+    events.push(Event::Step {
+        node: 0,
+        shard: 0,
+        call: StepCall::Begin { tenure: 1 },
+        reply: StepReply::Began {
+            fence: 1,
+            points: Seq::new(alloc),
+        },
+    })?;
+    events.push(fence(0, 3))?;
+    events.push(fence(0, 2))?;
+    events.push(fence(1, 9))?;
+    Ok(events)
+}
+
+#[test]
+fn replica_is_folded_over_its_own_steps(rt: HostRuntime) -> Result<(), Fail> {
+    let alloc = rt.alloc();
+    let events = fenced_events(alloc)?;
+    let state = replica_of(alloc, 0, 0, &events)?;
+    assert!(rt; state.standing == Standing::Open);
+    assert_eq!(rt; state.fence, 3);
+    assert_eq!(rt; state.tenure, Some(1));
+    Ok(())
+}

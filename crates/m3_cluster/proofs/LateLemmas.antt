@@ -1,0 +1,272 @@
+-- The writes that are held back, one line on.
+use Rattle.std.proofs.Common.{◌≡◌, ◌+◌, ◌<◌, ◌⊎◌, ℕ, zero, suc, List, [], ◌∷◌, ◌++◌, filter, length, length-append, map, take, refl, sym, ap, ap₂, subst, ◌∙◌, inl, inr, arith, append-nil, Bool, true, false, cond}
+use Rattle.std.specs.Prelude.{Option, Some, None, IsTrue, nat_eq, option_map, slice_get}
+use Rattle.std.proofs.lemmas.List.{append_assoc, take-map}
+use Rattle.m3_model.specs.Ascends.{Ascends}
+use Rattle.m3_model.specs.Caused.{LateMessage, IsLateMessage, IsLateBefore, IsNamedBelow, delivers_nothing}
+use Rattle.m3_model.specs.Hash.{shard_of}
+use Rattle.m3_model.specs.Members.{IsIn}
+use Rattle.m3_model.specs.Points.{point_of, sent_point, was_sent}
+use Rattle.m3_model.specs.Record.{InnerTurn, TurnPlace, IsTurnPlace, inner_turns}
+use Rattle.m3_model.specs.Rules.{rules_after, start_rules, namespace_place}
+use Rattle.m3_model.specs.declared.act.Act.{Act}
+use Rattle.m3_model.specs.declared.act.Act.TheVariants as act
+use Rattle.m3_model.specs.declared.act.Fate.{Fate}
+use Rattle.m3_model.specs.declared.act.Fate.TheVariants as fate
+use Rattle.m3_model.specs.declared.answer.Answer.{Answer}
+use Rattle.m3_model.specs.declared.placement.Placement.{Placement}
+use Rattle.m3_model.specs.declared.point.Point.{Point}
+use Rattle.m3_model.specs.declared.rules.Rules.{Rules}
+use Rattle.m3_model.specs.declared.rules.Space.{Space}
+use Rattle.m3_model.specs.declared.turn.Turn.{Turn}
+use Rattle.m3_model.proofs.MemberLemmas.{IsIn-append_cases, IsIn-map}
+use Rattle.net_plan.specs.declared.late_write.LateWrite.{LateWrite}
+use Rattle.placement_core.specs.Shards.{shard_at, counted}
+use Rattle.placement_core.proofs.ListLemmas.{IsIn-filter, chosen}
+use Rattle.placement_core.proofs.OrderLemmas.{ascends-filter, ascends-map}
+use Rattle.session.specs.Outcomes.{fate_to}
+use Rattle.session.specs.Writes.{is_late, late_to, late_among, filled}
+use Rattle.m3_cluster.specs.Acts.{next_call}
+use Rattle.m3_cluster.specs.Serves.{IsHeldBack, AreHeldBack, HoldsLate, counted_in, shard_in, next_place}
+use Rattle.m3_cluster.specs.Steps.{spaces_in}
+use Rattle.m3_cluster.specs.declared.cluster.Cluster.{Cluster}
+use Rattle.m3_cluster.specs.declared.members.Members.{Members}
+use Rattle.m3_cluster.proofs.CallCauses.{ascends_on}
+use Rattle.m3_cluster.proofs.CallLemmas.{At, on, place_after, fate_is, known_node}
+use Rattle.m3_cluster.proofs.NumberLemmas.{line_of, and_then}
+use Rattle.m3_cluster.proofs.SpaceLemmas.{namespace_place-append}
+
+-- ---- points, where namespaces are made
+
+some_place : {A B : Type 0} (f : A → B) (o : Option A) (y : B) → option_map f o ≡ Some y → (x : A) × (o ≡ Some x) × (f x ≡ y)
+some_place f None y e = cc
+some_place f (Some x) y e = let same : f x ≡ y = cc in (x, refl, same)
+
+pub point_of-append : (spaces more : List Space) (a : Act) (p : Point) → point_of spaces a ≡ Some p → point_of (spaces ++ more) a ≡ Some p
+point_of-append spaces more (act.Write ns id t v level version) p e =
+    let found = some_place (λ k. record { ns = k; id = id; t = t; v = v }) (namespace_place ns spaces) p e in
+    ap (option_map (λ k. record { ns = k; id = id; t = t; v = v })) (namespace_place-append ns spaces more found.0 found.1) ∙ ap Some found.2
+point_of-append spaces more _ p e = cc
+
+sent_by : (spaces more : List Space) (a : Act) (b : Bool) (p : Point) → cond b (point_of spaces a) None ≡ Some p → cond b (point_of (spaces ++ more) a) None ≡ Some p
+sent_by spaces more a true p e = point_of-append spaces more a p e
+sent_by spaces more a false p e = e
+
+pub sent_point-append : (spaces more : List Space) (d : InnerTurn) (p : Point) → sent_point spaces d ≡ Some p → sent_point (spaces ++ more) d ≡ Some p
+sent_point-append spaces more d p e = sent_by spaces more d.act (was_sent d.answer) p e
+
+-- ---- places, one line on
+
+abbrev pub place_on : {lines : List Turn} {p : TurnPlace} → IsTurnPlace lines p → (line : Turn) → IsTurnPlace (lines ++ line ∷ []) p
+place_on {lines} {p} h line = record {
+  line = h.line;
+  after = h.after ++ line ∷ [];
+  front = h.front;
+  later = h.later;
+  back = h.back;
+  in_run = ap (λ xs. xs ++ line ∷ []) h.in_run ∙ append_assoc p.lines (h.line ∷ h.after) (line ∷ []);
+  in_line = h.in_line;
+  others = h.others;
+  client_is = h.client_is;
+}
+
+-- the only turn of the last line
+abbrev pub place_last : (lines : List Turn) (a : Act) (b : Answer) → IsTurnPlace (and_then lines a b) (place_after lines a b)
+place_last lines a b = record { line = line_of a b; after = []; front = []; later = []; back = []; in_run = refl; in_line = refl; others = refl; client_is = refl }
+
+-- an earlier line has fewer lines before it
+line_below : {lines : List Turn} {p : TurnPlace} → IsTurnPlace lines p → length p.lines < length lines
+line_below {lines} {p} h = let all : length lines ≡ length p.lines + suc (length h.after) = ap length h.in_run ∙ length-append p.lines (h.line ∷ h.after) in omega (arith, all)
+
+-- ---- what a turn leaves of the cluster that a late message meets
+
+-- After a turn more namespaces stand than before, and the same nodes; the rules are those of the turns.
+pub record Extends (lines : List Turn) (m : Members) (a : Act) (b : Answer) (g : Members) : Type 0 where
+  pub more : List Space
+  pub spaces : spaces_in g ≡ spaces_in m ++ more
+  pub place : g.net.state.place ≡ m.net.state.place
+  pub seed : g.net.state.seed ≡ m.net.state.seed
+  pub rules_were : rules_after (start_rules None) (inner_turns lines) ≡ m.net.state.rules
+  pub rules_are : rules_after (start_rules None) (inner_turns (and_then lines a b)) ≡ g.net.state.rules
+
+pub shard_same : {lines : List Turn} {m g : Members} {a : Act} {b : Answer} → Extends lines m a b g → (id : List ℕ) → shard_in g id ≡ shard_in m id
+shard_same {lines} {m} {g} {a} {b} e id = ap₂ (λ (seed : ℕ) (place : Placement). shard_of id seed (length place.shards)) e.seed e.place
+
+pub counted_same : {lines : List Turn} {m g : Members} {a : Act} {b : Answer} → Extends lines m a b g → (shard : ℕ) → counted_in g shard ≡ counted_in m shard
+counted_same {lines} {m} {g} {a} {b} e shard = ap (λ (place : Placement). counted (shard_at place shard)) e.place
+
+-- the point of an act, as the rules of more turns say it
+point_later : {lines : List Turn} {m g : Members} {a : Act} {b : Answer} → Extends lines m a b g → (x : Act) (p : Point) → point_of (rules_after (start_rules None) (inner_turns lines)).spaces x ≡ Some p
+    → point_of (rules_after (start_rules None) (inner_turns (and_then lines a b))).spaces x ≡ Some p
+point_later {lines} {m} {g} {a} {b} e x p is =
+    ap (λ (r : Rules). point_of r.spaces x) e.rules_are ∙ ap (λ spaces. point_of spaces x) e.spaces
+    ∙ point_of-append (spaces_in m) e.more x p (ap (λ (r : Rules). point_of r.spaces x) (sym e.rules_were) ∙ is)
+
+-- a late message stays late while none are delivered
+message_on : {lines : List Turn} {m g : Members} {a : Act} {b : Answer} → Extends lines m a b g → IsTrue (delivers_nothing (line_of a b)) → (place : Placement) (message : LateMessage) → IsLateMessage None (next_place lines) place message
+    → IsLateMessage None (next_place (and_then lines a b)) place message
+message_on {lines} {m} {g} {a} {b} e quiet place message h = record {
+  at = place_on h.at (line_of a b);
+  of_act = point_later e message.place.turn.act message.point h.of_act;
+  was_sent = h.was_sent;
+  late = h.late;
+  not_yet = λ line i. elim (IsIn-append_cases h.at.after (line_of a b ∷ []) line i) as (λ _. IsTrue (delivers_nothing line)) [
+    | inl before ↦ h.not_yet line before
+    | inr last ↦ elim last as (λ _. IsTrue (delivers_nothing line)) [ inl same ↦ subst (λ l. IsTrue (delivers_nothing l)) same quiet | inr none ↦ absurd none ]
+  ];
+}
+
+held_on : {lines : List Turn} {m g : Members} {a : Act} {b : Answer} → Extends lines m a b g → IsTrue (delivers_nothing (line_of a b)) → (message : LateMessage) (late : LateWrite) → IsHeldBack m lines message late
+    → IsHeldBack g (and_then lines a b) message late
+held_on {lines} {m} {g} {a} {b} e quiet message late h = record {
+  was_late = subst (λ place. IsLateMessage None (next_place (and_then lines a b)) place message) (sym e.place) (message_on e quiet m.net.state.place message h.was_late);
+  node = h.node;
+  counted = subst (λ ns. IsIn ns late.node) (sym (counted_same e late.shard)) h.counted;
+  shard = h.shard ∙ sym (shard_same e message.point.id);
+  version = h.version;
+  point = h.point;
+}
+
+all_held_on : {lines : List Turn} {m g : Members} {a : Act} {b : Answer} → Extends lines m a b g → IsTrue (delivers_nothing (line_of a b)) → (messages : List LateMessage) (bag : List LateWrite) → AreHeldBack m lines messages bag
+    → AreHeldBack g (and_then lines a b) messages bag
+all_held_on e quiet [] [] h = tt
+all_held_on e quiet (message ∷ messages) (late ∷ bag) h = (held_on e quiet message late h.0, all_held_on e quiet messages bag h.1)
+all_held_on e quiet [] (late ∷ bag) h = absurd h
+all_held_on e quiet (message ∷ messages) [] h = absurd h
+
+-- ---- a bag that stays
+
+pub late_stays : {lines : List Turn} {m g : Members} {a : Act} {b : Answer} → Extends lines m a b g → IsTrue (delivers_nothing (line_of a b)) → g.net.bag ≡ m.net.bag → HoldsLate m lines → HoldsLate g (and_then lines a b)
+late_stays {lines} {m} {g} {a} {b} e quiet same h = record {
+  messages = h.messages;
+  in_order = subst (λ place. Ascends (IsLateBefore place) h.messages) (sym e.place) h.in_order;
+  held_back = subst (AreHeldBack g (and_then lines a b) h.messages) (sym same) (all_held_on e quiet h.messages m.net.bag h.held_back);
+}
+
+-- an empty bag
+pub late_none : (g : Members) (lines : List Turn) → g.net.bag ≡ [] → HoldsLate g lines
+late_none g lines none = record { messages = []; in_order = tt; held_back = subst (AreHeldBack g lines []) (sym none) tt }
+
+-- ---- a bag to which late messages of a write come
+
+full_stays : (bag more : List LateWrite) → nat_eq (length bag) 4096 ≡ true → filled bag more ≡ bag
+full_stays bag [] full = refl
+full_stays bag (late ∷ more) full = ap (λ t. filled (cond t bag (bag ++ late ∷ [])) more) full ∙ full_stays bag more full
+
+-- a bag takes some first ones of the messages
+filled_with : (bag more : List LateWrite) → (k : ℕ) × (filled bag more ≡ bag ++ take k more)
+filled_with bag [] = (0, sym (append-nil bag))
+filled_with bag (late ∷ more) = by_room (nat_eq (length bag) 4096) refl (filled_with (bag ++ late ∷ []) more)
+  where
+    by_room : (t : Bool) → nat_eq (length bag) 4096 ≡ t → (k : ℕ) × (filled (bag ++ late ∷ []) more ≡ (bag ++ late ∷ []) ++ take k more) → (k : ℕ) × (filled bag (late ∷ more) ≡ bag ++ take k (late ∷ more))
+    by_room true full rest = (0, full_stays bag (late ∷ more) full ∙ sym (append-nil bag))
+    by_room false room rest = (suc rest.0, ap (λ t. filled (cond t bag (bag ++ late ∷ [])) more) room ∙ rest.1 ∙ append_assoc bag (late ∷ []) (take rest.0 more))
+
+pub take-IsIn : {X : Type 0} (k : ℕ) (xs : List X) (x : X) → IsIn (take k xs) x → IsIn xs x
+take-IsIn zero xs x i = absurd i
+take-IsIn (suc k) [] x i = absurd i
+take-IsIn (suc k) (y ∷ xs) x i = elim i as (λ _. (y ≡ x) ⊎ IsIn xs x) [ inl e ↦ inl e | inr r ↦ inr (take-IsIn k xs x r) ]
+
+pub ascends_take : {X : Type 0} (R : X → X → Type 0) (k : ℕ) (xs : List X) → Ascends R xs → Ascends R (take k xs)
+ascends_take R zero xs h = tt
+ascends_take R (suc k) [] h = tt
+ascends_take R (suc k) (x ∷ xs) h = (λ y i. h.0 y (take-IsIn k xs y i), ascends_take R k xs h.1)
+
+ascends_append : {X : Type 0} (R : X → X → Type 0) (xs ys : List X) → Ascends R xs → Ascends R ys → ((x y : X) → IsIn xs x → IsIn ys y → R x y) → Ascends R (xs ++ ys)
+ascends_append R [] ys hx hy across = hy
+ascends_append R (x ∷ xs) ys hx hy across = (
+  λ y i. elim (IsIn-append_cases xs ys y i) as (λ _. R x y) [ inl a ↦ hx.0 y a | inr b ↦ across x y (inl refl) b ],
+  ascends_append R xs ys hx.1 hy (λ z y i j. across z y (inr i) j),
+)
+
+held_append : (g : Members) (lines : List Turn) (messages more : List LateMessage) (bag lates : List LateWrite) → AreHeldBack g lines messages bag → AreHeldBack g lines more lates → AreHeldBack g lines (messages ++ more) (bag ++ lates)
+held_append g lines [] more [] lates h new = new
+held_append g lines (message ∷ messages) more (late ∷ bag) lates h new = (h.0, held_append g lines messages more bag lates h.1 new)
+held_append g lines [] more (late ∷ bag) lates h new = absurd h
+held_append g lines (message ∷ messages) more [] lates h new = absurd h
+
+-- each message is held back
+message_held : (g : Members) (lines : List Turn) (messages : List LateMessage) (bag : List LateWrite) → AreHeldBack g lines messages bag → (x : LateMessage) → IsIn messages x → (late : LateWrite) × IsHeldBack g lines x late
+message_held g lines [] bag h x i = absurd i
+message_held g lines (message ∷ messages) [] h x i = absurd h
+message_held g lines (message ∷ messages) (late ∷ bag) h x i =
+    elim i as (λ _. (l : LateWrite) × IsHeldBack g lines x l) [ inl same ↦ (late, subst (λ y. IsHeldBack g lines y late) same h.0) | inr rest ↦ message_held g lines messages bag h.1 x rest ]
+
+late_by : (f : Fate) → is_late f ≡ true → f ≡ fate.Late
+late_by fate.Late e = refl
+late_by _ e = cc
+
+-- What is known of a write whose late messages come into the bag, in the order of these nodes.
+pub record Delays (lines : List Turn) (m : Members) (a : Act) (b : Answer) (point : Point) (nodes : List ℕ) : Type 0 where
+  pub of_act : point_of (spaces_in m) a ≡ Some point
+  pub was_sent : was_sent b ≡ true
+  pub quiet : IsTrue (delivers_nothing (line_of a b))
+  pub low : shard_in m point.id < length m.net.state.place.shards
+  pub counted : (n : ℕ) → IsIn nodes n → IsIn (counted_in m (shard_in m point.id)) n
+  pub by_name : Ascends (IsNamedBelow m.net.state.place) nodes
+
+-- the message of the write to a node
+abbrev message_to : List Turn → Act → Answer → Point → ℕ → LateMessage
+message_to lines a b point n = record { place = place_after lines a b; node = n; point = point }
+
+new_held : {lines : List Turn} {c : Cluster} {m g : Members} (h : At lines c m) {a : Act} {b : Answer} (e : Extends lines m a b g) (point : Point) (nodes : List ℕ) → Delays lines m a b point nodes
+    → (n : ℕ) → IsIn nodes n → is_late (fate_to m.net.fates (next_call c None) n) ≡ true → IsHeldBack g (and_then lines a b) (message_to lines a b point n) (late_to (next_call c None) (shard_in m point.id) 1 point n)
+new_held {lines} {c} {m} {g} h {a} {b} e point nodes d n i late =
+    let known = known_node h (shard_in m point.id) n d.low (d.counted n i) in
+    record {
+      was_late = record {
+        at = place_last lines a b;
+        of_act = point_later e a point (ap (λ (r : Rules). point_of r.spaces a) e.rules_were ∙ d.of_act);
+        was_sent = d.was_sent;
+        late = record {
+          instance_ = known.instance_;
+          stands = ap (λ (place : Placement). slice_get place.instances n) e.place ∙ known.there;
+          holds = sym (fate_is h a b None n known.instance_ known.there) ∙ late_by (fate_to m.net.fates (next_call c None) n) late;
+        };
+        not_yet = λ line none. absurd none;
+      };
+      node = refl;
+      counted = subst (λ ns. IsIn ns n) (sym (counted_same e (shard_in m point.id))) (d.counted n i);
+      shard = sym (shard_same e point.id);
+      version = refl;
+      point = refl;
+    }
+
+all_new_held : (g : Members) (lines : List Turn) (message : ℕ → LateMessage) (late : ℕ → LateWrite) (nodes : List ℕ) → ((n : ℕ) → IsIn nodes n → IsHeldBack g lines (message n) (late n)) → AreHeldBack g lines (map message nodes) (map late nodes)
+all_new_held g lines message late [] each = tt
+all_new_held g lines message late (n ∷ nodes) each = (each n (inl refl), all_new_held g lines message late nodes (λ k i. each k (inr i)))
+
+-- what was held back is of an earlier line
+earlier_line : (m : Members) (lines : List Turn) (messages : List LateMessage) (bag : List LateWrite) → AreHeldBack m lines messages bag → (message : ℕ → LateMessage) (nodes : List ℕ) → ((n : ℕ) → length (message n).place.lines ≡ length lines)
+    → (x y : LateMessage) → IsIn messages x → IsIn (map message nodes) y → length x.place.lines < length y.place.lines
+earlier_line m lines messages bag held message nodes of_line x y i j =
+    let from = IsIn-map message nodes y j in
+    let here : length lines ≡ length y.place.lines = sym (of_line from.0) ∙ ap (λ (z : LateMessage). length z.place.lines) from.2 in
+    let before = line_below ((message_held m lines messages bag held x i).1).was_late.at in
+    omega (arith, here, before)
+
+-- the late messages of a write are behind those that were held back
+pub late_more : {lines : List Turn} {c : Cluster} {m g : Members} (h : At lines c m) {a : Act} {b : Answer} (e : Extends lines m a b g) (point : Point) (nodes : List ℕ) → Delays lines m a b point nodes
+    → g.net.bag ≡ filled m.net.bag (late_among m.net.fates (next_call c None) (shard_in m point.id) 1 point nodes) → HoldsLate g (and_then lines a b)
+late_more {lines} {c} {m} {g} h {a} {b} e point nodes d is =
+    let old = (on h).late in
+    let late = late_to (next_call c None) (shard_in m point.id) 1 point in
+    let to_node = message_to lines a b point in
+    let late_nodes = filter (λ n. is_late (fate_to m.net.fates (next_call c None) n)) nodes in
+    let some = filled_with m.net.bag (map late late_nodes) in
+    let first = take some.0 late_nodes in
+    let was = all_held_on e d.quiet old.messages m.net.bag old.held_back in
+    let in_late : (n : ℕ) → IsIn first n → IsIn late_nodes n = λ n i. take-IsIn some.0 late_nodes n i in
+    let new = all_new_held g (and_then lines a b) to_node late first (λ n i.
+    let j = in_late n i in
+    new_held h e point nodes d n (IsIn-filter (λ n. is_late (fate_to m.net.fates (next_call c None) n)) nodes n j) (chosen (λ n. is_late (fate_to m.net.fates (next_call c None) n)) nodes n j)) in
+    let bag_is : g.net.bag ≡ m.net.bag ++ map late first = is ∙ some.1 ∙ ap (λ xs. m.net.bag ++ xs) (take-map late some.0 late_nodes) in
+    record {
+      messages = old.messages ++ map to_node first;
+      in_order = subst (λ place. Ascends (IsLateBefore place) (old.messages ++ map to_node first)) (sym e.place)
+          (ascends_append (IsLateBefore m.net.state.place) old.messages (map to_node first) old.in_order
+          (ascends-map (IsLateBefore m.net.state.place) to_node first (ascends_on (IsNamedBelow m.net.state.place) (λ x y. IsLateBefore m.net.state.place (to_node x) (to_node y)) first (λ x y below. inr (refl, below))
+          (ascends_take (IsNamedBelow m.net.state.place) some.0 late_nodes (ascends-filter (IsNamedBelow m.net.state.place) (λ n. is_late (fate_to m.net.fates (next_call c None) n)) nodes d.by_name))))
+          (λ x y i j. inl (earlier_line m lines old.messages m.net.bag old.held_back (to_node) first (λ n. refl) x y i j)));
+      held_back = subst (AreHeldBack g (and_then lines a b) (old.messages ++ map to_node first)) (sym bag_is) (held_append g (and_then lines a b) old.messages (map to_node first) m.net.bag (map late first) was new);
+    }

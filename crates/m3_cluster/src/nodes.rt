@@ -1,0 +1,96 @@
+//! What befalls the nodes of a cluster that stands, and the messages to them.
+ghost use Rattle.std.specs.Prelude.{◌≡◌, ◌<◌, ◌≤◌, length, List, IfSome, IfOk, IfErr};
+ghost use Rattle.m3_model.specs.declared.act.Act.TheVariants as act;
+ghost use Rattle.m3_model.specs.Limits.{MeetsLimits};
+ghost use Rattle.m3_cluster.specs.Nodes.{node_named, IsResolved, IsFated, IsDelivered, IsStopped};
+
+use crate::members::Members;
+use m3_model::act::Fate;
+use m3_model::answer::Answer;
+use m3_model::placement::Instance;
+use m3_model::seq::Seq;
+use m3_model::text::Text;
+use net_plan::fates::Fates;
+use session::deliver::deliver;
+use session::slot::Slot;
+use std::alloc::Global;
+
+/// The number of the listed node of this name. There are at most 16.
+pub(crate) fn node_named(instances: &[Instance], name: &str) -> Option<usize>
+    ensures found { result ≡ node_named name.now instances.now }
+    ensures below { IfSome result (λ node. node < length instances.now) }
+{
+    instances.iter().position(|instance| instance.listed && instance.name.as_str() == name)
+}
+
+// The list with numbers in place of names, or the answer that refuses it: the first name that no node has, or want of
+// memory.
+fn resolved(
+    alloc: Global,
+    instances: &[Instance],
+    list: Seq<(u32, u64, Text, Fate)>,
+) -> Result<Seq<(u32, u64, u8, Fate)>, Answer>
+    requires { length instances.now ≤ 256 }
+    ensures { IsResolved instances.now list result }
+{
+    let mut numbered = Vec::new(alloc);
+    for (client, call, name, fate) in list.into_vec() {
+        let Some(node) = node_named(instances, name.as_str()) else {
+            return Err(Answer::Unknown { name });
+        };
+        if numbered.push((client, call, node as u8, fate)).is_err() {
+            return Err(Answer::Memory);
+        }
+    }
+    Ok(Seq::from_vec(numbered))
+}
+
+impl Members {
+    /// Sets what becomes of messages, in place of all earlier fates. `Unknown` names the first name that no node has;
+    /// nothing changes then.
+    pub(crate) fn set_fates(&mut self, alloc: Global, list: Seq<(u32, u64, Text, Fate)>) -> Answer
+        requires { MeetsLimits (act.Fates list) }
+        ensures { IsFated self.old list result self.new }
+    {
+        match resolved(alloc, self.net.state.place.instances.as_slice(), list) {
+            Ok(numbered) => {
+                self.net.fates = Fates::new(numbered);
+                Answer::Done
+            }
+            Err(refused) => refused,
+        }
+    }
+
+    /// Delivers the late writes.
+    pub(crate) fn deliver(&mut self, alloc: Global) -> Answer
+        ensures { IsDelivered self.old result self.new }
+    {
+        match deliver(&mut self.net, alloc) {
+            Ok(outcomes) => Answer::Outcomes { outcomes },
+            Err(_) => Answer::Memory,
+        }
+    }
+
+    /// Stops a node, and with it each of its machines. `Unknown` says that no node has the name, and `State` that it is
+    /// stopped; nothing changes then.
+    pub(crate) fn stop(&mut self, name: Text) -> Answer
+        ensures { IsStopped self.old name result self.new }
+    {
+        let state = &self.net.state;
+        let Some(node) = node_named(state.place.instances.as_slice(), name.as_str()) else {
+            return Answer::Unknown { name };
+        };
+        let shards = state.place.shards.len();
+        if self.stopped[node] {
+            return Answer::State { node: name };
+        }
+        for shard in 0..shards {
+            self.net.machines.stop(Slot {
+                shard: shard as u32,
+                node: node as u8,
+            });
+        }
+        self.stopped[node] = true;
+        Answer::Done
+    }
+}

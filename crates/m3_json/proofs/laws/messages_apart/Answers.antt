@@ -1,0 +1,5 @@
+use Rattle.m3_json.proofs.FateLimits.{messages_differ-Ascends}
+use Rattle.m3_json.proofs.laws.messages_apart.Goals as goal
+
+pub returns : goal.returns
+returns c = messages_differ-Ascends

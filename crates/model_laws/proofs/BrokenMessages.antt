@@ -1,0 +1,128 @@
+-- Why answers without a cause are refused where messages are lost or late and nodes are stopped.
+use Rattle.std.proofs.Common.{◌≡◌, ◌≤◌, ◌∙◌, ℕ, true, false, List, [], ◌∷◌, length, refl, sym, subst, inl, inr, arith}
+use Rattle.std.specs.Prelude.{Option, Some, None, pos, codes}
+use Rattle.std.specs.declared.cmp.Ordering.TheVariants.{Less, Equal}
+use Rattle.m3_model.specs.Caused.{Caused, MayUse, IsAcked, IsUnmet, IsFoundFor, IsDelivered, LateMessage, IsLateMessage, IsLateBefore, IsNamedBelow, AreOutcomes, placement_at, reached_of}
+use Rattle.m3_model.specs.Fates.{reaches}
+use Rattle.m3_model.specs.Hash.{murmur3, shard_of}
+use Rattle.m3_model.specs.Levels.{majority}
+use Rattle.m3_model.specs.Points.{point_of}
+use Rattle.m3_model.specs.Ascends.{Ascends}
+use Rattle.m3_model.specs.Record.{TurnPlace, IsTurnPlace}
+use Rattle.m3_model.specs.Rules.{rules_at}
+use Rattle.m3_model.specs.declared.act.Act.{Act}
+use Rattle.m3_model.specs.declared.act.Act.TheVariants as act
+use Rattle.m3_model.specs.declared.act.Fate.TheVariants.{Lose}
+use Rattle.m3_model.specs.declared.act.ReadLevel.TheVariants as read_level
+use Rattle.m3_model.specs.declared.act.WriteLevel.TheVariants as write_level
+use Rattle.m3_model.specs.declared.answer.Answer.{Answer}
+use Rattle.m3_model.specs.declared.answer.Answer.TheVariants as answer
+use Rattle.m3_model.specs.declared.placement.Placement.{Placement}
+use Rattle.m3_model.specs.declared.point.Point.{Point}
+use Rattle.m3_model.specs.declared.reason.Reason.{Reason}
+use Rattle.m3_model.specs.declared.reason.Reason.TheVariants as reason
+use Rattle.m3_model.specs.declared.turn.Turn.{Turn}
+use Rattle.model_laws.specs.Building.{begun, write, acks, unmet, by_each, place, life_of}
+use Rattle.model_laws.specs.Messages.{fated, stopped, unstrict, b_then_c_late, without_b, lost_and_acked, stopped_and_acked, down_unstopped, cut_by_other_fate, not_short_enough, stopped_again, delivered_twice, fate_of_nobody}
+use Rattle.model_laws.proofs.EachLemmas.{same_of_some, ◌also◌}
+use Rattle.model_laws.proofs.PlaceLemmas.{place_after, each_place, only}
+use Rattle.model_laws.proofs.UncausedLives.{due_after, due_at, names_below}
+
+-- the only placement that stands is the one that a call uses
+used_is : (lines : List Turn) (a : Act) (b : Answer) (used : Placement) → placement_at None (place_after lines a b) ≡ Some place → MayUse None (place_after lines a b) None used → place ≡ used
+used_is lines a b used stood may = elim may as (λ _. place ≡ used) [ inl e ↦ same_of_some place used (sym stood ∙ e) | inr none ↦ absurd none ]
+
+pub lost_and_acked-refused : ¬ Caused (life_of lost_and_acked)
+lost_and_acked-refused caused =
+    let lines = begun 100 (fated ((0, 0, codes "c", Lose) ∷ []) ∷ []) in
+    let taken = acks (0 ∷ 1 ∷ 2 ∷ []) in
+    let due : IsAcked None (place_after lines (write 100 (pos 5)) taken) (codes "hello") write_level.Majority None (0 ∷ 1 ∷ 2 ∷ []) = due_after lines (write 100 (pos 5)) taken [] (λ e. cc) caused in
+    let same : place ≡ due.place = used_is lines (write 100 (pos 5)) taken due.place refl due.may_use in
+    let bad : false ≡ true = subst (λ x. reaches (place_after lines (write 100 (pos 5)) taken) x 2 ≡ true) (sym same) (due.reached 2 (inr (inr (inl refl)))) in
+    cc
+
+pub stopped_and_acked-refused : ¬ Caused (life_of stopped_and_acked)
+stopped_and_acked-refused caused =
+    let lines = begun 100 (stopped (codes "c") ∷ []) in
+    let taken = acks (0 ∷ 1 ∷ 2 ∷ []) in
+    let due : IsAcked None (place_after lines (write 100 (pos 5)) taken) (codes "hello") write_level.Majority None (0 ∷ 1 ∷ 2 ∷ []) = due_after lines (write 100 (pos 5)) taken [] (λ e. cc) caused in
+    let same : place ≡ due.place = used_is lines (write 100 (pos 5)) taken due.place refl due.may_use in
+    let bad : false ≡ true = subst (λ x. reaches (place_after lines (write 100 (pos 5)) taken) x 2 ≡ true) (sym same) (due.reached 2 (inr (inr (inl refl)))) in
+    cc
+
+pub down_unstopped-refused : ¬ Caused (life_of down_unstopped)
+down_unstopped-refused caused =
+    let due : IsUnmet None (place_after (begun 100 []) (write 100 (pos 5)) (unmet 0 (by_each reason.Down))) 0 2 (by_each reason.Down) 0 = due_at 100 (write 100 (pos 5)) (unmet 0 (by_each reason.Down)) (λ e. cc) caused in
+    let bad : false ≡ true = (due.refused (0, reason.Down) (inl refl)).holds in
+    cc
+
+pub cut_by_other_fate-refused : ¬ Caused (life_of cut_by_other_fate)
+cut_by_other_fate-refused caused =
+    let lines = begun 100 (fated ((0, 1, codes "c", Lose) ∷ []) ∷ []) in
+    let reasons : List (ℕ × Reason) = (1, reason.Memory) ∷ (2, reason.Cut) ∷ [] in
+    let due : IsUnmet None (place_after lines (write 100 (pos 5)) (unmet 1 reasons)) 1 2 reasons 0 = due_after lines (write 100 (pos 5)) (unmet 1 reasons) [] (λ e. cc) caused in
+    let bad : false ≡ true = (due.refused (2, reason.Cut) (inr (inl refl))).holds in
+    cc
+
+pub not_short_enough-refused : ¬ Caused (life_of not_short_enough)
+unfolding murmur3
+not_short_enough-refused caused =
+    let lines = begun 100 (stopped (codes "b") ∷ stopped (codes "c") ∷ []) in
+    let whole = answer.Found [] false in
+    let p = place_after lines (unstrict 0 200) whole in
+    let due : IsFoundFor None p (Some (codes "hello")) read_level.Unstrict None false = due_after lines (unstrict 0 200) whole [] (λ e. cc) caused in
+    let same : place ≡ due.place = used_is lines (unstrict 0 200) whole due.place refl due.may_use in
+    let enough : (x : Placement) → place ≡ x → ((shard : ℕ) → shard ≡ shard_of (codes "hello") 0 (length x.shards) → majority x.rf ≤ reached_of p x shard) → 2 ≤ reached_of p place 0 =
+    λ x e each. subst (λ y. ((shard : ℕ) → shard ≡ shard_of (codes "hello") 0 (length y.shards) → majority y.rf ≤ reached_of p y shard) → 2 ≤ reached_of p place 0) e (λ all. all 0 refl) each in
+    let bad : 2 ≤ 1 = enough due.place same (due.not_short refl refl) in
+    omega arith
+
+pub stopped_again-refused : ¬ Caused (life_of stopped_again)
+stopped_again-refused caused =
+    let due : answer.Done ≡ answer.State (codes "c") = due_after (begun 100 (stopped (codes "c") ∷ [])) (act.Stop (codes "c")) answer.Done [] (λ e. cc) caused in
+    cc
+
+pub fate_of_nobody-refused : ¬ Caused (life_of fate_of_nobody)
+fate_of_nobody-refused caused =
+    let due : answer.Done ≡ answer.Unknown (codes "x") = due_after (begun 100 []) (act.Fates ((0, 0, codes "x", Lose) ∷ [])) answer.Done [] (λ e. cc) caused in
+    cc
+
+-- what a delivery did after the first write, and what it answers for doing it twice
+abbrev lines_before : List Turn
+lines_before = begun 100 (b_then_c_late ∷ without_b ∷ [])
+
+abbrev twice : List (ℕ × ℕ × Option Reason)
+twice = (1, 0, None) ∷ (1, 0, None) ∷ []
+
+abbrev delivery : TurnPlace
+delivery = place_after lines_before act.Deliver (answer.Outcomes twice)
+
+-- the only write before stands after four lines
+only_write : (q : TurnPlace) → IsTurnPlace lines_before q → (point : Point) → point_of (rules_at None delivery).spaces q.turn.act ≡ Some point → length q.lines ≡ 4
+only_write q at = each_place (λ x. (point : Point) → point_of (rules_at None delivery).spaces x.turn.act ≡ Some point → length x.lines ≡ 4) lines_before (
+    only (λ point e. cc) also only (λ point e. cc) also only (λ point e. cc) also only (λ point e. cc) also only (λ point e. refl) also tt) q at
+
+-- two messages of that write to the same node aren't one before the other
+not_before : (used : Placement) (a b : LateMessage) → place ≡ used → IsLateMessage None delivery used a → IsLateMessage None delivery used b → a.node ≡ 1 → b.node ≡ 1 → ¬ IsLateBefore used a b
+not_before used a b same of_a of_b a_is b_is before =
+    let four : length a.place.lines ≡ 4 = only_write a.place of_a.at a.point of_a.of_act in
+    let as_many : length b.place.lines ≡ 4 = only_write b.place of_b.at b.point of_b.of_act in
+    elim before as (λ _. ⊥) [
+      | inl less ↦ absurd (omega (arith, less, four, as_many))
+      | inr named ↦
+          let below : IsNamedBelow place 1 1 = subst (λ x. IsNamedBelow x 1 1) (sym same) (subst (λ n. IsNamedBelow used n 1) a_is (subst (λ n. IsNamedBelow used a.node n) b_is named.1)) in
+          let clash : Equal ≡ Less = names_below 1 1 _ _ refl refl below in
+          cc
+    ]
+
+-- no two messages in order have these outcomes
+not_twice : (used : Placement) (messages : List LateMessage) → place ≡ used → Ascends (IsLateBefore used) messages → AreOutcomes None delivery used messages twice → ⊥
+not_twice used [] same in_order each = absurd each
+not_twice used (a ∷ []) same in_order each = absurd each.1
+not_twice used (a ∷ b ∷ []) same in_order each = not_before used a b same each.0.message each.1.0.message (sym each.0.node_is) (sym each.1.0.node_is) (in_order.0 b (inl refl))
+not_twice used (a ∷ b ∷ _ ∷ _) same in_order each = absurd each.1.1
+
+pub delivered_twice-refused : ¬ Caused (life_of delivered_twice)
+delivered_twice-refused caused =
+    let due : IsDelivered None delivery twice = due_after lines_before act.Deliver (answer.Outcomes twice) [] (λ e. cc) caused in
+    not_twice due.place due.messages (same_of_some place due.place due.stands) due.in_order due.each

@@ -1,0 +1,170 @@
+-- Why each answer has its cause where messages are lost or late and nodes are stopped.
+use Rattle.std.proofs.Common.{◌≡◌, ◌<◌, ◌≤◌, ◌+◌, ℕ, ℤ, Bool, true, false, List, [], ◌∷◌, length, refl, sym, subst, inl, inr, arith}
+use Rattle.std.specs.Prelude.{Some, None, map, pos, codes, slice_get, IsTrue}
+use Rattle.m3_model.specs.Caused.{Caused, call_of, IsAcked, IsUnmet, IsFoundFor, MayRefuse, MayServe, TakesPoint, LateMessage, IsLateMessage, IsLateBefore, IsDelivered, IsNamedBelow, delivers_nothing, placement_at, reached_of}
+use Rattle.m3_model.specs.Fates.{reaches, OfNode}
+use Rattle.m3_model.specs.Hash.{murmur3, shard_of}
+use Rattle.m3_model.specs.Levels.{needed_read}
+use Rattle.m3_model.specs.Members.{IsIn}
+use Rattle.m3_model.specs.Placements.{IsCounted, seed_after}
+use Rattle.m3_model.specs.Record.{TurnPlace, inner_turns}
+use Rattle.m3_model.specs.Rules.{rules_at, InWindow}
+use Rattle.m3_model.specs.declared.act.Act.TheVariants as act
+use Rattle.m3_model.specs.declared.act.ReadLevel.{ReadLevel}
+use Rattle.m3_model.specs.declared.act.ReadLevel.TheVariants as read_level
+use Rattle.m3_model.specs.declared.act.WriteLevel.TheVariants as write_level
+use Rattle.m3_model.specs.declared.answer.Answer.TheVariants as answer
+use Rattle.m3_model.specs.declared.placement.Assignment.{Assignment}
+use Rattle.m3_model.specs.declared.placement.Instance.{Instance}
+use Rattle.m3_model.specs.declared.reason.Reason.{Reason}
+use Rattle.model_laws.specs.Building.{begun, life_of, write, acks, place, space}
+use Rattle.model_laws.specs.Messages.{b_then_c_late, without_b, without_c, lost_messages, stopped_nodes, late_messages}
+use Rattle.model_laws.proofs.EachLemmas.{Each, EachPair, each_in, ascends_by, same_of_some, ◌also◌}
+use Rattle.model_laws.proofs.PlaceLemmas.{place_after, only}
+use Rattle.model_laws.proofs.SampleLemmas.{rules_when, call_with, hello}
+use Rattle.model_laws.proofs.CausedLives.{all_three, begun_caused, takes_by, counted_0, counted_1, counted_2, below_0_1, below_0_2, below_1_2}
+
+-- a fact of a node that is known
+of_node : (Holds : List ℕ → Type 0) (node : ℕ) (one : Instance) → slice_get place.instances node ≡ Some one → Holds one.name → OfNode place node Holds
+of_node Holds node one stood holds = record { instance_ = one; stands = stood; holds = holds }
+
+-- a fact of each node that counts for the only shard
+counted_each : (P : ℕ → Type 0) → Each (λ (a : Assignment). P a.node) all_three → (node : ℕ) → IsCounted place 0 node → P node
+counted_each P each node counts =
+    let same : counts.assignments ≡ all_three = same_of_some counts.assignments all_three (sym counts.stands) in
+    subst P counts.to_node (each_in (λ (a : Assignment). P a.node) all_three each counts.assignment (subst (λ xs. IsIn xs counts.assignment) same counts.assigned))
+
+-- a read of `hello` at a place from which it reaches so many replicas
+found_when : (p : TurnPlace) (level : ReadLevel) (short : Bool) (n : ℕ) → placement_at None p ≡ Some place → seed_after None (inner_turns p.lines) ≡ 0 → reached_of p place 0 ≡ n → needed_read level 3 ≤ n
+    → (short ≡ true → level ≡ read_level.Unstrict) → (short ≡ false → level ≡ read_level.Unstrict → 2 ≤ n) → IsFoundFor None p (Some (codes "hello")) level None short
+unfolding murmur3
+found_when p level short n place_is seed_is reached enough may_be_short not_short =
+    let zero_is : (shard : ℕ) → shard ≡ shard_of (codes "hello") (seed_after None (inner_turns p.lines)) 1 → shard ≡ 0 = λ shard asked. subst (λ seed. shard ≡ shard_of (codes "hello") seed 1) seed_is asked in
+    record {
+      place = place;
+      may_use = inl place_is;
+      enough = λ shard asked. subst (λ k. needed_read level 3 ≤ reached_of p place k) (sym (zero_is shard asked)) (subst (λ m. needed_read level 3 ≤ m) (sym reached) enough);
+      may_be_short = may_be_short;
+      not_short = λ whole is shard asked. subst (λ k. 2 ≤ reached_of p place k) (sym (zero_is shard asked)) (subst (λ m. 2 ≤ m) (sym reached) (not_short whole is));
+    }
+
+-- a call of `hello` at a place from which fewer than the two replicas that it needs did as it asked
+unmet_when : (p : TurnPlace) (needed : ℕ → ℕ) (got : ℕ) (reasons : List (ℕ × Reason)) → placement_at None p ≡ Some place → seed_after None (inner_turns p.lines) ≡ 0 → call_of p.turn.act ≡ Some (call_with needed) → needed 3 ≡ 2
+    → got < 2 → got + length reasons ≡ 3 → Each (λ r. IsCounted place 0 r.0) reasons → EachPair (λ r s. IsNamedBelow place r.0 s.0) reasons → Each (λ (a : Assignment). reaches p place a.node ≡ false → IsIn (map (λ r. r.0) reasons) a.node) all_three
+    → Each (λ r. MayRefuse None p place r.0 r.1) reasons → (0 < got → MayServe (rules_at None p) p.turn.act) → IsUnmet None p got 2 reasons 0
+unfolding murmur3
+unmet_when p needed got reasons place_is seed_is is two fewer others counted by_name silent refused served = record {
+  call = call_with needed;
+  of_act = is;
+  place = place;
+  may_use = inl place_is;
+  asked = subst (λ seed. 0 ≡ shard_of (codes "hello") seed 1) (sym seed_is) refl;
+  first = λ lower below too. absurd (omega (arith, below));
+  needed_is = sym two;
+  fewer = fewer;
+  counted = each_in (λ r. IsCounted place 0 r.0) reasons counted;
+  by_name = ascends_by (λ r s. IsNamedBelow place r.0 s.0) reasons by_name;
+  others = others;
+  silent = counted_each (λ node. reaches p place node ≡ false → IsIn (map (λ r. r.0) reasons) node) silent;
+  refused = each_in (λ r. MayRefuse None p place r.0 r.1) reasons refused;
+  served = served;
+}
+
+-- a write of `hello` that these nodes took, each of which it reached
+taken_when : (p : TurnPlace) (taken : List ℕ) → placement_at None p ≡ Some place → seed_after None (inner_turns p.lines) ≡ 0 → Each (IsCounted place 0) taken → EachPair (IsNamedBelow place) taken → Each (λ node. reaches p place node ≡ true) taken → 2 ≤ length taken
+    → TakesPoint (rules_at None p) p.turn.act → IsAcked None p (codes "hello") write_level.Majority None taken
+unfolding murmur3
+taken_when p taken place_is seed_is counted by_name reached enough takes = record {
+  place = place;
+  may_use = inl place_is;
+  counted = subst (λ seed. (node : ℕ) → IsIn taken node → IsCounted place (shard_of (codes "hello") seed (length place.shards)) node) (sym seed_is) (each_in (IsCounted place 0) taken counted);
+  by_name = ascends_by (IsNamedBelow place) taken by_name;
+  reached = each_in (λ node. reaches p place node ≡ true) taken reached;
+  enough = enough;
+  takes = takes;
+}
+
+-- a write of `hello` at 100 or a little later is one that is taken at 100
+takes_near : (t : ℕ) (v : ℤ) → 0 < t → t < 150 → TakesPoint (rules_when 100) (write t v)
+takes_near t v above below = takes_by (rules_when 100) _ 0 space t v refl refl (omega (arith, above)) (omega (arith, below))
+
+pub lost_messages-caused : Caused (life_of lost_messages)
+lost_messages-caused =
+    begun_caused 100 _ (
+    only (inr tt)
+    also only (inr (taken_when _ (0 ∷ 1 ∷ []) refl refl (counted_0 also counted_1 also tt) ((below_0_1 also tt) also tt also tt) (refl also refl also tt) (omega arith) (takes_near 100 (pos 5) (omega arith) (omega arith))))
+    also only (inr (unmet_when _ _ 1 _ refl refl refl refl (omega arith) refl (counted_1 also counted_2 also tt) ((below_1_2 also tt) also tt also tt)
+    ((λ quiet. cc) also (λ quiet. inl refl) also (λ quiet. inr (inl refl)) also tt)
+    (of_node _ 1 _ refl refl also of_node _ 2 _ refl refl also tt)
+    (λ some. takes_near 100 (pos 6) (omega arith) (omega arith))))
+    also only (inr (found_when _ read_level.Majority false 3 refl refl refl (omega arith) (λ e. cc) (λ e f. cc)))
+    also tt)
+
+pub stopped_nodes-caused : Caused (life_of stopped_nodes)
+stopped_nodes-caused =
+    begun_caused 100 _ (
+    only (inr (taken_when _ (0 ∷ 1 ∷ 2 ∷ []) refl refl (counted_0 also counted_1 also counted_2 also tt) ((below_0_1 also below_0_2 also tt) also (below_1_2 also tt) also tt also tt) (refl also refl also refl also tt) (omega arith) (takes_near 100 (pos 5) (omega arith) (omega arith))))
+    also only (inr tt)
+    also only (inr tt)
+    also only (inr (found_when _ read_level.Unstrict true 1 refl refl refl (omega arith) (λ e. refl) (λ e f. cc)))
+    also only (inr (unmet_when _ _ 1 _ refl refl refl refl (omega arith) refl (counted_1 also counted_2 also tt) ((below_1_2 also tt) also tt also tt)
+    ((λ quiet. cc) also (λ quiet. inl refl) also (λ quiet. inr (inl refl)) also tt)
+    (of_node _ 1 _ refl refl also of_node _ 2 _ refl refl also tt)
+    (λ some. tt)))
+    also tt)
+
+-- the late message to b, and the one to c
+abbrev to_b : LateMessage
+to_b = record { place = place_after (begun 100 (b_then_c_late ∷ [])) (write 100 (pos 5)) (acks (0 ∷ 2 ∷ [])); node = 1; point = hello 100 (pos 5) }
+
+abbrev to_c : LateMessage
+to_c = record { place = place_after (begun 100 (b_then_c_late ∷ without_b ∷ [])) (write 110 (pos 6)) (acks (0 ∷ 1 ∷ [])); node = 2; point = hello 110 (pos 6) }
+
+-- where both are delivered
+abbrev delivery : TurnPlace
+delivery = place_after (begun 100 (b_then_c_late ∷ without_b ∷ without_c ∷ [])) act.Deliver (answer.Outcomes ((1, 0, None) ∷ (2, 0, None) ∷ []))
+
+-- a point of `hello` near 100 is inside the window
+in_window_near : (t : ℕ) (v : ℤ) → 0 < t → t < 150 → InWindow (rules_when 100) (hello t v)
+in_window_near t v above below = record { space = space; stands = refl; not_past = omega (arith, above); not_future = omega (arith, below) }
+
+to_b-late : IsLateMessage None delivery place to_b
+to_b-late = record {
+  at = record { line = without_b; after = without_c ∷ []; front = []; later = []; back = []; in_run = refl; in_line = refl; others = refl; client_is = refl };
+  of_act = refl;
+  was_sent = refl;
+  late = of_node _ 1 _ refl refl;
+  not_yet = each_in (λ line. IsTrue (delivers_nothing line)) (without_c ∷ []) (refl also tt);
+}
+
+to_c-late : IsLateMessage None delivery place to_c
+to_c-late = record {
+  at = record { line = without_c; after = []; front = []; later = []; back = []; in_run = refl; in_line = refl; others = refl; client_is = refl };
+  of_act = refl;
+  was_sent = refl;
+  late = of_node _ 2 _ refl refl;
+  not_yet = λ line none. absurd none;
+}
+
+both_delivered : IsDelivered None delivery ((1, 0, None) ∷ (2, 0, None) ∷ [])
+unfolding murmur3
+both_delivered = record {
+  place = place;
+  stands = refl;
+  messages = to_b ∷ to_c ∷ [];
+  in_order = ascends_by (IsLateBefore place) (to_b ∷ to_c ∷ []) ((inl (omega arith) also tt) also tt also tt);
+  each = (
+    record { message = to_b-late; node_is = refl; shard_is = refl; came = in_window_near 100 (pos 5) (omega arith) (omega arith) },
+    (record { message = to_c-late; node_is = refl; shard_is = refl; came = in_window_near 110 (pos 6) (omega arith) (omega arith) }, tt),
+  );
+}
+
+pub late_messages-caused : Caused (life_of late_messages)
+late_messages-caused =
+    begun_caused 100 _ (
+    only (inr tt)
+    also only (inr (taken_when _ (0 ∷ 2 ∷ []) refl refl (counted_0 also counted_2 also tt) ((below_0_2 also tt) also tt also tt) (refl also refl also tt) (omega arith) (takes_near 100 (pos 5) (omega arith) (omega arith))))
+    also only (inr (taken_when _ (0 ∷ 1 ∷ []) refl refl (counted_0 also counted_1 also tt) ((below_0_1 also tt) also tt also tt) (refl also refl also tt) (omega arith) (takes_near 110 (pos 6) (omega arith) (omega arith))))
+    also only (inr both_delivered)
+    also only (inr (record { place = place; stands = refl; messages = []; in_order = tt; each = tt }))
+    also tt)

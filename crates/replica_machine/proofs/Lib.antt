@@ -1,0 +1,5 @@
+pub mod RefusalLemmas
+pub mod LiveLemmas
+pub mod ReplicaLemmas
+pub mod PutLemmas
+pub mod ReadLemmas

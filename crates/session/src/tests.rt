@@ -1,0 +1,291 @@
+ghost use Rattle.std.specs.Prelude.{◌≡◌, length, IfOk};
+
+use crate::call::Call;
+use crate::deliver::deliver;
+use crate::machines::Machines;
+use crate::net::Net;
+use crate::read::{Found, fetch};
+use crate::session_err::SessionErr;
+use crate::slot::Slot;
+use crate::write::write;
+use m3_model::act::{Fate, ReadLevel, WriteLevel};
+use m3_model::memory::Memory;
+use m3_model::placement::{Assignment, Instance, Placement, ShardState};
+use m3_model::point::{Pick, Point};
+use m3_model::reason::Reason;
+use m3_model::rules::{MetaState, Rules, Space};
+use m3_model::seq::Seq;
+use m3_model::text::Text;
+use net_plan::bag::Bag;
+use net_plan::fates::{Fates, is_fates_row};
+use replica_machine::machine::Machine;
+use std::alloc::Global;
+use std::test::Fail;
+
+fn digit(byte: u8) -> u8 {
+    byte & 15
+}
+
+// The call's number, the node and the fate: `02L`.
+fn fates(alloc: Global, text: &str) -> Result<Fates, Memory> {
+    let mut all = Vec::new(alloc);
+    for word in text.split(' ') {
+        if let [number, node, letter] = word.as_bytes() {
+            let fate = match *letter {
+                b'L' => Fate::Lose,
+                b'T' => Fate::Twice,
+                _ => Fate::Late,
+            };
+            all.push((0u32, digit(*number) as u64, digit(*node), fate))?;
+        }
+    }
+    if is_fates_row(all.as_slice()) {
+        return Ok(Fates::new(Seq::from_vec(all)));
+    }
+    Ok(Fates::empty(alloc))
+}
+
+// The nodes a, b and c, which have the only shard.
+fn placement(alloc: Global) -> Result<Placement, Memory>
+    ensures { IfOk result (λ place. length place.shards ≡ 1) }
+{
+    let mut instances = Vec::new(alloc);
+    let mut shard = Vec::new(alloc);
+    for (node, name) in "a b c".split(' ').enumerate() {
+        instances.push(Instance {
+            name: Text::from_str(alloc, name)?,
+            group: Text::from_str(alloc, name)?,
+            listed: true,
+            drained: false,
+        })?;
+        shard.push(Assignment {
+            node: node as u8,
+            tenure: 1,
+            state: ShardState::Available,
+            source: None,
+        })?;
+    }
+    let mut shards = Vec::new(alloc);
+    shards.push(Seq::from_vec(shard))?;
+    Ok(Placement {
+        version: 1,
+        rf: 3,
+        instances: Seq::from_vec(instances),
+        shards: Seq::from_vec(shards),
+    })
+}
+
+// One namespace at moment 100, with a window and a retention of 50.
+fn rules(alloc: Global) -> Result<Rules, Memory> {
+    let mut spaces = Vec::new(alloc);
+    spaces.push(Space {
+        name: Text::from_str(alloc, "m")?,
+        block: 60,
+        past: 50,
+        future: 50,
+        retention: 60,
+    })?;
+    Ok(Rules {
+        now: 100,
+        spaces: Seq::from_vec(spaces),
+    })
+}
+
+fn machines(alloc: Global) -> Result<Machines, Memory> {
+    let mut all = Machines::new(alloc);
+    for node in 0u8..3 {
+        all.insert(Slot { shard: 0, node }, Machine::new(alloc))?;
+    }
+    Ok(all)
+}
+
+fn point(alloc: Global, t: u64, v: i64) -> Result<Point, Memory> {
+    Ok(Point {
+        ns: 0,
+        id: Text::from_str(alloc, "up")?,
+        t,
+        v,
+    })
+}
+
+fn write_level(letter: u8) -> WriteLevel {
+    match letter {
+        b'O' => WriteLevel::One,
+        b'A' => WriteLevel::All,
+        _ => WriteLevel::Majority,
+    }
+}
+
+fn read_level(letter: u8) -> ReadLevel {
+    match letter {
+        b'O' => ReadLevel::One,
+        b'U' => ReadLevel::Unstrict,
+        b'A' => ReadLevel::All,
+        _ => ReadLevel::Majority,
+    }
+}
+
+fn letter_of(reason: &Reason) -> u8 {
+    match reason {
+        Reason::Cut => b'x',
+        Reason::Down => b'-',
+        Reason::Past => b'<',
+        Reason::Future => b'>',
+        _ => b'?',
+    }
+}
+
+fn name_of(node: u8) -> u8 {
+    b'a' + node % 3
+}
+
+// How many answered of how many that were needed, and the others with their reasons: `1/2b-c-`.
+fn print_refusal(out: &mut Vec<u8>, refusal: &SessionErr) -> Result<(), Memory> {
+    match refusal {
+        SessionErr::Consistency {
+            needed,
+            got,
+            reasons,
+            ..
+        } => {
+            out.push(b'0' + (*got % 10) as u8)?;
+            out.push(b'/')?;
+            out.push(b'0' + (*needed % 10) as u8)?;
+            for (node, reason) in reasons.as_slice() {
+                out.push(name_of(*node))?;
+                out.push(letter_of(reason))?;
+            }
+            Ok(())
+        }
+        SessionErr::Memory => Err(Memory),
+    }
+}
+
+// Each point by its time above 100 and its value, and whether the read came short: `05,16!`.
+fn print_found(out: &mut Vec<u8>, found: &Found) -> Result<(), Memory> {
+    for series in found.series.as_slice() {
+        for (t, v) in series.points.as_slice() {
+            out.push(b'0' + (*t % 10) as u8)?;
+            out.push(b'0' + (v.unsigned_abs() % 10) as u8)?;
+            out.push(b',')?;
+        }
+    }
+    out.push(if found.short { b'!' } else { b'.' })?;
+    Ok(())
+}
+
+fn print_outcomes(out: &mut Vec<u8>, outcomes: &[(u8, u32, Option<Reason>)]) -> Result<(), Memory> {
+    for (node, _, outcome) in outcomes {
+        out.push(name_of(*node))?;
+        out.push(match outcome {
+            None => b'+',
+            Some(reason) => letter_of(reason),
+        })?;
+    }
+    Ok(())
+}
+
+fn send(
+    alloc: Global,
+    net: &mut Net,
+    call: &Call,
+    point: &Point,
+    level: WriteLevel,
+    out: &mut Vec<u8>,
+) -> Result<(), Memory> {
+    if net.state.rules.spaces.len() <= point.ns as usize {
+        return Ok(());
+    }
+    match write(net, alloc, call, point, level) {
+        Ok(acks) => {
+            for node in acks.as_slice() {
+                out.push(name_of(*node))?;
+            }
+            Ok(())
+        }
+        Err(refusal) => print_refusal(out, &refusal),
+    }
+}
+
+// `wM05` writes 5 at 100 with level Majority, `rU` reads, `s0` stops a, `d` delivers, and `t1` goes on to moment 160.
+fn act(
+    alloc: Global,
+    net: &mut Net,
+    call: &Call,
+    word: &str,
+    out: &mut Vec<u8>,
+) -> Result<(), Memory> {
+    if net.state.rules.spaces.len() == 0 {
+        return Ok(());
+    }
+    match word.as_bytes() {
+        [b'w', level, t, v] => {
+            let sent = point(alloc, 100 + digit(*t) as u64, digit(*v) as i64)?;
+            send(alloc, net, call, &sent, write_level(*level), out)?;
+        }
+        [b'r', level] => {
+            let pick = Pick::One {
+                ns: 0,
+                id: Text::from_str(alloc, "up")?,
+            };
+            match fetch(net, alloc, call, &pick, 0, 200, read_level(*level)) {
+                Ok(found) => print_found(out, &found)?,
+                Err(refusal) => print_refusal(out, &refusal)?,
+            }
+        }
+        [b's', node] => net.machines.stop(Slot {
+            shard: 0,
+            node: digit(*node),
+        }),
+        [b't', _] => net.state.rules.now = 160,
+        _ => print_outcomes(out, deliver(net, alloc)?.as_slice())?,
+    }
+    Ok(())
+}
+
+// What the acts of a row answer, one word each.
+fn story(alloc: Global, listed: &str, acts: &str) -> Result<Vec<u8>, Memory> {
+    let mut out = Vec::new(alloc);
+    let mut net = Net {
+        state: MetaState {
+            rules: rules(alloc)?,
+            seed: 0,
+            place: placement(alloc)?,
+        },
+        machines: machines(alloc)?,
+        fates: fates(alloc, listed)?,
+        bag: Bag::new(alloc)?,
+    };
+    for (number, word) in acts.split(' ').enumerate() {
+        let call = Call {
+            client: 0,
+            number: number as u64,
+            version: None,
+        };
+        act(alloc, &mut net, &call, word, &mut out)?;
+        out.push(b':')?;
+    }
+    Ok(out)
+}
+
+// Fates, acts, and their answers, each ended by a colon. An act's number is its place.
+const STORIES: &str = "|wM05 rM d|abc:05,.::
+01B 12B 22L|wM05 wM16 wM27 d d s0 s1 rU rM rO|ac:ab:ab:b+c+::::05,16,!:1/2a-b-:05,16,.:
+00L 01L 02L|wO05 rO d|0/1axbxcx:.::
+01B|wA05 rM d rA|2/3bx:05,.:b+:05,.:
+00T 02B|wM05 s2 d rA rM|ab::c-:2/3c-:05,.:
+00B 30T|wM05 wM03 t1 rM d rU|bc:abc::.:a<:.:
+10L 11B|wM05 rM rU rO|abc:1/2axbx:05,.:05,.:
+20B 21L|s2 wM05 rU wA19|:ab:0/1axbxc-:2/3c-:
+|wA05 wM09 wO02 rA|abc:abc:abc:09,.:";
+
+#[test]
+fn stories_are_told(rt: HostRuntime) -> Result<(), Fail> {
+    for row in STORIES.lines() {
+        let (listed, rest) = row.split_once('|').unwrap_or(("", ""));
+        let (acts, want) = rest.split_once('|').unwrap_or(("", ""));
+        let told = story(rt.alloc(), listed, acts)?;
+        assert!(rt; told.as_slice() == want.as_bytes(), "{row}");
+    }
+    Ok(())
+}
