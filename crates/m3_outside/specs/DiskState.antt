@@ -1,8 +1,9 @@
 -- What a disk holds, what a stop of the process may leave of it, and how a call moves both on.
-use Rattle.std.specs.Prelude.{◌≡◌, ◌⊎◌, ℕ, ◌≤◌, Bool, true}
+use Rattle.std.specs.Prelude.{◌≡◌, ◌⊎◌, ◌↔◌, ℕ, ◌≤◌, Bool, true}
 use Rattle.std.specs.FinMap.{empty}
 use Rattle.m3_outside.specs.Causes.{CountsFaults}
-use Rattle.m3_outside.specs.Files.{Files}
+use Rattle.m3_outside.specs.Files.{Files, IsAbsent}
+use Rattle.m3_outside.specs.declared.file_name.FileName.{FileName}
 
 pub record DiskState : Type 1 where
   pub tells : Bool  -- whether it tells what it holds
@@ -26,9 +27,14 @@ pub record IsEmpty (d : DiskState) : Type 0 where
   pub files : Told d (λ files. files ≡ empty)
   pub images : EachImage d (λ c. c ≡ empty)
 
+-- both have files of the same names
+abbrev pub HaveSameNames : Files → Files → Type 0
+HaveSameNames files others = (name : FileName) → IsAbsent name files ↔ IsAbsent name others
+
 -- what holds of every disk
 pub record IsLawful (d : DiskState) : Type 0 where
   pub read_is_image : Told d d.images  -- what reads give, a stop may leave
+  pub same_names : EachImage d (HaveSameNames d.files)  -- a stop between two calls makes no file and takes none away
   pub counts_now : (t : ℕ) (c : Files) → t ≤ d.moment → d.images c → d.since t c  -- what a stop may leave now, it may leave since any earlier moment
   pub counts_later : (t u : ℕ) (c : Files) → t ≤ u → d.since u c → d.since t c  -- and so what one may leave since a later moment
   pub only_now : (c : Files) → d.since d.moment c → d.images c  -- since this moment there is nothing else

@@ -1,6 +1,7 @@
 -- What a stop may leave of a disk in memory, now and since each moment of the past.
 use Rattle.std.specs.Prelude.{◌≡◌, ◌⊎◌, ⊤, ℕ, ◌+◌, ◌≤◌, Bool, true, false, not, ◌&&◌, ◌||◌, nat_lt, List, [], ◌∷◌, drop, length, get_or, Option, Some, None}
-use Rattle.std.proofs.Common.{inl, inr, ⊎_elim, zero, suc, arith}
+use Rattle.std.proofs.Common.{inl, inr, ⊎_elim, sym, zero, suc, arith}
+use Rattle.std.proofs.lemmas.Option.{none-some}
 use Rattle.std.specs.Ordering.{eq_by_cmp}
 use Rattle.std.specs.FinMap.{get}
 use Rattle.std.proofs.Math.Nat.{ℕ_set}
@@ -80,6 +81,14 @@ SinceOf now past t files = ImagesOf now files ⊎ HadBeen (drop t past) files
 abbrev pub disk_state : Content → List (Snapshot Content) → ℕ → DiskState
 disk_state now past faults = record { tells = true; files = now.seen; images = ImagesOf now; moment = length past; since = SinceOf now past; spare = now.pending.room; faults = faults }
 
+same_absence : (ws : List PendingWrite) (q : FileName) (synced seen left : Option (List ℕ)) → MayLeave ws q synced seen → MayLeave ws q synced left → seen ≡ None → left ≡ None
+same_absence ws q None None None is other absent = absent
+same_absence ws q None None (Some left) is other absent = absurd other
+same_absence ws q None (Some seen) left is other absent = absurd is
+same_absence ws q (Some synced) None left is other absent = absurd is
+same_absence ws q (Some synced) (Some seen) None is other absent = absurd other
+same_absence ws q (Some synced) (Some seen) (Some left) is other absent = absurd (none-some seen (sym absent))
+
 none_left : (past : List (Snapshot Content)) (files : Files) → HadBeen (drop (length past) past) files → ⊥
 none_left [] files had = had
 none_left (v ∷ past) files had = none_left past files had
@@ -95,6 +104,10 @@ had_earlier (suc t) (suc u) (v ∷ past) files le had = had_earlier t u past fil
 pub lawful : (now : Content) (past : List (Snapshot Content)) (faults : ℕ) → IsSound now → IsLawful (disk_state now past faults)
 lawful now past faults sound = record {
   read_is_image = λ tells. sound.read_is_image;
+  same_names = λ tells files image q.
+      let is = sound.read_is_image q in
+      let other = image q in
+      (same_absence now.pending.writes q (get now.synced q) (get now.seen q) (get files q) is other, same_absence now.pending.writes q (get now.synced q) (get files q) (get now.seen q) other is);
   counts_now = λ t files le image. inl image;
   counts_later = λ t u files le left. ⊎_elim (λ (image : ImagesOf now files). inl image) (λ (had : HadBeen (drop u past) files). inr (had_earlier t u past files le had)) left;
   only_now = λ files left. ⊎_elim (λ (image : ImagesOf now files). image) (λ (had : HadBeen (drop (length past) past) files). absurd (none_left past files had)) left;

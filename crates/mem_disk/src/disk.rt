@@ -15,9 +15,9 @@ use std::snapshot::Snapshot;
 
 /// A disk in memory, which tells what it holds. What it held at past moments exists for proofs alone.
 ///
-/// A write costs in proportion to its bytes and the logarithm of the number of files, a sync in proportion to the number
-/// of pending writes and the bytes of those to its file, a removal in proportion to that number and to the file, and a
-/// restart in proportion to the disk.
+/// A file is found in constant expected time. A write costs in proportion to its bytes, a sync in proportion to the number
+/// of pending writes and the bytes of those to its file, a removal in proportion to that number and to the file, a
+/// restart in proportion to the disk, and a list of the names the time to sort them.
 #[derive(Drop)]
 pub struct MemDisk {
     alloc: Global,

@@ -1,9 +1,10 @@
-ghost use Rattle.std.specs.Prelude.{◌≡◌, ◌≤◌, ◌+◌, IfOk, length, replicate, take, drop};
+ghost use Rattle.std.specs.Prelude.{◌≡◌, ◌≤◌, ◌+◌, [], IfOk, length, replicate, take, drop};
 ghost use Rattle.m3_outside.specs.Files.{patched};
 
 use m3_model::memory::Memory;
 use std::alloc::{AllocError, Global};
 use std::marker::Model;
+use std::mem;
 
 // The bytes of a file, or of a write to it. Contracts see the list of them.
 #[derive(Drop)]
@@ -32,6 +33,20 @@ impl FileBytes {
         let mut bytes = Vec::new(alloc);
         bytes.resize(size, 0)?;
         Ok(FileBytes { bytes })
+    }
+
+    pub fn into_vec(self) -> Vec<u8>
+        ensures { result.items ≡ self }
+    {
+        self.bytes
+    }
+
+    // Takes the bytes out, and leaves none.
+    pub fn take(&mut self, alloc: Global) -> Vec<u8>
+        ensures value { result.items ≡ self.old }
+        ensures after { self.new ≡ [] }
+    {
+        mem::replace(&mut self.bytes, Vec::new(alloc))
     }
 
     pub fn as_slice(&self) -> &[u8]

@@ -5,31 +5,28 @@ ghost use Rattle.m3_outside.specs.Files.{IsInside};
 ghost use Rattle.mem_disk.specs.Tables.{with_bytes};
 
 use crate::file_bytes::FileBytes;
+use indexmap::IndexMap;
 use m3_model::memory::Memory;
 use m3_outside::file_name::FileName;
 use std::alloc::Global;
-use std::collections::BTreeMap;
 use std::marker::Model;
 
 // Files by their names. Contracts see the finite map.
 #[derive(Drop)]
 pub struct FileTable {
-    map: BTreeMap<FileName, FileBytes>,
+    map: IndexMap<FileName, FileBytes>,
 }
 
 impl Model for FileTable {
-    ghost use Rattle.std.specs.Prelude.{IsTrue};
-    ghost use Rattle.std.specs.FinMap.{from_sorted, is_sorted};
-    ghost use Rattle.m3_outside.specs.Files.{Files, name_cmp};
+    ghost use Rattle.std.specs.FinMap.{from_entries};
+    ghost use Rattle.m3_outside.specs.Files.{Files};
     ghost use Rattle.mem_disk.specs.Tables.{files_code};
 
     ghost Value = { Files };
 
     ghost coded = { files_code };
 
-    ghost view = { λ t. from_sorted t.map.entries };
-
-    ghost invariant = { λ t. IsTrue (is_sorted name_cmp t.map.entries) };
+    ghost view = { λ t. from_entries t.map.entries };
 }
 
 impl FileTable {
@@ -37,11 +34,11 @@ impl FileTable {
         ensures { result ≡ finite.empty }
     {
         FileTable {
-            map: BTreeMap::new(alloc),
+            map: IndexMap::new(alloc),
         }
     }
 
-    // The bytes of a file, in logarithmic time, as all look-ups below.
+    // The bytes of a file, in constant expected time, as all look-ups below.
     pub fn get(&self, name: FileName) -> Option<&FileBytes>
         ensures { option_copied result ≡ finite.get self.now name }
     {
@@ -59,7 +56,7 @@ impl FileTable {
     pub fn remove(&mut self, name: FileName)
         ensures { self.new ≡ finite.remove self.old name }
     {
-        self.map.remove(&name);
+        self.map.swap_remove(&name);
     }
 
     // Writes over a part of a file.
@@ -72,14 +69,15 @@ impl FileTable {
         }
     }
 
-    // All names, ascending.
+    // All names, ascending. The map doesn't keep them in order, so they are sorted here.
     pub fn names(&self, alloc: Global) -> Result<Vec<FileName>, Memory>
         ensures { IfOk result (λ names. names.items ≡ finite.keys self.now) }
     {
         let mut names = Vec::new(alloc);
-        for (name, _) in &self.map {
+        for name in self.map.keys() {
             names.push(*name)?;
         }
+        names.sort_unstable();
         Ok(names)
     }
 

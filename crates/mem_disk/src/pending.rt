@@ -1,5 +1,5 @@
 ghost use Rattle.std.specs.Prelude.{◌≡◌, ◌≤◌, [], OnOk, OnErr, length, max, vec_len, vec_capacity};
-ghost use Rattle.mem_disk.specs.Writes.{is_other, AreBuffers, pending_after_write, pending_without};
+ghost use Rattle.mem_disk.specs.Writes.{is_other, to_others, AreBuffers, pending_after_write, pending_without};
 
 use crate::file_bytes::FileBytes;
 use m3_model::memory::Memory;
@@ -20,7 +20,7 @@ pub struct PendingWrite {
 pub struct PendingWrites {
     alloc: Global,
     writes: Vec<PendingWrite>,
-    // Empty vectors, one at least for each write that there is room for.
+    // Empty vectors, one at least for each write that there is room for. Those of dropped writes come back here.
     buffers: Vec<Vec<u8>>,
     room: usize,
     widest: usize,
@@ -61,6 +61,40 @@ fn add_buffers(
         buffers.push(buffer)?;
     }
     Ok(())
+}
+
+// Keeps the memory of a dropped write for a later one, where it is wide enough and there is a place for it.
+fn keep_buffer(buffers: &mut Vec<Vec<u8>>, bytes: Vec<u8>, widest: usize)
+    requires { AreBuffers widest buffers.old.items }
+    ensures each { AreBuffers widest buffers.new.items }
+    ensures kept { vec_len buffers.old ≤ vec_len buffers.new }
+{
+    if bytes.capacity() < widest || buffers.len() >= buffers.capacity() {
+        return;
+    }
+    let mut bytes = bytes;
+    bytes.clear();
+    buffers.push_reserved(bytes);
+}
+
+// Takes the bytes out of the writes to a file, and keeps their memory.
+fn empty_writes(
+    alloc: Global,
+    writes: &mut [PendingWrite],
+    name: FileName,
+    buffers: &mut Vec<Vec<u8>>,
+    widest: usize,
+)
+    requires { AreBuffers widest buffers.old.items }
+    ensures others { to_others name writes.new ≡ to_others name writes.old }
+    ensures each { AreBuffers widest buffers.new.items }
+    ensures kept { vec_len buffers.old ≤ vec_len buffers.new }
+{
+    for write in writes.iter_mut() {
+        if !is_other(name, write.name) {
+            keep_buffer(buffers, write.bytes.take(alloc), widest);
+        }
+    }
 }
 
 // The bytes, in a vector that has the room for them.
@@ -117,6 +151,8 @@ impl PendingWrites {
             self.widest = widest;
         } else {
             add_buffers(self.alloc, &mut self.buffers, room, self.widest)?;
+            // Places for those of the pending writes.
+            self.buffers.reserve(self.writes.len())?;
         }
         self.room = room;
         Ok(())
@@ -139,19 +175,28 @@ impl PendingWrites {
         self.room -= 1;
     }
 
-    // Drops the writes to a file.
+    // Drops the writes to a file, and keeps their memory for later ones.
     pub fn drop_file(&mut self, name: FileName)
         requires { 1 ≤ self.old.room }
         ensures { self.new ≡ pending_without name self.old }
     {
+        empty_writes(
+            self.alloc,
+            &mut self.writes,
+            name,
+            &mut self.buffers,
+            self.widest,
+        );
         self.writes.retain(|write| is_other(name, write.name));
         self.room -= 1;
     }
 
-    // Drops all writes.
+    // Drops all writes, and keeps their memory for later ones.
     pub fn clear(&mut self)
         ensures { self.new ≡ record self.old { writes = [] } }
     {
-        self.writes.clear();
+        while let Some(write) = self.writes.pop() {
+            keep_buffer(&mut self.buffers, write.bytes.into_vec(), self.widest);
+        }
     }
 }

@@ -1,13 +1,15 @@
-use Rattle.std.proofs.Common.{ap, sym, ◌∙◌, ◌++◌, List, map}
+use Rattle.std.proofs.Common.{◌≡◌, ap, subst, ◌∙◌, List, rules, IsPermutation}
 use Rattle.std.specs.FinMap as finite
-use Rattle.std.specs.FinMap.{entries-from_sorted}
-use Rattle.m3_model.proofs.Keyed.{holds_of}
+use Rattle.std.specs.Map.{keys_of}
 use Rattle.m3_outside.specs.declared.file_name.FileName.{FileName}
-use Rattle.m3_outside.specs.Files.{Files, name_cmp}
+use Rattle.m3_outside.specs.Files.{Files}
+use Rattle.mem_disk.proofs.TableLemmas.{sorted_names}
 use Rattle.mem_disk.proofs.file_table.FileTable.names.Goals as goal
 
-pub loop-name-init : goal.loop-name-init
-loop-name-init c =
-    ap (λ (xs : List FileName). xs ++ map (λ e. e.0) c.into_iter-name-iterator.result) c.new-names.ensures.items
-    ∙ ap (map (λ e. e.0)) (c.into_iter-name-iterator.ensures.into_iter_gives.0 ∙ sym (entries-from_sorted name_cmp c.self.inside.map.entries (holds_of _ c.self.invariant)))
+pub returns : goal.returns
+returns c =
+    let es = c.self.inside.map.entries in
+    let made : c.loop-name.names.items ≡ keys_of es = search rules in
+    sorted_names es c.sort_unstable.new.self.items c.keys-name-items.ensures.unique
+    (subst (λ (ks : List FileName). IsPermutation ks c.sort_unstable.new.self.items) made c.sort_unstable.ensures.permutation) c.sort_unstable.ensures.sorted
     ∙ ap (λ (m : Files). finite.keys m) c.self.view_is

@@ -1,0 +1,128 @@
+-- A segment that is made, and calls that leave files as they are.
+use Rattle.std.proofs.Common.{◌≡◌, inl, inr, ⊎_elim, ℕ, ◌+◌, ◌<◌, ◌≤◌, [], replicate, refl, sym, ap, subst, ◌∙◌, arith, true, Some, Result, Ok, Err}
+use Rattle.std.specs.Prelude.{⊤, OnOk}
+use Rattle.std.specs.FinMap.{get}
+use Rattle.m3_outside.specs.declared.file_name.FileName.{FileName}
+use Rattle.m3_outside.specs.declared.disk_err.DiskErr.{DiskErr}
+use Rattle.m3_outside.specs.declared.disk_err.DiskErr.TheVariants.{Memory, Failed as DiskFailed}
+use Rattle.m3_outside.specs.Causes.{CountsFaults}
+use Rattle.m3_outside.specs.Files.{Files, Stays, files_with_zeros}
+use Rattle.m3_outside.specs.DiskState.{DiskState, Elapses, Becomes, Told}
+use Rattle.m3_outside.specs.DiskCalls.{Creates, LeavesFiles, Reserves}
+use Rattle.m3_outside.proofs.Names.{get_here, get_apart}
+use Rattle.m3_outside.proofs.Moments.{elapses_as, elapses_then}
+use Rattle.commit_log.specs.Segment.{segment, IsAtRest}
+use Rattle.commit_log.specs.LogEnd.{LogEnd, NoneFrom, NoneAbove, Stands, IsReadyFor, MayBegin, BeganOrNot}
+
+module _ (number : ℕ) (name : FileName) (named : name ≡ segment number) (a b : DiskState) where
+  apart : (n : ℕ) → number < n → segment n ≡ name → ⊥
+  apart n lt e = let same : n ≡ number = ap (λ (m : FileName). m.number) (e ∙ named) in omega arith
+
+  zeros_above : (x y : Files) → NoneFrom number x → y ≡ files_with_zeros name 65536 x → NoneAbove number y
+  zeros_above x y none e = λ n lt. ap (λ (m : Files). get m (segment n)) e ∙ get_apart x name (replicate 65536 0) (segment n) (apart n lt) ∙ none n (omega arith)
+
+  same_above : (x y : Files) → NoneFrom number x → y ≡ x → NoneAbove number y
+  same_above x y none e = λ n lt. ap (λ (m : Files). get m (segment n)) e ∙ none n (omega arith)
+
+  has_zeros : (x y : Files) → y ≡ files_with_zeros name 65536 x → get y (segment number) ≡ Some (replicate 65536 0)
+  has_zeros x y e = ap (get y) (sym named) ∙ ap (λ (m : Files). get m name) e ∙ get_here x name (replicate 65536 0)
+
+  pub begun_stands : (u : ⊤) → Creates name 65536 (Ok u) a b → Told a (NoneFrom number) → Stands (record { number = number; at = 0; clean = true }) b
+  begun_stands u creates none =
+      let back : b.tells ≡ true → a.tells ≡ true = λ h. sym creates.changes.proceeds.tells ∙ h in
+      record {
+        kept = λ clean. record {
+          rest = λ h. record { chunks = []; place = refl; there = has_zeros a.files b.files (creates.changes.done (back h) refl).files };
+          synced = λ h c image.
+              let done = creates.changes.done (back h) refl in
+              let step = done.images c image in
+              has_zeros step.before c step.stepped ∙ sym (has_zeros a.files b.files done.files);
+        };
+        above = λ h. zeros_above a.files b.files (none (back h)) (creates.changes.done (back h) refl).files;
+        within = omega arith;
+      }
+
+  pub failed_above : (e : DiskErr) → Creates name 65536 (Err e) a b → Told a (NoneFrom number) → Told b (NoneAbove number)
+  failed_above Memory creates none = λ h.
+      let t = sym creates.changes.proceeds.tells ∙ h in
+      same_above a.files b.files (none t) (creates.changes.undone t refl).files
+  failed_above DiskFailed creates none = λ h.
+      let t = sym creates.changes.proceeds.tells ∙ h in
+      ⊎_elim (λ (kept : Becomes (λ (files : Files). files) a b). same_above a.files b.files (none t) kept.files)
+      (λ (done : Becomes (files_with_zeros name 65536) a b). zeros_above a.files b.files (none t) done.files) (creates.changes.done_or_not t refl)
+
+-- no segment above is none from the next number on
+pub none_from_next : (number next : ℕ) (files : Files) → next ≡ number + 1 → NoneAbove number files → NoneFrom next files
+none_from_next number next files e none = λ n le. none n (omega arith)
+
+-- a call that leaves the files leaves the log's end
+pub stands_stays : (log : LogEnd) (failed : Type 0) (a b : DiskState) → LeavesFiles failed a b → Stands log a → Stands log b
+stands_stays log failed a b leaves st =
+    let back : b.tells ≡ true → a.tells ≡ true = λ h. sym leaves.proceeds.tells ∙ h in
+    record {
+      kept = λ clean. let k = st.kept clean in record {
+        rest = λ h. subst (IsAtRest log.number log.at) (sym (leaves.files (back h))) (k.rest (back h));
+        synced = λ h c image.
+            let step = (leaves.proceeds.told (back h)).images c image in
+            ap (λ (m : Files). get m (segment log.number)) step.stepped ∙ k.synced (back h) step.before step.was ∙ sym (ap (λ (m : Files). get m (segment log.number)) (leaves.files (back h)));
+      };
+      above = λ h. subst (NoneAbove log.number) (sym (leaves.files (back h))) (st.above (back h));
+      within = st.within;
+    }
+
+-- one change and then another
+pub becomes_both : (f g h : Files → Files) (a b c : DiskState) → ((x y : Files) → y ≡ f x → g y ≡ h x) → Becomes f a b → Becomes g b c → Becomes h a c
+becomes_both f g h a b c both one two = record {
+  files = two.files ∙ both a.files b.files one.files;
+  images = λ x image.
+      let last = two.images x image in
+      let first = one.images last.before last.was in
+      record { before = first.before; was = first.was; stepped = last.stepped ∙ both first.before last.before first.stepped };
+}
+
+pub becomes_stays : (failed : Type 0) (a b : DiskState) → LeavesFiles failed a b → a.tells ≡ true → Becomes (λ files. files) a b
+becomes_stays failed a b leaves t = record { files = leaves.files t; images = (leaves.proceeds.told t).images }
+
+pub same_becomes : (a : DiskState) → Becomes (λ files. files) a a
+same_becomes a = record { files = refl; images = λ c image. record { before = c; was = image; stepped = refl } }
+
+-- a segment is there or not, and then nothing changed
+pub began_then_stays : (number : ℕ) (failed : Type 0) (a b c : DiskState) → BeganOrNot number a b → LeavesFiles failed b c → b.tells ≡ true → BeganOrNot number a c
+began_then_stays number failed a b c one leaves t =
+    let same = becomes_stays failed b c leaves t in
+    ⊎_elim (λ (kept : Becomes (λ (files : Files). files) a b). inl (becomes_both (λ files. files) (λ files. files) (λ files. files) a b c (λ x y e. e) kept same))
+    (λ (done : Becomes (files_with_zeros (segment number) 65536) a b). inr (becomes_both (files_with_zeros (segment number) 65536) (λ files. files) (files_with_zeros (segment number) 65536) a b c (λ x y e. e) done same)) one
+
+-- nothing happened
+pub elapses_none : (number : ℕ) (a : DiskState) → Elapses (MayBegin number) a a
+elapses_none number a = record {
+  later = omega arith;
+  images = λ c image. record { before = c; was = image; stepped = inl refl };
+  nothing_else = λ t c le left. inl left;
+  keeps = λ t c le left. left;
+}
+
+-- a segment may have begun, and then nothing changed
+pub begun_then_stays : (number : ℕ) (a b c : DiskState) → Elapses (MayBegin number) a b → Elapses Stays b c → Elapses (MayBegin number) a c
+begun_then_stays number a b c one two = elapses_then a b c (λ x y image step. step) (λ x y z image step image1 same. subst (λ (w : Files). MayBegin number x w) (sym same) step) one two
+
+pub stays_begun : (number : ℕ) (a b : DiskState) → Elapses Stays a b → Elapses (MayBegin number) a b
+stays_begun number a b one = elapses_as a b (λ x y image same. inl same) one
+
+-- one count after another
+pub counts_then : (failed : Type 0) (a b c : ℕ) → CountsFaults ⊥ a b → CountsFaults failed b c → CountsFaults failed a c
+counts_then failed a b c one two = record {
+  later = omega (arith, one.later, two.later);
+  stays = λ e. two.stays (one.stays e);
+  rose = λ f. let r = two.rose f in omega (arith, one.later, r);
+}
+
+pub counts_none : (failed : Type 0) (a b : ℕ) → (failed → ⊥) → CountsFaults failed a b → CountsFaults ⊥ a b
+counts_none failed a b never one = record { later = one.later; stays = one.stays; rose = λ f. absurd f }
+
+-- a log's end that has room is ready once calls are reserved
+pub ready_after : (log : LogEnd) (n : ℕ) (r : Result ⊤ DiskErr) (a b : DiskState) → Reserves 5 r a b → Stands log a → log.clean ≡ true → log.at + 5 + n ≤ 65536 → OnOk r (IsReadyFor log n b)
+ready_after log n (Ok u) a b reserves st clean room =
+    let after = stands_stays log _ a b reserves.leaves st in
+    record { stands = after; clean = clean; ready = record { kept = after.kept clean; room = room; spare = reserves.enough } }
+ready_after log n (Err e) a b reserves st clean room = tt

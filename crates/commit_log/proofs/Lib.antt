@@ -1,0 +1,13 @@
+pub mod Shapes
+pub mod Append
+pub mod Begin
+pub mod Chunks
+pub mod LawLemmas
+pub mod Leaves
+pub mod Segments
+pub mod Numbers
+pub mod Parts
+pub mod ReadLemmas
+pub mod CutLemmas
+pub mod LogLemmas
+pub mod CutLaws

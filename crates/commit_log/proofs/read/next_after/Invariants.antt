@@ -1,0 +1,10 @@
+use Rattle.std.proofs.Common.{◌≡◌, ◌≤◌, max, drop}
+use Rattle.commit_log.specs.Contents as contents
+use Rattle.commit_log.proofs.read.next_after.Given as goal
+
+-- the greatest so far, and what is left
+abbrev pub invariant-loop-number : goal.invariant-loop-number
+invariant-loop-number l = record {
+  least : 1 ≤ l.next;
+  rest : max l.next (contents.next_after (drop l.number-index l.numbers)) ≡ contents.next_after l.numbers;
+}

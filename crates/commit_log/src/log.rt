@@ -1,0 +1,146 @@
+ghost use Rattle.std.specs.Prelude.{◌≡◌, ◌⊎◌, ℕ, ◌+◌, ◌≤◌, Bool, true, false, ◌↔◌, IsTrue, length, IfOk, IsErr, IsErrOf, OnOk, OnErr};
+ghost use Rattle.m3_outside.specs.Files.{Files, files_with_zeros};
+ghost use Rattle.m3_outside.specs.Causes.{CountsFaults};
+ghost use Rattle.m3_outside.specs.DiskState.{DiskState, Told, Elapses, StepOf, Becomes};
+ghost use Rattle.m3_outside.specs.DiskCalls.{LeavesFiles};
+ghost use Rattle.m3_outside.specs.declared.disk_err.DiskErr.TheVariants.{Failed as DiskFailed, Memory as WantOfMemory};
+ghost use Rattle.commit_log.specs.Segment.{segment, MayAdd, Adds, OthersStay};
+ghost use Rattle.commit_log.specs.LogEnd.{NoneFrom, Stands, IsReadyFor, MayBegin, BeganOrNot};
+
+use crate::chunk::{HEAD_BYTES, SEGMENT_BYTES, put_chunk, segment_name};
+use m3_outside::disk::Disk;
+use m3_outside::disk_err::DiskErr;
+use m3_outside::failed::Failed;
+use std::marker::Model;
+
+// The device calls of an append that use up room.
+const CALLS: u64 = 5;
+
+/// The end of a log on a disk, which the caller keeps beside it. Contracts see it as a `LogEnd`.
+#[derive(Debug, Drop)]
+pub struct Log {
+    number: u64,
+    at: u64,
+    // Whether the bytes from the place on are known to be zeros.
+    clean: bool,
+}
+
+impl Model for Log {
+    ghost use Rattle.commit_log.specs.LogEnd.{LogEnd};
+
+    ghost Value = { LogEnd };
+
+    ghost view = { λ l. record { number = l.number; at = l.at; clean = l.clean } };
+}
+
+impl Log {
+    /// Begins the segment of this number, empty, as the last of the disk.
+    ///
+    /// # Errors
+    ///
+    /// A fault, after which the segment is there or not, as reads tell. Want of memory, after which it is not.
+    pub fn begin<D: Disk>(disk: &mut D, number: u64) -> Result<Log, DiskErr>
+        requires { Told (D.state disk.old) (NoneFrom number) }
+        ensures ok { IfOk result (λ log. log ≡ record { number = number; at = 0; clean = true }) }
+        ensures stands { OnOk result (Stands (record { number = number; at = 0; clean = true }) (D.state disk.new)) }
+        ensures made { (D.state disk.old).tells ≡ true → OnOk result (Becomes (files_with_zeros (segment number) 65536) (D.state disk.old) (D.state disk.new)) }
+        ensures memory { (D.state disk.old).tells ≡ true → IsErrOf result WantOfMemory → Becomes (λ files. files) (D.state disk.old) (D.state disk.new) }
+        ensures files { (D.state disk.old).tells ≡ true → BeganOrNot number (D.state disk.old) (D.state disk.new) }
+        ensures any_moment { (D.state disk.old).tells ≡ true → Elapses (MayBegin number) (D.state disk.old) (D.state disk.new) }
+        ensures tells { (D.state disk.new).tells ≡ (D.state disk.old).tells }
+        ensures faults { CountsFaults (IsErrOf result DiskFailed) (D.state disk.old).faults (D.state disk.new).faults }
+    {
+        disk.create(segment_name(number), SEGMENT_BYTES)?;
+        Ok(Log {
+            number,
+            at: 0,
+            clean: true,
+        })
+    }
+
+    // Whether the segment has room for a chunk of so many bytes.
+    fn has_room(&self, len: u32) -> bool
+        requires { self.now.at ≤ 65536 }
+        ensures { IsTrue result ↔ ((self.now.clean ≡ true) × (self.now.at + 5 + len ≤ 65536)) }
+    {
+        self.clean && self.at + HEAD_BYTES + u64::from(len) <= SEGMENT_BYTES
+    }
+
+    // Begins the segment of the next number. This number isn't tried again, also where the call fails.
+    fn begin_next<D: Disk>(&mut self, disk: &mut D) -> Result<(), DiskErr>
+        requires { Stands self.old (D.state disk.old) }
+        ensures stands { Stands self.new (D.state disk.new) }
+        ensures ok { OnOk result (self.new ≡ record { number = self.old.number + 1; at = 0; clean = true }) }
+        ensures end { (self.new ≡ self.old) ⊎ ((self.new.number ≡ self.old.number + 1) × (self.new.at ≡ 0)) }
+        ensures files { (D.state disk.old).tells ≡ true → BeganOrNot (self.old.number + 1) (D.state disk.old) (D.state disk.new) }
+        ensures any_moment { (D.state disk.old).tells ≡ true → Elapses (MayBegin (self.old.number + 1)) (D.state disk.old) (D.state disk.new) }
+        ensures tells { (D.state disk.new).tells ≡ (D.state disk.old).tells }
+        ensures faults { CountsFaults (IsErrOf result DiskFailed) (D.state disk.old).faults (D.state disk.new).faults }
+    {
+        let Some(next) = self.number.checked_add(1) else {
+            return Err(DiskErr::Memory);
+        };
+        self.number = next;
+        self.at = 0;
+        self.clean = false;
+        disk.create(segment_name(next), SEGMENT_BYTES)?;
+        self.clean = true;
+        Ok(())
+    }
+
+    /// Makes room for one chunk of `len` bytes, in a fresh segment where the present one has too little or its end isn't
+    /// known. A fresh one has the next number; there is none above 2^64 - 1, and then memory is said to be wanted.
+    ///
+    /// # Errors
+    ///
+    /// A fault or want of memory. All chunks stay.
+    pub fn ready<D: Disk>(&mut self, disk: &mut D, len: u32) -> Result<(), DiskErr>
+        requires short { len ≤ 65531 }
+        requires stands { Stands self.old (D.state disk.old) }
+        ensures ok { OnOk result (IsReadyFor self.new len (D.state disk.new)) }
+        ensures stands { Stands self.new (D.state disk.new) }
+        ensures same { self.old.clean ≡ true → self.old.at + 5 + len ≤ 65536 → self.new ≡ self.old }
+        ensures stays { self.old.clean ≡ true → self.old.at + 5 + len ≤ 65536 → LeavesFiles (IsErrOf result DiskFailed) (D.state disk.old) (D.state disk.new) }
+        ensures fresh { OnOk result ((self.new ≡ self.old) ⊎ (self.new ≡ record { number = self.old.number + 1; at = 0; clean = true })) }
+        ensures end { (self.new ≡ self.old) ⊎ ((self.new.number ≡ self.old.number + 1) × (self.new.at ≡ 0)) }
+        ensures files { (D.state disk.old).tells ≡ true → BeganOrNot (self.old.number + 1) (D.state disk.old) (D.state disk.new) }
+        ensures any_moment { (D.state disk.old).tells ≡ true → Elapses (MayBegin (self.old.number + 1)) (D.state disk.old) (D.state disk.new) }
+        ensures tells { (D.state disk.new).tells ≡ (D.state disk.old).tells }
+        ensures faults { CountsFaults (IsErrOf result DiskFailed) (D.state disk.old).faults (D.state disk.new).faults }
+    {
+        if self.has_room(len) {
+            return disk.reserve(CALLS);
+        }
+        self.begin_next(disk)?;
+        disk.reserve(CALLS)
+    }
+
+    /// Adds a chunk. From `Ok` on each stop leaves it. Takes no memory.
+    ///
+    /// # Errors
+    ///
+    /// A fault. The chunk may be there after a stop, or not, and `ready` begins a segment before the next one.
+    pub fn append<D: Disk>(&mut self, disk: &mut D, chunk: &[u8]) -> Result<(), Failed>
+        requires { IsReadyFor self.old (length chunk.now) (D.state disk.old) }
+
+        // A stop at any moment leaves the chunks from before, with the new one or without, and all other files.
+        ensures any_moment { (D.state disk.old).tells ≡ true → Elapses (MayAdd (segment self.old.number) chunk.now) (D.state disk.old) (D.state disk.new) }
+
+        ensures acknowledged { (D.state disk.old).tells ≡ true → OnOk result ((c : Files) → (D.state disk.new).images c → StepOf (Adds (segment self.old.number) chunk.now) (D.state disk.old).images c) }
+
+        ensures others { (D.state disk.old).tells ≡ true → OthersStay (segment self.old.number) (D.state disk.old).files (D.state disk.new).files }
+        ensures stands { Stands self.new (D.state disk.new) }
+        ensures number { self.new.number ≡ self.old.number }
+        ensures next { OnOk result (self.new ≡ record { number = self.old.number; at = self.old.at + 5 + length chunk.now; clean = true }) }
+        ensures closed { OnErr result (self.new ≡ record self.old { clean = false }) }
+        ensures tells { (D.state disk.new).tells ≡ (D.state disk.old).tells }
+        ensures faults { CountsFaults (IsErr result) (D.state disk.old).faults (D.state disk.new).faults }
+    {
+        let at = self.at;
+        self.clean = false;
+        put_chunk(disk, self.number, at, chunk)?;
+        self.at = at + HEAD_BYTES + chunk.len() as u64;
+        self.clean = true;
+        Ok(())
+    }
+}
