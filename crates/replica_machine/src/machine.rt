@@ -13,7 +13,7 @@ use m3_model::reason::Reason;
 use m3_model::replica::{Report, Standing};
 use m3_model::rules::Rules;
 use m3_model::seq::Seq;
-use shard_store::store::Store;
+use shard_store::held::HeldPoints;
 use std::alloc::Global;
 use std::marker::Model;
 
@@ -27,7 +27,7 @@ pub struct Machine {
     pub(crate) standing: Standing,
     pub(crate) tenure: Option<u64>,
     pub(crate) fence: u64,
-    pub(crate) store: Store,
+    pub(crate) store: HeldPoints,
 }
 
 impl Model for Machine {
@@ -73,7 +73,7 @@ impl Machine {
             standing: Standing::Open,
             tenure: Some(1),
             fence: 1,
-            store: Store::new(alloc),
+            store: HeldPoints::new(alloc),
         }
     }
 

@@ -7,7 +7,7 @@ use m3_model::replica::Standing;
 use m3_model::rules::{Rules, Space};
 use m3_model::seq::Seq;
 use m3_model::text::Text;
-use shard_store::store::Store;
+use shard_store::held::HeldPoints;
 use std::alloc::Global;
 use std::test::Fail;
 
@@ -89,7 +89,7 @@ fn machine_by(alloc: Global, standing: u8, tenure: u8, fence: u8) -> Machine {
                 Some(digit(tenure))
             },
             fence: digit(fence),
-            store: Store::new(alloc),
+            store: HeldPoints::new(alloc),
         },
     }
 }

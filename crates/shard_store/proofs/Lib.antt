@@ -5,3 +5,12 @@ pub mod SelectionLemmas
 pub mod IndexLemmas
 pub mod CandidateLemmas
 pub mod AnswerLemmas
+pub mod SpellingLemmas
+pub mod HeldLemmas
+pub mod PlaceLemmas
+pub mod AmountLemmas
+pub mod GainLemmas
+pub mod EntryLemmas
+pub mod LogStepLemmas
+pub mod SyncLemmas
+pub mod ContentLemmas

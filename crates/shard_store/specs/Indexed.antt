@@ -1,4 +1,4 @@
--- How the index of a store agrees with its points.
+-- How the index of held points agrees with them.
 use Rattle.std.specs.Prelude.{◌≡◌, ℕ, ℤ, List, Some, None}
 use Rattle.std.specs.FinMap as finite
 use Rattle.m3_model.specs.Contents.{Contents}

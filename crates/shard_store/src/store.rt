@@ -1,102 +1,237 @@
-ghost use Rattle.std.specs.Prelude.{◌≡◌, IfOk, OnOk, OnErr};
-ghost use Rattle.std.specs.FinMap as finite;
-ghost use Rattle.m3_model.specs.Contents.{raised};
+ghost use Rattle.std.specs.Prelude.{◌≡◌, ◌≤◌, true, max, IfOk, IfErr, OnOk, OnErr, IsErrOf};
 ghost use Rattle.m3_model.specs.Answers.{IsAnswer};
+ghost use Rattle.m3_model.specs.Contents.{raised, content_of};
+ghost use Rattle.m3_outside.specs.Causes.{CountsFaults};
+ghost use Rattle.m3_outside.specs.DiskState.{DiskState, Told, EachImage, Elapses};
+ghost use Rattle.m3_outside.specs.DiskCalls.{Restarts};
+ghost use Rattle.m3_outside.specs.Files.{Stays};
+ghost use Rattle.m3_outside.specs.declared.disk_err.DiskErr.TheVariants.{Memory as WantOfMemory};
+ghost use Rattle.commit_log.specs.LogEnd.{NoneFrom};
+ghost use Rattle.wire_bytes.specs.Entries.{IsBounded};
+ghost use Rattle.shard_store.specs.Held.{Held};
+ghost use Rattle.shard_store.specs.Gains.{Brings, nothing, a_point, a_fence, a_tenure};
+ghost use Rattle.shard_store.specs.Loading.{MayBeUnsound};
+ghost use Rattle.shard_store.specs.Stores.{closed_over};
+ghost use Rattle.shard_store.specs.declared.load.LoadErr.TheVariants as failures;
 
-use crate::candidates::{candidates, names};
-use crate::listing::list;
-use crate::matching::unequal;
-use crate::ranges::ranges;
-use block_buffer::buffer::Buffer;
+use crate::amount::hold;
+use crate::held::HeldPoints;
+use crate::load::{LoadErr, Loaded, load};
+use crate::log_step::begin_log;
+use crate::opened::Opened;
 use m3_model::memory::Memory;
 use m3_model::point::{Pick, Point, Series};
 use m3_model::seq::Seq;
+use m3_outside::disk::Disk;
+use m3_outside::disk_err::DiskErr;
 use std::alloc::Global;
 use std::marker::Model;
-use tag_index::Index;
 
-/// The points of one shard that one replica holds, in memory. Contracts see it as its content.
+/// One replica's points of one shard, on its disk and, while it is open, in memory. Each put, fence and tenure is in the
+/// replica's commit log, synced, before it is acknowledged.
 ///
-/// See M3DB's page "Storage Engine".
+/// After a fault the store is to be closed: what is in memory may then be more than what a stop leaves.
+///
+/// See M3DB's pages "Storage Engine" and "Commit Logs and Snapshot Files".
 #[derive(Drop)]
-pub struct Store {
+pub struct Store<D: Disk> {
     alloc: Global,
-    buffer: Buffer,
-    // The identifiers that have a point, by their tags.
-    index: Index,
+    disk: D,
+    opened: Option<Opened>,
 }
 
-impl Model for Store {
-    ghost use Rattle.std.specs.Prelude.{◌≡◌, None};
-    ghost use Rattle.m3_model.specs.Contents.{Contents, contents_code};
-    ghost use Rattle.shard_store.specs.Indexed.{IsIndexed};
+impl<D: Disk> Model for Store<D> {
+    ghost use Rattle.shard_store.specs.Stores.{StoreState, store_code};
 
-    ghost Value = { Contents };
+    ghost Value = { StoreState D };
 
-    ghost coded = { contents_code };
+    ghost coded = { store_code D.code };
 
-    ghost view = { λ s. s.buffer.points };
+    ghost use Rattle.shard_store.specs.StoreParts.{state_of, IsKept};
 
-    ghost invariant = { λ s. (s.buffer.room ≡ None) × IsIndexed s.buffer.points s.index };
+    ghost view = { λ s. state_of s.disk s.opened };
+
+    ghost invariant = { λ s. IsKept s.opened (D.state s.disk) };
 }
 
-impl Store {
-    /// The store without points. Takes no memory.
-    pub fn new(alloc: Global) -> Store
-        ensures { result ≡ finite.empty }
+impl<D: Disk> Store<D> {
+    /// A closed store over the disk. Takes no memory.
+    pub fn new(alloc: Global, disk: D) -> Store<D>
+        ensures { result ≡ closed_over disk }
     {
         Store {
             alloc,
-            buffer: Buffer::new(alloc),
-            index: Index::new(alloc),
+            disk,
+            opened: None,
         }
     }
 
-    /// Joins the point, of which the higher value stays at its key, in logarithmic time; a series that is new costs as
-    /// much for each of its tags.
+    /// Syncs the files and reads what they hold, as `load`. The store stays as it is.
+    pub fn load(&mut self) -> Result<Loaded, LoadErr>
+        requires { self.old ≡ closed_over self.old.disk }
+        ensures closed { self.new ≡ closed_over self.new.disk }
+        ensures ok { IfOk result (λ l. Told (D.state self.new.disk) (Held l.points l.tenure l.fence)) }
+        ensures only { IfOk result (λ _. EachImage (D.state self.new.disk) (λ c. c ≡ (D.state self.new.disk).files)) }
+        ensures fresh { IfOk result (λ l. Told (D.state self.new.disk) (NoneFrom l.next_segment)) }
+        ensures order { IfOk result (λ l. l.tenure ≤ l.fence) }
+        ensures err { IfErr result (λ e. Told (D.state self.old.disk) (λ files. MayBeUnsound files e)) }
+        ensures any_moment { (D.state self.old.disk).tells ≡ true → Elapses Stays (D.state self.old.disk) (D.state self.new.disk) }
+        ensures files { (D.state self.old.disk).tells ≡ true → (D.state self.new.disk).files ≡ (D.state self.old.disk).files }
+        ensures tells { (D.state self.new.disk).tells ≡ (D.state self.old.disk).tells }
+        ensures faults { CountsFaults (IsErrOf result failures.Disk) (D.state self.old.disk).faults (D.state self.new.disk).faults }
+    {
+        load(self.alloc, &mut self.disk)
+    }
+
+    /// Takes the points that were loaded into memory and begins a fresh segment of the log.
     ///
     /// # Errors
     ///
-    /// Want of memory leaves the content as it was.
-    pub fn put(&mut self, point: &Point) -> Result<(), Memory>
-        ensures ok { OnOk result (self.new ≡ raised self.old point.now) }
-        ensures err { OnErr result (self.new ≡ self.old) }
+    /// A fault or want of memory. The store stays closed, and the files hold what they held.
+    pub fn open(&mut self, loaded: &Loaded) -> Result<(), DiskErr>
+        requires closed { self.old ≡ closed_over self.old.disk }
+        requires held { Told (D.state self.old.disk) (Held loaded.now.points loaded.now.tenure loaded.now.fence) }
+        requires only { EachImage (D.state self.old.disk) (λ c. c ≡ (D.state self.old.disk).files) }
+        requires fresh { Told (D.state self.old.disk) (NoneFrom loaded.now.next_segment) }
+        requires order { loaded.now.tenure ≤ loaded.now.fence }
+        ensures ok { OnOk result (self.new ≡ record { disk = self.new.disk; open_ = true; content = content_of loaded.now.points; tenure = loaded.now.tenure; fence = loaded.now.fence }) }
+        ensures err { OnErr result (self.new ≡ closed_over self.new.disk) }
+        ensures disk { Brings nothing result (D.state self.old.disk) (D.state self.new.disk) }
     {
-        let newly = list(self.alloc, &mut self.index, &point.id)?;
-        if let Err(e) = self.buffer.room(point) {
-            if newly {
-                self.index.remove(point.id.as_str());
-            }
-            return Err(e);
-        }
-        self.buffer.put(point);
+        let held = hold(self.alloc, loaded.points.as_slice())?;
+        let log = begin_log(&mut self.disk, loaded.next_segment)?;
+        self.opened = Some(Opened {
+            log,
+            held,
+            tenure: loaded.tenure,
+            fence: loaded.fence,
+            bytes: Vec::new(self.alloc),
+        });
         Ok(())
     }
 
-    /// The points with `from <= t < to` of the series that the pick asks for: of the one identifier, or of each
-    /// identifier of the namespace for which every matcher holds. Identifiers ascend strictly by bytes, times ascend
-    /// strictly, and no series is empty.
+    /// The tenure is in the log, if none was that isn't below it. A tenure is a fence too.
     ///
-    /// One identifier costs logarithmic time. A match costs time in proportion to the series, of all namespaces, that have
-    /// the tags of its matchers of equality, and where it has no such matcher to all series held. Each beside its answer.
-    pub fn fetch(&self, pick: &Pick, from: u64, to: u64) -> Result<Seq<Series>, Memory>
-        ensures { IfOk result (IsAnswer self.now pick.now from to) }
+    /// # Errors
+    ///
+    /// A fault, after which a stop may leave the tenure or not. Want of memory, after which the files hold what they held.
+    pub fn begin(&mut self, tenure: u64) -> Result<(), DiskErr>
+        requires open_ { self.old.open_ ≡ true }
+        ensures ok { OnOk result (self.new ≡ record { disk = self.new.disk; open_ = true; content = self.old.content; tenure = max self.old.tenure tenure; fence = max self.old.fence tenure }) }
+        ensures err { OnErr result (self.new ≡ record self.old { disk = self.new.disk }) }
+        ensures disk { Brings (a_tenure tenure) result (D.state self.old.disk) (D.state self.new.disk) }
     {
-        match pick {
-            Pick::One { .. } => self.buffer.range(self.alloc, pick, from, to),
-            Pick::Match { ns, wanted } => {
-                let wanted = wanted.as_slice();
-                match candidates(self.alloc, &self.index, wanted)? {
-                    Some(ordinals) => {
-                        let ids = names(self.alloc, &self.index, wanted, ordinals.as_slice())?;
-                        ranges(self.alloc, &self.buffer, *ns, ids, from, to)
-                    }
-                    None => {
-                        let found = self.buffer.range(self.alloc, pick, from, to)?;
-                        Ok(unequal(found, wanted))
-                    }
-                }
-            }
+        let Some(opened) = &mut self.opened else {
+            unreachable!()
+        };
+        opened.begin(&mut self.disk, tenure)
+    }
+
+    /// The fence is in the log, if none was that isn't below it.
+    ///
+    /// # Errors
+    ///
+    /// A fault, after which a stop may leave the fence or not. Want of memory, after which the files hold what they held.
+    pub fn fence(&mut self, version: u64) -> Result<(), DiskErr>
+        requires open_ { self.old.open_ ≡ true }
+        ensures ok { OnOk result (self.new ≡ record { disk = self.new.disk; open_ = true; content = self.old.content; tenure = self.old.tenure; fence = max self.old.fence version }) }
+        ensures err { OnErr result (self.new ≡ record self.old { disk = self.new.disk }) }
+        ensures disk { Brings (a_fence version) result (D.state self.old.disk) (D.state self.new.disk) }
+    {
+        let Some(opened) = &mut self.opened else {
+            unreachable!()
+        };
+        opened.fence(&mut self.disk, version)
+    }
+
+    /// Joins the point, of which the higher value stays at its key, and has it in the log. Its memory is taken before the
+    /// log's step. It costs logarithmic time in the points held, beside the log's step; a series that is new costs as much
+    /// for each of its tags.
+    ///
+    /// # Errors
+    ///
+    /// A fault, after which a stop may leave the point or not. Want of memory leaves the content as it was, and the files
+    /// hold what they held.
+    pub fn put(&mut self, point: &Point) -> Result<(), DiskErr>
+        requires open_ { self.old.open_ ≡ true }
+        requires bounded { IsBounded point.now }
+        ensures ok { OnOk result (self.new ≡ record self.old { disk = self.new.disk; content = raised self.old.content point.now }) }
+        ensures memory { IsErrOf result WantOfMemory → self.new ≡ record self.old { disk = self.new.disk } }
+        ensures fault { self.new ≡ record self.old { disk = self.new.disk; content = self.new.content } }
+        ensures disk { Brings (a_point point.now) result (D.state self.old.disk) (D.state self.new.disk) }
+    {
+        let Some(opened) = &mut self.opened else {
+            unreachable!()
+        };
+        opened.put(&mut self.disk, point)
+    }
+
+    /// The points with `from <= t < to` of the series that the pick asks for, as `HeldPoints::fetch` finds them.
+    ///
+    /// # Errors
+    ///
+    /// Want of memory.
+    pub fn fetch(&self, pick: &Pick, from: u64, to: u64) -> Result<Seq<Series>, Memory>
+        requires { self.now.open_ ≡ true }
+        ensures { IfOk result (IsAnswer self.now.content pick.now from to) }
+    {
+        let Some(opened) = &self.opened else {
+            unreachable!()
+        };
+        opened.held.fetch(pick, from, to)
+    }
+
+    /// Whether its points are in memory.
+    pub fn is_open(&self) -> bool
+        ensures { result ≡ self.now.open_ }
+    {
+        self.opened.is_some()
+    }
+
+    /// The greatest tenure that it began with, also before it was opened; 0 where there is none, and of a closed store.
+    pub fn tenure(&self) -> u64
+        ensures { result ≡ self.now.tenure }
+    {
+        match &self.opened {
+            Some(opened) => opened.tenure,
+            None => 0,
         }
+    }
+
+    /// The greatest fence or tenure; 0 where there is none, and of a closed store.
+    pub fn present_fence(&self) -> u64
+        ensures { result ≡ self.now.fence }
+    {
+        match &self.opened {
+            Some(opened) => opened.fence,
+            None => 0,
+        }
+    }
+
+    /// Forgets what is in memory. The files stay. Takes no memory.
+    pub fn close(&mut self)
+        ensures { self.new ≡ closed_over self.old.disk }
+    {
+        self.opened = None;
+    }
+
+    /// Restarts the disk of a closed store, as after a stop of the process.
+    ///
+    /// # Errors
+    ///
+    /// A fault or want of memory. Files and images stay.
+    pub fn restart(&mut self, pick: u64) -> Result<(), DiskErr>
+        requires { self.old ≡ closed_over self.old.disk }
+        ensures closed { self.new ≡ closed_over self.new.disk }
+        ensures restarts { Restarts result (D.state self.old.disk) (D.state self.new.disk) }
+    {
+        self.disk.restart(pick)
+    }
+
+    /// The disk. Takes no memory.
+    pub fn into_disk(self) -> D
+        ensures { result ≡ self.disk }
+    {
+        self.disk
     }
 }

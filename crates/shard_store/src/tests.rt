@@ -1,4 +1,5 @@
-use crate::store::Store;
+use crate::entries::{LogEntry, read_entry};
+use crate::held::HeldPoints;
 use m3_model::point::{Matcher, Pick, Point};
 use m3_model::seq::Seq;
 use m3_model::text::Text;
@@ -51,8 +52,8 @@ fn pick_of(alloc: Global, ns: u8, text: &str) -> Result<Pick, Fail> {
     Ok(Pick::One { ns, id })
 }
 
-fn filled(alloc: Global) -> Result<Store, Fail> {
-    let mut store = Store::new(alloc);
+fn filled(alloc: Global) -> Result<HeldPoints, Fail> {
+    let mut store = HeldPoints::new(alloc);
     for row in SERIES.lines() {
         if let Some((ns, id)) = row.split_once(' ') {
             let ns = if ns == "0" { 0 } else { 1 };
@@ -90,6 +91,43 @@ fn series_are_found(rt: HostRuntime) -> Result<(), Fail> {
             }
         }
         assert_eq!(rt; count, found.len(), "{row}");
+    }
+    Ok(())
+}
+
+// Bytes, each behind the entry that they are, or the place at which they break.
+const ENTRIES: &str =
+    "points 1 => 01 00 01 00 00 05 68 65 6c 6c 6f 00 00 00 00 00 00 00 64 00 00 00 00 00 00 00 05
+fence 3 => 02 00 00 00 00 00 00 00 03
+tenure 258 => 03 00 00 00 00 00 00 01 02
+Form { at: 9 } => 02 00 00 00 00 00 00 00 03 00
+Form { at: 3 } => 03 00 00
+Form { at: 2 } => 01 00 00
+Form { at: 0 } => 04 00";
+
+fn bytes_of(alloc: Global, hex: &str) -> Result<Vec<u8>, Fail> {
+    let mut bytes = Vec::new(alloc);
+    for part in hex.split(' ') {
+        bytes.push(u8::from_str_radix(part, 16).unwrap_or(0))?;
+    }
+    Ok(bytes)
+}
+
+fn entry_of(alloc: Global, bytes: &[u8]) -> Result<String, Fail> {
+    match read_entry(alloc, bytes) {
+        Ok(LogEntry::Points { points }) => Ok(format!(in alloc; "points {}", points.len())?),
+        Ok(LogEntry::Fence { fence }) => Ok(format!(in alloc; "fence {fence}")?),
+        Ok(LogEntry::Tenure { tenure }) => Ok(format!(in alloc; "tenure {tenure}")?),
+        Err(e) => Ok(format!(in alloc; "{e:?}")?),
+    }
+}
+
+#[test]
+fn entries_are_those_of_the_format(rt: HostRuntime) -> Result<(), Fail> {
+    for row in ENTRIES.lines() {
+        let (want, hex) = row.split_once(" => ").expect(&rt, "two parts");
+        let bytes = bytes_of(rt.alloc(), hex)?;
+        assert_eq!(rt; entry_of(rt.alloc(), &bytes)?.as_str(), want, "{row}");
     }
     Ok(())
 }

@@ -1,0 +1,164 @@
+-- Calls of a log as steps of what the files hold.
+use Rattle.std.proofs.Common.{◌≡◌, inl, ℕ, ◌+◌, ◌≤◌, true, List, [], ◌∷◌, refl, sym, ap, subst, ◌∙◌, arith, Result, Ok, Err}
+use Rattle.std.specs.Prelude.{⊤, IsErr, IsErrAnd, IsErrOf, IfOk, OnOk}
+use Rattle.m3_outside.specs.Causes.{CountsFaults}
+use Rattle.m3_outside.specs.Files.{Files}
+use Rattle.m3_outside.specs.DiskState.{DiskState, Told, EachImage, StepOf, Elapses, IsLawful}
+use Rattle.m3_outside.specs.declared.disk_err.DiskErr.{DiskErr}
+use Rattle.m3_outside.specs.declared.disk_err.DiskErr.TheVariants.{Memory, Failed as DiskFailed}
+use Rattle.m3_outside.proofs.Moments.{step_as, elapses_as, elapses_then}
+use Rattle.commit_log.specs.Segment.{segment, MayAdd, Adds}
+use Rattle.commit_log.specs.LogEnd.{LogEnd, NoneAbove, NoneFrom, Stands, MayBegin}
+use Rattle.shard_store.specs.declared.entries.LogEntry.{LogEntry}
+use Rattle.shard_store.specs.Entries.{IsEntry}
+use Rattle.shard_store.specs.Held.{Held}
+use Rattle.shard_store.specs.Gains.{Gain, nothing, Gains, MayGain, Brings}
+use Rattle.shard_store.specs.LogSteps.{gain_in}
+use Rattle.shard_store.specs.Stores.{HoldsAtLeast, IsKeptOn}
+use Rattle.wire_bytes.specs.Entries.{IsBounded, ArePoints}
+use Rattle.m3_model.specs.Members.{IsIn}
+use Rattle.m3_model.specs.declared.point.Point.{Point}
+use Rattle.shard_store.proofs.GainLemmas.{gains_nothing, there_already, all_is_part, nothing_is_part, nothing_then_all, nothing_then_part, kept_by_part}
+use Rattle.shard_store.proofs.EntryLemmas.{added, may_be_added, begun_gains, fresh_gains}
+
+-- no image has a segment above the log's end
+above_all : (log : LogEnd) (d : DiskState) → IsLawful d → Stands log d → d.tells ≡ true → (c : Files) → d.images c → NoneAbove log.number c
+above_all log d lawful stands tells c image n lt = (lawful.same_names tells c image (segment n)).0 (stands.above tells n lt)
+
+-- what each image keeps, a step on
+pub kept_as : {step : Files → Files → Type 0} (t f u g : ℕ) (old new : DiskState) → new.tells ≡ old.tells → ((x y : Files) → step x y → HoldsAtLeast t f x → HoldsAtLeast u g y)
+    → (old.tells ≡ true → (c : Files) → new.images c → StepOf step old.images c) → EachImage old (HoldsAtLeast t f) → EachImage new (HoldsAtLeast u g)
+kept_as t f u g old new same keeps steps each tells c image =
+    let told = sym same ∙ tells in
+    let step = steps told c image in
+    keeps step.before c step.stepped (each told step.before step.was)
+
+-- a segment that may begin
+module _ (log : LogEnd) (old new : DiskState) (lawful : IsLawful old) (stands : Stands log old) where
+  pub begin_elapses : old.tells ≡ true → Elapses (MayBegin (log.number + 1)) old new → Elapses (Gains nothing) old new
+  begin_elapses tells goes = elapses_as old new (λ x y image may. begun_gains log.number x y (above_all log old lawful stands tells x image) may) goes
+
+-- an entry that may be added
+module _ (log : LogEnd) (old new : DiskState) (lawful : IsLawful old) (stands : Stands log old) (bytes : List ℕ) (e : LogEntry) (is : IsEntry bytes e) where
+  pub append_elapses : old.tells ≡ true → Elapses (MayAdd (segment log.number) bytes) old new → Elapses (MayGain (gain_in e)) old new
+  append_elapses tells goes = elapses_as old new (λ x y image may. may_be_added e bytes is log.number x y (above_all log old lawful stands tells x image) may) goes
+
+  pub append_added : old.tells ≡ true → ((c : Files) → new.images c → StepOf (Adds (segment log.number) bytes) old.images c) → (c : Files) → new.images c → StepOf (Gains (gain_in e)) old.images c
+  append_added tells steps c image = step_as (λ x y was adds. added e bytes is log.number x y (above_all log old lawful stands tells x was) adds) c (steps c image)
+
+pub nothing_keeps : (t f : ℕ) (x y : Files) → Gains nothing x y → HoldsAtLeast t f x → HoldsAtLeast t f y
+nothing_keeps t f x y gains least = kept_by_part nothing x y t f (all_is_part nothing x y gains) least
+
+-- first a call that brings nothing, and then one that brings something
+module _ (gain : Gain) (a b c : DiskState) (one : a.tells ≡ true → Elapses (Gains nothing) a b) (same : b.tells ≡ a.tells) where
+  pub after_nothing : (a.tells ≡ true → Elapses (MayGain gain) b c) → a.tells ≡ true → Elapses (MayGain gain) a c
+  after_nothing two tells = elapses_then a b c (λ x y image gains. nothing_is_part gain x y gains) (λ x y z image gains image1 may. nothing_then_part gain x y z gains may) (one tells) (two tells)
+
+  pub steps_after_nothing : a.tells ≡ true → ((z : Files) → c.images z → StepOf (Gains gain) b.images z) → (z : Files) → c.images z → StepOf (Gains gain) a.images z
+  steps_after_nothing tells steps z image =
+      let last = steps z image in
+      let first = (one tells).images last.before last.was in
+      record { before = first.before; was = first.was; stepped = nothing_then_all gain first.before last.before z first.stepped last.stepped }
+
+-- a call that brought nothing, also to a call that might have brought something
+pub brings_nothing : (gain : Gain) (r : Result ⊤ DiskErr) (e : DiskErr) (a b : DiskState) → r ≡ Err e → (a.tells ≡ true → Elapses (Gains nothing) a b) → b.tells ≡ a.tells → CountsFaults (IsErrOf r DiskFailed) a.faults b.faults → Brings gain r a b
+brings_nothing gain r e a b is one same faults = record {
+  any_moment = λ tells. elapses_as a b (λ x y image gains. nothing_is_part gain x y gains) (one tells);
+  acknowledged = λ tells. subst (λ (q : Result ⊤ DiskErr). OnOk q ((c : Files) → b.images c → StepOf (Gains gain) a.images c)) (sym is) tt;
+  unchanged = λ tells memory. (one tells).images;
+  tells = same;
+  faults = faults;
+}
+
+pub on_ok_as : {X E P Q : Type 0} (r : Result X E) → (P → Q) → OnOk r P → OnOk r Q
+on_ok_as (Ok x) to p = to p
+on_ok_as (Err e) to p = tt
+
+-- the one error that there is
+pub err_is : {X E : Type 0} (r : Result X E) (e : E) → IsErr r × IsErrAnd r (λ x. x ≡ e) → r ≡ Err e
+err_is (Ok x) e is = let no = is.0 in absurd (cc)
+err_is (Err x) e is = ap Err is.1
+
+-- a fault that came after a call that brought nothing
+pub brings_fault : (gain : Gain) (r : Result ⊤ DiskErr) (a c : DiskState) → r ≡ Err DiskFailed → (a.tells ≡ true → Elapses (MayGain gain) a c) → c.tells ≡ a.tells → CountsFaults ⊤ a.faults c.faults → Brings gain r a c
+brings_fault gain r a c is goes same faults = record {
+  any_moment = goes;
+  acknowledged = λ tells. subst (λ (q : Result ⊤ DiskErr). OnOk q ((z : Files) → c.images z → StepOf (Gains gain) a.images z)) (sym is) tt;
+  unchanged = λ tells memory. absurd (not_memory (subst (λ (q : Result ⊤ DiskErr). IsErrOf q Memory) is memory));
+  tells = same;
+  faults = record { later = faults.later; stays = faults.stays; rose = λ f. faults.rose tt };
+}
+  where
+    not_memory : (let q : Result ⊤ DiskErr = Err DiskFailed in IsErrOf q Memory) → ⊥
+    not_memory e = cc
+
+pub brings_all : (gain : Gain) (u : ⊤) (a c : DiskState) → (a.tells ≡ true → Elapses (MayGain gain) a c) → (a.tells ≡ true → (z : Files) → c.images z → StepOf (Gains gain) a.images z) → c.tells ≡ a.tells → CountsFaults ⊥ a.faults c.faults → Brings gain (Ok u) a c
+brings_all gain u a c goes steps same faults = record {
+  any_moment = goes;
+  acknowledged = λ tells. steps tells;
+  unchanged = λ tells memory. absurd (cc);
+  tells = same;
+  faults = record { later = faults.later; stays = faults.stays; rose = λ f. absurd (cc) };
+}
+
+-- two counts, one after the other
+pub counts_both : (f g : Type 0) (a b c : ℕ) → CountsFaults f a b → CountsFaults g b c → CountsFaults g a c
+counts_both f g a b c one two = record { later = omega (arith, one.later, two.later); stays = λ e. two.stays (one.stays e); rose = λ h. let r = two.rose h in omega (arith, one.later, r) }
+
+pub counts_for : (f g : Type 0) (a b : ℕ) → (g → f) → CountsFaults f a b → CountsFaults g a b
+counts_for f g a b to one = record { later = one.later; stays = one.stays; rose = λ h. one.rose (to h) }
+
+elapses_same : (step : Files → Files → Type 0) (a : DiskState) → ((x : Files) → a.images x → step x x) → Elapses step a a
+elapses_same step a same = record { later = omega arith; images = λ c image. record { before = c; was = image; stepped = same c image }; nothing_else = λ t c le left. inl left; keeps = λ t c le left. left }
+
+counts_same : (f : Type 0) (n : ℕ) → (f → ⊥) → CountsFaults f n n
+counts_same f n never = record { later = omega arith; stays = λ e. e; rose = λ h. absurd (never h) }
+
+pub not_failed : (let q : Result ⊤ DiskErr = Err Memory in IsErrOf q DiskFailed) → ⊥
+not_failed e = cc
+
+-- what no disk call was made for, since memory was wanted before
+pub brings_none : (gain : Gain) (r : Result ⊤ DiskErr) (a : DiskState) → r ≡ Err Memory → Brings gain r a a
+brings_none gain r a is =
+    brings_nothing gain r Memory a a is (λ tells. elapses_same (Gains nothing) a (λ x image. gains_nothing x)) refl (counts_same (IsErrOf r DiskFailed) a.faults (λ h. not_failed (subst (λ (q : Result ⊤ DiskErr). IsErrOf q DiskFailed) is h)))
+
+-- a number that the files have already
+pub brings_there : (gain : Gain) (u : ⊤) (tenure fence : ℕ) (a : DiskState) → EachImage a (HoldsAtLeast tenure fence) → ((p : Point) → IsIn gain.points p → ⊥) → gain.tenure ≤ tenure → gain.fence ≤ fence → Brings gain (Ok u) a a
+brings_there gain u tenure fence a each none t f =
+    let there = λ (tells : a.tells ≡ true) (x : Files) (image : a.images x). there_already gain x x tenure fence (each tells x image) none t f in
+    brings_all gain u a a (λ tells. elapses_same (MayGain gain) a (λ x image. all_is_part gain x x (there tells x image)))
+    (λ tells z image. record { before = z; was = image; stepped = there tells z image }) refl (counts_same ⊥ a.faults (λ h. h))
+
+-- the disk after an entry that was logged, where the caller hands its answer on
+pub brings_as : (gain : Gain) (r q : Result ⊤ DiskErr) (a b : DiskState) → q ≡ r → Brings gain r a b → Brings gain q a b
+brings_as gain r q a b same brings = subst (λ (x : Result ⊤ DiskErr). Brings gain x a b) (sym same) brings
+
+pub kept_for : (log : LogEnd) (t f u g : ℕ) (d : DiskState) → t ≡ u → f ≡ g → IsKeptOn log t f d → IsKeptOn log u g d
+kept_for log t f u g d a b kept = subst (λ (n : ℕ). IsKeptOn log n g d) a (subst (λ (n : ℕ). IsKeptOn log t n d) b kept)
+
+-- the entry of one point
+pub one_bounded : (p : Point) → IsBounded p → ArePoints (p ∷ [])
+one_bounded p bounded = record { some = omega arith; most = omega arith; bounded = (bounded, tt) }
+
+-- a fresh segment, where no image has one of its number or above
+pub fresh_elapses : (number : ℕ) (old new : DiskState) → IsLawful old → Told old (NoneFrom number) → old.tells ≡ true → Elapses (MayBegin number) old new → Elapses (Gains nothing) old new
+fresh_elapses number old new lawful none tells goes = elapses_as old new (λ x y image may. fresh_gains number x y (λ n le. (lawful.same_names tells x image (segment n)).0 (none tells n le)) may) goes
+
+pub begun_kept : (r : Result LogEnd DiskErr) (log : LogEnd) (tenure fence : ℕ) (d : DiskState) → IfOk r (λ end. end ≡ log) → OnOk r (Stands log d) → EachImage d (HoldsAtLeast tenure fence) → tenure ≤ fence → IfOk r (λ end. IsKeptOn end tenure fence d)
+begun_kept (Ok end) log tenure fence d is stands sound order = record { stands = subst (λ l. Stands l d) (sym is) stands; sound = sound; order = order }
+begun_kept (Err e) log tenure fence d is stands sound order = tt
+
+pub brings_nothing_more : (u : ⊤) (a c : DiskState) → (a.tells ≡ true → Elapses (Gains nothing) a c) → c.tells ≡ a.tells → CountsFaults ⊥ a.faults c.faults → Brings nothing (Ok u) a c
+brings_nothing_more u a c goes same faults = brings_all nothing u a c (λ tells. elapses_as a c (λ x y image gains. all_is_part nothing x y gains) (goes tells)) (λ tells. (goes tells).images) same faults
+
+-- what was read is what each image holds
+pub only_held : (points : List Point) (tenure fence : ℕ) (d : DiskState) → Told d (Held points tenure fence) → EachImage d (λ c. c ≡ d.files) → EachImage d (HoldsAtLeast tenure fence)
+only_held points tenure fence d held only tells c image =
+    record { points = points; tenure_now = tenure; fence_now = fence; held = subst (Held points tenure fence) (sym (only tells c image)) (held tells); tenure_low = omega arith; fence_low = omega arith }
+
+-- the same error, handed on
+pub err_to : {X Y E : Type 0} (r : Result X E) (q : Result Y E) (e d : E) → r ≡ Err e → q ≡ Err e → IsErrOf q d → IsErrOf r d
+err_to {X} {Y} {E} r q e d was same f = was ∙ ap Err (err_same e d (sym same ∙ f))
+  where
+    err_same : (e d : E) → (let x : Result Y E = Err e in let y : Result Y E = Err d in x ≡ y) → e ≡ d
+    err_same e d is = cc

@@ -1,0 +1,30 @@
+use Rattle.std.proofs.Common.{ap, sym, subst}
+use Rattle.std.specs.Prelude.{IsErrOf}
+use Rattle.m3_outside.specs.DiskState.{EachImage}
+use Rattle.m3_outside.specs.declared.disk_err.DiskErr.TheVariants.{Memory, Failed as DiskFailed}
+use Rattle.shard_store.specs.Gains.{Brings, nothing}
+use Rattle.shard_store.specs.Stores.{HoldsAtLeast}
+use Rattle.shard_store.proofs.LogStepLemmas.{err_is, brings_none, brings_nothing, brings_nothing_more, only_held, counts_for, err_to}
+use Rattle.shard_store.proofs.store.Store.open.Goals as goal
+
+pub returns-in_err-held-clause-disk : goal.returns-in_err-held-clause-disk
+returns-in_err-held-clause-disk g c = brings_none nothing c.from_residual.result (g.D.Disk.state c.args.self.now.disk) (err_is c.from_residual.result Memory c.from_residual.ensures)
+
+pub returns-in_err-log-clause-disk : goal.returns-in_err-log-clause-disk
+returns-in_err-log-clause-disk g c =
+    let same = err_is c.from_residual-in_err-log.result c.in_err-log.field-0.0 c.from_residual-in_err-log.ensures in
+    subst (λ d. Brings nothing c.from_residual-in_err-log.result (g.D.Disk.state d) (g.D.Disk.state c.begin_log.new.disk)) (ap (λ s. s.disk) c.self.view_is)
+    (brings_nothing nothing c.from_residual-in_err-log.result c.in_err-log.field-0.0 (g.D.Disk.state c.self.inside.disk) (g.D.Disk.state c.begin_log.new.disk) same c.begin_log.ensures.any_moment c.begin_log.ensures.tells
+    (counts_for (IsErrOf c.begin_log.result DiskFailed) (IsErrOf c.from_residual-in_err-log.result DiskFailed) _ _ (λ f. err_to c.begin_log.result c.from_residual-in_err-log.result c.in_err-log.field-0.0 DiskFailed c.in_err-log.was same f) c.begin_log.ensures.faults))
+
+pub invariant_of-self-2 : goal.invariant_of-self-2
+invariant_of-self-2 g c =
+    c.in_ok-log.ensures.kept c.args.loaded.now.tenure c.args.loaded.now.fence c.requires.order
+    (subst (λ d. EachImage (g.D.Disk.state d) (HoldsAtLeast c.args.loaded.now.tenure c.args.loaded.now.fence)) (sym (ap (λ s. s.disk) c.self.view_is))
+    (only_held c.args.loaded.now.points c.args.loaded.now.tenure c.args.loaded.now.fence (g.D.Disk.state c.args.self.now.disk) c.requires.held c.requires.only))
+
+pub returns-clause-disk : goal.returns-clause-disk
+returns-clause-disk g c =
+    subst (λ d. Brings nothing _ (g.D.Disk.state d) (g.D.Disk.state c.begin_log.new.disk)) (ap (λ s. s.disk) c.self.view_is)
+    (brings_nothing_more tt (g.D.Disk.state c.self.inside.disk) (g.D.Disk.state c.begin_log.new.disk) c.begin_log.ensures.any_moment c.begin_log.ensures.tells
+    (counts_for (IsErrOf c.begin_log.result DiskFailed) ⊥ _ _ (λ none. absurd none) c.begin_log.ensures.faults))

@@ -1,0 +1,166 @@
+ghost use Rattle.std.specs.Prelude.{◌≡◌, ◌≤◌, true, IfOk, IfErr, IsErrOf};
+ghost use Rattle.m3_outside.specs.Causes.{CountsFaults};
+ghost use Rattle.m3_outside.specs.DiskState.{DiskState, Told, EachImage, Elapses};
+ghost use Rattle.m3_outside.specs.DiskCalls.{LeavesFiles};
+ghost use Rattle.m3_outside.specs.Files.{Stays};
+ghost use Rattle.commit_log.specs.LogEnd.{NoneFrom};
+ghost use Rattle.shard_store.specs.Held.{HoldsEntries, Held};
+ghost use Rattle.shard_store.specs.Loading.{MayBeUnsound};
+ghost use Rattle.shard_store.specs.declared.load.LoadErr.TheVariants as failures;
+
+use crate::amount::join_entries;
+use crate::entries::{EntriesErr, LogEntry, read_entries};
+use crate::sync::sync_all;
+use commit_log::{LogErr, read_all};
+use m3_model::memory::Memory;
+use m3_model::point::Point;
+use m3_model::seq::Seq;
+use m3_outside::disk::Disk;
+use m3_outside::disk_err::DiskErr;
+use std::alloc::Global;
+
+// What a replica's log holds.
+#[derive(Drop)]
+struct HeldEntries {
+    // The entries of all segments, by ascending number and place.
+    entries: Seq<LogEntry>,
+    // The number for the next segment: one above all that are there, and 1 where none is.
+    next: u64,
+}
+
+/// Why a replica's log can't be read.
+#[derive(Clone, Copy, Debug, PartialEq, Eq)]
+pub enum LoadErr {
+    /// The disk failed. Its count of faults rose in that call.
+    Disk,
+    /// Want of memory.
+    Memory,
+    /// From the place `at` on the bytes of the segment are none of a log.
+    Segment { number: u64, at: u64 },
+    /// The chunk of this index, counted over the whole log, is the first that is no entry, by its byte at the place `at`,
+    /// or for want of it.
+    Entry { index: usize, at: usize },
+}
+
+impl From<LogErr> for LoadErr {
+    ghost use Rattle.std.specs.Prelude.{◌≡◌};
+    ghost use Rattle.shard_store.specs.Loading.{of_log};
+
+    ghost from_gives = { λ d e. e ≡ of_log d };
+
+    fn from(e: LogErr) -> LoadErr {
+        match e {
+            LogErr::Disk => LoadErr::Disk,
+            LogErr::Memory => LoadErr::Memory,
+            LogErr::Form { number, at } => LoadErr::Segment { number, at },
+        }
+    }
+}
+
+impl From<DiskErr> for LoadErr {
+    ghost use Rattle.std.specs.Prelude.{◌≡◌};
+    ghost use Rattle.shard_store.specs.Loading.{of_disk};
+
+    ghost from_gives = { λ d e. e ≡ of_disk d };
+
+    fn from(e: DiskErr) -> LoadErr {
+        match e {
+            DiskErr::Failed => LoadErr::Disk,
+            DiskErr::Memory => LoadErr::Memory,
+        }
+    }
+}
+
+impl From<EntriesErr> for LoadErr {
+    ghost use Rattle.std.specs.Prelude.{◌≡◌};
+    ghost use Rattle.shard_store.specs.Loading.{of_entries};
+
+    ghost from_gives = { λ d e. e ≡ of_entries d };
+
+    fn from(e: EntriesErr) -> LoadErr {
+        match e {
+            EntriesErr::Memory => LoadErr::Memory,
+            EntriesErr::Form { index, at } => LoadErr::Entry { index, at },
+        }
+    }
+}
+
+impl From<Memory> for LoadErr {
+    ghost use Rattle.std.specs.Prelude.{◌≡◌};
+    ghost use Rattle.shard_store.specs.declared.load.LoadErr.TheVariants as failures;
+
+    ghost from_gives = { λ _ e. e ≡ failures.Memory };
+
+    fn from(_: Memory) -> LoadErr {
+        LoadErr::Memory
+    }
+}
+
+// Reads the entries of a whole log.
+fn held_entries<D: Disk>(alloc: Global, disk: &mut D) -> Result<HeldEntries, LoadErr>
+    ensures leaves { LeavesFiles (IsErrOf result failures.Disk) (D.state disk.old) (D.state disk.new) }
+    ensures ok { (D.state disk.old).tells ≡ true → IfOk result (λ held. HoldsEntries held.entries (D.state disk.old).files) }
+    ensures fresh { IfOk result (λ held. Told (D.state disk.new) (NoneFrom held.next)) }
+    ensures err { (D.state disk.old).tells ≡ true → IfErr result (MayBeUnsound (D.state disk.old).files) }
+{
+    let found = read_all(alloc, disk)?;
+    let entries = read_entries(alloc, found.chunks.as_slice())?;
+    Ok(HeldEntries {
+        entries,
+        next: found.next,
+    })
+}
+
+/// What a replica's disk holds.
+#[derive(Drop)]
+pub struct Loaded {
+    /// The points of its files in the order of the log, also several of one key.
+    pub points: Seq<Point>,
+    /// The greatest tenure, and 0 where there is none.
+    pub tenure: u64,
+    /// The greatest fence or tenure, and 0 where there is none.
+    pub fence: u64,
+    /// The number for the next segment: one above all that are there, and 1 where none is.
+    pub next_segment: u64,
+}
+
+// Reads what the files of a disk hold, as reads give them.
+fn read_disk<D: Disk>(alloc: Global, disk: &mut D) -> Result<Loaded, LoadErr>
+    ensures leaves { LeavesFiles (IsErrOf result failures.Disk) (D.state disk.old) (D.state disk.new) }
+    ensures ok { (D.state disk.old).tells ≡ true → IfOk result (λ l. Held l.points l.tenure l.fence (D.state disk.old).files) }
+    ensures fresh { IfOk result (λ l. Told (D.state disk.new) (NoneFrom l.next_segment)) }
+    ensures order { IfOk result (λ l. l.tenure ≤ l.fence) }
+    ensures err { (D.state disk.old).tells ≡ true → IfErr result (MayBeUnsound (D.state disk.old).files) }
+{
+    let found = held_entries(alloc, disk)?;
+    let amount = join_entries(alloc, found.entries)?;
+    Ok(Loaded {
+        points: amount.points,
+        tenure: amount.tenure,
+        fence: amount.fence,
+        next_segment: found.next,
+    })
+}
+
+/// Syncs each file of a disk and reads what they hold: this is then what each stop leaves. The log goes on in a fresh
+/// segment of the number `next_segment`, and never in one that was read.
+///
+/// # Errors
+///
+/// A fault. Damage: the lowest segment that isn't in the grammar of a log or, where there is none, the first chunk that is
+/// no entry, each with its first such place. Want of memory, also where a segment has the number 2^64 - 1. Reads give
+/// what they gave, and a stop leaves what it might have left before.
+pub fn load<D: Disk>(alloc: Global, disk: &mut D) -> Result<Loaded, LoadErr>
+    ensures ok { IfOk result (λ l. Told (D.state disk.new) (Held l.points l.tenure l.fence)) }
+    ensures only { IfOk result (λ _. EachImage (D.state disk.new) (λ c. c ≡ (D.state disk.new).files)) }
+    ensures fresh { IfOk result (λ l. Told (D.state disk.new) (NoneFrom l.next_segment)) }
+    ensures order { IfOk result (λ l. l.tenure ≤ l.fence) }
+    ensures err { IfErr result (λ e. Told (D.state disk.old) (λ files. MayBeUnsound files e)) }
+    ensures any_moment { (D.state disk.old).tells ≡ true → Elapses Stays (D.state disk.old) (D.state disk.new) }
+    ensures files { (D.state disk.old).tells ≡ true → (D.state disk.new).files ≡ (D.state disk.old).files }
+    ensures tells { (D.state disk.new).tells ≡ (D.state disk.old).tells }
+    ensures faults { CountsFaults (IsErrOf result failures.Disk) (D.state disk.old).faults (D.state disk.new).faults }
+{
+    sync_all(disk)?;
+    read_disk(alloc, disk)
+}

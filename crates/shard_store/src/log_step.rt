@@ -1,0 +1,88 @@
+//! One more entry in a replica's log.
+ghost use Rattle.std.specs.Prelude.{◌≡◌, ◌≤◌, ℕ, max, true, length, IfOk, OnOk, IsErr, IsErrOf};
+ghost use Rattle.m3_outside.specs.Causes.{CountsFaults};
+ghost use Rattle.m3_outside.specs.DiskState.{DiskState, Told, EachImage, Elapses, StepOf};
+ghost use Rattle.m3_outside.specs.Files.{Files};
+ghost use Rattle.m3_outside.specs.declared.disk_err.DiskErr.TheVariants.{Failed as DiskFailed};
+ghost use Rattle.commit_log.specs.LogEnd.{LogEnd, NoneFrom, Stands, IsReadyFor};
+ghost use Rattle.shard_store.specs.Entries.{IsEntry};
+ghost use Rattle.shard_store.specs.Gains.{Gains, MayGain, Brings, nothing};
+ghost use Rattle.shard_store.specs.Held.{tenure_in, fence_in};
+ghost use Rattle.shard_store.specs.Stores.{HoldsAtLeast, IsKeptOn};
+ghost use Rattle.shard_store.specs.declared.entries.LogEntry.{LogEntry as Entry};
+ghost use Rattle.shard_store.specs.LogSteps.{gain_in};
+
+use commit_log::Log;
+use m3_outside::disk::Disk;
+use m3_outside::disk_err::DiskErr;
+use m3_outside::failed::Failed;
+
+/// Begins the segment of this number, above all that are there, as the log's end.
+///
+/// # Errors
+///
+/// A fault or want of memory. The files hold what they held.
+pub(crate) fn begin_log<D: Disk>(disk: &mut D, number: u64) -> Result<Log, DiskErr>
+    requires { Told (D.state disk.old) (NoneFrom number) }
+    ensures kept { (tenure fence : ℕ) → tenure ≤ fence → EachImage (D.state disk.old) (HoldsAtLeast tenure fence) → IfOk result (λ log. IsKeptOn log tenure fence (D.state disk.new)) }
+    ensures any_moment { (D.state disk.old).tells ≡ true → Elapses (Gains nothing) (D.state disk.old) (D.state disk.new) }
+    ensures tells { (D.state disk.new).tells ≡ (D.state disk.old).tells }
+    ensures faults { CountsFaults (IsErrOf result DiskFailed) (D.state disk.old).faults (D.state disk.new).faults }
+{
+    Log::begin(disk, number)
+}
+
+/// Makes room for an entry of so many bytes.
+///
+/// # Errors
+///
+/// A fault or want of memory. The files hold what they held.
+pub(crate) fn ready_entry<D: Disk>(disk: &mut D, log: &mut Log, len: u32) -> Result<(), DiskErr>
+    requires short { len ≤ 65531 }
+    requires stands { Stands log.old (D.state disk.old) }
+    ensures ready { OnOk result (IsReadyFor log.new len (D.state disk.new)) }
+    ensures kept { (tenure fence : ℕ) → IsKeptOn log.old tenure fence (D.state disk.old) → IsKeptOn log.new tenure fence (D.state disk.new) }
+    ensures stands { Stands log.new (D.state disk.new) }
+    ensures any_moment { (D.state disk.old).tells ≡ true → Elapses (Gains nothing) (D.state disk.old) (D.state disk.new) }
+    ensures tells { (D.state disk.new).tells ≡ (D.state disk.old).tells }
+    ensures faults { CountsFaults (IsErrOf result DiskFailed) (D.state disk.old).faults (D.state disk.new).faults }
+{
+    log.ready(disk, len)
+}
+
+/// Adds an entry, for which there is room. Takes no memory.
+///
+/// # Errors
+///
+/// A fault. The entry may be there after a stop, or not.
+pub(crate) fn append_entry<D: Disk>(disk: &mut D, log: &mut Log, bytes: &[u8]) -> Result<(), Failed>
+    requires ready { IsReadyFor log.old (length bytes.now) (D.state disk.old) }
+    requires entry { (e : Entry) × IsEntry bytes.now e }
+    ensures kept { (tenure fence : ℕ) → IsKeptOn log.old tenure fence (D.state disk.old) → IsKeptOn log.new tenure fence (D.state disk.new) }
+    ensures stands { Stands log.new (D.state disk.new) }
+    ensures any_moment { (e : Entry) → IsEntry bytes.now e → (D.state disk.old).tells ≡ true → Elapses (MayGain (gain_in e)) (D.state disk.old) (D.state disk.new) }
+    ensures acknowledged { (e : Entry) → IsEntry bytes.now e → (D.state disk.old).tells ≡ true → OnOk result ((c : Files) → (D.state disk.new).images c → StepOf (Gains (gain_in e)) (D.state disk.old).images c) }
+    ensures tells { (D.state disk.new).tells ≡ (D.state disk.old).tells }
+    ensures faults { CountsFaults (IsErr result) (D.state disk.old).faults (D.state disk.new).faults }
+{
+    log.append(disk, bytes)
+}
+
+/// Adds an entry of at most 65,531 bytes.
+///
+/// # Errors
+///
+/// A fault: the entry may be there after a stop, or not. Want of memory: the files hold what they held.
+pub(crate) fn log_entry<D: Disk>(disk: &mut D, log: &mut Log, bytes: &[u8]) -> Result<(), DiskErr>
+    requires short { length bytes.now ≤ 65531 }
+    requires stands { Stands log.old (D.state disk.old) }
+    requires entry { (e : Entry) × IsEntry bytes.now e }
+    ensures kept { (tenure fence : ℕ) → IsKeptOn log.old tenure fence (D.state disk.old) → IsKeptOn log.new tenure fence (D.state disk.new) }
+    ensures stands { Stands log.new (D.state disk.new) }
+    ensures brings { (e : Entry) → IsEntry bytes.now e → Brings (gain_in e) result (D.state disk.old) (D.state disk.new) }
+    ensures all_kept { (e : Entry) → IsEntry bytes.now e → (tenure fence : ℕ) → IsKeptOn log.old tenure fence (D.state disk.old) → OnOk result (IsKeptOn log.new (max tenure (tenure_in e)) (max fence (fence_in e)) (D.state disk.new)) }
+{
+    ready_entry(disk, log, bytes.len() as u32)?;
+    append_entry(disk, log, bytes)?;
+    Ok(())
+}

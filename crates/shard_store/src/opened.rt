@@ -1,0 +1,85 @@
+ghost use Rattle.std.specs.Prelude.{◌≡◌, ◌⊎◌, max, OnOk, OnErr, IsErrOf};
+ghost use Rattle.m3_model.specs.Contents.{raised};
+ghost use Rattle.m3_outside.specs.declared.disk_err.DiskErr.TheVariants.{Memory as WantOfMemory};
+ghost use Rattle.wire_bytes.specs.Entries.{IsBounded};
+ghost use Rattle.shard_store.specs.Gains.{Brings, a_point, a_fence, a_tenure};
+ghost use Rattle.shard_store.specs.Stores.{IsKeptOn};
+
+use crate::held::HeldPoints;
+use crate::log_step::{append_entry, log_entry, ready_entry};
+use commit_log::Log;
+use m3_model::point::Point;
+use m3_outside::disk::Disk;
+use m3_outside::disk_err::DiskErr;
+use wire_bytes::{put_fence, put_points, put_tenure};
+
+// What is in memory while a store is open.
+#[derive(Drop)]
+pub(crate) struct Opened {
+    pub(crate) log: Log,
+    pub(crate) held: HeldPoints,
+    pub(crate) tenure: u64,
+    pub(crate) fence: u64,
+    // The bytes of the last entry.
+    pub(crate) bytes: Vec<u8>,
+}
+
+impl Opened {
+    pub(crate) fn begin<D: Disk>(&mut self, disk: &mut D, tenure: u64) -> Result<(), DiskErr>
+        requires kept { IsKeptOn self.old.log self.old.tenure self.old.fence (D.state disk.old) }
+        ensures kept { IsKeptOn self.new.log self.new.tenure self.new.fence (D.state disk.new) }
+        ensures ok { OnOk result ((self.new.tenure ≡ max self.old.tenure tenure) × (self.new.fence ≡ max self.old.fence tenure)) }
+        ensures err { OnErr result ((self.new.tenure ≡ self.old.tenure) × (self.new.fence ≡ self.old.fence)) }
+        ensures held { self.new.held ≡ self.old.held }
+        ensures disk { Brings (a_tenure tenure) result (D.state disk.old) (D.state disk.new) }
+    {
+        if tenure <= self.tenure {
+            return Ok(());
+        }
+        self.bytes.clear();
+        put_tenure(&mut self.bytes, tenure)?;
+        log_entry(disk, &mut self.log, &self.bytes)?;
+        self.tenure = tenure;
+        self.fence = self.fence.max(tenure);
+        Ok(())
+    }
+
+    pub(crate) fn fence<D: Disk>(&mut self, disk: &mut D, version: u64) -> Result<(), DiskErr>
+        requires kept { IsKeptOn self.old.log self.old.tenure self.old.fence (D.state disk.old) }
+        ensures kept { IsKeptOn self.new.log self.new.tenure self.new.fence (D.state disk.new) }
+        ensures ok { OnOk result (self.new.fence ≡ max self.old.fence version) }
+        ensures err { OnErr result (self.new.fence ≡ self.old.fence) }
+        ensures tenure { self.new.tenure ≡ self.old.tenure }
+        ensures held { self.new.held ≡ self.old.held }
+        ensures disk { Brings (a_fence version) result (D.state disk.old) (D.state disk.new) }
+    {
+        if version <= self.fence {
+            return Ok(());
+        }
+        self.bytes.clear();
+        put_fence(&mut self.bytes, version)?;
+        log_entry(disk, &mut self.log, &self.bytes)?;
+        self.fence = version;
+        Ok(())
+    }
+
+    pub(crate) fn put<D: Disk>(&mut self, disk: &mut D, point: &Point) -> Result<(), DiskErr>
+        requires kept { IsKeptOn self.old.log self.old.tenure self.old.fence (D.state disk.old) }
+        requires bounded { IsBounded point.now }
+        ensures kept { IsKeptOn self.new.log self.new.tenure self.new.fence (D.state disk.new) }
+        ensures ok { OnOk result (self.new.held ≡ raised self.old.held point.now) }
+        ensures memory { IsErrOf result WantOfMemory → self.new.held ≡ self.old.held }
+        ensures either { (self.new.held ≡ self.old.held) ⊎ (self.new.held ≡ raised self.old.held point.now) }
+        ensures tenure { self.new.tenure ≡ self.old.tenure }
+        ensures fence { self.new.fence ≡ self.old.fence }
+        ensures disk { Brings (a_point point.now) result (D.state disk.old) (D.state disk.new) }
+    {
+        self.bytes.clear();
+        put_points(&mut self.bytes, &[point])?;
+        ready_entry(disk, &mut self.log, self.bytes.len() as u32)?;
+        // From here on no memory is wanted.
+        self.held.put(point)?;
+        append_entry(disk, &mut self.log, &self.bytes)?;
+        Ok(())
+    }
+}
