@@ -7,3 +7,5 @@ pub mod HolderLemmas
 pub mod ChangeLemmas
 pub mod LawLemmas
 pub mod ExampleLemmas
+pub mod AscendLemmas
+pub mod LawfulLemmas

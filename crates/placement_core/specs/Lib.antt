@@ -1,5 +1,6 @@
 pub mod Shards
 pub mod Lawful
+pub mod LawfulParts
 pub mod NodeNames
 pub mod Steps
 pub mod Changes

@@ -1,6 +1,8 @@
 //! What a placement is, who serves a shard in it, and which placement may follow another.
 #![tactic(auto)]
 
+pub mod ascending;
+pub mod lawful;
 pub mod laws;
 mod names;
 pub mod replicas;

@@ -1,3 +1,4 @@
+use crate::lawful::is_lawful;
 use crate::replicas::{counted, former, members};
 use crate::step::is_step;
 use m3_model::memory::Memory;
@@ -40,14 +41,19 @@ fn shard(alloc: Global, text: &str) -> Result<Seq<Assignment>, Memory> {
     Ok(Seq::from_vec(all))
 }
 
-// Each name is its node's isolation group, too.
+// A name, with its isolation group where that isn't named the same: `a` or `d=a`; `!a` isn't listed.
 fn instances(alloc: Global, names: &str) -> Result<Seq<Instance>, Memory> {
     let mut all = Vec::new(alloc);
-    for name in names.split(' ') {
+    for word in names.split(' ') {
+        let (listed, word) = match word.strip_prefix('!') {
+            Some(word) => (false, word),
+            None => (true, word),
+        };
+        let (name, group) = word.split_once('=').unwrap_or((word, word));
         all.push(Instance {
             name: Text::from_str(alloc, name)?,
-            group: Text::from_str(alloc, name)?,
-            listed: true,
+            group: Text::from_str(alloc, group)?,
+            listed,
             drained: false,
         })?;
     }
@@ -172,6 +178,46 @@ fn replicas_stand_by_name(rt: HostRuntime) -> Result<(), Fail> {
     let alloc = rt.alloc();
     for row in REPLICAS.lines() {
         assert!(rt; replicas_are(alloc, row)?, "{row}");
+    }
+    Ok(())
+}
+
+// Whether it is lawful, and the placement.
+const LAWFUL: &str = "yes>13|a b c|0A1 1A1 2A1
+yes>13|a b c|0A1 1A1 2A1/2A1 0A1 1A1
+yes>23|a b c d|0L1 1A1 2A1 3I20
+yes>23|a b c d=a|0L1 1A1 2A1 3I20
+yes>23|a b c d|0L1 1A1 2A1 3I20/3I21 0A1 1L1 2A1
+no>23|a b c d=b|0L1 1A1 2A1 3I20
+no>13|a b=a c|0A1 1A1 2A1
+no>13|a b !c|0A1 1A1 2A1
+no>13|a b c a|0A1 1A1 2A1
+no>13|a b|0A1 1A1 2A1
+no>13|a b c.|0A1 1A1 2A1
+no>13|a b c|0A1 1A1
+no>13|a b c d|0A1 1A1 2A1 3A1
+no>13|a b c|0A1 1A1 1A1
+no>13|a b c|0A1 1A1 2A2
+no>13|a b c|0A1 1A1 2A11
+no>10|a b c|
+no>16|a b c d e f|0A1 1A1 2A1 3A1 4A1 5A1
+no>23|a b c d|0A1 1A1 2A1 3I20
+no>23|a b c d|0L1 1A1 2A1 3I21
+no>23|a b c d|0L1 1L1 2A1 3I20
+no>23|a b c d|0L1 1A1 3I20
+no>23|a b c d|0L1 1A1 2A1
+no>13|a b c|0A1 1A1 2A1/0A1 1A1";
+
+#[test]
+fn lawful_placements_are_told(rt: HostRuntime) -> Result<(), Fail> {
+    let alloc = rt.alloc();
+    for row in LAWFUL.lines() {
+        let (want, place) = row.split_once('>').unwrap_or(("", ""));
+        assert_eq!(rt;
+            is_lawful(&placement(alloc, place)?),
+            want == "yes",
+            "{row}"
+        );
     }
     Ok(())
 }

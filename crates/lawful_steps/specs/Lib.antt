@@ -1,0 +1,2 @@
+pub mod NoSums
+pub mod Shows

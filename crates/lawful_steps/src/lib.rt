@@ -1,0 +1,10 @@
+//! Whether a step of a replica is lawful, by its state and by the events before it.
+#![tactic(auto)]
+
+mod answers;
+pub mod ascending;
+pub mod earlier;
+pub mod points;
+mod refusals;
+pub mod rows;
+pub mod same;

@@ -1,0 +1,7 @@
+mod RestLemmas
+mod LoopLemmas
+mod CountLemmas
+mod CoverLemmas
+mod PeerLemmas
+mod LegalLemmas
+mod EarlierLemmas

@@ -1,0 +1,4 @@
+pub mod Joining
+pub mod Fetches
+pub mod Sumless
+pub mod Takes

@@ -1,0 +1,30 @@
+use Rattle.std.proofs.Common.{◌+◌, refl, false, sym, subst, All, get_or, None}
+use Rattle.m3_model.specs.declared.placement.Assignment.{Assignment}
+use Rattle.m3_model.specs.declared.placement.ShardState.TheVariants.{Initializing}
+use Rattle.placement_core.proofs.StepLemmas.{no_true}
+use Rattle.placement_core.specs.LawfulParts.{ApartBefore, ApartAfter}
+use Rattle.placement_core.proofs.AscendLemmas.{at_read, rest_is}
+use Rattle.placement_core.proofs.AscendLemmas.{ascends_next}
+use Rattle.placement_core.proofs.lawful.are_spread.Goals as goal
+
+-- the assignment of zeros, which stands where a list has ended
+abbrev blank : Assignment
+blank = record { node = 0; tenure = 0; state = Initializing; source = None }
+
+pub returns-then-not-is_spread_from : goal.returns-then-not-is_spread_from
+returns-then-not-is_spread_from c =
+    let shard = c.args.shard.now in
+    let place = c.loop-place.place in
+    let a = get_or shard place blank in
+    let Apart : Assignment → Assignment → Type 0 = λ x y. ApartBefore c.args.instances.now x y × ApartAfter c.args.instances.now x y in
+    let next = ascends_next Apart shard place a (at_read shard place blank c.loop-place-test.true) in
+    (λ t. absurd (no_true false refl t), λ h. absurd (no_true c.is_spread_from.result c.if-not-is_spread_from.true (c.is_spread_from.ensures.1 (subst (All (Apart a)) (sym (rest_is shard (place + 1))) (next.0 (c.loop-place.invariant.0 h)).0))))
+
+pub loop-place-preserved : goal.loop-place-preserved
+loop-place-preserved c =
+    let shard = c.args.shard.now in
+    let place = c.loop-place.place in
+    let a = get_or shard place blank in
+    let Apart : Assignment → Assignment → Type 0 = λ x y. ApartBefore c.args.instances.now x y × ApartAfter c.args.instances.now x y in
+    let next = ascends_next Apart shard place a (at_read shard place blank c.loop-place-test.true) in
+    (λ h. (next.0 (c.loop-place.invariant.0 h)).1, λ h. c.loop-place.invariant.1 (next.1 (subst (All (Apart a)) (rest_is shard (place + 1)) (c.is_spread_from.ensures.0 c.if-not-is_spread_from.false), h)))
