@@ -59,6 +59,7 @@ use Rattle.m3_cluster.specs.Steps.{spaces_in}
 use Rattle.m3_cluster.specs.declared.cluster.Cluster.{Cluster}
 use Rattle.m3_cluster.specs.declared.members.Members.{Members}
 use Rattle.m3_cluster.proofs.CallLemmas.{place_after, At, on, place_at, rules_there, seed_there, KnownNode, known_node, against, put_against, read_against, version_is, answered_was, refused_was}
+use Rattle.m3_cluster.proofs.OptionLemmas.{same_of_some}
 
 -- ---- the nodes of a shard that were asked
 
@@ -146,9 +147,6 @@ own_none {p} {m} {shard} {own} {told} heard some = let first = some_element (ans
 
 below_itself : (x : List ℕ) → ¬ IsBelow x x
 below_itself x e = let same = tied_itself nat_list_cmp_total x in let bad : Less ≡ Equal = sym e ∙ same in cc
-
-same_of_some : {X : Type 0} (x y : X) → Some x ≡ Some y → x ≡ y
-same_of_some x y e = cc
 
 -- a node isn't below itself by name
 pub not_below : (place : Placement) (a b : ℕ) → IsNamedBelow place a b → a ≢ b

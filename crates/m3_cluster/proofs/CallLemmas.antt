@@ -41,6 +41,7 @@ use Rattle.m3_cluster.specs.Acts.{next_call}
 use Rattle.m3_cluster.specs.Serves.{Stands, StandsOn, IsManned, counted_in}
 use Rattle.m3_cluster.specs.declared.cluster.Cluster.{Cluster}
 use Rattle.m3_cluster.specs.declared.members.Members.{Members}
+use Rattle.m3_cluster.proofs.OptionLemmas.{same_of_some}
 
 -- the place of the only turn of a line after these lines
 abbrev pub place_after : List Turn → Act → Answer → TurnPlace
@@ -170,21 +171,18 @@ outcome_answer true refused h = cc
 outcome_answer false (Some x) h = cc
 outcome_answer false None h = (refl, refl)
 
-same_reason : (x y : Reason) → Some x ≡ Some y → x ≡ y
-same_reason x y e = cc
-
 outcome_cause : (P : Reason → Type 0) (cut : Bool) (refused : Option Reason) (why : Reason) → IsOutcome cut refused (Some why) → (cut ≡ true → P reason.Cut) → ((x : Reason) → refused ≡ Some x → P x) → P reason.Memory → P why
-outcome_cause P true refused why h on_cut on_refusal on_memory = subst P (sym (same_reason why reason.Cut h)) (on_cut refl)
-outcome_cause P false (Some x) why h on_cut on_refusal on_memory = subst P (sym (same_reason why x h)) (on_refusal x refl)
+outcome_cause P true refused why h on_cut on_refusal on_memory = subst P (sym (same_of_some why reason.Cut h)) (on_cut refl)
+outcome_cause P false (Some x) why h on_cut on_refusal on_memory = subst P (sym (same_of_some why x h)) (on_refusal x refl)
 outcome_cause P false None why h on_cut on_refusal on_memory =
-    elim h as (λ _. P why) [ inl e ↦ (let bad : Some why ≡ None = e in absurd (cc)) | inr e ↦ subst P (sym (same_reason why reason.Memory e)) on_memory ]
+    elim h as (λ _. P why) [ inl e ↦ (let bad : Some why ≡ None = e in absurd (cc)) | inr e ↦ subst P (sym (same_of_some why reason.Memory e)) on_memory ]
 
 none_against : (halted : Bool) (own : Option Reason) → against halted own ≡ None → (halted ≡ false) × (own ≡ None)
 none_against true own e = cc
 none_against false own e = (refl, e)
 
 some_against : (P : Reason → Type 0) (halted : Bool) (own : Option Reason) (x : Reason) → against halted own ≡ Some x → (halted ≡ true → P reason.Down) → (own ≡ Some x → P x) → P x
-some_against P true own x e down own_cause = subst P (same_reason reason.Down x e) (down refl)
+some_against P true own x e down own_cause = subst P (same_of_some reason.Down x e) (down refl)
 some_against P false own x e down own_cause = own_cause e
 
 -- a node that answered was reached, and nothing stands against the call itself

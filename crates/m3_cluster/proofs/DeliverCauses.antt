@@ -34,18 +34,16 @@ use Rattle.m3_cluster.specs.Serves.{IsHeldBack, AreHeldBack}
 use Rattle.m3_cluster.specs.Steps.{spaces_in}
 use Rattle.m3_cluster.specs.declared.cluster.Cluster.{Cluster}
 use Rattle.m3_cluster.specs.declared.members.Members.{Members}
+use Rattle.m3_cluster.proofs.OptionLemmas.{same_of_some}
 use Rattle.m3_cluster.proofs.SpaceLemmas.{space_at}
 use Rattle.m3_cluster.proofs.CallLemmas.{place_after, At, on, place_at, rules_there, seed_there, known_node, against, put_against}
 use Rattle.m3_cluster.proofs.CallCauses.{shard_low}
 
 -- ---- their namespaces
 
-same_point : (x y : Point) → Some x ≡ Some y → x ≡ y
-same_point x y e = cc
-
 placed_low : (spaces : List Space) (make : ℕ → Point) (o : Option ℕ) (p : Point) → ((k : ℕ) → (make k).ns ≡ k) → ((k : ℕ) → o ≡ Some k → k < length spaces) → option_map make o ≡ Some p → p.ns < length spaces
 placed_low spaces make None p named low e = let bad : None ≡ Some p = e in absurd (cc)
-placed_low spaces make (Some k) p named low e = subst (λ n. n < length spaces) (sym (named k) ∙ ap (λ (q : Point). q.ns) (same_point (make k) p e)) (low k refl)
+placed_low spaces make (Some k) p named low e = subst (λ n. n < length spaces) (sym (named k) ∙ ap (λ (q : Point). q.ns) (same_of_some (make k) p e)) (low k refl)
 
 -- the namespace of a write's point is there
 point_low : (spaces : List Space) (a : Act) (p : Point) → point_of spaces a ≡ Some p → p.ns < length spaces

@@ -34,17 +34,14 @@ use Rattle.m3_cluster.specs.declared.members.Members.{Members}
 use Rattle.m3_cluster.proofs.CallCauses.{ascends_on}
 use Rattle.m3_cluster.proofs.CallLemmas.{At, on, place_after, fate_is, known_node}
 use Rattle.m3_cluster.proofs.NumberLemmas.{line_of, and_then}
+use Rattle.m3_cluster.proofs.OptionLemmas.{mapped_from}
 use Rattle.m3_cluster.proofs.SpaceLemmas.{namespace_place-append}
 
 -- ---- points, where namespaces are made
 
-some_place : {A B : Type 0} (f : A → B) (o : Option A) (y : B) → option_map f o ≡ Some y → (x : A) × (o ≡ Some x) × (f x ≡ y)
-some_place f None y e = cc
-some_place f (Some x) y e = let same : f x ≡ y = cc in (x, refl, same)
-
 pub point_of-append : (spaces more : List Space) (a : Act) (p : Point) → point_of spaces a ≡ Some p → point_of (spaces ++ more) a ≡ Some p
 point_of-append spaces more (act.Write ns id t v level version) p e =
-    let found = some_place (λ k. record { ns = k; id = id; t = t; v = v }) (namespace_place ns spaces) p e in
+    let found = mapped_from (λ k. record { ns = k; id = id; t = t; v = v }) (namespace_place ns spaces) p e in
     ap (option_map (λ k. record { ns = k; id = id; t = t; v = v })) (namespace_place-append ns spaces more found.0 found.1) ∙ ap Some found.2
 point_of-append spaces more _ p e = cc
 

@@ -19,3 +19,4 @@ pub mod CauseLemmas
 pub mod ServeLemmas
 pub mod HaltLemmas
 pub mod RowLemmas
+pub mod OptionLemmas

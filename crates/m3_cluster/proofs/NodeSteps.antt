@@ -66,9 +66,6 @@ fate_test client call name f e = by_parts (nat_eq f.0 client) (nat_eq f.1 call) 
 is_of : (client call : ℕ) (name : List ℕ) (f : ℕ × ℕ × List ℕ × Fate) → f.0 ≡ client → f.1 ≡ call → f.2 ≡ name → is_fate_of client call name f ≡ true
 is_of client call name f a b n = ap₂ (λ (x y : Bool). (x && y) && pointwise nat_eq f.2 name) (eq-eqb f.0 client a) (eq-eqb f.1 call b) ∙ (bytes_eq-Decides f.2 name).1 n
 
-same_number : (a b : ℕ) → Some a ≡ Some b → a ≡ b
-same_number a b e = cc
-
 -- a list with numbers in place of names finds the same fates
 numbered_fate : (instances : List Instance) (list : List (ℕ × ℕ × List ℕ × Fate)) (items : List Item) → Ascends (λ x y. x.name ≢ y.name) instances → AreNumbered instances list items → (client call node : ℕ) (one : Instance) → slice_get instances node ≡ Some one
     → unwrap_or (lookup (same (record { client = client; call = call; node = node })) (map entry_of items)) Deliver ≡ fate_in list client call one.name

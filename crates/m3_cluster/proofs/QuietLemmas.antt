@@ -29,6 +29,7 @@ use Rattle.m3_cluster.specs.declared.members.Members.{Members}
 use Rattle.m3_cluster.proofs.CallLemmas.{At, on, rules_there}
 use Rattle.m3_cluster.proofs.LateLemmas.{Extends, late_stays}
 use Rattle.m3_cluster.proofs.NumberLemmas.{turn_of, line_of, and_then, numbering_more}
+use Rattle.m3_cluster.proofs.OptionLemmas.{same_some}
 use Rattle.m3_cluster.proofs.StandLemmas.{Grows, Goes, Numbered, call_numbered, kept_on, other_numbered, rules_push, stands_on, stopped_push}
 
 -- ---- what an answer tells
@@ -165,10 +166,7 @@ grown_goes {lines} {old} {new} {m} {g} {a} {b} s was is grows rules prints numbe
       seed = seed_stays a b (seed_of old) prints ∙ ap seed_in was ∙ sym (grows.extends).seed ∙ sym (ap seed_in is);
       numbers = numbers;
       no_stops = λ none. let bad : None ≡ Some g = sym none ∙ is in absurd (cc);
-      members = λ x x_is. subst (StandsOn (and_then lines a b)) (one_cluster new.members g x is x_is) (stands_on (s.members m was) grows);
+      members = λ x x_is. subst (StandsOn (and_then lines a b)) (same_some new.members g x is x_is) (stands_on (s.members m was) grows);
       kept = kept_on was is grows;
       acked = acked;
     }
-  where
-    one_cluster : (o : Option Members) (x y : Members) → o ≡ Some x → o ≡ Some y → x ≡ y
-    one_cluster o x y p q = cc

@@ -43,6 +43,7 @@ use Rattle.m3_cluster.specs.declared.cluster.Cluster.{Cluster}
 use Rattle.m3_cluster.specs.declared.members.Members.{Members}
 use Rattle.m3_cluster.proofs.CallLemmas.{At, on}
 use Rattle.m3_cluster.proofs.CallCauses.{read_heard, end_low, distinct_by_name}
+use Rattle.m3_cluster.proofs.OptionLemmas.{same_some}
 
 -- a point that matches is of the pick's namespace
 pub matches_space : (pick : Pick) (p : Point) → Matches pick p → p.ns ≡ space_picked pick
@@ -66,12 +67,6 @@ acks_of : (rf : ℕ) (b : Answer) → was_acked rf b ≡ true → (acks : List �
 acks_of rf (answer.Acks acks) e = (acks, refl, leb-true (majority rf) (length acks) e)
 acks_of rf _ e = cc
 
-same_members : (f g : Members) (c : Option Members) → c ≡ Some f → c ≡ Some g → f ≡ g
-same_members f g c p q = cc
-
-same_point : (o : Option Point) (p q : Point) → o ≡ Some p → o ≡ Some q → p ≡ q
-same_point o p q a b = cc
-
 -- a machine that has the point
 held_some : (o : Option MachineState) (p : Point) → IsHeld o p → (x : MachineState) × (o ≡ Some x) × Holds x.content p
 held_some None p h = absurd h
@@ -92,8 +87,8 @@ held_in {lines} {c} {m} h nodes turn p low most i e = by_test (was_acked m.net.s
   where
     by_kept : (acks : List ℕ) → majority m.net.state.place.rf ≤ length acks → point_of (spaces_in m) turn.act ≡ Some p → IsKept c turn acks → Shared m (shard_in m p.id) nodes p
     by_kept acks enough is kept =
-        let same : kept.members ≡ m = same_members kept.members m c.members kept.stands h.members in
-        let point : kept.point ≡ p = same_point (point_of (spaces_in m) turn.act) kept.point p (ap (λ g. point_of (spaces_in g) turn.act) (sym same) ∙ kept.of_act) is in
+        let same : kept.members ≡ m = same_some c.members kept.members m kept.stands h.members in
+        let point : kept.point ≡ p = same_some (point_of (spaces_in m) turn.act) kept.point p (ap (λ g. point_of (spaces_in g) turn.act) (sym same) ∙ kept.of_act) is in
         let k = shard_in m p.id in
         let place = m.net.state.place in
         let shard_is : shard_in kept.members kept.point.id ≡ k = ap (λ g. shard_in g kept.point.id) same ∙ ap (λ (q : Point). shard_in m q.id) point in

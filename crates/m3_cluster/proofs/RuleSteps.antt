@@ -46,6 +46,7 @@ use Rattle.m3_cluster.proofs.CallLemmas.{At, on}
 use Rattle.m3_cluster.proofs.LateLemmas.{Extends, late_none, late_stays}
 use Rattle.m3_cluster.proofs.NodeSteps.{counted_low}
 use Rattle.m3_cluster.proofs.NumberLemmas.{and_then, line_of, numbering_more}
+use Rattle.m3_cluster.proofs.OptionLemmas.{same_some}
 use Rattle.m3_cluster.proofs.QuietLemmas.{extends_by, fates_kept, grown_goes, quiet_change, stops_kept, tells_clock, tells_limit, tells_memory, tells_order}
 use Rattle.m3_cluster.proofs.StandLemmas.{Goes, Grows, other_numbered, stopped_push}
 
@@ -158,13 +159,10 @@ init_goes {lines} {old} {new} s rf shards seed nodes (answer.Placed place versio
       seed = sym first.seed_is ∙ sym (ap seed_in made.1);
       numbers = other_numbered s refl (λ _. none) refl calls;
       no_stops = λ gone. let bad : None ≡ Some g = sym gone ∙ made.1 in absurd (cc);
-      members = λ x is. subst (StandsOn (and_then lines a b)) (one_cluster new.members g x made.1 is) (first_stands s none rf shards seed nodes b g first refl);
+      members = λ x is. subst (StandsOn (and_then lines a b)) (same_some new.members g x made.1 is) (first_stands s none rf shards seed nodes b g first refl);
       kept = λ turn acks kept. let bad : None ≡ Some kept.members = sym none ∙ kept.stands in absurd (cc);
       acked = λ acks e. cc;
     }
-  where
-    one_cluster : (o : Option Members) (x y : Members) → o ≡ Some x → o ≡ Some y → x ≡ y
-    one_cluster o x y p q = cc
 init_goes {lines} {old} {new} s rf shards seed nodes answer.Order h = quiet_change s (tells_order (act.Init rf shards seed nodes)) refl (ap (λ (c : Cluster). c.members) h.1) (ap (λ (c : Cluster). c.calls) h.1)
 init_goes {lines} {old} {new} s rf shards seed nodes answer.Memory h = quiet_change s (tells_memory (act.Init rf shards seed nodes)) refl (ap (λ (c : Cluster). c.members) h.1) (ap (λ (c : Cluster). c.calls) h.1)
 init_goes {lines} {old} {new} s rf shards seed nodes _ h = absurd h

@@ -37,6 +37,7 @@ use Rattle.m3_cluster.specs.declared.cluster.Cluster.{Cluster}
 use Rattle.m3_cluster.specs.declared.members.Members.{Members}
 use Rattle.m3_cluster.proofs.LateLemmas.{Extends, shard_same, counted_same, point_of-append, sent_point-append}
 use Rattle.m3_cluster.proofs.NumberLemmas.{turn_of, and_then, inner_turns-push, numbering_more, number_on, number_stays, nine_on}
+use Rattle.m3_cluster.proofs.OptionLemmas.{same_some}
 
 -- ---- a cluster that stands
 
@@ -86,7 +87,7 @@ stands_on {lines} {m} {g} {a} {b} s grows = record {
 -- a write that was kept stays kept
 pub kept_on : {lines : List Turn} {old new : Cluster} {m g : Members} {a : Act} {b : Answer} → old.members ≡ Some m → new.members ≡ Some g → Grows lines m a b g → (turn : InnerTurn) (acks : List ℕ) → IsKept old turn acks → IsKept new turn acks
 kept_on {lines} {old} {new} {m} {g} {a} {b} was is grows turn acks kept =
-    let same : kept.members ≡ m = one_cluster old.members kept.members m kept.stands was in
+    let same : kept.members ≡ m = same_some old.members kept.members m kept.stands was in
     let e = grows.extends in
     let k = shard_in m kept.point.id in
     let of_shard : shard_in kept.members kept.point.id ≡ k = ap (λ (x : Members). shard_in x kept.point.id) same in
@@ -103,9 +104,6 @@ kept_on {lines} {old} {new} {m} {g} {a} {b} was is grows turn acks kept =
           let was_held : IsHeld (get m.net.machines (slot_at n k)) kept.point = subst (λ (x : Members). IsHeld (get x.net.machines (slot_at n (shard_in x kept.point.id))) kept.point) same (kept.held n i) in
           subst (λ shard. IsHeld (get g.net.machines (slot_at n shard)) kept.point) (sym (shard_same e kept.point.id)) (grows.held (slot_at n k) kept.point was_held);
     }
-  where
-    one_cluster : (o : Option Members) (x y : Members) → o ≡ Some x → o ≡ Some y → x ≡ y
-    one_cluster o x y p q = cc
 
 -- ---- all of it
 

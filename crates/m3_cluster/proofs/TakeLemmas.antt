@@ -44,13 +44,11 @@ use Rattle.m3_cluster.proofs.CallLemmas.{At, on, rules_there, version_is}
 use Rattle.m3_cluster.proofs.CallCauses.{shard_low, written_of}
 use Rattle.m3_cluster.proofs.LateLemmas.{Delays, ascends_take, late_more, late_none, late_stays, shard_same, take-IsIn}
 use Rattle.m3_cluster.proofs.NumberLemmas.{turn_of, line_of, and_then}
+use Rattle.m3_cluster.proofs.OptionLemmas.{same_some}
 use Rattle.m3_cluster.proofs.QuietLemmas.{extends_same, fates_kept, grown_goes, quiet_call, stops_kept, tells_unknown}
 use Rattle.m3_cluster.proofs.StandLemmas.{Grows, Goes, call_numbered, other_numbered, sent_now, sent_on}
 
 -- ---- machines that took points
-
-same_some : {X : Type 0} (o : Option X) (x y : X) → o ≡ Some x → o ≡ Some y → x ≡ y
-same_some o x y p q = cc
 
 pub changed_manned : {m g : Members} (Took : Slot → Point → Type 0) → AreChangedBy Took m.net.machines g.net.machines → g.stopped.items ≡ m.stopped.items → (shard node : ℕ) → IsManned m shard node → IsManned g shard node
 changed_manned {m} {g} Took changes stopped shard node was =
