@@ -6,7 +6,9 @@ use Rattle.std.proofs.lemmas.Nat.{be_bytes_4}
 use Rattle.byteorder.specs.Endian.{big_bytes, big_from}
 use Rattle.commit_log.specs.Segment.{chunk_bytes, written, IsEnd, Reads}
 use Rattle.commit_log.specs.Contents.{BreaksAt}
+use Rattle.commit_log.specs.Places.{places_from}
 use Rattle.commit_log.specs.Reading.{ReadsMore}
+use Rattle.commit_log.specs.declared.place.ChunkPlace.{ChunkPlace}
 use Rattle.commit_log.proofs.Shapes.{reads_written}
 
 -- an end
@@ -25,13 +27,13 @@ reads_all : (l : List ℕ) (at : ℕ) (cs : List (List ℕ)) → take at l ≡ w
 reads_all l at cs is ends =
     subst (Reads cs) (sym (cut_at l at cs is)) (subst (λ (ds : List (List ℕ)). Reads ds (written cs ++ drop at l)) (append-nil cs) (reads_written cs [] (drop at l) ends))
 
-pub more_few : (l : List ℕ) (at : ℕ) (old new cs : List (List ℕ)) → new ≡ old ++ cs → take at l ≡ written cs → length l - at < 5 → ReadsMore l old new
-more_few l at old new cs more is lt = record { chunks = cs; is = more; reads = reads_all l at cs is (end_few (drop at l) (omega (arith, length-drop at l))) }
+pub more_few : (number : ℕ) (l : List ℕ) (at : ℕ) (old new cs : List (List ℕ)) (before after : List ChunkPlace) → new ≡ old ++ cs → after ≡ before ++ places_from number 0 cs → take at l ≡ written cs → length l - at < 5 → ReadsMore number l old new before after
+more_few number l at old new cs before after more placed is lt = record { chunks = cs; is = more; placed = placed; reads = reads_all l at cs is (end_few (drop at l) (omega (arith, length-drop at l))) }
 
-pub more_shut : (l : List ℕ) (at : ℕ) (old new cs : List (List ℕ)) → new ≡ old ++ cs → take at l ≡ written cs → (get_or l at 0 ≡ 1 → ⊥) → ReadsMore l old new
-more_shut l at old new cs more is shut =
+pub more_shut : (number : ℕ) (l : List ℕ) (at : ℕ) (old new cs : List (List ℕ)) (before after : List ChunkPlace) → new ≡ old ++ cs → after ≡ before ++ places_from number 0 cs → take at l ≡ written cs → (get_or l at 0 ≡ 1 → ⊥) → ReadsMore number l old new before after
+more_shut number l at old new cs before after more placed is shut =
     let first : get_or (drop at l) 0 0 ≡ get_or l at 0 = get_or-drop at l 0 0 ∙ (let e : at + 0 ≡ at = omega arith in ap (λ (k : ℕ). get_or l k 0) e) in
-    record { chunks = cs; is = more; reads = reads_all l at cs is (end_shut (drop at l) (λ one. shut (sym first ∙ one))) }
+    record { chunks = cs; is = more; placed = placed; reads = reads_all l at cs is (end_shut (drop at l) (λ one. shut (sym first ∙ one))) }
 
 -- a chunk that reaches beyond the end
 pub breaks_at : (l : List ℕ) (at n : ℕ) (cs : List (List ℕ)) → take at l ≡ written cs → at + 5 ≤ length l → get_or l at 0 ≡ 1 → n ≡ big_from 0 4 (drop (at + 1) l) → length l - (at + 5) < n → BreaksAt l (at + 1)

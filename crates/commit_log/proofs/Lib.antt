@@ -7,6 +7,7 @@ pub mod Leaves
 pub mod Segments
 pub mod Numbers
 pub mod Parts
+pub mod PlaceLemmas
 pub mod ReadLemmas
 pub mod CutLemmas
 pub mod LogLemmas

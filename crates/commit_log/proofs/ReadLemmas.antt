@@ -8,7 +8,10 @@ use Rattle.commit_log.specs.Contents.{PartsHold, HasDamage}
 use Rattle.commit_log.specs.Reading.{FindsMore, FindsAll, MayBeDamaged, MayBeFirstDamage}
 use Rattle.commit_log.specs.declared.log_err.LogErr.{LogErr}
 use Rattle.commit_log.specs.declared.log_err.LogErr.TheVariants as errors
+use Rattle.commit_log.specs.Places.{places_from, ArePlaced}
+use Rattle.commit_log.specs.declared.place.ChunkPlace.{ChunkPlace}
 use Rattle.commit_log.proofs.Parts.{parts_more}
+use Rattle.commit_log.proofs.PlaceLemmas.{segment_placed}
 
 -- one more of the list
 pub one_more : (ns : List ℕ) (i n : ℕ) → i < length ns → n ≡ get_or ns i 0 → take (i + 1) ns ≡ take i ns ++ n ∷ []
@@ -23,20 +26,23 @@ rest_at ns i n lt is = drop_first ns i lt ∙ ap (λ (k : ℕ). k ∷ drop (i + 
 pub split_at : (ns : List ℕ) (i n : ℕ) → i < length ns → n ≡ get_or ns i 0 → ns ≡ take i ns ++ n ∷ drop (i + 1) ns
 split_at ns i n lt is = sym (take-append-drop i ns) ∙ ap (λ (l : List ℕ). take i ns ++ l) (rest_at ns i n lt is)
 
-pub finds_none : (files : Files) (old : List (List ℕ)) → FindsAll [] files old old
-finds_none files old = record { chunks = []; is = sym (append-nil old); has = refl }
+pub finds_none : (files : Files) (old : List (List ℕ)) (before : List ChunkPlace) → FindsAll [] files old old before before
+finds_none files old before = record { chunks = []; places = []; is = sym (append-nil old); are = sym (append-nil before); has = refl; placed = (refl, refl) }
 
-pub finds_next : (ns : List ℕ) (i n : ℕ) (files : Files) (a b c : List (List ℕ)) → i < length ns → n ≡ get_or ns i 0 → FindsAll (take i ns) files a b → FindsMore n files b c → FindsAll (take (i + 1) ns) files a c
-finds_next ns i n files a b c lt is all more = record {
+pub finds_next : (ns : List ℕ) (i n : ℕ) (files : Files) (a b c : List (List ℕ)) (p q r : List ChunkPlace) → i < length ns → n ≡ get_or ns i 0 → FindsAll (take i ns) files a b p q → FindsMore n files b c q r → FindsAll (take (i + 1) ns) files a c p r
+finds_next ns i n files a b c p q r lt is all more = record {
   chunks = all.chunks ++ more.chunks;
+  places = all.places ++ places_from n 0 more.chunks;
   is = more.is ∙ ap (λ (l : List (List ℕ)). l ++ more.chunks) all.is ∙ append_assoc a all.chunks more.chunks;
+  are = more.placed ∙ ap (λ (l : List ChunkPlace). l ++ places_from n 0 more.chunks) all.are ∙ append_assoc p all.places (places_from n 0 more.chunks);
   has = subst (λ (l : List ℕ). PartsHold l files (all.chunks ++ more.chunks)) (sym (one_more ns i n lt is)) (parts_more (take i ns) n files all.chunks more.chunks all.has more.has);
+  placed = subst (λ (l : List ℕ). ArePlaced l files (all.chunks ++ more.chunks) (all.places ++ places_from n 0 more.chunks)) (sym (one_more ns i n lt is)) (segment_placed (take i ns) n files all.chunks more.chunks all.places all.placed more.has);
 }
 
-pub first_damage : (ns : List ℕ) (i n : ℕ) (files : Files) (a b : List (List ℕ)) → i < length ns → n ≡ get_or ns i 0 → FindsAll (take i ns) files a b → (e : LogErr) → MayBeDamaged n files e → MayBeFirstDamage ns files e
-first_damage ns i n files a b lt is all errors.Disk d = tt
-first_damage ns i n files a b lt is all errors.Memory d = tt
-first_damage ns i n files a b lt is all (errors.Form k at) d = record {
+pub first_damage : (ns : List ℕ) (i n : ℕ) (files : Files) (a b : List (List ℕ)) (p q : List ChunkPlace) → i < length ns → n ≡ get_or ns i 0 → FindsAll (take i ns) files a b p q → (e : LogErr) → MayBeDamaged n files e → MayBeFirstDamage ns files e
+first_damage ns i n files a b p q lt is all errors.Disk d = tt
+first_damage ns i n files a b p q lt is all errors.Memory d = tt
+first_damage ns i n files a b p q lt is all (errors.Form k at) d = record {
   before = take i ns;
   after = drop (i + 1) ns;
   split = split_at ns i k lt (d.0 ∙ is);

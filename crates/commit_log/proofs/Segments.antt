@@ -7,6 +7,7 @@ use Rattle.commit_log.specs.Segment.{segment}
 use Rattle.commit_log.specs.Contents.{HasDamage, IsDamaged}
 use Rattle.commit_log.specs.Reading.{ReadsMore, MayBreak, FindsMore, MayBeDamaged, IsNoForm}
 use Rattle.commit_log.specs.declared.log_err.LogErr.{LogErr}
+use Rattle.commit_log.specs.declared.place.ChunkPlace.{ChunkPlace}
 use Rattle.commit_log.specs.declared.log_err.LogErr.TheVariants as errors
 
 size_is : (o : Option (List ℕ)) → unwrap_or (option_map length o) 0 ≡ length (unwrap_or o [])
@@ -41,8 +42,8 @@ broken_damage number files bytes there size errors.Disk b = tt
 broken_damage number files bytes there size errors.Memory b = tt
 broken_damage number files bytes there size (errors.Form n at) b = (b.0, subst (λ (l : List ℕ). IsDamaged l at) (some_or (get files (segment number)) bytes there) (inr (size, b.1)))
 
-pub finds_more : (number : ℕ) (files : Files) (bytes : List ℕ) (old new : List (List ℕ)) → get files (segment number) ≡ Some bytes → length bytes ≡ 65536 → ReadsMore bytes old new → FindsMore number files old new
-finds_more number files bytes old new there size more = record { chunks = more.chunks; is = more.is; has = record { file = bytes; there = there; size = size; reads = more.reads } }
+pub finds_more : (number : ℕ) (files : Files) (bytes : List ℕ) (old new : List (List ℕ)) (before after : List ChunkPlace) → get files (segment number) ≡ Some bytes → length bytes ≡ 65536 → ReadsMore number bytes old new before after → FindsMore number files old new before after
+finds_more number files bytes old new before after there size more = record { chunks = more.chunks; is = more.is; placed = more.placed; has = record { file = bytes; there = there; size = size; reads = more.reads } }
 
 pub no_disk : {T : Type 0} (r : Result T LogErr) (number : ℕ) (bytes : List ℕ) → IfErr r (λ e. MayBreak number bytes e) → r ≡ Err errors.Disk → ⊥
 no_disk {T} (Ok x) number bytes b e = absurd (cc)

@@ -3,13 +3,16 @@ use Rattle.std.specs.Prelude.{◌≡◌, ⊤, ℕ, List, ◌++◌}
 use Rattle.m3_outside.specs.Files.{Files}
 use Rattle.commit_log.specs.Segment.{segment, Reads, HasChunks}
 use Rattle.commit_log.specs.Contents.{PartsHold, BreaksAt, HasDamage, FirstDamaged}
+use Rattle.commit_log.specs.Places.{places_from, ArePlaced}
+use Rattle.commit_log.specs.declared.place.ChunkPlace.{ChunkPlace}
 use Rattle.commit_log.specs.declared.log_err.LogErr.{LogErr}
 use Rattle.commit_log.specs.declared.log_err.LogErr.TheVariants as errors
 
--- the chunks of these bytes came behind those before
-pub record ReadsMore (bytes : List ℕ) (old new : List (List ℕ)) : Type 0 where
+-- the chunks of a segment with these bytes came behind those before, and so did their places
+pub record ReadsMore (number : ℕ) (bytes : List ℕ) (old new : List (List ℕ)) (old_places new_places : List ChunkPlace) : Type 0 where
   pub chunks : List (List ℕ)
   pub is : new ≡ old ++ chunks
+  pub placed : new_places ≡ old_places ++ places_from number 0 chunks
   pub reads : Reads chunks bytes
 
 -- these bytes break at the place; memory may always be wanted
@@ -18,10 +21,11 @@ MayBreak number bytes errors.Disk = ⊥
 MayBreak number bytes errors.Memory = ⊤
 MayBreak number bytes (errors.Form n at) = (n ≡ number) × BreaksAt bytes at
 
--- the chunks of this segment came behind those before
-pub record FindsMore (number : ℕ) (files : Files) (old new : List (List ℕ)) : Type 0 where
+-- the chunks of this segment came behind those before, and so did their places
+pub record FindsMore (number : ℕ) (files : Files) (old new : List (List ℕ)) (old_places new_places : List ChunkPlace) : Type 0 where
   pub chunks : List (List ℕ)
   pub is : new ≡ old ++ chunks
+  pub placed : new_places ≡ old_places ++ places_from number 0 chunks
   pub has : HasChunks (segment number) chunks files
 
 -- this segment is damaged at the place; a fault has its own cause, and memory may always be wanted
@@ -30,11 +34,14 @@ MayBeDamaged number files errors.Disk = ⊤
 MayBeDamaged number files errors.Memory = ⊤
 MayBeDamaged number files (errors.Form n at) = (n ≡ number) × HasDamage number at files
 
--- the segments' chunks came behind those before
-pub record FindsAll (ns : List ℕ) (files : Files) (old new : List (List ℕ)) : Type 0 where
+-- the segments' chunks came behind those before, and so did their places
+pub record FindsAll (ns : List ℕ) (files : Files) (old new : List (List ℕ)) (old_places new_places : List ChunkPlace) : Type 0 where
   pub chunks : List (List ℕ)
+  pub places : List ChunkPlace
   pub is : new ≡ old ++ chunks
+  pub are : new_places ≡ old_places ++ places
   pub has : PartsHold ns files chunks
+  pub placed : ArePlaced ns files chunks places
 
 -- the first damaged one of these segments is so at the place; a fault has its own cause, and memory may always be wanted
 abbrev pub MayBeFirstDamage : List ℕ → Files → LogErr → Type 0

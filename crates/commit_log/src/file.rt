@@ -23,6 +23,7 @@ pub(crate) fn read_file<D: Disk>(
     requires inside { Told (D.state disk.old) (IsInside name 0 size) }
     ensures leaves { LeavesFiles (IsErrOf result errors.Disk) (D.state disk.old) (D.state disk.new) }
     ensures ok { (D.state disk.old).tells ≡ true → IfOk result (λ v. (file : List ℕ) → get (D.state disk.old).files name ≡ Some file → v.items ≡ take size file) }
+    ensures size { IfOk result (λ v. length v.items ≡ size) }
     ensures err { IfErr result IsNoForm }
 {
     let mut bytes = vec![in alloc; 0u8; size as usize]?;
@@ -48,6 +49,7 @@ pub(crate) fn read_bytes<D: Disk>(
 ) -> Result<Vec<u8>, LogErr>
     ensures leaves { LeavesFiles (IsErrOf result errors.Disk) (D.state disk.old) (D.state disk.new) }
     ensures ok { (D.state disk.old).tells ≡ true → IfOk result (λ v. (get (D.state disk.old).files (segment number) ≡ Some v.items) × (length v.items ≡ 65536)) }
+    ensures size { IfOk result (λ v. length v.items ≡ 65536) }
     ensures err { (D.state disk.old).tells ≡ true → IfErr result (λ e. MayBeDamaged number (D.state disk.old).files e) }
 {
     let name = segment_name(number);

@@ -7,10 +7,12 @@ mod file;
 pub mod laws;
 mod log;
 mod log_err;
+mod place;
 mod read;
 mod segment;
 
 pub use cut::cut_before;
 pub use log::Log;
 pub use log_err::LogErr;
+pub use place::ChunkPlace;
 pub use read::{Found, read_all};

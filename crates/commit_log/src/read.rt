@@ -5,10 +5,12 @@ ghost use Rattle.m3_outside.specs.declared.disk_err.DiskErr.TheVariants.{Failed 
 ghost use Rattle.commit_log.specs.Contents as contents;
 ghost use Rattle.commit_log.specs.Contents.{LogHolds, numbers};
 ghost use Rattle.commit_log.specs.LogEnd.{NoneFrom};
+ghost use Rattle.commit_log.specs.Places.{ArePlaced, AreInside};
 ghost use Rattle.commit_log.specs.Reading.{FindsAll, MayBeFirstDamage};
 ghost use Rattle.commit_log.specs.declared.log_err.LogErr.TheVariants as errors;
 
 use crate::log_err::LogErr;
+use crate::place::ChunkPlace;
 use crate::segment::read_segment;
 use m3_model::seq::Seq;
 use m3_outside::disk::Disk;
@@ -21,6 +23,8 @@ use std::alloc::Global;
 pub struct Found {
     /// The chunks of all segments, by ascending number and place.
     pub chunks: Seq<Seq<u8>>,
+    /// Where each of them stands.
+    pub places: Seq<ChunkPlace>,
     /// The number for the next segment: one above all that are there, and 1 where none is.
     pub next: u64,
 }
@@ -57,19 +61,21 @@ fn next_after(numbers: &[u64]) -> Option<u64>
     Some(next)
 }
 
-// Appends the chunks of the segments of these numbers.
+// Appends the chunks of the segments of these numbers, and their places.
 fn read_segments<D: Disk>(
     alloc: Global,
     disk: &mut D,
     numbers: &[u64],
     chunks: &mut Vec<Seq<u8>>,
+    places: &mut Vec<ChunkPlace>,
 ) -> Result<(), LogErr>
     ensures leaves { LeavesFiles (IsErrOf result errors.Disk) (D.state disk.old) (D.state disk.new) }
-    ensures ok { (D.state disk.old).tells ≡ true → OnOk result (FindsAll numbers.now (D.state disk.old).files chunks.old.items chunks.new.items) }
+    ensures ok { (D.state disk.old).tells ≡ true → OnOk result (FindsAll numbers.now (D.state disk.old).files chunks.old.items chunks.new.items places.old.items places.new.items) }
+    ensures inside { AreInside chunks.old.items places.old.items → OnOk result (AreInside chunks.new.items places.new.items) }
     ensures err { (D.state disk.old).tells ≡ true → IfErr result (MayBeFirstDamage numbers.now (D.state disk.old).files) }
 {
     for number in numbers {
-        read_segment(alloc, disk, *number, chunks)?;
+        read_segment(alloc, disk, *number, chunks, places)?;
     }
     Ok(())
 }
@@ -84,6 +90,8 @@ fn read_segments<D: Disk>(
 pub fn read_all<D: Disk>(alloc: Global, disk: &mut D) -> Result<Found, LogErr>
     ensures leaves { LeavesFiles (IsErrOf result errors.Disk) (D.state disk.old) (D.state disk.new) }
     ensures ok { (D.state disk.old).tells ≡ true → IfOk result (λ found. LogHolds found.chunks found.next (D.state disk.old).files) }
+    ensures placed { (D.state disk.old).tells ≡ true → IfOk result (λ found. ArePlaced (numbers (D.state disk.old).files) (D.state disk.old).files found.chunks found.places) }
+    ensures inside { IfOk result (λ found. AreInside found.chunks found.places) }
     ensures fresh { IfOk result (λ found. Told (D.state disk.new) (NoneFrom found.next)) }
     ensures err { (D.state disk.old).tells ≡ true → IfErr result (MayBeFirstDamage (numbers (D.state disk.old).files) (D.state disk.old).files) }
 {
@@ -92,9 +100,11 @@ pub fn read_all<D: Disk>(alloc: Global, disk: &mut D) -> Result<Found, LogErr>
         return Err(LogErr::Memory);
     };
     let mut chunks = Vec::new(alloc);
-    read_segments(alloc, disk, &numbers, &mut chunks)?;
+    let mut places = Vec::new(alloc);
+    read_segments(alloc, disk, &numbers, &mut chunks, &mut places)?;
     Ok(Found {
         chunks: Seq::from_vec(chunks),
+        places: Seq::from_vec(places),
         next,
     })
 }

@@ -1,8 +1,9 @@
-//! The program `m3`: its words and the standard streams go to `run`, and its status to the system.
+//! The program `m3`: its words, the standard streams and disks in memory go to `run`, and its status to the system.
 #![tactic(auto)]
 
 use m3_program::run::run;
 use m3_program::status::Status;
+use mem_disk::disks::MemDisks;
 use std::env;
 use std::io::ErrorKind;
 use std::process::ExitCode;
@@ -25,15 +26,25 @@ fn words_given(rt: HostRuntime) -> Result<Vec<String>, Status> {
     Ok(words)
 }
 
-/// Runs what the words ask for, over the standard streams.
+/// Runs what the words ask for, over the standard streams and disks in memory, which are empty.
 fn run_words(rt: HostRuntime) -> Status {
-    match words_given(rt) {
-        Ok(words) => {
+    let words = match words_given(rt) {
+        Ok(words) => words,
+        Err(status) => return status,
+    };
+    match MemDisks::new(rt.alloc()) {
+        Ok(mut disks) => {
             let mut source = StdSource::new(rt);
             let mut sink = StdSink::new(rt);
-            run(rt.alloc(), words.as_slice(), &mut source, &mut sink)
+            run(
+                rt.alloc(),
+                words.as_slice(),
+                &mut source,
+                &mut sink,
+                &mut disks,
+            )
         }
-        Err(status) => status,
+        Err(_) => Status::Memory,
     }
 }
 

@@ -1,18 +1,23 @@
 -- Each answer to a call is the one that is due.
-use Rattle.std.proofs.Common.{◌≡◌, ◌≢◌, ◌<◌, ◌≤◌, ◌%◌, ◌↔◌, ℕ, ℤ, List, [], ◌∷◌, length, filter, map, refl, sym, ap, subst, ◌∙◌, inl, inr, arith, Bool, true, false, cond}
-use Rattle.std.specs.Prelude.{Option, Some, None, slice_get, option_map}
-use Rattle.std.specs.Cmp.{tied_itself}
-use Rattle.std.specs.Cmp.Lexicographic.{nat_list_cmp_total}
-use Rattle.std.specs.declared.cmp.Ordering.TheVariants.{Less, Equal}
+use Rattle.std.proofs.Common.{◌≡◌, ◌<◌, ◌≤◌, ◌↔◌, ℕ, ℤ, List, [], ◌∷◌, length, filter, map, refl, sym, ap, subst, ◌∙◌, inl, inr, arith, Bool, true, false, cond}
+use Rattle.std.specs.Prelude.{Option, Some, None}
 use Rattle.std.specs.List.{filter_map, cons_option}
+use Rattle.std.specs.FinMap as finite
 use Rattle.std.specs.Option.{option_map_or}
+use Rattle.m3_outside.specs.declared.disk.Disk.{Ghosts}
+use Rattle.m3_outside.specs.DiskState.{DiskState}
+use Rattle.m3_model.specs.Faults.{Fault, HasFailed}
+use Rattle.m3_model.specs.declared.reason.Reason.TheVariants as reason
+use Rattle.m3_model.specs.declared.replica.Standing.TheVariants as standing
+use Rattle.replica_machine.specs.Machines.{MachineState}
+use Rattle.session.specs.Slots.{slot_at}
+use Rattle.session.specs.declared.slot.Slot.{Slot}
 use Rattle.std.proofs.lemmas.Bool.{cases_lt}
 use Rattle.std.proofs.lemmas.List.Sums.{length-filter}
 use Rattle.m3_model.specs.Ascends.{Ascends}
 use Rattle.m3_model.specs.Caused.{Call as Asking, call_of, IsAsked as AsksShard, IsAcked, IsUnmet, IsFoundFor, IsNamedBelow, MayRefuse, MayServe, MayUse, TakesPoint, IsOutside, reached_of}
-use Rattle.m3_model.specs.Fates.{is_cut, is_stopped, reaches}
-use Rattle.m3_model.specs.Tags.{IsBelow}
-use Rattle.m3_model.specs.Hash.{murmur3, shard_of}
+use Rattle.m3_model.specs.Fates.{is_cut, reaches}
+use Rattle.m3_model.specs.Hash.{shard_of}
 use Rattle.m3_model.specs.Levels.{majority, needed_write, needed_read}
 use Rattle.m3_model.specs.Members.{IsIn}
 use Rattle.m3_model.specs.Placements.{IsCounted, counted_node, counted_nodes, is_available as counts_state, seed_after}
@@ -28,7 +33,6 @@ use Rattle.m3_model.specs.declared.act.WriteLevel.TheVariants as write
 use Rattle.m3_model.specs.declared.answer.Answer.{Answer}
 use Rattle.m3_model.specs.declared.answer.Answer.TheVariants as answer
 use Rattle.m3_model.specs.declared.placement.Assignment.{Assignment}
-use Rattle.m3_model.specs.declared.placement.Instance.{Instance}
 use Rattle.m3_model.specs.declared.placement.Placement.{Placement}
 use Rattle.m3_model.specs.declared.placement.ShardState.{ShardState}
 use Rattle.m3_model.specs.declared.placement.ShardState.TheVariants.{Initializing, Available, Leaving}
@@ -38,19 +42,17 @@ use Rattle.m3_model.specs.declared.point.Point.{Point}
 use Rattle.m3_model.specs.declared.point.Series.{Series}
 use Rattle.m3_model.specs.declared.reason.Reason.{Reason}
 use Rattle.m3_model.specs.declared.rules.Rules.{Rules}
-use Rattle.m3_model.specs.declared.rules.Space.{Space}
 use Rattle.m3_model.specs.declared.turn.Turn.{Turn}
 use Rattle.m3_model.proofs.MemberLemmas.{map-IsIn}
 use Rattle.placement_core.specs.Shards.{shard_at, counts, counted, is_available}
 use Rattle.placement_core.proofs.LawLemmas.{counted_as_in_transcripts, shard_stands}
 use Rattle.placement_core.proofs.ListLemmas.{filter-IsIn}
-use Rattle.cluster_core.specs.Lists.{IsDistinct}
 use Rattle.cluster_core.specs.Refusals.{outside}
 use Rattle.cluster_core.proofs.QuorumLemmas.{distinct_within}
-use Rattle.session.specs.Outcomes.{Told, IsOutcome, AreCounted, answering, refusing, fate_to}
+use Rattle.session.specs.Outcomes.{Told, IsOutcome, AreCounted, answering, refusing, fate_to, version_of}
 use Rattle.session.specs.Reads.{Wish, IsAsked, IsFound, IsFirstShort, first_asked, end_asked}
 use Rattle.session.specs.declared.net.Net.{Net}
-use Rattle.session.specs.Writes.{IsSent, IsAcknowledged, IsTooFew}
+use Rattle.session.specs.Writes.{IsSent, IsAcknowledged, IsTooFew, put_step}
 use Rattle.session.proofs.AskedLemmas.{answering-told, refusing-told, told-refusing, told_of, answering-asked, answering_ascend, refusing_ascend, one_or_other, told_many, permuted-IsIn, IsIn-permuted, permuted_many}
 use Rattle.replica_machine.proofs.RefusalLemmas.{in_window, outside_cause}
 use Rattle.m3_cluster.specs.Acts.{next_call}
@@ -58,60 +60,83 @@ use Rattle.m3_cluster.specs.Serves.{counted_in, shard_in}
 use Rattle.m3_cluster.specs.Steps.{spaces_in}
 use Rattle.m3_cluster.specs.declared.cluster.Cluster.{Cluster}
 use Rattle.m3_cluster.specs.declared.members.Members.{Members}
-use Rattle.m3_cluster.proofs.CallLemmas.{place_after, At, on, place_at, rules_there, seed_there, KnownNode, known_node, against, put_against, read_against, version_is, answered_was, refused_was}
-use Rattle.m3_cluster.proofs.OptionLemmas.{same_of_some}
+use Rattle.m3_cluster.proofs.ActLinks.{ListsFaults, sent_links}
+use Rattle.m3_cluster.proofs.CallLemmas.{place_after, At, on, place_at, rules_there, seed_there, version_is}
+use Rattle.m3_cluster.proofs.FaultLinks.{IsHeard, put_heard_each, put_nodes}
+use Rattle.m3_cluster.proofs.KnownNodes.{KnownNode, known_node, counted_slot, against, put_against, read_against, answered_was, refused_was}
+use Rattle.m3_cluster.proofs.MoreFaults.{AreAmong}
+use Rattle.m3_cluster.proofs.ShardLemmas.{shard_low, written_point, written_of, distinct_by_name}
 
 -- ---- the nodes of a shard that were asked
 
--- What is known of what the counted nodes of a shard were told: who answered was reached and nothing stands against the call
+-- an open machine stands at the slot
+pub record IsOpenAt {D : Type 0} {G : Ghosts D} (m : Members D G) (s : Slot) : Type 0 where
+  pub machine : MachineState D
+  pub stands : finite.get m.net.machines s ≡ Some machine
+  pub open_ : machine.standing ≡ standing.Open
+
+-- What is known of what the counted nodes of a shard were told: who answered was reached, its machine is open and nothing stands against the call
 -- itself, and who didn't has its cause.
-pub record Heard (p : TurnPlace) (m : Members) (shard : ℕ) (own : Option Reason) (told : List Told) : Type 0 where
+pub record Heard {D : Type 0} {G : Ghosts D} (more : List Fault) (p : TurnPlace) (m : Members D G) (shard : ℕ) (own : Option Reason) (told : List Told) : Type 0 where
   pub each : (n : ℕ) → IsIn (map (λ (x : Told). x.0) told) n → IsIn (counted_in m shard) n
   pub all : (n : ℕ) → IsIn (counted_in m shard) n → IsIn (map (λ (x : Told). x.0) told) n
   pub many : length told ≡ length (counted_in m shard)
   pub by_name : Ascends (IsNamedBelow m.net.state.place) (map (λ (x : Told). x.0) told)
   pub answered : (n : ℕ) → IsIn told (n, None) → (reaches p m.net.state.place n ≡ true) × (own ≡ None)
-  pub refused : (n : ℕ) (why : Reason) → IsIn told (n, Some why) → ((x : Reason) → own ≡ Some x → MayRefuse None p m.net.state.place n x) → MayRefuse None p m.net.state.place n why
+  pub opened : (n : ℕ) → IsIn told (n, None) → IsOpenAt m (slot_at n shard)
+  pub refused : (n : ℕ) (why : Reason) → IsIn told (n, Some why) → ((x : Reason) → own ≡ Some x → MayRefuse more None p m.net.state.place shard n x) → MayRefuse more None p m.net.state.place shard n why
 
 -- what was told of the nodes that count, as the session says it
-heard_by : {lines : List Turn} {c : Cluster} {m : Members} (h : At lines c m) (a : Act) (b : Answer) (shard : ℕ) (own : Option Reason) (nodes : List ℕ) (told : List Told) → shard < length m.net.state.place.shards → AreCounted m.net.state.place shard nodes
-    → map (λ (x : Told). x.0) told ≡ nodes
-    → ((n : ℕ) (outcome : Option Reason) → IsIn told (n, outcome) → (known : KnownNode lines m shard n)
-    → (refused : Option Reason) × (refused ≡ against (is_stopped (inner_turns lines) known.instance_.name) own) × IsOutcome (is_cut (fate_to m.net.fates (next_call c None) n)) refused outcome)
-    → Heard (place_after lines a b) m shard own told
-heard_by {lines} {c} {m} h a b shard own nodes told low counts same against_of =
-    let among : (n : ℕ) → IsIn (map (λ (x : Told). x.0) told) n → IsIn (counted_in m shard) n = λ n i. permuted-IsIn (counted_in m shard) nodes counts.same n (subst (λ ns. IsIn ns n) same i) in
+heard_by : {D : Type 0} {G : Ghosts D} {state : D → DiskState} {faults : List Fault} {lines : List Turn} {c : Cluster D G} {m : Members D G} (h : At state faults lines c m) (more : List Fault) → AreAmong faults more → (a : Act) (b : Answer) (shard : ℕ) (own : Option Reason) (nodes : List ℕ) (told : List Told)
+    → shard < length m.net.state.place.shards → AreCounted m.net.state.place shard nodes → map (λ (x : Told). x.0) told ≡ nodes
+    → ((n : ℕ) (outcome : Option Reason) → IsIn told (n, outcome) → (known : KnownNode state faults lines m shard n)
+    → (refused : Option Reason) × (refused ≡ against known.machine.standing own) × IsOutcome (is_cut (fate_to m.net.fates (next_call c None) n)) refused outcome)
+    → ((n : ℕ) → IsIn told (n, Some reason.Disk) → IsIn (counted_in m shard) n → HasFailed more (place_after lines a b) shard n)
+    → Heard more (place_after lines a b) m shard own told
+heard_by {D} {G} {state} {faults} {lines} {c} {m} h more among a b shard own nodes told low counts same against_of failed_of =
+    let counted : (n : ℕ) → IsIn (map (λ (x : Told). x.0) told) n → IsIn (counted_in m shard) n = λ n i. permuted-IsIn (counted_in m shard) nodes counts.same n (subst (λ ns. IsIn ns n) same i) in
     record {
-      each = among;
+      each = counted;
       all = λ n i. subst (λ ns. IsIn ns n) (sym same) (IsIn-permuted (counted_in m shard) nodes counts.same n i);
       many = told_many told nodes same ∙ permuted_many (counted_in m shard) nodes counts.same;
       by_name = subst (Ascends (IsNamedBelow m.net.state.place)) (sym same) (counts.by_name (on h).well.lawful);
       answered = λ n i.
-          let known = known_node h shard n low (among n (map-IsIn (λ (x : Told). x.0) told (n, None) i)) in
+          let known = known_node h shard n low (counted n (map-IsIn (λ (x : Told). x.0) told (n, None) i)) in
           let t = against_of n None i known in
-          answered_was h a b known t.0 own t.1 t.2;
+          let was = answered_was h a b known t.0 own t.1 t.2 in
+          (was.0, was.2);
+      opened = λ n i.
+          let known = known_node h shard n low (counted n (map-IsIn (λ (x : Told). x.0) told (n, None) i)) in
+          let t = against_of n None i known in
+          record { machine = known.machine; stands = known.stands; open_ = (answered_was h a b known t.0 own t.1 t.2).1 };
       refused = λ n why i own_cause.
-          let known = known_node h shard n low (among n (map-IsIn (λ (x : Told). x.0) told (n, Some why) i)) in
+          let among_counted = counted n (map-IsIn (λ (x : Told). x.0) told (n, Some why) i) in
+          let known = known_node h shard n low among_counted in
           let t = against_of n (Some why) i known in
-          refused_was h a b known t.0 own why t.1 t.2 own_cause;
+          refused_was h more among a b known t.0 own why t.1 t.2 own_cause (λ is. failed_of n (subst (λ (x : Reason). IsIn told (n, Some x)) is i) among_counted);
     }
 
--- the shard of a point is there
-pub shard_low : {lines : List Turn} {c : Cluster} {m : Members} (h : At lines c m) (id : List ℕ) → shard_in m id < length m.net.state.place.shards
-shard_low {lines} {c} {m} h id = mod_below (murmur3 id m.net.state.seed) (length m.net.state.place.shards) (on h).well.lawful.limits.some_shards
-  where
-    mod_below : (n k : ℕ) → 1 ≤ k → n % k < k
-    mod_below n k some = omega arith
+-- of a write, whose faults are listed
+pub put_heard : {D : Type 0} {G : Ghosts D} {state : D → DiskState} {faults : List Fault} {lines : List Turn} {c : Cluster D G} {m : Members D G} (h : At state faults lines c m) (more : List Fault) → AreAmong faults more → (a : Act) (b : Answer) (p : Point) (told : List Told) (new : Net D G) (sent : IsSent state m.net (next_call c None) p told new)
+    → ListsFaults lines m (sent_links state m.net (next_call c None) p told new sent) more → Heard more (place_after lines a b) m (shard_in m p.id) (outside m.net.state.rules p) told
+put_heard {D} {G} {state} {faults} {lines} {c} {m} h more among a b p told new sent lists =
+    let shard = shard_in m p.id in
+    let rules = m.net.state.rules in
+    let call = next_call c None in
+    let step = put_step call rules (version_of m.net.state.place call) p in
+    let heard : (x : Told) → IsIn told x → IsHeard m.net.fates call step shard m.net.machines (sent_links state m.net call p told new sent) x =
+    put_heard_each state m.net.fates call step shard sent.nodes told m.net.machines new.machines sent.put (distinct_by_name m.net.state.place sent.nodes (sent.counted.by_name (on h).well.lawful)) in
+    heard_by h more among a b shard (outside rules p) sent.nodes told (shard_low h p.id) sent.counted (put_nodes state m.net.fates call step shard sent.nodes told m.net.machines new.machines sent.put)
+    (λ n outcome i known. (_, put_against known call p (version_is h), (heard (n, outcome) i).outcome))
+    (λ n i counts. lists (slot_at n shard) (counted_slot h shard n counts) ((heard (n, Some reason.Disk) i).failed refl))
 
-pub put_heard : {lines : List Turn} {c : Cluster} {m : Members} (h : At lines c m) (a : Act) (b : Answer) (p : Point) (told : List Told) (new : Net) → IsSent m.net (next_call c None) p told new → Heard (place_after lines a b) m (shard_in m p.id) (outside m.net.state.rules p) told
-put_heard {lines} {c} {m} h a b p told new sent =
-    heard_by h a b (shard_in m p.id) (outside m.net.state.rules p) sent.nodes told (shard_low h p.id) sent.counted sent.put.asked.one_each
-    (λ n outcome i known. (_, put_against known (next_call c None) p (version_is h), sent.put.asked.each (n, outcome) i))
-
-pub read_heard : {lines : List Turn} {c : Cluster} {m : Members} (h : At lines c m) (a : Act) (b : Answer) (w : Wish) (shard : ℕ) (told : List Told) → shard < length m.net.state.place.shards → IsAsked m.net (next_call c None) w shard told
-    → Heard (place_after lines a b) m shard None told
-read_heard {lines} {c} {m} h a b w shard told low asked =
-    heard_by h a b shard None asked.nodes told low asked.counted asked.asked.one_each (λ n outcome i known. (_, read_against known (next_call c None) w (version_is h), asked.asked.each (n, outcome) i))
+-- of a read, which meets no disk
+pub read_heard : {D : Type 0} {G : Ghosts D} {state : D → DiskState} {faults : List Fault} {lines : List Turn} {c : Cluster D G} {m : Members D G} (h : At state faults lines c m) (more : List Fault) → AreAmong faults more → (a : Act) (b : Answer) (w : Wish) (shard : ℕ) (told : List Told) → shard < length m.net.state.place.shards
+    → IsAsked m.net (next_call c None) w shard told → Heard more (place_after lines a b) m shard None told
+read_heard {D} {G} {state} {faults} {lines} {c} {m} h more among a b w shard told low asked =
+    heard_by h more among a b shard None asked.nodes told low asked.counted asked.asked.one_each
+    (λ n outcome i known. (_, read_against known (next_call c None) w (version_is h), asked.asked.each (n, outcome) i))
+    (λ n i counts. absurd (asked.asked.no_fault (n, Some reason.Disk) i refl))
 
 -- ---- how many they are
 
@@ -140,30 +165,12 @@ some_element [] some = absurd (omega (arith, some))
 some_element (n ∷ ns) some = (n, inl refl)
 
 -- where some node answered, nothing stands against the call itself
-own_none : {p : TurnPlace} {m : Members} {shard : ℕ} {own : Option Reason} {told : List Told} → Heard p m shard own told → 0 < length (answering told) → own ≡ None
-own_none {p} {m} {shard} {own} {told} heard some = let first = some_element (answering told) some in (heard.answered first.0 (answering-told told first.0 first.1)).1
-
--- ---- different nodes
-
-below_itself : (x : List ℕ) → ¬ IsBelow x x
-below_itself x e = let same = tied_itself nat_list_cmp_total x in let bad : Less ≡ Equal = sym e ∙ same in cc
-
--- a node isn't below itself by name
-pub not_below : (place : Placement) (a b : ℕ) → IsNamedBelow place a b → a ≢ b
-not_below place a b below same =
-    let one_is : below.one ≡ below.other = same_of_some below.one below.other (sym below.of_one ∙ ap (slice_get place.instances) same ∙ below.of_other) in
-    below_itself below.other.name (subst (λ (x : Instance). IsBelow x.name below.other.name) one_is below.below)
-
-pub ascends_on : {X : Type 0} (R S : X → X → Type 0) (xs : List X) → ((x y : X) → R x y → S x y) → Ascends R xs → Ascends S xs
-ascends_on R S [] on_each h = tt
-ascends_on R S (x ∷ xs) on_each h = (λ y i. on_each x y (h.0 y i), ascends_on R S xs on_each h.1)
-
-pub distinct_by_name : (place : Placement) (ns : List ℕ) → Ascends (IsNamedBelow place) ns → IsDistinct ns
-distinct_by_name place ns h = ascends_on (IsNamedBelow place) ◌≢◌ ns (not_below place) h
+own_none : {D : Type 0} {G : Ghosts D} {more : List Fault} {p : TurnPlace} {m : Members D G} {shard : ℕ} {own : Option Reason} {told : List Told} → Heard more p m shard own told → 0 < length (answering told) → own ≡ None
+own_none {D} {G} {more} {p} {m} {shard} {own} {told} heard some = let first = some_element (answering told) some in (heard.answered first.0 (answering-told told first.0 first.1)).1
 
 -- who answered was reached
-pub reached_many : {p : TurnPlace} {m : Members} {shard : ℕ} {own : Option Reason} {told : List Told} → Heard p m shard own told → shard < length m.net.state.place.shards → length (answering told) ≤ reached_of p m.net.state.place shard
-reached_many {p} {m} {shard} {own} {told} heard low =
+pub reached_many : {D : Type 0} {G : Ghosts D} {more : List Fault} {p : TurnPlace} {m : Members D G} {shard : ℕ} {own : Option Reason} {told : List Told} → Heard more p m shard own told → shard < length m.net.state.place.shards → length (answering told) ≤ reached_of p m.net.state.place shard
+reached_many {D} {G} {more} {p} {m} {shard} {own} {told} heard low =
     let place = m.net.state.place in
     let nodes = counted_nodes place shard in
     let within : (n : ℕ) → IsIn (answering told) n → IsIn (filter (reaches p place) nodes) n = λ n i.
@@ -175,13 +182,13 @@ reached_many {p} {m} {shard} {own} {told} heard low =
 -- ---- too few
 
 -- fewer nodes than are needed answered a call that asks the shard
-pub unmet_due : {lines : List Turn} {c : Cluster} {m : Members} (h : At lines c m) (a : Act) (b : Answer) (asking : Asking) (own : Option Reason) (shard needed got : ℕ) (reasons : List (ℕ × Reason)) (told : List Told)
-    → call_of a ≡ Some asking → asking.version ≡ None → shard < length m.net.state.place.shards → Heard (place_after lines a b) m shard own told
+pub unmet_due : {D : Type 0} {G : Ghosts D} {state : D → DiskState} {faults : List Fault} {lines : List Turn} {c : Cluster D G} {m : Members D G} (h : At state faults lines c m) (more : List Fault) (a : Act) (b : Answer) (asking : Asking) (own : Option Reason) (shard needed got : ℕ) (reasons : List (ℕ × Reason)) (told : List Told)
+    → call_of a ≡ Some asking → asking.version ≡ None → shard < length m.net.state.place.shards → Heard more (place_after lines a b) m shard own told
     → AsksShard asking.id (seed_after None (inner_turns lines)) (length m.net.state.place.shards) shard
-    → ((lower : ℕ) → lower < shard → AsksShard asking.id (seed_after None (inner_turns lines)) (length m.net.state.place.shards) lower → needed ≤ length (counted_nodes m.net.state.place lower))
+    → ((lower : ℕ) → lower < shard → AsksShard asking.id (seed_after None (inner_turns lines)) (length m.net.state.place.shards) lower → needed ≤ reached_of (place_after lines a b) m.net.state.place lower)
     → needed ≡ asking.needed m.net.state.place.rf → got ≡ length (answering told) → got < needed → reasons ≡ refusing told
-    → ((n : ℕ) (x : Reason) → own ≡ Some x → MayRefuse None (place_after lines a b) m.net.state.place n x) → (own ≡ None → MayServe (rules_at None (place_after lines a b)) a) → IsUnmet None (place_after lines a b) got needed reasons shard
-unmet_due {lines} {c} {m} h a b asking own shard needed got reasons told of_act present low heard asks first needed_is got_is fewer reasons_are own_cause serves =
+    → ((n : ℕ) (x : Reason) → own ≡ Some x → MayRefuse more None (place_after lines a b) m.net.state.place shard n x) → (own ≡ None → MayServe (rules_at None (place_after lines a b)) a) → IsUnmet more None (place_after lines a b) got needed reasons shard
+unmet_due {D} {G} {state} {faults} {lines} {c} {m} h more a b asking own shard needed got reasons told of_act present low heard asks first needed_is got_is fewer reasons_are own_cause serves =
     let place = m.net.state.place in
     let p = place_after lines a b in
     let ours : (r : ℕ × Reason) → IsIn reasons r → IsIn (refusing told) r = λ r i. subst (λ rs. IsIn rs r) reasons_are i in
@@ -215,37 +222,31 @@ unmet_due {lines} {c} {m} h a b asking own shard needed got reasons told of_act 
 
 -- ---- writes
 
--- the point that a write sent
-abbrev pub written_point : List ℕ → ℕ → ℕ → ℤ → Point
-written_point id place t v = record { ns = place; id = id; t = t; v = v }
-
-pub written_of : (spaces : List Space) (ns id : List ℕ) (t : ℕ) (v : ℤ) (level : WriteLevel) (version : Option ℕ) (place : ℕ) → namespace_place ns spaces ≡ Some place → point_of spaces (act.Write ns id t v level version) ≡ Some (written_point id place t v)
-written_of spaces ns id t v level version place found = ap (option_map (λ k. written_point id k t v)) found
-
 -- a point that nothing stands against is one that is taken
-takes_due : {lines : List Turn} {c : Cluster} {m : Members} (h : At lines c m) (a : Act) (b : Answer) (point : Point) → point_of (spaces_in m) a ≡ Some point → point.ns < length (spaces_in m) → outside m.net.state.rules point ≡ None → TakesPoint (rules_at None (place_after lines a b)) a
-takes_due {lines} {c} {m} h a b point of_act known free = subst (λ r. TakesPoint r a) (sym (rules_there h a b)) (record { point = point; of_act = of_act; in_window = in_window m.net.state.rules point known free })
+takes_due : {D : Type 0} {G : Ghosts D} {state : D → DiskState} {faults : List Fault} {lines : List Turn} {c : Cluster D G} {m : Members D G} (h : At state faults lines c m) (a : Act) (b : Answer) (point : Point) → point_of (spaces_in m) a ≡ Some point → point.ns < length (spaces_in m) → outside m.net.state.rules point ≡ None → TakesPoint (rules_at None (place_after lines a b)) a
+takes_due {D} {G} {state} {faults} {lines} {c} {m} h a b point of_act known free = subst (λ r. TakesPoint r a) (sym (rules_there h a b)) (record { point = point; of_act = of_act; in_window = in_window m.net.state.rules point known free })
 
 -- what stands against a point is that it is too old or comes too early
-outside_due : {lines : List Turn} {c : Cluster} {m : Members} (h : At lines c m) (a : Act) (b : Answer) (point : Point) (n : ℕ) (x : Reason) → point_of (spaces_in m) a ≡ Some point → point.ns < length (spaces_in m) → outside m.net.state.rules point ≡ Some x
-    → MayRefuse None (place_after lines a b) m.net.state.place n x
-outside_due {lines} {c} {m} h a b point n x of_act known e =
-    outside_cause (MayRefuse None (place_after lines a b) m.net.state.place n) m.net.state.rules point x known e
+outside_due : {D : Type 0} {G : Ghosts D} {state : D → DiskState} {faults : List Fault} {lines : List Turn} {c : Cluster D G} {m : Members D G} (h : At state faults lines c m) (more : List Fault) (a : Act) (b : Answer) (point : Point) (shard n : ℕ) (x : Reason) → point_of (spaces_in m) a ≡ Some point → point.ns < length (spaces_in m) → outside m.net.state.rules point ≡ Some x
+    → MayRefuse more None (place_after lines a b) m.net.state.place shard n x
+outside_due {D} {G} {state} {faults} {lines} {c} {m} h more a b point shard n x of_act known e =
+    outside_cause (MayRefuse more None (place_after lines a b) m.net.state.place shard n) m.net.state.rules point x known e
     (λ past. subst (λ r. IsOutside IsPast r a) (sym (rules_there h a b)) (record { point = point; of_act = of_act; outside = past }))
     (λ future. subst (λ r. IsOutside IsFuture r a) (sym (rules_there h a b)) (record { point = point; of_act = of_act; outside = future }))
 
-shard_there : {lines : List Turn} {c : Cluster} {m : Members} (h : At lines c m) (id : List ℕ) → shard_of id (seed_after None (inner_turns lines)) (length m.net.state.place.shards) ≡ shard_in m id
-shard_there {lines} {c} {m} h id = ap (λ seed. shard_of id seed (length m.net.state.place.shards)) (seed_there h)
+shard_there : {D : Type 0} {G : Ghosts D} {state : D → DiskState} {faults : List Fault} {lines : List Turn} {c : Cluster D G} {m : Members D G} (h : At state faults lines c m) (id : List ℕ) → shard_of id (seed_after None (inner_turns lines)) (length m.net.state.place.shards) ≡ shard_in m id
+shard_there {D} {G} {state} {faults} {lines} {c} {m} h id = ap (λ seed. shard_of id seed (length m.net.state.place.shards)) (seed_there h)
 
 -- the nodes that acknowledged a write
-pub acked_due : {lines : List Turn} {c : Cluster} {m : Members} (h : At lines c m) (ns id : List ℕ) (t : ℕ) (v : ℤ) (level : WriteLevel) (place : ℕ) (acks : List ℕ) (new : Net) → namespace_place ns (spaces_in m) ≡ Some place → place < length (spaces_in m)
-    → IsAcknowledged m.net (next_call c None) (written_point id place t v) level acks new → IsAcked None (place_after lines (act.Write ns id t v level None) (answer.Acks acks)) id level None acks
-acked_due {lines} {c} {m} h ns id t v level place acks new found known done =
+pub acked_due : {D : Type 0} {G : Ghosts D} {state : D → DiskState} {faults : List Fault} {lines : List Turn} {c : Cluster D G} {m : Members D G} (h : At state faults lines c m) (more : List Fault) → AreAmong faults more → (ns id : List ℕ) (t : ℕ) (v : ℤ) (level : WriteLevel) (place : ℕ) (acks : List ℕ) (new : Net D G) → namespace_place ns (spaces_in m) ≡ Some place → place < length (spaces_in m)
+    → (done : IsAcknowledged state m.net (next_call c None) (written_point id place t v) level acks new)
+    → ListsFaults lines m (sent_links state m.net (next_call c None) (written_point id place t v) done.told new done.sent) more → IsAcked None (place_after lines (act.Write ns id t v level None) (answer.Acks acks)) id level None acks
+acked_due {D} {G} {state} {faults} {lines} {c} {m} h more among ns id t v level place acks new found known done lists =
     let a = act.Write ns id t v level None in
     let b = answer.Acks acks in
     let point = written_point id place t v in
     let stood = m.net.state.place in
-    let heard = put_heard h a b point done.told new done.sent in
+    let heard = put_heard h more among a b point done.told new done.sent lists in
     let ours : (n : ℕ) → IsIn acks n → IsIn (answering done.told) n = λ n i. subst (λ ns. IsIn ns n) done.acks_are i in
     record {
       place = stood;
@@ -261,27 +262,28 @@ acked_due {lines} {c} {m} h ns id t v level place acks new found known done =
     }
 
 -- too few nodes took a write
-pub unwritten_due : {lines : List Turn} {c : Cluster} {m : Members} (h : At lines c m) (ns id : List ℕ) (t : ℕ) (v : ℤ) (level : WriteLevel) (place shard needed got : ℕ) (reasons : List (ℕ × Reason)) (told : List Told) (new : Net)
-    → namespace_place ns (spaces_in m) ≡ Some place → place < length (spaces_in m) → IsSent m.net (next_call c None) (written_point id place t v) told new
-    → IsTooFew (needed_write level m.net.state.place.rf) (shard_in m id) told shard needed got reasons → IsUnmet None (place_after lines (act.Write ns id t v level None) (answer.Consistency got needed reasons shard)) got needed reasons shard
-unwritten_due {lines} {c} {m} h ns id t v level place shard needed got reasons told new found known sent few =
+pub unwritten_due : {D : Type 0} {G : Ghosts D} {state : D → DiskState} {faults : List Fault} {lines : List Turn} {c : Cluster D G} {m : Members D G} (h : At state faults lines c m) (more : List Fault) → AreAmong faults more → (ns id : List ℕ) (t : ℕ) (v : ℤ) (level : WriteLevel) (place shard needed got : ℕ) (reasons : List (ℕ × Reason)) (told : List Told) (new : Net D G)
+    → namespace_place ns (spaces_in m) ≡ Some place → place < length (spaces_in m) → (sent : IsSent state m.net (next_call c None) (written_point id place t v) told new)
+    → ListsFaults lines m (sent_links state m.net (next_call c None) (written_point id place t v) told new sent) more
+    → IsTooFew (needed_write level m.net.state.place.rf) (shard_in m id) told shard needed got reasons → IsUnmet more None (place_after lines (act.Write ns id t v level None) (answer.Consistency got needed reasons shard)) got needed reasons shard
+unwritten_due {D} {G} {state} {faults} {lines} {c} {m} h more among ns id t v level place shard needed got reasons told new found known sent lists few =
     let a = act.Write ns id t v level None in
     let b = answer.Consistency got needed reasons shard in
     let point = written_point id place t v in
     let of_act = written_of (spaces_in m) ns id t v level None place found in
-    unmet_due h a b (record { id = Some id; version = None; needed = needed_write level }) (outside m.net.state.rules point) shard needed got reasons told refl refl
+    unmet_due h more a b (record { id = Some id; version = None; needed = needed_write level }) (outside m.net.state.rules point) shard needed got reasons told refl refl
     (subst (λ k. k < length m.net.state.place.shards) (sym few.shard_is) (shard_low h id))
-    (subst (λ k. Heard (place_after lines a b) m k (outside m.net.state.rules point) told) (sym few.shard_is) (put_heard h a b point told new sent))
+    (subst (λ k. Heard more (place_after lines a b) m k (outside m.net.state.rules point) told) (sym few.shard_is) (put_heard h more among a b point told new sent lists))
     (few.shard_is ∙ sym (shard_there h id))
     (λ lower below asks. let same : lower ≡ shard = asks ∙ shard_there h id ∙ sym few.shard_is in absurd (omega (arith, below, same)))
     few.needed_is few.got_is few.fewer few.reasons_are
-    (λ n x e. outside_due h a b point n x of_act known e)
+    (λ n x e. outside_due h more a b point shard n x of_act known e)
     (λ free. takes_due h a b point of_act known free)
 
 -- ---- reads
 
 -- a shard that a read asks is one of those from the first to the end
-abbrev pub AsksWithin : Members → Option (List ℕ) → Pick → ℕ → Type 0
+abbrev pub AsksWithin : {D : Type 0} {G : Ghosts D} → Members D G → Option (List ℕ) → Pick → ℕ → Type 0
 AsksWithin m id pick seed = (k : ℕ) → AsksShard id seed (length m.net.state.place.shards) k ↔ (first_asked m.net.state pick ≤ k) × (k < end_asked m.net.state pick)
 
 read_within : (level : ReadLevel) (rf : ℕ) → 1 ≤ rf → needed_read level rf ≤ rf
@@ -291,14 +293,14 @@ read_within read.Majority rf some = omega arith
 read_within read.All rf some = omega arith
 
 -- the shards that are asked are there
-pub end_low : {lines : List Turn} {c : Cluster} {m : Members} (h : At lines c m) (pick : Pick) → end_asked m.net.state pick ≤ length m.net.state.place.shards
-end_low {lines} {c} {m} h (pick.One ns id) = let low = shard_low h id in omega (arith, low)
-end_low {lines} {c} {m} h (pick.Match ns wanted) = omega arith
+pub end_low : {D : Type 0} {G : Ghosts D} {state : D → DiskState} {faults : List Fault} {lines : List Turn} {c : Cluster D G} {m : Members D G} (h : At state faults lines c m) (pick : Pick) → end_asked m.net.state pick ≤ length m.net.state.place.shards
+end_low {D} {G} {state} {faults} {lines} {c} {m} h (pick.One ns id) = let low = shard_low h id in omega (arith, low)
+end_low {D} {G} {state} {faults} {lines} {c} {m} h (pick.Match ns wanted) = omega arith
 
 -- what a read found was found by enough nodes that it reached
-pub found_due : {lines : List Turn} {c : Cluster} {m : Members} (h : At lines c m) (a : Act) (b : Answer) (id : Option (List ℕ)) (w : Wish) (level : ReadLevel) (series : List Series) (short : Bool) → AsksWithin m id w.pick (seed_after None (inner_turns lines))
+pub found_due : {D : Type 0} {G : Ghosts D} {state : D → DiskState} {faults : List Fault} {lines : List Turn} {c : Cluster D G} {m : Members D G} (h : At state faults lines c m) (a : Act) (b : Answer) (id : Option (List ℕ)) (w : Wish) (level : ReadLevel) (series : List Series) (short : Bool) → AsksWithin m id w.pick (seed_after None (inner_turns lines))
     → IsFound m.net (next_call c None) w level series short → IsFoundFor None (place_after lines a b) id level None short
-found_due {lines} {c} {m} h a b id w level series short within found =
+found_due {D} {G} {state} {faults} {lines} {c} {m} h a b id w level series short within found =
     let p = place_after lines a b in
     let place = m.net.state.place in
     record {
@@ -319,32 +321,30 @@ found_due {lines} {c} {m} h a b id w level series short within found =
     reached_at k above below =
         let end = end_low h w.pick in
         let low : k < length m.net.state.place.shards = omega (arith, below, end) in
-        reached_many (read_heard h a b w k (found.told k) low (found.asked k above below)) low
+        reached_many (read_heard h faults (λ f i. i) a b w k (found.told k) low (found.asked k above below)) low
 
 -- too few nodes answered a read, of the first shard where it is so
-pub unfound_due : {lines : List Turn} {c : Cluster} {m : Members} (h : At lines c m) (a : Act) (asking : Asking) (w : Wish) (level : ReadLevel) (shard needed got : ℕ) (reasons : List (ℕ × Reason)) → call_of a ≡ Some asking → asking.version ≡ None
+pub unfound_due : {D : Type 0} {G : Ghosts D} {state : D → DiskState} {faults : List Fault} {lines : List Turn} {c : Cluster D G} {m : Members D G} (h : At state faults lines c m) (more : List Fault) → AreAmong faults more → (a : Act) (asking : Asking) (w : Wish) (level : ReadLevel) (shard needed got : ℕ) (reasons : List (ℕ × Reason)) → call_of a ≡ Some asking → asking.version ≡ None
     → asking.needed m.net.state.place.rf ≡ needed_read level m.net.state.place.rf → ((r : Rules) → MayServe r a) → AsksWithin m asking.id w.pick (seed_after None (inner_turns lines))
-    → IsFirstShort m.net (next_call c None) w (needed_read level m.net.state.place.rf) shard needed got reasons → IsUnmet None (place_after lines a (answer.Consistency got needed reasons shard)) got needed reasons shard
-unfound_due {lines} {c} {m} h a asking w level shard needed got reasons of_act present needs serves within short =
+    → IsFirstShort m.net (next_call c None) w (needed_read level m.net.state.place.rf) shard needed got reasons → IsUnmet more None (place_after lines a (answer.Consistency got needed reasons shard)) got needed reasons shard
+unfound_due {D} {G} {state} {faults} {lines} {c} {m} h more among a asking w level shard needed got reasons of_act present needs serves within short =
     let b = answer.Consistency got needed reasons shard in
     let p = place_after lines a b in
     let place = m.net.state.place in
     let end = end_low h w.pick in
     let low : shard < length place.shards = omega (arith, short.before_end, end) in
     let few = short.too_few in
-    unmet_due h a b asking None shard needed got reasons (short.told shard) of_act present low
-    (read_heard h a b w shard (short.told shard) low (short.asked shard short.not_before (omega arith)))
+    unmet_due h more a b asking None shard needed got reasons (short.told shard) of_act present low
+    (read_heard h more among a b w shard (short.told shard) low (short.asked shard short.not_before (omega arith)))
     ((within shard).1 (short.not_before, short.before_end))
     (λ lower below asks.
     let in_range = (within lower).0 asks in
     let lower_low : lower < length place.shards = omega (arith, below, low) in
-    let heard = read_heard h a b w lower (short.told lower) lower_low (short.asked lower in_range.0 (omega (arith, below))) in
+    let heard = read_heard h more among a b w lower (short.told lower) lower_low (short.asked lower in_range.0 (omega (arith, below))) in
     let least = short.enough lower in_range.0 below in
-    let all = one_or_other (short.told lower) in
-    let many = heard.many in
-    let same : length (counted_nodes place lower) ≡ length (counted_in m lower) = ap length (counted_same place lower lower_low) in
+    let reached = reached_many heard lower_low in
     let needed_is = few.needed_is in
-    omega (arith, least, all, many, same, needed_is))
+    omega (arith, least, reached, needed_is))
     (few.needed_is ∙ sym needs) few.got_is few.fewer few.reasons_are
     (λ n x e. let bad : None ≡ Some x = e in absurd (cc))
     (λ free. serves (rules_at None p))

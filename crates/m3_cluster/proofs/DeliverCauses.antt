@@ -1,43 +1,63 @@
 -- What comes of the late writes that are delivered is what may come of their messages.
-use Rattle.std.proofs.Common.{◌≡◌, ◌<◌, ℕ, List, [], ◌∷◌, map, length, refl, sym, ap, ◌∙◌, subst, inl, inr, Bool, true, false, cond}
+use Rattle.std.proofs.Common.{◌≡◌, ◌<◌, ◌⊎◌, ℕ, suc, List, [], ◌∷◌, map, drop, length, refl, sym, ap, ◌∙◌, subst, inl, inr, arith, Bool, true, false, cond}
 use Rattle.std.specs.Prelude.{Option, Some, None, option_map, nat_lt}
 use Rattle.std.specs.FinMap as finite
+use Rattle.std.specs.List.{list_any}
+use Rattle.std.specs.Ordering.{eq_by_cmp}
 use Rattle.std.proofs.lemmas.Bool.{lt-ltb}
+use Rattle.std.proofs.lemmas.List.Elements.{All-cons, All-nil}
 use Rattle.std.proofs.lemmas.Option.{slice_get_within}
+use Rattle.m3_outside.specs.declared.disk.Disk.{Ghosts}
+use Rattle.m3_outside.specs.DiskState.{DiskState}
 use Rattle.m3_model.specs.Caused.{LateMessage, IsDelivered, AreOutcomes, MayComeOf}
-use Rattle.m3_model.specs.Fates.{IsStoppedAt, is_stopped}
+use Rattle.m3_model.specs.Faults.{Fault, HasFailed, IsClosedByFault, WaitsForBoot, is_restart}
+use Rattle.m3_model.specs.Fates.{IsStoppedAt}
 use Rattle.m3_model.specs.Hash.{shard_of}
 use Rattle.m3_model.specs.Members.{IsIn}
 use Rattle.m3_model.specs.Points.{point_of}
-use Rattle.m3_model.specs.Record.{inner_turns}
+use Rattle.m3_model.specs.Record.{TurnPlace, inner_turns}
 use Rattle.m3_model.specs.Rules.{InWindow, IsPast, IsFuture, namespace_place, rules_at}
 use Rattle.m3_model.specs.declared.act.Act.{Act}
 use Rattle.m3_model.specs.declared.act.Act.TheVariants as act
+use Rattle.m3_model.specs.declared.act.Fate.TheVariants as fate
 use Rattle.m3_model.specs.declared.answer.Answer.{Answer}
 use Rattle.m3_model.specs.declared.answer.Answer.TheVariants as answer
 use Rattle.m3_model.specs.declared.point.Point.{Point}
 use Rattle.m3_model.specs.declared.reason.Reason.{Reason}
 use Rattle.m3_model.specs.declared.reason.Reason.TheVariants as reason
+use Rattle.m3_model.specs.declared.replica.Standing.{Standing}
+use Rattle.m3_model.specs.declared.replica.Standing.TheVariants as standing
 use Rattle.m3_model.specs.declared.rules.Rules.{Rules}
 use Rattle.m3_model.specs.declared.rules.Space.{Space}
 use Rattle.m3_model.specs.declared.turn.Turn.{Turn}
 use Rattle.cluster_core.specs.Refusals.{outside}
+use Rattle.cluster_core.specs.declared.event.StepCall.TheVariants as step
 use Rattle.net_plan.specs.declared.late_write.LateWrite.{LateWrite}
+use Rattle.replica_machine.specs.Machines.{MachineState, refusal}
+use Rattle.cluster_core.specs.declared.event.StepReply.TheVariants as reply
 use Rattle.replica_machine.proofs.RefusalLemmas.{in_window, outside_cause}
+use Rattle.session.specs.Changes.{IsPutAt, IsStepped, Step, put_reply}
 use Rattle.session.specs.Deliveries.{Delivery, known, goal_of, late_step, outcome_of}
 use Rattle.session.specs.Deliveries as late
 use Rattle.session.specs.Outcomes.{IsOutcome as IsTold}
-use Rattle.session.specs.Slots.{refusal_of}
-use Rattle.cluster_core.specs.declared.event.StepCall.TheVariants as step
-use Rattle.session.specs.declared.call.Call.{Call}
-use Rattle.m3_cluster.specs.Serves.{IsHeldBack, AreHeldBack}
+use Rattle.session.specs.Slots.{MachineMap, refusal_of, slot_at, slot_cmp}
+use Rattle.session.specs.declared.slot.Slot.{Slot}
+use Rattle.session.proofs.SlotLemmas.{same_slot}
+use Rattle.m3_cluster.specs.Depots.{TellAll}
+use Rattle.m3_cluster.specs.Replicas.{HasReplica, IsShutFor}
+use Rattle.m3_cluster.specs.Serves.{IsHeldBack, AreHeldBack, WasAcked, WasSent, counted_in}
 use Rattle.m3_cluster.specs.Steps.{spaces_in}
 use Rattle.m3_cluster.specs.declared.cluster.Cluster.{Cluster}
 use Rattle.m3_cluster.specs.declared.members.Members.{Members}
+use Rattle.m3_cluster.proofs.ActLinks.{ListsFaults, late_links}
+use Rattle.m3_cluster.proofs.CallLemmas.{place_after, At, on, place_at, rules_there, seed_there}
+use Rattle.m3_cluster.proofs.FaultLinks.{late_failed, own_slot}
+use Rattle.m3_cluster.proofs.KnownNodes.{KnownNode, known_node, counted_slot, against, machine_put, down_cause, boot_cause}
+use Rattle.m3_cluster.proofs.MoreFaults.{AreAmong}
 use Rattle.m3_cluster.proofs.OptionLemmas.{same_of_some}
+use Rattle.m3_cluster.proofs.ReplicaLemmas.{IsAsked, IsDone, replica_less, replica_next, standing_by, standing_next}
+use Rattle.m3_cluster.proofs.ShardLemmas.{shard_low}
 use Rattle.m3_cluster.proofs.SpaceLemmas.{space_at}
-use Rattle.m3_cluster.proofs.CallLemmas.{place_after, At, on, place_at, rules_there, seed_there, known_node, against, put_against}
-use Rattle.m3_cluster.proofs.CallCauses.{shard_low}
 
 -- ---- their namespaces
 
@@ -53,87 +73,232 @@ point_low spaces (act.Write ns id t v level version) p e =
 point_low spaces _ p e = cc
 
 -- the namespace of a late write is there
-late_low : {lines : List Turn} {c : Cluster} {m : Members} (h : At lines c m) (message : LateMessage) (one : LateWrite) → IsHeldBack m lines message one → one.point.ns < length (spaces_in m)
-late_low {lines} {c} {m} h message one held =
+late_low : {D : Type 0} {G : Ghosts D} {state : D → DiskState} {faults : List Fault} {lines : List Turn} {c : Cluster D G} {m : Members D G} (h : At state faults lines c m) (message : LateMessage) (one : LateWrite) → IsHeldBack m lines message one → one.point.ns < length (spaces_in m)
+late_low {D} {G} {state} {faults} {lines} {c} {m} h message one held =
     let of_act : point_of (spaces_in m) message.place.turn.act ≡ Some message.point = ap (λ (r : Rules). point_of r.spaces message.place.turn.act) (sym (rules_there h act.Deliver answer.Memory)) ∙ held.was_late.of_act in
     subst (λ (p : Point). p.ns < length (spaces_in m)) (sym held.point) (point_low (spaces_in m) message.place.turn.act message.point of_act)
 
 -- so all of them are known
-all_known : {lines : List Turn} {c : Cluster} {m : Members} (h : At lines c m) (messages : List LateMessage) (bag : List LateWrite) → AreHeldBack m lines messages bag → known m.net.state.rules bag ≡ bag
-all_known {lines} {c} {m} h [] [] held = refl
-all_known {lines} {c} {m} h (message ∷ messages) (one ∷ bag) held =
+all_known : {D : Type 0} {G : Ghosts D} {state : D → DiskState} {faults : List Fault} {lines : List Turn} {c : Cluster D G} {m : Members D G} (h : At state faults lines c m) (messages : List LateMessage) (bag : List LateWrite) → AreHeldBack m lines messages bag
+    → known m.net.state.rules bag ≡ bag
+all_known {D} {G} {state} {faults} {lines} {c} {m} h [] [] held = refl
+all_known {D} {G} {state} {faults} {lines} {c} {m} h (message ∷ messages) (one ∷ bag) held =
     let low : nat_lt one.point.ns (length (spaces_in m)) ≡ true = lt-ltb one.point.ns (length (spaces_in m)) (late_low h message one held.0) in
     ap (λ b. cond b (one ∷ known m.net.state.rules bag) (known m.net.state.rules bag)) low ∙ ap (λ l. one ∷ l) (all_known h messages bag held.1)
-all_known {lines} {c} {m} h [] (one ∷ bag) held = absurd held
-all_known {lines} {c} {m} h (message ∷ messages) [] held = absurd held
+all_known {D} {G} {state} {faults} {lines} {c} {m} h [] (one ∷ bag) held = absurd held
+all_known {D} {G} {state} {faults} {lines} {c} {m} h (message ∷ messages) [] held = absurd held
+
+-- ---- machines while late writes are delivered
+
+-- The machine at a slot within a line: it is a replica, and where it isn't open, that has its cause.
+record IsGoing {D : Type 0} {G : Ghosts D} (state : D → DiskState) (more : List Fault) (p : TurnPlace) (m : Members D G) (machines : MachineMap D) (s : Slot) : Type 0 where
+  machine : MachineState D
+  stands : finite.get machines s ≡ Some machine
+  replica : HasReplica state (λ q. Unit {0}) (λ q. ⊥) machine
+  shut : IsShutFor more p m.net.state.place s machine.standing
+
+-- so are those of all nodes that count
+abbrev AreGoing : {D : Type 0} {G : Ghosts D} → (D → DiskState) → List Fault → TurnPlace → Members D G → MachineMap D → Type 0
+AreGoing state more p m machines = (shard node : ℕ) → shard < length m.net.state.place.shards → IsIn (counted_in m shard) node → IsGoing state more p m machines (slot_at node shard)
+
+-- when the line begins they are
+going_first : {D : Type 0} {G : Ghosts D} {state : D → DiskState} {faults : List Fault} {lines : List Turn} {c : Cluster D G} {m : Members D G} (h : At state faults lines c m) (more : List Fault) → AreAmong faults more → (a : Act) (b : Answer)
+    → AreGoing state more (place_after lines a b) m m.net.machines
+going_first {D} {G} {state} {faults} {lines} {c} {m} h more among a b shard node low counts =
+    let known_is = known_node h shard node low counts in
+    let x = known_is.machine in
+    record {
+      machine = x;
+      stands = known_is.stands;
+      replica = replica_less state (WasSent (spaces_in m) (inner_turns lines)) (λ q. Unit {0}) (WasAcked m (inner_turns lines) (slot_at node shard)) (λ q. ⊥) (λ q sent. tt) (λ q none. absurd none) x known_is.serving.replica;
+      shut = by_standing known_is x.standing refl;
+    }
+  where
+    by_standing : (known_is : KnownNode state faults lines m shard node) (s : Standing) → known_is.machine.standing ≡ s → IsShutFor more (place_after lines a b) m.net.state.place (slot_at node shard) s
+    by_standing known_is standing.Down is = down_cause known_is.serving more among a b is
+    by_standing known_is standing.Boot is = boot_cause known_is.serving a b is
+    by_standing known_is standing.Open is = tt
+
+-- nothing comes after the last line
+drop_all : {X : Type 0} (xs : List X) → drop (suc (length xs)) xs ≡ []
+drop_all [] = refl
+drop_all (x ∷ xs) = drop_all xs
+
+-- a fault of this line closed the machine of a slot
+closed_now : {D : Type 0} {G : Ghosts D} {state : D → DiskState} {faults : List Fault} {lines : List Turn} {c : Cluster D G} {m : Members D G} (h : At state faults lines c m) (more : List Fault) (a : Act) (b : Answer) (shard node : ℕ)
+    → shard < length m.net.state.place.shards → IsIn (counted_in m shard) node → HasFailed more (place_after lines a b) shard node → IsClosedByFault more (place_after lines a b) m.net.state.place shard node
+closed_now {D} {G} {state} {faults} {lines} {c} {m} h more a b shard node low counts failed =
+    let known_is = known_node h shard node low counts in
+    record {
+      fault = record { line = length lines; node = node; shard = shard; is_damage = false };
+      among = failed;
+      of_node = refl;
+      of_shard = refl;
+      not_later = omega arith;
+      not_restarted = record { instance_ = known_is.instance_; stands = known_is.there; holds = ap (λ ls. list_any (is_restart known_is.instance_.name) (inner_turns ls)) (drop_all lines) };
+    }
+
+-- how a machine stands after a put: as before, unless its disk failed
+put_stands : (client number version : ℕ) (rules : Rules) (p : Point) (s : Standing) (outcome : Option Reason) → p.ns < length rules.spaces → IsTold false (against s (outside rules p)) outcome
+    → (standing_by (step.Put client number rules version p) (put_reply outcome) s ≡ s) ⊎ ((outcome ≡ Some reason.Disk) × (standing_by (step.Put client number rules version p) (put_reply outcome) s ≡ standing.Down))
+put_stands client number version rules p s outcome there told = by_standing s told
+  where
+    Stands : Standing → Option Reason → Type 0
+    Stands was o = (standing_by (step.Put client number rules version p) (put_reply o) was ≡ was) ⊎ ((o ≡ Some reason.Disk) × (standing_by (step.Put client number rules version p) (put_reply o) was ≡ standing.Down))
+
+    by_own : (own : Option Reason) → outside rules p ≡ own → IsTold false own outcome → Stands standing.Open outcome
+    by_own (Some x) is e =
+        subst (Stands standing.Open) (sym e)
+        (inl (outside_cause (λ r. standing_by (step.Put client number rules version p) (reply.Refused r) standing.Open ≡ standing.Open) rules p x there is (λ past. refl) (λ future. refl)))
+    by_own None is e =
+        elim e as (λ _. Stands standing.Open outcome) [
+          | inl none ↦ subst (Stands standing.Open) (sym none) (inl refl)
+          | inr rest ↦ elim rest as (λ _. Stands standing.Open outcome) [
+            | inl memory ↦ subst (Stands standing.Open) (sym memory) (inl refl)
+            | inr disk ↦ subst (Stands standing.Open) (sym disk) (inr (refl, refl))
+          ]
+        ]
+
+    by_standing : (was : Standing) → IsTold false (against was (outside rules p)) outcome → Stands was outcome
+    by_standing standing.Down e = subst (Stands standing.Down) (sym e) (inl refl)
+    by_standing standing.Boot e = subst (Stands standing.Boot) (sym e) (inl refl)
+    by_standing standing.Open e = by_own (outside rules p) refl e
+
+-- what a late write was told is what stands against it at its machine
+told_against : {D : Type 0} {G : Ghosts D} (state : D → DiskState) (more : List Fault) (p : TurnPlace) (m : Members D G) (machines : MachineMap D) (one : LateWrite) (outcome : Option Reason) (going : IsGoing state more p m machines (goal_of one)) → one.version ≡ 1
+    → IsTold false (refusal_of (finite.get machines (goal_of one)) (late_step m.net.state.rules one)) outcome → IsTold false (against going.machine.standing (outside m.net.state.rules one.point)) outcome
+told_against state more p m machines one outcome going version told =
+    let rules = m.net.state.rules in
+    subst (λ o. IsTold false o outcome)
+    (ap (λ o. refusal_of o (late_step rules one)) going.stands
+    ∙ ap (λ v. refusal going.machine (step.Put one.client one.number rules v one.point)) version
+    ∙ machine_put state (λ q. Unit {0}) (λ q. ⊥) going.machine one.client one.number rules one.point going.replica) told
+
+-- a put goes on with its own machine
+going_here : {D : Type 0} {G : Ghosts D} {state : D → DiskState} {faults : List Fault} {lines : List Turn} {c : Cluster D G} {m : Members D G} (h : At state faults lines c m) → TellAll state → (more : List Fault) (a : Act) (b : Answer) (one : LateWrite) (outcome : Option Reason)
+    (old new : MachineMap D) → one.version ≡ 1 → one.point.ns < length (spaces_in m) → one.shard < length m.net.state.place.shards → IsIn (counted_in m one.shard) one.node → IsPutAt state fate.Deliver (goal_of one) (late_step m.net.state.rules one) outcome old new
+    → (outcome ≡ Some reason.Disk → HasFailed more (place_after lines a b) one.shard one.node) → IsGoing state more (place_after lines a b) m old (goal_of one) → IsGoing state more (place_after lines a b) m new (goal_of one)
+going_here {D} {G} {state} {faults} {lines} {c} {m} h tell more a b one outcome old new version there low counts put failed going =
+    let p = place_after lines a b in
+    let rules = m.net.state.rules in
+    let x = going.machine in
+    let steps : List Step = record { call = late_step rules one; reply = put_reply outcome } ∷ [] in
+    let stepped : IsStepped state steps (Some x) (finite.get new (goal_of one)) =
+    subst (λ ss. IsStepped state ss (Some x) (finite.get new (goal_of one))) put.are (subst (λ o. IsStepped state put.steps o (finite.get new (goal_of one))) going.stands put.stepped.here) in
+    let y = stepped.0 in
+    let next = replica_next state tell (λ q. Unit {0}) (λ q. Unit {0}) (λ q. ⊥) (λ q sent. sent) steps (All-cons (λ (t : Step). IsAsked (λ q. Unit {0}) t.call) (record { call = late_step rules one; reply = put_reply outcome }) [] (version, tt) (All-nil (λ (t : Step). IsAsked (λ q. Unit {0}) t.call))) x y stepped.2 going.replica in
+    let told = told_against state more p m old one outcome going version put.told in
+    let stands : y.standing ≡ standing_by (late_step rules one) (put_reply outcome) x.standing = standing_next state (λ q. Unit {0}) (λ q. ⊥) steps x y stepped.2 going.replica in
+    record {
+      machine = y;
+      stands = stepped.1;
+      replica = replica_less state (λ q. Unit {0}) (λ q. Unit {0}) (λ q. ⊥ ⊎ IsDone steps q) (λ q. ⊥) (λ q sent. sent) (λ q none. absurd none) y next;
+      shut = elim (put_stands one.client one.number one.version rules one.point x.standing outcome there told) as (λ _. IsShutFor more p m.net.state.place (goal_of one) y.standing) [
+        | inl same ↦ subst (IsShutFor more p m.net.state.place (goal_of one)) (sym (stands ∙ same)) going.shut
+        | inr disk ↦ subst (IsShutFor more p m.net.state.place (goal_of one)) (sym (stands ∙ disk.1)) (inr (closed_now h more a b one.shard one.node low counts (failed disk.0)))
+      ];
+    }
+
+-- a put goes on with all of them
+going_next : {D : Type 0} {G : Ghosts D} {state : D → DiskState} {faults : List Fault} {lines : List Turn} {c : Cluster D G} {m : Members D G} (h : At state faults lines c m) → TellAll state → (more : List Fault) (a : Act) (b : Answer) (one : LateWrite) (outcome : Option Reason)
+    (old new : MachineMap D) → one.version ≡ 1 → one.point.ns < length (spaces_in m) → one.shard < length m.net.state.place.shards → IsIn (counted_in m one.shard) one.node → IsPutAt state fate.Deliver (goal_of one) (late_step m.net.state.rules one) outcome old new
+    → (outcome ≡ Some reason.Disk → HasFailed more (place_after lines a b) one.shard one.node) → AreGoing state more (place_after lines a b) m old → AreGoing state more (place_after lines a b) m new
+going_next {D} {G} {state} {faults} {lines} {c} {m} h tell more a b one outcome old new version there one_low one_counts put failed going shard node low counts = by_slot (eq_by_cmp slot_cmp (slot_at node shard) (goal_of one)) refl
+  where
+    was : IsGoing state more (place_after lines a b) m old (slot_at node shard)
+    was = going shard node low counts
+
+    by_slot : (t : Bool) → eq_by_cmp slot_cmp (slot_at node shard) (goal_of one) ≡ t → IsGoing state more (place_after lines a b) m new (slot_at node shard)
+    by_slot true e =
+        subst (IsGoing state more (place_after lines a b) m new) (sym (same_slot (slot_at node shard) (goal_of one) e))
+        (going_here h tell more a b one outcome old new version there one_low one_counts put failed (going one.shard one.node one_low one_counts))
+    by_slot false e = record {
+      machine = was.machine;
+      stands = put.stepped.others (slot_at node shard) (λ same. let own : eq_by_cmp slot_cmp (slot_at node shard) (goal_of one) ≡ true = ap (eq_by_cmp slot_cmp (slot_at node shard)) (sym same) ∙ own_slot (slot_at node shard) in let bad : true ≡ false = sym own ∙ e in cc) ∙ was.stands;
+      replica = was.replica;
+      shut = was.shut;
+    }
 
 -- ---- what comes of one
 
--- by what stands against it: its node is stopped, else its own reason, else nothing or want of memory
-came_by : (P : Option Reason → Type 0) (halted : Bool) (own outcome : Option Reason) → IsTold false (against halted own) outcome → (halted ≡ true → P (Some reason.Down)) → ((x : Reason) → own ≡ Some x → P (Some x)) → (own ≡ None → P None) → P (Some reason.Memory) → P outcome
-came_by P true own outcome h down refused taken memory = subst P (sym h) (down refl)
-came_by P false (Some x) outcome h down refused taken memory = subst P (sym h) (refused x refl)
-came_by P false None outcome h down refused taken memory = elim h as (λ _. P outcome) [ inl e ↦ subst P (sym e) (taken refl) | inr e ↦ subst P (sym e) memory ]
-
--- the call that the late message is of
-abbrev call_late : LateWrite → Call
-call_late one = record { client = one.client; number = one.number; version = Some 1 }
+-- by how its machine stands: shut, else refused for its own reason, else taken, or memory is wanted, or the disk failed
+came_by : (P : Option Reason → Type 0) (s : Standing) (own outcome : Option Reason) → IsTold false (against s own) outcome → (s ≡ standing.Down → P (Some reason.Down)) → (s ≡ standing.Boot → P (Some reason.Boot)) → ((x : Reason) → own ≡ Some x → P (Some x))
+    → (own ≡ None → P None) → P (Some reason.Memory) → (outcome ≡ Some reason.Disk → P (Some reason.Disk)) → P outcome
+came_by P standing.Down own outcome h down boot refused taken memory disk = subst P (sym h) (down refl)
+came_by P standing.Boot own outcome h down boot refused taken memory disk = subst P (sym h) (boot refl)
+came_by P standing.Open (Some x) outcome h down boot refused taken memory disk = subst P (sym h) (refused x refl)
+came_by P standing.Open None outcome h down boot refused taken memory disk =
+    elim h as (λ _. P outcome) [
+      | inl e ↦ subst P (sym e) (taken refl)
+      | inr rest ↦ elim rest as (λ _. P outcome) [ inl e ↦ subst P (sym e) memory | inr e ↦ subst P (sym e) (disk e) ]
+    ]
 
 -- what became of a late write is what may come of its message
-came : {lines : List Turn} {c : Cluster} {m : Members} (h : At lines c m) (b : Answer) (message : LateMessage) (one : LateWrite) (outcome : Option Reason) → IsHeldBack m lines message one
-    → IsTold false (refusal_of (finite.get m.net.machines (goal_of one)) (late_step m.net.state.rules one)) outcome → MayComeOf None (place_after lines act.Deliver b) m.net.state.place message outcome
-came {lines} {c} {m} h b message one outcome held told =
+came : {D : Type 0} {G : Ghosts D} {state : D → DiskState} {faults : List Fault} {lines : List Turn} {c : Cluster D G} {m : Members D G} (h : At state faults lines c m) (more : List Fault) (b : Answer) (message : LateMessage) (one : LateWrite) (outcome : Option Reason) (machines : MachineMap D)
+    → IsHeldBack m lines message one → IsGoing state more (place_after lines act.Deliver b) m machines (goal_of one) → IsTold false (refusal_of (finite.get machines (goal_of one)) (late_step m.net.state.rules one)) outcome
+    → (outcome ≡ Some reason.Disk → HasFailed more (place_after lines act.Deliver b) one.shard one.node) → MayComeOf more None (place_after lines act.Deliver b) m.net.state.place one.shard message outcome
+came {D} {G} {state} {faults} {lines} {c} {m} h more b message one outcome machines held going told failed =
     let p = place_after lines act.Deliver b in
     let place = m.net.state.place in
     let rules = m.net.state.rules in
-    let machine = finite.get m.net.machines (goal_of one) in
     let rules_are : rules_at None p ≡ rules = rules_there h act.Deliver b in
-    let low : one.shard < length place.shards = subst (λ k. k < length place.shards) (sym held.shard) (shard_low h message.point.id) in
-    let node = known_node h one.shard one.node low held.counted in
-    let halted = is_stopped (inner_turns lines) node.instance_.name in
-    let refused_is : refusal_of machine (late_step rules one) ≡ against halted (outside rules one.point) =
-    ap (λ v. refusal_of machine (step.Put one.client one.number rules v one.point)) held.version ∙ put_against node (call_late one) one.point refl in
     let there = late_low h message one held in
-    came_by (MayComeOf None p place message) halted (outside rules one.point) outcome (subst (λ o. IsTold false o outcome) refused_is told)
-    (λ down. subst (IsStoppedAt p place) held.node (record { instance_ = node.instance_; stands = node.there; holds = down }))
-    (λ x e. outside_cause (λ r. MayComeOf None p place message (Some r)) rules one.point x there e
+    came_by (MayComeOf more None p place one.shard message) going.machine.standing (outside rules one.point) outcome (told_against state more p m machines one outcome going held.version told)
+    (λ down. subst (λ n. IsStoppedAt p place n ⊎ IsClosedByFault more p place one.shard n) held.node (subst (IsShutFor more p place (goal_of one)) down going.shut))
+    (λ boot. subst (λ n. WaitsForBoot false p place one.shard n) held.node (subst (IsShutFor more p place (goal_of one)) boot going.shut))
+    (λ x e. outside_cause (λ r. MayComeOf more None p place one.shard message (Some r)) rules one.point x there e
     (λ past. subst (λ r. IsPast r message.point) (sym rules_are) (subst (IsPast rules) held.point past))
     (λ future. subst (λ r. IsFuture r message.point) (sym rules_are) (subst (IsFuture rules) held.point future)))
     (λ free. subst (λ r. InWindow r message.point) (sym rules_are) (subst (InWindow rules) held.point (in_window rules one.point there free)))
     tt
+    (λ disk. subst (λ n. HasFailed more p one.shard n) held.node (failed disk))
 
 -- ---- what comes of all
 
-each_outcome : {lines : List Turn} {c : Cluster} {m : Members} (h : At lines c m) (outcomes : List (ℕ × ℕ × Option Reason)) (messages : List LateMessage) (deliveries : List Delivery) → AreHeldBack m lines messages (map (λ (d : Delivery). d.0) deliveries)
-    → ((d : Delivery) → IsIn deliveries d → IsTold false (refusal_of (finite.get m.net.machines (goal_of d.0)) (late_step m.net.state.rules d.0)) d.1)
-    → AreOutcomes None (place_after lines act.Deliver (answer.Outcomes outcomes)) m.net.state.place messages (map outcome_of deliveries)
-each_outcome {lines} {c} {m} h outcomes [] [] held told = tt
-each_outcome {lines} {c} {m} h outcomes (message ∷ messages) (d ∷ deliveries) held told =
-    let first : IsHeldBack m lines message d.0 = held.0 in
-    let was = first.was_late in (
+each_outcome : {D : Type 0} {G : Ghosts D} {state : D → DiskState} {faults : List Fault} {lines : List Turn} {c : Cluster D G} {m : Members D G} (h : At state faults lines c m) → TellAll state → (more : List Fault) (b : Answer) (messages : List LateMessage) (lates : List LateWrite)
+    (deliveries : List Delivery) (old new : MachineMap D) → late.AreDelivered state m.net.state.rules lates deliveries old new → AreHeldBack m lines messages lates → AreGoing state more (place_after lines act.Deliver b) m old
+    → ((d : Delivery) → IsIn deliveries d → d.1 ≡ Some reason.Disk → IsIn m.slots.items (goal_of d.0) → HasFailed more (place_after lines act.Deliver b) d.0.shard d.0.node)
+    → AreOutcomes more None (place_after lines act.Deliver b) m.net.state.place messages (map outcome_of deliveries)
+each_outcome {D} {G} {state} {faults} {lines} {c} {m} h tell more b [] [] [] old new put held going failed = tt
+each_outcome {D} {G} {state} {faults} {lines} {c} {m} h tell more b (message ∷ messages) (one ∷ lates) (d ∷ deliveries) old new put held going failed =
+    let first : IsHeldBack m lines message one = held.0 in
+    let was = first.was_late in
+    let one_is : d.0 ≡ one = put.0 in
+    let low : one.shard < length m.net.state.place.shards = subst (λ k. k < length m.net.state.place.shards) (sym first.shard) (shard_low h message.point.id) in
+    let failed_one : d.1 ≡ Some reason.Disk → HasFailed more (place_after lines act.Deliver b) one.shard one.node = λ disk.
+    subst (λ (l : LateWrite). HasFailed more (place_after lines act.Deliver b) l.shard l.node) one_is (failed d (inl refl) disk (subst (λ (l : LateWrite). IsIn m.slots.items (goal_of l)) (sym one_is) (counted_slot h one.shard one.node first.counted))) in (
       record {
         message = record { at = was.at; of_act = was.of_act; was_sent = was.was_sent; late = was.late; not_yet = was.not_yet };
-        node_is = first.node;
-        shard_is = first.shard ∙ sym (ap (λ seed. shard_of message.point.id seed (length m.net.state.place.shards)) (seed_there h));
-        came = came h (answer.Outcomes outcomes) message d.0 d.1 first (told d (inl refl));
+        node_is = ap (λ (l : LateWrite). l.node) one_is ∙ first.node;
+        shard_is = ap (λ (l : LateWrite). l.shard) one_is ∙ first.shard ∙ sym (ap (λ seed. shard_of message.point.id seed (length m.net.state.place.shards)) (seed_there h));
+        came = subst (λ (l : LateWrite). MayComeOf more None (place_after lines act.Deliver b) m.net.state.place l.shard message d.1) (sym one_is)
+            (came h more b message one d.1 old first (going one.shard one.node low first.counted) (put.2).told failed_one);
       },
-      each_outcome h outcomes messages deliveries held.1 (λ e i. told e (inr i)),
+      each_outcome h tell more b messages lates deliveries put.1 new put.3 held.1
+          (going_next h tell more act.Deliver b one d.1 old put.1 first.version (late_low h message one first) low first.counted put.2 failed_one going) (λ e i. failed e (inr i)),
     )
-each_outcome {lines} {c} {m} h outcomes [] (d ∷ deliveries) held told = absurd held
-each_outcome {lines} {c} {m} h outcomes (message ∷ messages) [] held told = absurd held
+each_outcome {D} {G} {state} {faults} {lines} {c} {m} h tell more b [] (one ∷ lates) deliveries old new put held going failed = absurd held
+each_outcome {D} {G} {state} {faults} {lines} {c} {m} h tell more b (message ∷ messages) [] deliveries old new put held going failed = absurd held
+each_outcome {D} {G} {state} {faults} {lines} {c} {m} h tell more b [] [] (d ∷ deliveries) old new put held going failed = absurd put
+each_outcome {D} {G} {state} {faults} {lines} {c} {m} h tell more b (message ∷ messages) (one ∷ lates) [] old new put held going failed = absurd put
 
 -- the outcomes of a delivery are those of the messages that were made late
-pub delivered_due : {lines : List Turn} {c : Cluster} {m : Members} (h : At lines c m) (g : Members) (outcomes : List (ℕ × ℕ × Option Reason)) → late.IsDelivered m.net outcomes g.net → IsDelivered None (place_after lines act.Deliver (answer.Outcomes outcomes)) outcomes
-delivered_due {lines} {c} {m} h g outcomes done =
+pub delivered_due : {D : Type 0} {G : Ghosts D} {state : D → DiskState} {faults : List Fault} {lines : List Turn} {c : Cluster D G} {m : Members D G} (h : At state faults lines c m) → TellAll state → (more : List Fault) → AreAmong faults more → (g : Members D G)
+    (outcomes : List (ℕ × ℕ × Option Reason)) (done : late.IsDelivered state m.net outcomes g.net)
+    → ListsFaults lines m (late_links state m.net.state.rules (known m.net.state.rules m.net.bag) done.deliveries m.net.machines g.net.machines done.put) more → IsDelivered more None (place_after lines act.Deliver (answer.Outcomes outcomes)) outcomes
+delivered_due {D} {G} {state} {faults} {lines} {c} {m} h tell more among g outcomes done lists =
     let waits = (on h).late in
-    let p = place_after lines act.Deliver (answer.Outcomes outcomes) in
+    let b = answer.Outcomes outcomes in
+    let p = place_after lines act.Deliver b in
     let place = m.net.state.place in
-    let all : map (λ (d : Delivery). d.0) done.deliveries ≡ m.net.bag = done.put.one_each ∙ all_known h waits.messages m.net.bag waits.held_back in
+    let rules = m.net.state.rules in
+    let held : AreHeldBack m lines waits.messages (known rules m.net.bag) = subst (AreHeldBack m lines waits.messages) (sym (all_known h waits.messages m.net.bag waits.held_back)) waits.held_back in
     record {
       place = place;
-      stands = place_at h act.Deliver (answer.Outcomes outcomes);
+      stands = place_at h act.Deliver b;
       messages = waits.messages;
       in_order = waits.in_order;
-      each = subst (AreOutcomes None p place waits.messages) (sym done.outcomes_are)
-          (each_outcome h outcomes waits.messages done.deliveries (subst (AreHeldBack m lines waits.messages) (sym all) waits.held_back) done.put.each);
+      each = subst (AreOutcomes more None p place waits.messages) (sym done.outcomes_are)
+          (each_outcome h tell more b waits.messages (known rules m.net.bag) done.deliveries m.net.machines g.net.machines done.put held (going_first h more among act.Deliver b)
+          (λ d i disk there. lists (goal_of d.0) there (late_failed state rules (known rules m.net.bag) done.deliveries m.net.machines g.net.machines done.put d i disk)));
     }

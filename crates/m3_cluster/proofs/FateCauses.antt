@@ -5,6 +5,9 @@ use Rattle.std.specs.Cmp.Lexicographic.{pointwise}
 use Rattle.std.specs.List.{list_any, position, position_from}
 use Rattle.std.specs.Option.{option_or}
 use Rattle.std.proofs.lemmas.Iterator.Adapters.{position_from-zero}
+use Rattle.m3_outside.specs.declared.disk.Disk.{Ghosts}
+use Rattle.m3_outside.specs.DiskState.{DiskState}
+use Rattle.m3_model.specs.Faults.{Fault}
 use Rattle.m3_model.specs.Fates.{is_stopped}
 use Rattle.m3_model.specs.Placements.{is_listed}
 use Rattle.m3_model.specs.Record.{inner_turns}
@@ -67,8 +70,8 @@ same_flag : (x y : Bool) → Some x ≡ Some y → x ≡ y
 same_flag x y e = cc
 
 -- it is stopped as the turns tell it
-pub stopped_as_told : {lines : List Turn} {c : Cluster} {m : Members} (h : At lines c m) (name : List ℕ) (node : ℕ) (halted : Bool) → node_named name m.net.state.place.instances ≡ Some node → slice_get m.stopped.items node ≡ Some halted
+pub stopped_as_told : {D : Type 0} {G : Ghosts D} {state : D → DiskState} {faults : List Fault} {lines : List Turn} {c : Cluster D G} {m : Members D G} (h : At state faults lines c m) (name : List ℕ) (node : ℕ) (halted : Bool) → node_named name m.net.state.place.instances ≡ Some node → slice_get m.stopped.items node ≡ Some halted
     → is_stopped (inner_turns lines) name ≡ halted
-stopped_as_told {lines} {c} {m} h name node halted found flag =
+stopped_as_told {D} {G} {state} {faults} {lines} {c} {m} h name node halted found flag =
     let at = node_found name m.net.state.place.instances node found in
     ap (is_stopped (inner_turns lines)) (sym at.name_is) ∙ same_flag (is_stopped (inner_turns lines) at.instance_.name) halted (sym ((on h).stops node at.instance_ at.stands) ∙ flag)

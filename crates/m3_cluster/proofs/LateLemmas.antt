@@ -1,8 +1,11 @@
 -- The writes that are held back, one line on.
 use Rattle.std.proofs.Common.{◌≡◌, ◌+◌, ◌<◌, ◌⊎◌, ℕ, zero, suc, List, [], ◌∷◌, ◌++◌, filter, length, length-append, map, take, refl, sym, ap, ap₂, subst, ◌∙◌, inl, inr, arith, append-nil, Bool, true, false, cond}
-use Rattle.std.specs.Prelude.{Option, Some, None, IsTrue, nat_eq, option_map, slice_get}
+use Rattle.std.specs.Prelude.{Some, None, IsTrue, nat_eq, option_map, slice_get}
 use Rattle.std.proofs.lemmas.List.{append_assoc, take-map}
+use Rattle.m3_outside.specs.declared.disk.Disk.{Ghosts}
+use Rattle.m3_outside.specs.DiskState.{DiskState}
 use Rattle.m3_model.specs.Ascends.{Ascends}
+use Rattle.m3_model.specs.Faults.{Fault}
 use Rattle.m3_model.specs.Caused.{LateMessage, IsLateMessage, IsLateBefore, IsNamedBelow, delivers_nothing}
 use Rattle.m3_model.specs.Hash.{shard_of}
 use Rattle.m3_model.specs.Members.{IsIn}
@@ -31,10 +34,11 @@ use Rattle.m3_cluster.specs.Serves.{IsHeldBack, AreHeldBack, HoldsLate, counted_
 use Rattle.m3_cluster.specs.Steps.{spaces_in}
 use Rattle.m3_cluster.specs.declared.cluster.Cluster.{Cluster}
 use Rattle.m3_cluster.specs.declared.members.Members.{Members}
-use Rattle.m3_cluster.proofs.CallCauses.{ascends_on}
-use Rattle.m3_cluster.proofs.CallLemmas.{At, on, place_after, fate_is, known_node}
+use Rattle.m3_cluster.proofs.CallLemmas.{At, on, place_after, fate_is}
+use Rattle.m3_cluster.proofs.KnownNodes.{known_node}
 use Rattle.m3_cluster.proofs.NumberLemmas.{line_of, and_then}
 use Rattle.m3_cluster.proofs.OptionLemmas.{mapped_from}
+use Rattle.m3_cluster.proofs.ShardLemmas.{ascends_on}
 use Rattle.m3_cluster.proofs.SpaceLemmas.{namespace_place-append}
 
 -- ---- points, where namespaces are made
@@ -78,7 +82,7 @@ line_below {lines} {p} h = let all : length lines ≡ length p.lines + suc (leng
 -- ---- what a turn leaves of the cluster that a late message meets
 
 -- After a turn more namespaces stand than before, and the same nodes; the rules are those of the turns.
-pub record Extends (lines : List Turn) (m : Members) (a : Act) (b : Answer) (g : Members) : Type 0 where
+pub record Extends {D : Type 0} {G : Ghosts D} (lines : List Turn) (m : Members D G) (a : Act) (b : Answer) (g : Members D G) : Type 0 where
   pub more : List Space
   pub spaces : spaces_in g ≡ spaces_in m ++ more
   pub place : g.net.state.place ≡ m.net.state.place
@@ -86,23 +90,23 @@ pub record Extends (lines : List Turn) (m : Members) (a : Act) (b : Answer) (g :
   pub rules_were : rules_after (start_rules None) (inner_turns lines) ≡ m.net.state.rules
   pub rules_are : rules_after (start_rules None) (inner_turns (and_then lines a b)) ≡ g.net.state.rules
 
-pub shard_same : {lines : List Turn} {m g : Members} {a : Act} {b : Answer} → Extends lines m a b g → (id : List ℕ) → shard_in g id ≡ shard_in m id
-shard_same {lines} {m} {g} {a} {b} e id = ap₂ (λ (seed : ℕ) (place : Placement). shard_of id seed (length place.shards)) e.seed e.place
+pub shard_same : {D : Type 0} {G : Ghosts D} {lines : List Turn} {m g : Members D G} {a : Act} {b : Answer} → Extends lines m a b g → (id : List ℕ) → shard_in g id ≡ shard_in m id
+shard_same {D} {G} {lines} {m} {g} {a} {b} e id = ap₂ (λ (seed : ℕ) (place : Placement). shard_of id seed (length place.shards)) e.seed e.place
 
-pub counted_same : {lines : List Turn} {m g : Members} {a : Act} {b : Answer} → Extends lines m a b g → (shard : ℕ) → counted_in g shard ≡ counted_in m shard
-counted_same {lines} {m} {g} {a} {b} e shard = ap (λ (place : Placement). counted (shard_at place shard)) e.place
+pub counted_same : {D : Type 0} {G : Ghosts D} {lines : List Turn} {m g : Members D G} {a : Act} {b : Answer} → Extends lines m a b g → (shard : ℕ) → counted_in g shard ≡ counted_in m shard
+counted_same {D} {G} {lines} {m} {g} {a} {b} e shard = ap (λ (place : Placement). counted (shard_at place shard)) e.place
 
 -- the point of an act, as the rules of more turns say it
-point_later : {lines : List Turn} {m g : Members} {a : Act} {b : Answer} → Extends lines m a b g → (x : Act) (p : Point) → point_of (rules_after (start_rules None) (inner_turns lines)).spaces x ≡ Some p
+point_later : {D : Type 0} {G : Ghosts D} {lines : List Turn} {m g : Members D G} {a : Act} {b : Answer} → Extends lines m a b g → (x : Act) (p : Point) → point_of (rules_after (start_rules None) (inner_turns lines)).spaces x ≡ Some p
     → point_of (rules_after (start_rules None) (inner_turns (and_then lines a b))).spaces x ≡ Some p
-point_later {lines} {m} {g} {a} {b} e x p is =
+point_later {D} {G} {lines} {m} {g} {a} {b} e x p is =
     ap (λ (r : Rules). point_of r.spaces x) e.rules_are ∙ ap (λ spaces. point_of spaces x) e.spaces
     ∙ point_of-append (spaces_in m) e.more x p (ap (λ (r : Rules). point_of r.spaces x) (sym e.rules_were) ∙ is)
 
 -- a late message stays late while none are delivered
-message_on : {lines : List Turn} {m g : Members} {a : Act} {b : Answer} → Extends lines m a b g → IsTrue (delivers_nothing (line_of a b)) → (place : Placement) (message : LateMessage) → IsLateMessage None (next_place lines) place message
+message_on : {D : Type 0} {G : Ghosts D} {lines : List Turn} {m g : Members D G} {a : Act} {b : Answer} → Extends lines m a b g → IsTrue (delivers_nothing (line_of a b)) → (place : Placement) (message : LateMessage) → IsLateMessage None (next_place lines) place message
     → IsLateMessage None (next_place (and_then lines a b)) place message
-message_on {lines} {m} {g} {a} {b} e quiet place message h = record {
+message_on {D} {G} {lines} {m} {g} {a} {b} e quiet place message h = record {
   at = place_on h.at (line_of a b);
   of_act = point_later e message.place.turn.act message.point h.of_act;
   was_sent = h.was_sent;
@@ -113,9 +117,9 @@ message_on {lines} {m} {g} {a} {b} e quiet place message h = record {
   ];
 }
 
-held_on : {lines : List Turn} {m g : Members} {a : Act} {b : Answer} → Extends lines m a b g → IsTrue (delivers_nothing (line_of a b)) → (message : LateMessage) (late : LateWrite) → IsHeldBack m lines message late
+held_on : {D : Type 0} {G : Ghosts D} {lines : List Turn} {m g : Members D G} {a : Act} {b : Answer} → Extends lines m a b g → IsTrue (delivers_nothing (line_of a b)) → (message : LateMessage) (late : LateWrite) → IsHeldBack m lines message late
     → IsHeldBack g (and_then lines a b) message late
-held_on {lines} {m} {g} {a} {b} e quiet message late h = record {
+held_on {D} {G} {lines} {m} {g} {a} {b} e quiet message late h = record {
   was_late = subst (λ place. IsLateMessage None (next_place (and_then lines a b)) place message) (sym e.place) (message_on e quiet m.net.state.place message h.was_late);
   node = h.node;
   counted = subst (λ ns. IsIn ns late.node) (sym (counted_same e late.shard)) h.counted;
@@ -124,25 +128,25 @@ held_on {lines} {m} {g} {a} {b} e quiet message late h = record {
   point = h.point;
 }
 
-all_held_on : {lines : List Turn} {m g : Members} {a : Act} {b : Answer} → Extends lines m a b g → IsTrue (delivers_nothing (line_of a b)) → (messages : List LateMessage) (bag : List LateWrite) → AreHeldBack m lines messages bag
+all_held_on : {D : Type 0} {G : Ghosts D} {lines : List Turn} {m g : Members D G} {a : Act} {b : Answer} → Extends lines m a b g → IsTrue (delivers_nothing (line_of a b)) → (messages : List LateMessage) (bag : List LateWrite) → AreHeldBack m lines messages bag
     → AreHeldBack g (and_then lines a b) messages bag
-all_held_on e quiet [] [] h = tt
-all_held_on e quiet (message ∷ messages) (late ∷ bag) h = (held_on e quiet message late h.0, all_held_on e quiet messages bag h.1)
-all_held_on e quiet [] (late ∷ bag) h = absurd h
-all_held_on e quiet (message ∷ messages) [] h = absurd h
+all_held_on {D} {G} e quiet [] [] h = tt
+all_held_on {D} {G} e quiet (message ∷ messages) (late ∷ bag) h = (held_on e quiet message late h.0, all_held_on e quiet messages bag h.1)
+all_held_on {D} {G} e quiet [] (late ∷ bag) h = absurd h
+all_held_on {D} {G} e quiet (message ∷ messages) [] h = absurd h
 
 -- ---- a bag that stays
 
-pub late_stays : {lines : List Turn} {m g : Members} {a : Act} {b : Answer} → Extends lines m a b g → IsTrue (delivers_nothing (line_of a b)) → g.net.bag ≡ m.net.bag → HoldsLate m lines → HoldsLate g (and_then lines a b)
-late_stays {lines} {m} {g} {a} {b} e quiet same h = record {
+pub late_stays : {D : Type 0} {G : Ghosts D} {lines : List Turn} {m g : Members D G} {a : Act} {b : Answer} → Extends lines m a b g → IsTrue (delivers_nothing (line_of a b)) → g.net.bag ≡ m.net.bag → HoldsLate m lines → HoldsLate g (and_then lines a b)
+late_stays {D} {G} {lines} {m} {g} {a} {b} e quiet same h = record {
   messages = h.messages;
   in_order = subst (λ place. Ascends (IsLateBefore place) h.messages) (sym e.place) h.in_order;
   held_back = subst (AreHeldBack g (and_then lines a b) h.messages) (sym same) (all_held_on e quiet h.messages m.net.bag h.held_back);
 }
 
 -- an empty bag
-pub late_none : (g : Members) (lines : List Turn) → g.net.bag ≡ [] → HoldsLate g lines
-late_none g lines none = record { messages = []; in_order = tt; held_back = subst (AreHeldBack g lines []) (sym none) tt }
+pub late_none : {D : Type 0} {G : Ghosts D} (g : Members D G) (lines : List Turn) → g.net.bag ≡ [] → HoldsLate g lines
+late_none {D} {G} g lines none = record { messages = []; in_order = tt; held_back = subst (AreHeldBack g lines []) (sym none) tt }
 
 -- ---- a bag to which late messages of a write come
 
@@ -169,24 +173,24 @@ ascends_take R zero xs h = tt
 ascends_take R (suc k) [] h = tt
 ascends_take R (suc k) (x ∷ xs) h = (λ y i. h.0 y (take-IsIn k xs y i), ascends_take R k xs h.1)
 
-ascends_append : {X : Type 0} (R : X → X → Type 0) (xs ys : List X) → Ascends R xs → Ascends R ys → ((x y : X) → IsIn xs x → IsIn ys y → R x y) → Ascends R (xs ++ ys)
+pub ascends_append : {X : Type 0} (R : X → X → Type 0) (xs ys : List X) → Ascends R xs → Ascends R ys → ((x y : X) → IsIn xs x → IsIn ys y → R x y) → Ascends R (xs ++ ys)
 ascends_append R [] ys hx hy across = hy
 ascends_append R (x ∷ xs) ys hx hy across = (
   λ y i. elim (IsIn-append_cases xs ys y i) as (λ _. R x y) [ inl a ↦ hx.0 y a | inr b ↦ across x y (inl refl) b ],
   ascends_append R xs ys hx.1 hy (λ z y i j. across z y (inr i) j),
 )
 
-held_append : (g : Members) (lines : List Turn) (messages more : List LateMessage) (bag lates : List LateWrite) → AreHeldBack g lines messages bag → AreHeldBack g lines more lates → AreHeldBack g lines (messages ++ more) (bag ++ lates)
-held_append g lines [] more [] lates h new = new
-held_append g lines (message ∷ messages) more (late ∷ bag) lates h new = (h.0, held_append g lines messages more bag lates h.1 new)
-held_append g lines [] more (late ∷ bag) lates h new = absurd h
-held_append g lines (message ∷ messages) more [] lates h new = absurd h
+held_append : {D : Type 0} {G : Ghosts D} (g : Members D G) (lines : List Turn) (messages more : List LateMessage) (bag lates : List LateWrite) → AreHeldBack g lines messages bag → AreHeldBack g lines more lates → AreHeldBack g lines (messages ++ more) (bag ++ lates)
+held_append {D} {G} g lines [] more [] lates h new = new
+held_append {D} {G} g lines (message ∷ messages) more (late ∷ bag) lates h new = (h.0, held_append g lines messages more bag lates h.1 new)
+held_append {D} {G} g lines [] more (late ∷ bag) lates h new = absurd h
+held_append {D} {G} g lines (message ∷ messages) more [] lates h new = absurd h
 
 -- each message is held back
-message_held : (g : Members) (lines : List Turn) (messages : List LateMessage) (bag : List LateWrite) → AreHeldBack g lines messages bag → (x : LateMessage) → IsIn messages x → (late : LateWrite) × IsHeldBack g lines x late
-message_held g lines [] bag h x i = absurd i
-message_held g lines (message ∷ messages) [] h x i = absurd h
-message_held g lines (message ∷ messages) (late ∷ bag) h x i =
+message_held : {D : Type 0} {G : Ghosts D} (g : Members D G) (lines : List Turn) (messages : List LateMessage) (bag : List LateWrite) → AreHeldBack g lines messages bag → (x : LateMessage) → IsIn messages x → (late : LateWrite) × IsHeldBack g lines x late
+message_held {D} {G} g lines [] bag h x i = absurd i
+message_held {D} {G} g lines (message ∷ messages) [] h x i = absurd h
+message_held {D} {G} g lines (message ∷ messages) (late ∷ bag) h x i =
     elim i as (λ _. (l : LateWrite) × IsHeldBack g lines x l) [ inl same ↦ (late, subst (λ y. IsHeldBack g lines y late) same h.0) | inr rest ↦ message_held g lines messages bag h.1 x rest ]
 
 late_by : (f : Fate) → is_late f ≡ true → f ≡ fate.Late
@@ -194,7 +198,7 @@ late_by fate.Late e = refl
 late_by _ e = cc
 
 -- What is known of a write whose late messages come into the bag, in the order of these nodes.
-pub record Delays (lines : List Turn) (m : Members) (a : Act) (b : Answer) (point : Point) (nodes : List ℕ) : Type 0 where
+pub record Delays {D : Type 0} {G : Ghosts D} (lines : List Turn) (m : Members D G) (a : Act) (b : Answer) (point : Point) (nodes : List ℕ) : Type 0 where
   pub of_act : point_of (spaces_in m) a ≡ Some point
   pub was_sent : was_sent b ≡ true
   pub quiet : IsTrue (delivers_nothing (line_of a b))
@@ -206,9 +210,9 @@ pub record Delays (lines : List Turn) (m : Members) (a : Act) (b : Answer) (poin
 abbrev message_to : List Turn → Act → Answer → Point → ℕ → LateMessage
 message_to lines a b point n = record { place = place_after lines a b; node = n; point = point }
 
-new_held : {lines : List Turn} {c : Cluster} {m g : Members} (h : At lines c m) {a : Act} {b : Answer} (e : Extends lines m a b g) (point : Point) (nodes : List ℕ) → Delays lines m a b point nodes
+new_held : {D : Type 0} {G : Ghosts D} {state : D → DiskState} {faults : List Fault} {lines : List Turn} {c : Cluster D G} {m g : Members D G} (h : At state faults lines c m) {a : Act} {b : Answer} (e : Extends lines m a b g) (point : Point) (nodes : List ℕ) → Delays lines m a b point nodes
     → (n : ℕ) → IsIn nodes n → is_late (fate_to m.net.fates (next_call c None) n) ≡ true → IsHeldBack g (and_then lines a b) (message_to lines a b point n) (late_to (next_call c None) (shard_in m point.id) 1 point n)
-new_held {lines} {c} {m} {g} h {a} {b} e point nodes d n i late =
+new_held {D} {G} {state} {faults} {lines} {c} {m} {g} h {a} {b} e point nodes d n i late =
     let known = known_node h (shard_in m point.id) n d.low (d.counted n i) in
     record {
       was_late = record {
@@ -229,23 +233,23 @@ new_held {lines} {c} {m} {g} h {a} {b} e point nodes d n i late =
       point = refl;
     }
 
-all_new_held : (g : Members) (lines : List Turn) (message : ℕ → LateMessage) (late : ℕ → LateWrite) (nodes : List ℕ) → ((n : ℕ) → IsIn nodes n → IsHeldBack g lines (message n) (late n)) → AreHeldBack g lines (map message nodes) (map late nodes)
-all_new_held g lines message late [] each = tt
-all_new_held g lines message late (n ∷ nodes) each = (each n (inl refl), all_new_held g lines message late nodes (λ k i. each k (inr i)))
+all_new_held : {D : Type 0} {G : Ghosts D} (g : Members D G) (lines : List Turn) (message : ℕ → LateMessage) (late : ℕ → LateWrite) (nodes : List ℕ) → ((n : ℕ) → IsIn nodes n → IsHeldBack g lines (message n) (late n)) → AreHeldBack g lines (map message nodes) (map late nodes)
+all_new_held {D} {G} g lines message late [] each = tt
+all_new_held {D} {G} g lines message late (n ∷ nodes) each = (each n (inl refl), all_new_held g lines message late nodes (λ k i. each k (inr i)))
 
 -- what was held back is of an earlier line
-earlier_line : (m : Members) (lines : List Turn) (messages : List LateMessage) (bag : List LateWrite) → AreHeldBack m lines messages bag → (message : ℕ → LateMessage) (nodes : List ℕ) → ((n : ℕ) → length (message n).place.lines ≡ length lines)
+earlier_line : {D : Type 0} {G : Ghosts D} (m : Members D G) (lines : List Turn) (messages : List LateMessage) (bag : List LateWrite) → AreHeldBack m lines messages bag → (message : ℕ → LateMessage) (nodes : List ℕ) → ((n : ℕ) → length (message n).place.lines ≡ length lines)
     → (x y : LateMessage) → IsIn messages x → IsIn (map message nodes) y → length x.place.lines < length y.place.lines
-earlier_line m lines messages bag held message nodes of_line x y i j =
+earlier_line {D} {G} m lines messages bag held message nodes of_line x y i j =
     let from = IsIn-map message nodes y j in
     let here : length lines ≡ length y.place.lines = sym (of_line from.0) ∙ ap (λ (z : LateMessage). length z.place.lines) from.2 in
     let before = line_below ((message_held m lines messages bag held x i).1).was_late.at in
     omega (arith, here, before)
 
 -- the late messages of a write are behind those that were held back
-pub late_more : {lines : List Turn} {c : Cluster} {m g : Members} (h : At lines c m) {a : Act} {b : Answer} (e : Extends lines m a b g) (point : Point) (nodes : List ℕ) → Delays lines m a b point nodes
+pub late_more : {D : Type 0} {G : Ghosts D} {state : D → DiskState} {faults : List Fault} {lines : List Turn} {c : Cluster D G} {m g : Members D G} (h : At state faults lines c m) {a : Act} {b : Answer} (e : Extends lines m a b g) (point : Point) (nodes : List ℕ) → Delays lines m a b point nodes
     → g.net.bag ≡ filled m.net.bag (late_among m.net.fates (next_call c None) (shard_in m point.id) 1 point nodes) → HoldsLate g (and_then lines a b)
-late_more {lines} {c} {m} {g} h {a} {b} e point nodes d is =
+late_more {D} {G} {state} {faults} {lines} {c} {m} {g} h {a} {b} e point nodes d is =
     let old = (on h).late in
     let late = late_to (next_call c None) (shard_in m point.id) 1 point in
     let to_node = message_to lines a b point in

@@ -1,5 +1,12 @@
-pub mod Acts
+pub mod Chains
+pub mod Depots
 pub mod First
-pub mod Nodes
-pub mod Serves
 pub mod Steps
+pub mod Nodes
+pub mod Acts
+pub mod Replicas
+pub mod Serves
+pub mod Lending
+pub mod Plans
+pub mod Boots
+pub mod Served

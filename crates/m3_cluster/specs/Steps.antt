@@ -1,5 +1,7 @@
 -- What a cluster that stands answers, and what that leaves of it.
 use Rattle.std.specs.Prelude.{◌≡◌, ℕ, ℤ, ◌≤◌, ◌<◌, List, [], ◌∷◌, ◌++◌, length, Some, None, false, IsSome, replicate, ◌⊎◌, ⊤}
+use Rattle.m3_outside.specs.declared.disk.Disk.{Ghosts}
+use Rattle.m3_model.specs.Members.{IsIn}
 use Rattle.m3_model.specs.Placements.{IsFirstPlacement}
 use Rattle.m3_model.specs.Refusals.{namespace_limit}
 use Rattle.m3_model.specs.Rules.{namespace_place}
@@ -13,33 +15,41 @@ use Rattle.m3_model.specs.declared.rules.MetaState.{MetaState}
 use Rattle.m3_model.specs.declared.rules.Space.{Space}
 use Rattle.net_plan.specs.Fates.{fates_of}
 use Rattle.placement_core.specs.Lawful.{IsLawful}
+use Rattle.wire_bytes.specs.Entries.{IsBounded}
 use Rattle.session.specs.Reads.{Wish, IsFound, IsRefusedRead}
 use Rattle.session.specs.Writes.{IsAcknowledged, IsRefusedWrite}
 use Rattle.session.specs.declared.call.Call.{Call}
 use Rattle.session.specs.declared.session_err.SessionErr.{SessionErr}
 use Rattle.session.specs.declared.session_err.SessionErr.TheVariants as err
-use Rattle.m3_cluster.specs.First.{HasFirstMachines}
+use Rattle.session.specs.declared.slot.Slot.{Slot}
+use Rattle.m3_outside.specs.DiskState.{DiskState}
+use Rattle.m3_cluster.specs.Depots.{Depot}
+use Rattle.m3_cluster.specs.First.{HasOpened, IsFirstBooted, slots_of}
 use Rattle.m3_cluster.specs.declared.calls.Range.{Range}
 use Rattle.m3_cluster.specs.declared.members.Members.{Members}
 
-abbrev pub spaces_in : Members → List Space
+abbrev pub spaces_in : {D : Type 0} {G : Ghosts D} → Members D G → List Space
 spaces_in m = m.net.state.rules.spaces
 
 -- ---- init, namespaces and moments
 
--- the cluster that `init` makes of these nodes: at moment 0 without namespaces; nothing is lost or late, and each node runs
-pub record IsFirst (rf shards seed : ℕ) (nodes : List (List ℕ × List ℕ)) (m : Members) : Type 0 where
+-- the cluster that `init` makes of these nodes: at moment 0 without namespaces, with a machine over the disk of each slot; nothing is lost or late, and each
+-- node runs
+pub record IsFirst {D : Type 0} {G : Ghosts D} (state : D → DiskState) (rf shards seed : ℕ) (nodes : List (List ℕ × List ℕ)) (old new : Depot D) (m : Members D G) : Type 0 where
   pub place : IsFirstPlacement rf shards nodes m.net.state.place
   pub lawful : IsLawful m.net.state.place
   pub rules : m.net.state.rules ≡ record { now = 0; spaces = [] }
   pub seed_is : m.net.state.seed ≡ seed
-  pub machines : HasFirstMachines m.net.state.place m.net.machines
+  pub slots : m.slots.items ≡ slots_of m.net.state.place
+  pub machines : HasOpened state m.slots.items old m.net.machines new
+  pub booted : (s : Slot) → IsIn m.slots.items s → IsFirstBooted state old m.net.machines s
   pub fates : m.net.fates ≡ fates_of []
   pub bag : m.net.bag ≡ []
   pub stopped : m.stopped.items ≡ replicate (length m.net.state.place.instances) false
 
 -- all but the rules, the placement and the seed is as it was
-pub record KeepsNet (old new : Members) : Type 0 where
+pub record KeepsNet {D : Type 0} {G : Ghosts D} (old new : Members D G) : Type 0 where
+  pub slots : new.slots.items ≡ old.slots.items
   pub machines : new.net.machines ≡ old.net.machines
   pub fates : new.net.fates ≡ old.net.fates
   pub bag : new.net.bag ≡ old.net.bag
@@ -50,7 +60,7 @@ abbrev pub with_space : Space → MetaState → MetaState
 with_space space state = record state { rules = record state.rules { spaces = state.rules.spaces ++ space ∷ [] } }
 
 -- a namespace is made; one of a name that is there is out of order, and there is a limit to them
-abbrev pub IsNamed : Members → Space → Answer → Members → Type 0
+abbrev pub IsNamed : {D : Type 0} {G : Ghosts D} → Members D G → Space → Answer → Members D G → Type 0
 IsNamed old space answer.Done new =
     (namespace_place space.name (spaces_in old) ≡ None) × (length (spaces_in old) < namespace_limit) × (new.net.state ≡ with_space space old.net.state) × KeepsNet old new
 IsNamed old space answer.Order new = IsSome (namespace_place space.name (spaces_in old)) × (new ≡ old)
@@ -63,7 +73,7 @@ abbrev pub at_moment : ℕ → MetaState → MetaState
 at_moment now state = record state { rules = record state.rules { now = now } }
 
 -- the moment moves on; it never falls
-abbrev pub IsMoved : Members → ℕ → Answer → Members → Type 0
+abbrev pub IsMoved : {D : Type 0} {G : Ghosts D} → Members D G → ℕ → Answer → Members D G → Type 0
 IsMoved old now answer.Done new = (old.net.state.rules.now ≤ now) × (new.net.state ≡ at_moment now old.net.state) × KeepsNet old new
 IsMoved old now (answer.Clock moment) new = (now < old.net.state.rules.now) × (moment ≡ old.net.state.rules.now) × (new ≡ old)
 IsMoved old now _ new = ⊥
@@ -87,38 +97,40 @@ abbrev pub placed : NamedPoint → ℕ → Point
 placed p ns = record { ns = ns; id = p.id; t = p.t; v = p.v }
 
 -- a write was acknowledged or refused
-abbrev pub IsWriteAnswer : Members → Call → Point → WriteLevel → Answer → Members → Type 0
-IsWriteAnswer old call p level (answer.Acks acks) new = IsAcknowledged old.net call p level acks new.net
-IsWriteAnswer old call p level (answer.Consistency got needed reasons shard) new = IsRefusedWrite old.net call p level new.net (err.Consistency shard needed got reasons)
-IsWriteAnswer old call p level answer.Memory new = IsRefusedWrite old.net call p level new.net err.Memory
-IsWriteAnswer old call p level _ new = ⊥
+abbrev pub IsWriteAnswer : {D : Type 0} {G : Ghosts D} → (D → DiskState) → Members D G → Call → Point → WriteLevel → Answer → Members D G → Type 0
+IsWriteAnswer state old call p level (answer.Acks acks) new = IsAcknowledged state old.net call p level acks new.net
+IsWriteAnswer state old call p level (answer.Consistency got needed reasons shard) new = IsRefusedWrite state old.net call p level new.net (err.Consistency shard needed got reasons)
+IsWriteAnswer state old call p level answer.Memory new = IsRefusedWrite state old.net call p level new.net err.Memory
+IsWriteAnswer state old call p level _ new = ⊥
 
 -- a write went to the nodes that count
-pub record IsPut (old : Members) (call : Call) (point : NamedPoint) (level : WriteLevel) (answered : Answer) (new : Members) : Type 0 where
+pub record IsPut {D : Type 0} {G : Ghosts D} (state : D → DiskState) (old : Members D G) (call : Call) (point : NamedPoint) (level : WriteLevel) (answered : Answer) (new : Members D G) : Type 0 where
   pub place : ℕ
   pub found : namespace_place point.ns (spaces_in old) ≡ Some place
-  pub answers : IsWriteAnswer old call (placed point place) level answered new
-  pub state : new.net.state ≡ old.net.state
+  pub bounded : IsBounded (placed point place)
+  pub answers : IsWriteAnswer state old call (placed point place) level answered new
+  pub state_stays : new.net.state ≡ old.net.state
+  pub slots : new.slots.items ≡ old.slots.items
   pub fates : new.net.fates ≡ old.net.fates
   pub stopped : new.stopped.items ≡ old.stopped.items
 
 -- the namespace isn't there, or the write went to the nodes that count
-abbrev pub IsWritten : Members → Call → NamedPoint → WriteLevel → Answer → Members → Type 0
-IsWritten old call point level answered new =
-    ((namespace_place point.ns (spaces_in old) ≡ None) × (answered ≡ answer.Unknown point.ns) × (new ≡ old)) ⊎ IsPut old call point level answered new
+abbrev pub IsWritten : {D : Type 0} {G : Ghosts D} → (D → DiskState) → Members D G → Call → NamedPoint → WriteLevel → Answer → Members D G → Type 0
+IsWritten state old call point level answered new =
+    ((namespace_place point.ns (spaces_in old) ≡ None) × (answered ≡ answer.Unknown point.ns) × (new ≡ old)) ⊎ IsPut state old call point level answered new
 
 -- what is asked for in a range
 abbrev pub wish : Pick → Range → Wish
 wish pick range = record { pick = pick; from = range.from; to = range.to }
 
 -- a read found what the nodes that count answered, or it was refused
-abbrev pub IsRead : Members → Call → Pick → Range → ReadLevel → Answer → Type 0
+abbrev pub IsRead : {D : Type 0} {G : Ghosts D} → Members D G → Call → Pick → Range → ReadLevel → Answer → Type 0
 IsRead m call pick range level (answer.Found series short) = IsFound m.net call (wish pick range) level series short
 IsRead m call pick range level (answer.Consistency got needed reasons shard) = IsRefusedRead m.net call (wish pick range) level (err.Consistency shard needed got reasons)
 IsRead m call pick range level answer.Memory = ⊤
 IsRead m call pick range level _ = ⊥
 
 -- the same, of a namespace by its name: it may not be there
-abbrev pub IsFetched : Members → Call → List ℕ → (ℕ → Pick) → Range → ReadLevel → Answer → Type 0
+abbrev pub IsFetched : {D : Type 0} {G : Ghosts D} → Members D G → Call → List ℕ → (ℕ → Pick) → Range → ReadLevel → Answer → Type 0
 IsFetched m call ns pick range level answered =
     ((namespace_place ns (spaces_in m) ≡ None) × (answered ≡ answer.Unknown ns)) ⊎ ((place : ℕ) × (namespace_place ns (spaces_in m) ≡ Some place) × IsRead m call (pick place) range level answered)

@@ -1,5 +1,6 @@
 //! Calls of clients on a cluster that stands.
-ghost use Rattle.std.specs.Prelude.{◌≡◌, ◌<◌, length};
+ghost use Rattle.std.specs.Prelude.{◌≡◌, ◌<◌, ◌^◌, length};
+ghost use Rattle.m3_model.specs.Identifiers.{IsIdentifier};
 ghost use Rattle.m3_model.specs.Reads.{space_picked};
 ghost use Rattle.m3_model.specs.declared.point.Pick.TheVariants as pick;
 ghost use Rattle.m3_cluster.specs.Steps.{answer_of, IsWritten, IsFetched, IsRead};
@@ -10,6 +11,7 @@ use m3_model::answer::Answer;
 use m3_model::point::{Matcher, Pick, Point};
 use m3_model::seq::Seq;
 use m3_model::text::Text;
+use m3_outside::disk::Disk;
 use session::call::Call;
 use session::read::fetch;
 use session::session_err::SessionErr;
@@ -43,8 +45,8 @@ fn answer_of(refused: SessionErr) -> Answer
     }
 }
 
-impl Members {
-    /// Writes a point to the nodes that count for the shard of its identifier.
+impl<D: Disk> Members<D> {
+    /// Writes a point to the nodes that count for the shard of its identifier, within the limits of a request.
     pub(crate) fn write(
         &mut self,
         alloc: Global,
@@ -55,7 +57,9 @@ impl Members {
         v: i64,
         level: WriteLevel,
     ) -> Answer
-        ensures { IsWritten self.old call (record { ns = ns; id = id; t = t; v = v }) level result self.new }
+        requires id { IsIdentifier id }
+        requires time { t < 2 ^ 62 }
+        ensures { IsWritten D.state self.old call (record { ns = ns; id = id; t = t; v = v }) level result self.new }
     {
         let spaces = self.net.state.rules.spaces.as_slice();
         let Some(place) = namespace_place(spaces, ns.as_str()) else {

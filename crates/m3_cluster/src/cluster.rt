@@ -1,33 +1,44 @@
-ghost use Rattle.std.specs.Prelude.{◌≡◌, ◌≤◌, [], ◌∷◌, ◌++◌, List, length, None, true, false, IsTrue, IfOk};
+ghost use Rattle.std.specs.Prelude.{◌≡◌, ◌≢◌, ◌≤◌, [], ◌∷◌, ◌++◌, List, None, true, false, IsTrue};
 ghost use Rattle.std.specs.Option.{option_copied};
 ghost use Rattle.m3_model.specs.declared.turn.Turn.{Turn};
 ghost use Rattle.m3_model.specs.declared.act.Act.TheVariants as act;
 ghost use Rattle.m3_model.specs.Fates.{is_call};
 ghost use Rattle.m3_model.specs.Limits.{IsInit, MeetsLimits, KeepsLimits};
 ghost use Rattle.m3_model.specs.NotYet.{fills_its_nodes, IsServedAct, IsServed};
-ghost use Rattle.m3_cluster.specs.Acts.{Answers, IsMade};
-ghost use Rattle.m3_cluster.specs.Serves.{Serves, place_of};
-ghost use Rattle.m3_cluster.specs.Steps.{IsFirst};
+ghost use Rattle.m3_model.specs.Placements.{placement_after};
+ghost use Rattle.m3_model.specs.Record.{inner_turns};
+ghost use Rattle.m3_outside.specs.DiskState.{DiskState};
+ghost use Rattle.m3_outside.specs.Slots.{Out};
+ghost use Rattle.m3_outside.specs.declared.slot.Slot.{Slot as Place};
+ghost use Rattle.session.specs.declared.slot.Slot.{Slot as AtSlot};
+ghost use Rattle.m3_cluster.specs.Acts.{Answers, IsMade, is_init};
+ghost use Rattle.m3_cluster.specs.Depots.{Depot, place_of_slot, OwnsDisks, TellAll};
+ghost use Rattle.m3_cluster.specs.Lending.{depot_by};
+ghost use Rattle.m3_cluster.specs.Replicas.{IsBare};
+ghost use Rattle.m3_cluster.specs.Served.{IsServedBy};
+ghost use Rattle.m3_cluster.specs.Serves.{Serves, place_of, count_at, machine_at};
 
 use crate::calls::Range;
+use crate::first::first_members;
+use crate::lending::give_all;
 use crate::members::Members;
 use m3_model::act::{Act, Fate};
 use m3_model::answer::Answer;
-use m3_model::duplicate::Duplicate;
-use m3_model::memory::Memory;
 use m3_model::placement::Placement;
 use m3_model::rules::Space;
 use m3_model::seq::Seq;
 use m3_model::text::Text;
 use m3_model::turn::{Reply, Request};
+use m3_outside::disk::Disk;
+use m3_outside::disks::Disks;
 use net_plan::calls::Calls;
 use session::call::Call;
 use std::alloc::Global;
 
 /// The nodes of one process and what they hold, before `init` none.
 #[derive(Drop)]
-pub struct Cluster {
-    pub(crate) members: Option<Members>,
+pub struct Cluster<D: Disk> {
+    pub(crate) members: Option<Members<D>>,
     pub(crate) calls: Calls,
 }
 
@@ -42,28 +53,11 @@ fn call_of(number: u64, version: Option<u64>) -> Call
     }
 }
 
-fn first_members(
-    alloc: Global,
-    rf: u32,
-    shards: u32,
-    seed: u32,
-    nodes: Seq<(Text, Text)>,
-) -> Result<(Members, Placement), Memory>
-    requires limits { IsInit rf shards seed nodes }
-    requires apart { IsTrue (fills_its_nodes rf nodes) }
-    ensures members { IfOk result (λ made. IsFirst rf shards seed nodes made.0) }
-    ensures placement { IfOk result (λ made. made.1 ≡ made.0.net.state.place) }
-{
-    let members = Members::first(alloc, rf, shards, seed, nodes)?;
-    let placement = members.net.state.place.copy(alloc)?;
-    Ok((members, placement))
-}
-
-impl Cluster {
+impl<D: Disk> Cluster<D> {
     /// No nodes yet.
-    pub fn new() -> Cluster
+    pub fn new() -> Cluster<D>
         ensures none { result.members ≡ None }
-        ensures serves { Serves [] result }
+        ensures serves { (first : Depot D) → ((place : Place) → IsBare D.state (first.held place)) → Serves D.state first first [] result }
     {
         Cluster {
             members: None,
@@ -81,9 +75,11 @@ impl Cluster {
         }
     }
 
-    fn init(
+    // Makes a cluster on the nodes where none stands, over the disks of its slots.
+    fn init<X: Disks<D = D>>(
         &mut self,
         alloc: Global,
+        disks: &mut X,
         rf: u32,
         shards: u32,
         seed: u32,
@@ -91,12 +87,13 @@ impl Cluster {
     ) -> Answer
         requires limits { IsInit rf shards seed nodes }
         requires apart { IsTrue (fills_its_nodes rf nodes) }
-        ensures { IsMade self.old rf shards seed nodes result self.new }
+        requires owned { OwnsDisks self.old (X.held disks.old) }
+        ensures made { IsMade D.state (depot_by X.held X.counted X.all_faults disks.old) self.old rf shards seed nodes result (depot_by X.held X.counted X.all_faults disks.new) self.new }
     {
         if self.members.is_some() {
             return Answer::Order;
         }
-        match first_members(alloc, rf, shards, seed, nodes) {
+        match first_members(alloc, disks, rf, shards, seed, nodes) {
             Ok((members, placement)) => {
                 self.members = Some(members);
                 Answer::Placed {
@@ -104,14 +101,14 @@ impl Cluster {
                     version: 1,
                 }
             }
-            Err(_) => Answer::Memory,
+            Err(refused) => refused,
         }
     }
 
     // Accepted fates begin all numberings anew.
     fn set_fates(&mut self, alloc: Global, list: Seq<(u32, u64, Text, Fate)>) -> Answer
         requires { MeetsLimits (act.Fates list) }
-        ensures { Answers self.old (act.Fates list) result self.new }
+        ensures { Answers D.state self.old (act.Fates list) result self.new }
     {
         let Some(members) = &mut self.members else {
             return Answer::Order;
@@ -128,7 +125,7 @@ impl Cluster {
         requires limits { MeetsLimits act }
         requires served { IsServedAct act }
         requires call { is_call act ≡ true }
-        ensures { Answers self.old act result self.new }
+        ensures { Answers D.state self.old act result self.new }
     {
         let number = self.calls.next(0);
         let Some(members) = &mut self.members else {
@@ -181,18 +178,10 @@ impl Cluster {
     fn answer_change(&mut self, alloc: Global, act: Act) -> Answer
         requires limits { MeetsLimits act }
         requires served { IsServedAct act }
+        requires no_init { is_init act ≡ false }
         requires change { is_call act ≡ false }
-        ensures { Answers self.old act result self.new }
+        ensures { Answers D.state self.old act result self.new }
     {
-        if let Act::Init {
-            rf,
-            shards,
-            seed,
-            nodes,
-        } = act
-        {
-            return self.init(alloc, rf, shards, seed, nodes);
-        }
         if let Act::Fates { list } = act {
             return self.set_fates(alloc, list);
         }
@@ -216,14 +205,18 @@ impl Cluster {
             Act::Now { now } => members.set_moment(now),
             Act::Deliver => members.deliver(alloc),
             Act::Stop { node } => members.stop(node),
+            Act::Restart { node, pick } => members.restart(node, pick),
+            Act::Bootstrap { node, shard } => members.bootstrap(alloc, node, shard),
             _ => unreachable!(),
         }
     }
 
+    // Answers an act other than `init`. No disk is taken or given back.
     fn answer(&mut self, alloc: Global, act: Act) -> Answer
         requires limits { MeetsLimits act }
         requires served { IsServedAct act }
-        ensures { Answers self.old act result self.new }
+        requires no_init { is_init act ≡ false }
+        ensures { Answers D.state self.old act result self.new }
     {
         match act {
             Act::Write { .. } | Act::Fetch { .. } | Act::Match { .. } => self.answer_call(
@@ -233,16 +226,61 @@ impl Cluster {
         }
     }
 
-    /// Answers one request. What was kept and caused in the turns so far is so in them and this one.
-    pub fn serve(&mut self, alloc: Global, request: Request) -> Reply
+    // Answers an act.
+    fn serve_act<X: Disks<D = D>>(&mut self, alloc: Global, disks: &mut X, act: Act) -> Answer
+        requires limits { MeetsLimits act }
+        requires served { IsServedAct act }
+        requires owned { OwnsDisks self.old (X.held disks.old) }
+        ensures { IsServedBy D.state (depot_by X.held X.counted X.all_faults disks.old) self.old act result (depot_by X.held X.counted X.all_faults disks.new) self.new }
+    {
+        if let Act::Init {
+            rf,
+            shards,
+            seed,
+            nodes,
+        } = act
+        {
+            return self.init(alloc, disks, rf, shards, seed, nodes);
+        }
+        self.answer(alloc, act)
+    }
+
+    /// Answers one request. What was kept and caused in the turns so far is so in them and this one, where the disks tell
+    /// what they hold.
+    pub fn serve<X: Disks<D = D>>(
+        &mut self,
+        alloc: Global,
+        disks: &mut X,
+        request: Request,
+    ) -> Reply
         requires limits { KeepsLimits request }
         requires served { IsServed request }
-        ensures serves { (turns : List Turn) → Serves turns self.old
-            → Serves (turns ++ record { request = request; reply = result } ∷ []) self.new }
+        requires owned { OwnsDisks self.old (X.held disks.old) }
+        ensures owned { OwnsDisks self.new (X.held disks.new) }
+        ensures placed { placement_after (place_of self.old) (inner_turns (record { request = request; reply = result } ∷ [])) ≡ place_of self.new }
+        ensures serves { TellAll D.state → (first : Depot D) (turns : List Turn)
+            → Serves D.state first (record { held = X.held disks.old; counted = X.counted disks.old; faults = X.all_faults disks.old }) turns self.old
+            → Serves D.state first (record { held = X.held disks.new; counted = X.counted disks.new; faults = X.all_faults disks.new }) (turns ++ record { request = request; reply = result } ∷ []) self.new }
     {
         match request {
-            Request::One(act) => Reply::One(self.answer(alloc, act)),
+            Request::One(act) => Reply::One(self.serve_act(alloc, disks, act)),
             Request::Par { .. } => unreachable!(),
+        }
+    }
+
+    /// Gives all disks back. Takes no memory.
+    pub fn close<X: Disks<D = D>>(self, disks: &mut X)
+        requires owned { OwnsDisks self (X.held disks.old) }
+        ensures none_out { (place : Place) → X.held disks.new place ≢ Out }
+        ensures counted { (s : AtSlot) → X.counted disks.new (place_of_slot s)
+            ≡ count_at D.state (record { held = X.held disks.old; counted = X.counted disks.old; faults = X.all_faults disks.old }) (machine_at self s) s }
+        ensures later { X.all_faults disks.old ≤ X.all_faults disks.new }
+    {
+        let Cluster { members, .. } = self;
+        if let Some(members) = members {
+            let Members { net, slots, .. } = members;
+            let mut machines = net.machines;
+            give_all(disks, slots.as_slice(), &mut machines);
         }
     }
 }

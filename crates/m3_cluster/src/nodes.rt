@@ -1,7 +1,9 @@
 //! What befalls the nodes of a cluster that stands, and the messages to them.
-ghost use Rattle.std.specs.Prelude.{◌≡◌, ◌<◌, ◌≤◌, length, List, IfSome, IfOk, IfErr};
+ghost use Rattle.std.specs.Prelude.{◌≡◌, ◌<◌, ◌≤◌, length, map, IfSome};
 ghost use Rattle.m3_model.specs.declared.act.Act.TheVariants as act;
 ghost use Rattle.m3_model.specs.Limits.{MeetsLimits};
+ghost use Rattle.m3_outside.specs.DiskState.{DiskState};
+ghost use Rattle.m3_cluster.specs.Chains.{TakesLinks, stop_at, slots_of_node};
 ghost use Rattle.m3_cluster.specs.Nodes.{node_named, IsResolved, IsFated, IsDelivered, IsStopped};
 
 use crate::members::Members;
@@ -10,8 +12,10 @@ use m3_model::answer::Answer;
 use m3_model::placement::Instance;
 use m3_model::seq::Seq;
 use m3_model::text::Text;
+use m3_outside::disk::Disk;
 use net_plan::fates::Fates;
 use session::deliver::deliver;
+use session::machines::Machines;
 use session::slot::Slot;
 use std::alloc::Global;
 
@@ -45,7 +49,18 @@ fn resolved(
     Ok(Seq::from_vec(numbered))
 }
 
-impl Members {
+/// Stops the machines at the slots of a node.
+pub(crate) fn stop_all<D: Disk>(machines: &mut Machines<D>, slots: &[Slot], node: u8)
+    ensures { TakesLinks D.state (map stop_at (slots_of_node node slots.now)) machines.old machines.new }
+{
+    for slot in slots {
+        if slot.node == node {
+            machines.stop(*slot);
+        }
+    }
+}
+
+impl<D: Disk> Members<D> {
     /// Sets what becomes of messages, in place of all earlier fates. `Unknown` names the first name that no node has;
     /// nothing changes then.
     pub(crate) fn set_fates(&mut self, alloc: Global, list: Seq<(u32, u64, Text, Fate)>) -> Answer
@@ -63,7 +78,7 @@ impl Members {
 
     /// Delivers the late writes.
     pub(crate) fn deliver(&mut self, alloc: Global) -> Answer
-        ensures { IsDelivered self.old result self.new }
+        ensures { IsDelivered D.state self.old result self.new }
     {
         match deliver(&mut self.net, alloc) {
             Ok(outcomes) => Answer::Outcomes { outcomes },
@@ -74,22 +89,16 @@ impl Members {
     /// Stops a node, and with it each of its machines. `Unknown` says that no node has the name, and `State` that it is
     /// stopped; nothing changes then.
     pub(crate) fn stop(&mut self, name: Text) -> Answer
-        ensures { IsStopped self.old name result self.new }
+        ensures { IsStopped D.state self.old name result self.new }
     {
-        let state = &self.net.state;
-        let Some(node) = node_named(state.place.instances.as_slice(), name.as_str()) else {
+        let instances = self.net.state.place.instances.as_slice();
+        let Some(node) = node_named(instances, name.as_str()) else {
             return Answer::Unknown { name };
         };
-        let shards = state.place.shards.len();
         if self.stopped[node] {
             return Answer::State { node: name };
         }
-        for shard in 0..shards {
-            self.net.machines.stop(Slot {
-                shard: shard as u32,
-                node: node as u8,
-            });
-        }
+        stop_all(&mut self.net.machines, self.slots.as_slice(), node as u8);
         self.stopped[node] = true;
         Answer::Done
     }

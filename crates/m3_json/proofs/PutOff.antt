@@ -17,7 +17,7 @@ use Rattle.m3_json.specs.declared.fault.LineErr.{LineErr}
 use Rattle.m3_json.specs.declared.fault.LineErr.TheVariants as errors
 use Rattle.m3_json.specs.Fields.{◌>>=◌, needed, tested, is_one_of, text_of, name_of, number_of, field, text_at, name_at, number_at, value_at, optional_at}
 use Rattle.m3_json.specs.Lists.{has_count, items_at, entries_of, list_at}
-use Rattle.m3_json.specs.Rows.{node_of_two, node_of_items, node_of, names_differ, nodes_at, init_of, namespace_of, now_of, write_level_named, read_level_named, write_level_at, read_level_at, version_at, write_of, fetch_of, sign_named, matcher_of_three, matcher_of_items, matcher_of, matchers_at, match_of, stop_of}
+use Rattle.m3_json.specs.Rows.{node_of_two, node_of_items, node_of, names_differ, nodes_at, init_of, namespace_of, now_of, write_level_named, read_level_named, write_level_at, read_level_at, version_at, write_of, fetch_of, sign_named, matcher_of_three, matcher_of_items, matcher_of, matchers_at, match_of, stop_of, pick_at, restart_of, shard_at, bootstrap_of}
 use Rattle.m3_json.specs.Fates.{fate_named, fate_of_four, fate_of_items, fate_of, messages_differ, fates_at, fates_of, deliver_of}
 use Rattle.m3_json.specs.NotYet.{later_ops, refusal_of, is_put_off}
 use Rattle.m3_json.specs.Requests.{act_of, row_of, NamesSeries, IsPutOff}
@@ -217,26 +217,42 @@ Decided-stop_of : (d : Data) → Decided (stop_of d)
 unfolding stop_of
 Decided-stop_of d = search (Decided-steps, Decided-Ok, Decided-tested, Decided-name_at) depth 20
 
+Decided-pick_at : (d : Data) → Decided (pick_at d)
+unfolding pick_at
+Decided-pick_at d = Decided-optional_at _ (codes "pick") _ d (Decided-number_of 0 (2 ^ 62))
+
+Decided-restart_of : (d : Data) → Decided (restart_of d)
+unfolding restart_of
+Decided-restart_of d = search (Decided-steps, Decided-Ok, Decided-tested, Decided-name_at, Decided-pick_at) depth 20
+
+Decided-shard_at : (d : Data) → Decided (shard_at d)
+unfolding shard_at
+Decided-shard_at d = Decided-optional_at _ (codes "shard") _ d (λ v. Decided-steps (number_of 0 64 v) _ (Decided-number_of 0 64 v) (λ n same. cc))
+
+Decided-bootstrap_of : (d : Data) → Decided (bootstrap_of d)
+unfolding bootstrap_of
+Decided-bootstrap_of d = search (Decided-steps, Decided-Ok, Decided-tested, Decided-name_at, Decided-shard_at) depth 20
+
+-- where a chain of rows is answered `Later`, a row that decides isn't the one that was taken
+passes : {A : Type 0} (taken : Bool) (row others : Result A LineErr) → Decided row → (if taken then row else others) ≡ Err errors.Later → others ≡ Err errors.Later
+passes true row others decided e = absurd (decided e)
+passes false row others decided e = e
+
 -- an op whose row is answered `Later` is one that is put off
 later_op : (op : List ℕ) (d : Data) → act_of op d ≡ Err errors.Later → IsTrue (is_one_of later_ops op)
 unfolding act_of refusal_of
 later_op op d e =
-    by (pointwise nat_eq op (codes "init")) (pointwise nat_eq op (codes "namespace")) (pointwise nat_eq op (codes "now")) (pointwise nat_eq op (codes "write")) (pointwise nat_eq op (codes "fetch")) (pointwise nat_eq op (codes "match"))
-    (pointwise nat_eq op (codes "fates")) (pointwise nat_eq op (codes "deliver")) (pointwise nat_eq op (codes "stop")) (is_one_of later_ops op) e
+    last (is_one_of later_ops op) (passes (pointwise nat_eq op (codes "bootstrap")) _ _ (Decided-bootstrap_of d) (passes (pointwise nat_eq op (codes "restart")) _ _ (Decided-restart_of d)
+    (passes (pointwise nat_eq op (codes "stop")) _ _ (Decided-stop_of d) (passes (pointwise nat_eq op (codes "deliver")) _ _ (Decided-deliver_of d) (passes (pointwise nat_eq op (codes "fates")) _ _ (Decided-fates_of d)
+    (passes (pointwise nat_eq op (codes "match")) _ _ (Decided-match_of d) (passes (pointwise nat_eq op (codes "fetch")) _ _ (Decided-fetch_of d) (passes (pointwise nat_eq op (codes "write")) _ _ (Decided-write_of d)
+    (passes (pointwise nat_eq op (codes "now")) _ _ (Decided-now_of d) (passes (pointwise nat_eq op (codes "namespace")) _ _ (Decided-namespace_of d) (passes (pointwise nat_eq op (codes "init")) _ _ (Decided-init_of d) e)))))))))))
   where
-    by : (i n m w f q t v s later : Bool) → (if i then init_of d else (if n then namespace_of d else (if m then now_of d else (if w then write_of d else (if f then fetch_of d else (if q then match_of d else
-        (if t then fates_of d else (if v then deliver_of d else (if s then stop_of d else Err (if later then errors.Later else errors.Form)))))))))) ≡ Err errors.Later → IsTrue later
-    by true n m w f q t v s later e = absurd (Decided-init_of d e)
-    by false true m w f q t v s later e = absurd (Decided-namespace_of d e)
-    by false false true w f q t v s later e = absurd (Decided-now_of d e)
-    by false false false true f q t v s later e = absurd (Decided-write_of d e)
-    by false false false false true q t v s later e = absurd (Decided-fetch_of d e)
-    by false false false false false true t v s later e = absurd (Decided-match_of d e)
-    by false false false false false false true v s later e = absurd (Decided-fates_of d e)
-    by false false false false false false false true s later e = absurd (Decided-deliver_of d e)
-    by false false false false false false false false true later e = absurd (Decided-stop_of d e)
-    by false false false false false false false false false true e = refl
-    by false false false false false false false false false false e = absurd (Decided-Form Act e)
+    refused : Bool → Result Act LineErr
+    refused later = Err (if later then errors.Later else errors.Form)
+
+    last : (later : Bool) → refused later ≡ Err errors.Later → IsTrue later
+    last true e = refl
+    last false e = absurd (Decided-Form Act e)
 
 -- a text that is put off is none that isn't
 is_other_op : (op row : List ℕ) → IsTrue (is_one_of later_ops op) → is_one_of later_ops row ≡ false → pointwise nat_eq op row ≡ false
@@ -247,7 +263,7 @@ is_other_op op row later not_later =
 op_later : (op : List ℕ) (d : Data) → IsTrue (is_one_of later_ops op) → act_of op d ≡ Err errors.Later
 unfolding act_of refusal_of
 op_later op d later =
-    simp (is_other_op op (codes "init") later refl, is_other_op op (codes "namespace") later refl, is_other_op op (codes "now") later refl, is_other_op op (codes "write") later refl, is_other_op op (codes "fetch") later refl, is_other_op op (codes "match") later refl, is_other_op op (codes "fates") later refl, is_other_op op (codes "deliver") later refl, is_other_op op (codes "stop") later refl, later)
+    simp (is_other_op op (codes "init") later refl, is_other_op op (codes "namespace") later refl, is_other_op op (codes "now") later refl, is_other_op op (codes "write") later refl, is_other_op op (codes "fetch") later refl, is_other_op op (codes "match") later refl, is_other_op op (codes "fates") later refl, is_other_op op (codes "deliver") later refl, is_other_op op (codes "stop") later refl, is_other_op op (codes "restart") later refl, is_other_op op (codes "bootstrap") later refl, later)
 
 put_off : (d : Data) → IsPutOff d → HasLaterOp d ⊎ HasLaterForm d
 put_off d cause = elim cause as (λ _. HasLaterOp d ⊎ HasLaterForm d) [ inl e ↦ by (text_at (codes "op") d) refl e | inr form ↦ inr (whole form.0 form.1.0 form.1.1 form.2) ]

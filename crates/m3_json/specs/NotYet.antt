@@ -10,7 +10,7 @@ use Rattle.m3_json.specs.Fields.{is_one_of}
 -- the ops that are put off, whatever other fields stand with them
 abbrev pub later_ops : List (List ℕ)
 later_ops =
-    codes "restart" ∷ codes "bootstrap" ∷ codes "add" ∷ codes "drain"
+    codes "add" ∷ codes "drain"
     ∷ codes "cancel" ∷ codes "remove" ∷ codes "replace" ∷ codes "tick" ∷ codes "flush" ∷ codes "snapshot" ∷ codes "repair" ∷ codes "status" ∷ codes "par" ∷ []
 
 -- what an op without a row is answered: put off, or no op at all
@@ -28,4 +28,6 @@ is_put_off (act.Match ns wanted from to level version) = is_some version
 is_put_off (act.Fates list) = false
 is_put_off act.Deliver = false
 is_put_off (act.Stop node) = false
+is_put_off (act.Restart node pick) = false
+is_put_off (act.Bootstrap node shard) = false
 is_put_off _ = true

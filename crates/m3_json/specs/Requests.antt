@@ -11,7 +11,7 @@ use Rattle.m3_model.specs.declared.turn.Request.TheVariants as request
 use Rattle.m3_json.specs.declared.fault.LineErr.{LineErr}
 use Rattle.m3_json.specs.declared.fault.LineErr.TheVariants as errors
 use Rattle.m3_json.specs.Fields.{◌>>=◌, text_at}
-use Rattle.m3_json.specs.Rows.{init_of, namespace_of, now_of, write_of, fetch_of, match_of, stop_of}
+use Rattle.m3_json.specs.Rows.{init_of, namespace_of, now_of, write_of, fetch_of, match_of, stop_of, restart_of, bootstrap_of}
 use Rattle.m3_json.specs.Fates.{fates_of, deliver_of}
 use Rattle.m3_json.specs.NotYet.{refusal_of, is_put_off}
 
@@ -26,7 +26,9 @@ act_of op d =
     (if pointwise nat_eq op (codes "match") then match_of d else
     (if pointwise nat_eq op (codes "fates") then fates_of d else
     (if pointwise nat_eq op (codes "deliver") then deliver_of d else
-    (if pointwise nat_eq op (codes "stop") then stop_of d else Err (refusal_of op)))))))))
+    (if pointwise nat_eq op (codes "stop") then stop_of d else
+    (if pointwise nat_eq op (codes "restart") then restart_of d else
+    (if pointwise nat_eq op (codes "bootstrap") then bootstrap_of d else Err (refusal_of op)))))))))))
 
 -- the act of the row that an object is in by its field `op`; any text stands for an identifier here
 abbrev pub row_of : Data → Result Act LineErr

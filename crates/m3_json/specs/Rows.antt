@@ -165,3 +165,27 @@ stop_of d = do
   whole ← tested (has_only (codes "node" ∷ codes "op" ∷ [])) d
   node ← name_at (codes "node") d
   Ok (act.Stop node)
+
+-- the field `pick`, 0 where it is absent
+unfoldable pub pick_at : Data → Result ℕ LineErr
+pick_at = optional_at 0 (codes "pick") (number_of 0 (2 ^ 62))
+
+-- restart: the node's name, and what its disks make of writes that weren't synced
+unfoldable pub restart_of : Data → Result Act LineErr
+restart_of d = do
+  whole ← tested (has_only (codes "node" ∷ codes "op" ∷ codes "pick" ∷ [])) d
+  node ← name_at (codes "node") d
+  pick ← pick_at d
+  Ok (act.Restart node pick)
+
+-- the field `shard` of a bootstrap; where it is absent, none
+unfoldable pub shard_at : Data → Result (Option ℕ) LineErr
+shard_at = optional_at None (codes "shard") (λ v. number_of 0 64 v >>= λ n. Ok (Some n))
+
+-- bootstrap: the node's name, and one of its shards or all
+unfoldable pub bootstrap_of : Data → Result Act LineErr
+bootstrap_of d = do
+  whole ← tested (has_only (codes "node" ∷ codes "op" ∷ codes "shard" ∷ [])) d
+  node ← name_at (codes "node") d
+  shard ← shard_at d
+  Ok (act.Bootstrap node shard)

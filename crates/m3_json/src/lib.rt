@@ -13,7 +13,7 @@ mod matches;
 mod moment;
 mod names;
 mod namespace;
+mod nodes;
 mod not_yet;
-mod stop;
 #[cfg(test)]
 mod tests;

@@ -13,8 +13,8 @@ use crate::init::init_of;
 use crate::matches::match_of;
 use crate::moment::now_of;
 use crate::namespace::namespace_of;
+use crate::nodes::{bootstrap_of, restart_of, stop_of};
 use crate::not_yet::{is_put_off, refusal_of};
-use crate::stop::stop_of;
 use m3_model::act::Act;
 use m3_model::turn::Request;
 use serde_json::Value;
@@ -36,6 +36,8 @@ fn act_of(alloc: Global, op: &str, value: &Value) -> Result<Act, LineErr>
         "fates" => fates_of(alloc, value),
         "deliver" => deliver_of(value),
         "stop" => stop_of(alloc, value),
+        "restart" => restart_of(alloc, value),
+        "bootstrap" => bootstrap_of(alloc, value),
         _ => Err(refusal_of(op)),
     }
 }

@@ -15,19 +15,8 @@ pub fn refusal_of(op: &str) -> LineErr
     ensures { result ≡ refusal_of op.now }
 {
     let later_ops = [
-        "restart",
-        "bootstrap",
-        "add",
-        "drain",
-        "cancel",
-        "remove",
-        "replace",
-        "tick",
-        "flush",
-        "snapshot",
-        "repair",
-        "status",
-        "par",
+        "add", "drain", "cancel", "remove", "replace", "tick", "flush", "snapshot", "repair",
+        "status", "par",
     ];
     if is_one_of(&later_ops, op) {
         LineErr::Later
@@ -71,7 +60,9 @@ pub fn is_put_off(act: &Act) -> bool
         | Act::Now { .. }
         | Act::Fates { .. }
         | Act::Deliver
-        | Act::Stop { .. } => false,
+        | Act::Stop { .. }
+        | Act::Restart { .. }
+        | Act::Bootstrap { .. } => false,
         _ => true,
     }
 }

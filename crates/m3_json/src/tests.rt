@@ -154,7 +154,45 @@ form {"op":"deliver","list":[]}
 ok {"op":"stop","node":"a"}
 form {"op":"stop"}
 form {"op":"stop","node":"a b"}
-form {"op":"stop","node":"a","pick":0}"#;
+form {"op":"stop","node":"a","pick":0}
+form {"op":"stop","node":"a","shard":0}
+form {"op":"stop","node":"123456789012345678901234567890123"}"#;
+
+// Lines of restart and bootstrap, each with its outcome before it.
+const NODES: &str = r#"ok {"op":"restart","node":"a"}
+ok {"op":"restart","node":"12345678901234567890123456789012","pick":0}
+ok {"pick":4611686018427387903,"node":"a","op":"restart"}
+ok {"op":"restart","node":"a","pick":-1,"pick":7}
+form {"op":"restart","node":"a","pick":4611686018427387904}
+form {"op":"restart","node":"a","pick":-1}
+form {"op":"restart","node":"a","pick":1.0}
+form {"op":"restart","node":"a","pick":"0"}
+form {"op":"restart","node":"a","pick":null}
+form {"op":"restart"}
+form {"op":"restart","pick":0}
+form {"op":"restart","node":0}
+form {"op":"restart","node":""}
+form {"op":"restart","node":"a.b"}
+form {"op":"restart","node":"123456789012345678901234567890123"}
+form {"op":"restart","node":"a","shard":0}
+form {"op":"restart","node":"a","pick":0,"x":0}
+ok {"op":"bootstrap","node":"a"}
+ok {"op":"bootstrap","node":"12345678901234567890123456789012","shard":0}
+ok {"shard":63,"node":"a","op":"bootstrap"}
+form {"op":"bootstrap","node":"a","shard":64}
+form {"op":"bootstrap","node":"a","shard":4294967296}
+form {"op":"bootstrap","node":"a","shard":-1}
+form {"op":"bootstrap","node":"a","shard":0.0}
+form {"op":"bootstrap","node":"a","shard":"0"}
+form {"op":"bootstrap","node":"a","shard":null}
+form {"op":"bootstrap"}
+form {"op":"bootstrap","shard":0}
+form {"op":"bootstrap","node":["a"]}
+form {"op":"bootstrap","node":""}
+form {"op":"bootstrap","node":"a b"}
+form {"op":"bootstrap","node":"123456789012345678901234567890123"}
+form {"op":"bootstrap","node":"a","pick":0}
+form {"op":"bootstrap","node":"a","shard":0,"x":0}"#;
 
 fn outcome(alloc: Global, line: &[u8]) -> &'static str {
     match read_line(alloc, line) {
@@ -175,7 +213,9 @@ fn wrong_row(alloc: Global, rows: &str) -> Option<&str> {
 
 #[test]
 fn rows(rt: HostRuntime) {
-    for rows in [OBJECTS, INITS, NAMESPACES, MOMENTS, CALLS, MATCHES, FATES] {
+    for rows in [
+        OBJECTS, INITS, NAMESPACES, MOMENTS, CALLS, MATCHES, FATES, NODES,
+    ] {
         assert_eq!(rt; wrong_row(rt.alloc(), rows), None);
     }
 }

@@ -1,5 +1,5 @@
 -- What becomes of the messages of calls, and which nodes are stopped.
-use Rattle.std.specs.Prelude.{◌≡◌, ℕ, suc, ◌+◌, List, [], ◌∷◌, Option, Some, None, Bool, true, false, not, ◌&&◌, if◌then◌else◌, nat_eq, slice_get, slice_index_or, count_by, fold}
+use Rattle.std.specs.Prelude.{◌≡◌, ℕ, ◌+◌, List, [], ◌∷◌, Option, Some, None, Bool, true, false, not, ◌&&◌, if◌then◌else◌, nat_eq, slice_get, slice_index_or, count_by, fold}
 use Rattle.std.specs.Option.{option_map_or}
 use Rattle.std.specs.Cmp.Lexicographic.{pointwise}
 use Rattle.m3_model.specs.Record.{InnerTurn, TurnPlace, answered_lists, inner_turns}

@@ -18,4 +18,5 @@ pub mod Answers
 pub mod Kept
 pub mod NotYet
 pub mod Refusals
+pub mod Faults
 pub mod Caused

@@ -27,6 +27,8 @@ IsServedAct (act.Match ns wanted from to level version) = version ≡ None
 IsServedAct (act.Fates list) = ⊤
 IsServedAct act.Deliver = ⊤
 IsServedAct (act.Stop node) = ⊤
+IsServedAct (act.Restart node pick) = ⊤
+IsServedAct (act.Bootstrap node shard) = ⊤
 IsServedAct _ = ⊥
 
 -- one act of such a kind
@@ -34,7 +36,7 @@ abbrev pub IsServed : Request → Type 0
 IsServed (request.One one) = IsServedAct one
 IsServed (request.Par clients workers) = ⊥
 
--- the act is of another kind than these nine
+-- the act is of another kind than these eleven
 abbrev pub is_put_off : Act → Bool
 is_put_off (act.Init rf shards seed nodes) = false
 is_put_off (act.Namespace name block past future retention) = false
@@ -45,4 +47,6 @@ is_put_off (act.Match ns wanted from to level version) = false
 is_put_off (act.Fates list) = false
 is_put_off act.Deliver = false
 is_put_off (act.Stop node) = false
+is_put_off (act.Restart node pick) = false
+is_put_off (act.Bootstrap node shard) = false
 is_put_off _ = true

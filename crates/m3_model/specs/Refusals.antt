@@ -1,5 +1,5 @@
 -- What the turns before an act refuse it for: its place among the lines, a name, a limit, a moment.
-use Rattle.std.specs.Prelude.{ℕ, List, length, Option, Some, None, option_map, Bool, true, false, if◌then◌else◌, not, is_some, nat_le, nat_lt, ◌∷◌, []}
+use Rattle.std.specs.Prelude.{ℕ, List, length, Option, Some, None, option_map, Bool, true, false, if◌then◌else◌, not, is_some, nat_le, nat_lt, ◌∷◌, [], decimal}
 use Rattle.std.specs.Option.{option_map_or, option_or}
 use Rattle.m3_model.specs.Rules.{namespace_place}
 use Rattle.m3_model.specs.Placements.{is_listed}
@@ -37,6 +37,11 @@ missing_space spaces name = if is_some (namespace_place name spaces) then None e
 abbrev pub missing_node : Option Placement → List ℕ → Option (List ℕ)
 missing_node place name = if option_map_or (is_listed name) place false then None else Some name
 
+-- the number of a shard as a text, where no shard has it
+abbrev pub missing_shard : Option Placement → Option ℕ → Option (List ℕ)
+missing_shard (Some place) (Some shard) = if nat_lt shard (length place.shards) then None else Some (decimal shard)
+missing_shard _ _ = None
+
 -- the first name in a list of fates that no listed node has
 abbrev pub missing_in : Option Placement → List (ℕ × ℕ × List ℕ × Fate) → Option (List ℕ)
 missing_in place [] = None
@@ -50,7 +55,7 @@ missing_name place spaces (act.Match ns wanted from to level version) = missing_
 missing_name place spaces (act.Fates list) = missing_in place list
 missing_name place spaces (act.Stop node) = missing_node place node
 missing_name place spaces (act.Restart node pick) = missing_node place node
-missing_name place spaces (act.Bootstrap node shard) = missing_node place node
+missing_name place spaces (act.Bootstrap node shard) = option_or (missing_node place node) (missing_shard place shard)
 missing_name place spaces (act.Drain node) = missing_node place node
 missing_name place spaces (act.Cancel node) = missing_node place node
 missing_name place spaces (act.Remove node) = missing_node place node

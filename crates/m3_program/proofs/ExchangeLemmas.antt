@@ -1,18 +1,24 @@
 -- A run goes on by one line.
 use Rattle.std.proofs.Common.{◌≡◌, ℕ, List, [], ◌∷◌, ◌++◌, refl, sym, ap, ◌∙◌, subst, inl, inr, append-nil, true, false}
-use Rattle.std.specs.Prelude.{None, Ok}
+use Rattle.std.specs.Prelude.{Some, None, Ok}
 use Rattle.std.proofs.lemmas.List.Concat.{flat_map-append}
+use Rattle.std.proofs.lemmas.List.Sums.{fold-append}
+use Rattle.m3_model.specs.Placements.{later_placement, placement_after, printed}
+use Rattle.m3_model.specs.Record.{InnerTurn, inner_turns, joined, lists_of}
 use Rattle.m3_model.specs.declared.answer.Answer.{Answer}
 use Rattle.m3_model.specs.declared.turn.Request.{Request}
 use Rattle.m3_model.specs.declared.turn.Reply.{Reply}
 use Rattle.m3_model.specs.declared.turn.Reply.TheVariants as reply
 use Rattle.m3_model.specs.declared.turn.Turn.{Turn}
 use Rattle.m3_model.proofs.PlaceLemmas.{split_push}
+use Rattle.m3_outside.specs.DiskState.{DiskState}
+use Rattle.m3_outside.specs.declared.disk.Disk.{Ghosts}
 use Rattle.m3_json.specs.Requests.{LineMeans}
-use Rattle.m3_cluster.specs.declared.cluster.Cluster.{Cluster}
+use Rattle.m3_cluster.specs.Depots.{Depot, TellAll}
 use Rattle.m3_cluster.specs.Serves.{Serves, place_of}
 use Rattle.m3_program.specs.Exchanges.{Exchange, Outcome, Passed, Refused, Answered, AreExchanges, IsExchange, IsOutcome, IsRefusal, is_blank, turns_by, turns_of, known_place, reply_line}
-use Rattle.m3_program.specs.Streams.{Progress, Advances}
+use Rattle.m3_program.specs.Streams.{Advances, Drops, Stage}
+use Rattle.m3_program.proofs.PromiseLemmas.{promised, promised_more}
 
 -- one more exchange after the others
 pub exchanges_push : (xs : List Exchange) (x : Exchange) → AreExchanges None xs → IsExchange None (turns_of xs) x → AreExchanges None (xs ++ x ∷ [])
@@ -25,39 +31,62 @@ exchanges_push xs x each last before y after e =
 pub turns_of-push : (xs : List Exchange) (x : Exchange) → turns_of (xs ++ x ∷ []) ≡ turns_of xs ++ turns_by x.outcome
 turns_of-push xs x = flat_map-append (λ y. turns_by y.outcome) xs (x ∷ []) ∙ ap (λ ts. turns_of xs ++ ts) (append-nil (turns_by x.outcome))
 
--- the placement that the turns printed is the cluster's
-pub place_known : (turns : List Turn) (c : Cluster) → Serves turns c → known_place None turns ≡ place_of c
-place_known turns c s = s.stands.place
+-- the placement that is known one turn later
+known_push : (turns : List Turn) (turn : Turn) → known_place None (turns ++ turn ∷ []) ≡ placement_after (known_place None turns) (inner_turns (turn ∷ []))
+known_push turns turn =
+    ap (placement_after None) (flat_map-append (λ (t : Turn). joined (lists_of t)) turns (turn ∷ []))
+    ∙ fold-append (λ p (t : InnerTurn). later_placement (printed t.answer) p) None (inner_turns turns) (inner_turns (turn ∷ []))
 
 -- a line that makes no turn
-pub still : (c : Cluster) (line text : List ℕ) (outcome : Outcome) → turns_by outcome ≡ [] → ((xs : List Exchange) → Progress xs c → IsOutcome None (turns_of xs) line outcome text) → Advances c line text c
-still c line text outcome none said = λ xs p. (
-  outcome,
-  record {
-    each = exchanges_push xs (record { line = line; outcome = outcome; text = text }) p.each (said xs p);
-    serves = subst (λ ts. Serves ts c) (sym (turns_of-push xs (record { line = line; outcome = outcome; text = text }) ∙ ap (λ ts. turns_of xs ++ ts) none ∙ append-nil (turns_of xs))) p.serves;
-  },
-)
-
--- a blank line
-pub passes : (c : Cluster) (line text : List ℕ) → is_blank line ≡ true → text ≡ [] → Advances c line text c
-passes c line text blank empty = still c line text Passed refl (λ xs p. (blank, empty))
-
--- a line that is refused
-pub refuses : (c : Cluster) (line text : List ℕ) (refusal : Answer) → is_blank line ≡ false → IsRefusal line refusal → text ≡ reply_line (place_of c) (reply.One refusal) → Advances c line text c
-refuses c line text refusal some why printed =
-    still c line text (Refused refusal) refl (λ xs p. (some, why, printed ∙ ap (λ place. reply_line place (reply.One refusal)) (sym (place_known (turns_of xs) c p.serves))))
-
--- a line that makes a turn
-pub answers : (old new : Cluster) (line text : List ℕ) (request : Request) (r : Reply) → is_blank line ≡ false → LineMeans line (Ok request) → text ≡ reply_line (place_of new) r
-    → ((turns : List Turn) → Serves turns old → Serves (turns ++ record { request = request; reply = r } ∷ []) new) → Advances old line text new
-answers old new line text request r some means printed goes = λ xs p.
-    let turn : Turn = record { request = request; reply = r } in
-    let x : Exchange = record { line = line; outcome = Answered turn; text = text } in
-    let served = goes (turns_of xs) p.serves in (
-      Answered turn,
+still : {D : Type 0} {G : Ghosts D} (state : D → DiskState) (now : Stage D G) (line text : List ℕ) (outcome : Outcome) → turns_by outcome ≡ []
+    → ((xs : List Exchange) → known_place None (turns_of xs) ≡ place_of now.cluster → IsOutcome None (turns_of xs) line outcome text) → Advances state now line text now
+still state now line text outcome none said = λ first xs p.
+    let x : Exchange = record { line = line; outcome = outcome; text = text } in
+    let same : turns_of xs ≡ turns_of (xs ++ x ∷ []) = sym (turns_of-push xs x ∙ ap (λ ts. turns_of xs ++ ts) none ∙ append-nil (turns_of xs)) in (
+      outcome,
       record {
-        each = exchanges_push xs x p.each (some, means, printed ∙ ap (λ place. reply_line place r) (sym (place_known (turns_of xs ++ turn ∷ []) new served)));
-        serves = subst (λ ts. Serves ts new) (sym (turns_of-push xs x)) served;
+        each = exchanges_push xs x p.each (said xs p.place);
+        place = subst (λ ts. known_place None ts ≡ place_of now.cluster) same p.place;
+        serves = λ empty. subst (λ ts. Serves state first now.depot ts now.cluster) same (p.serves empty);
       },
     )
+
+-- a blank line
+pub passes : {D : Type 0} {G : Ghosts D} (state : D → DiskState) (now : Stage D G) (line text : List ℕ) → is_blank line ≡ true → text ≡ [] → Advances state now line text now
+passes state now line text blank empty = still state now line text Passed refl (λ xs known. (blank, empty))
+
+-- a line that is refused
+pub refuses : {D : Type 0} {G : Ghosts D} (state : D → DiskState) (now : Stage D G) (line text : List ℕ) (refusal : Answer) → is_blank line ≡ false → IsRefusal line refusal
+    → text ≡ reply_line (place_of now.cluster) (reply.One refusal) → Advances state now line text now
+refuses state now line text refusal some why printed =
+    still state now line text (Refused refusal) refl (λ xs known. (some, why, printed ∙ ap (λ place. reply_line place (reply.One refusal)) (sym known)))
+
+-- what was served is so after one more turn
+abbrev pub Follows : {D : Type 0} {G : Ghosts D} → (D → DiskState) → Stage D G → Turn → Stage D G → Type 0
+Follows {D} state old turn new = TellAll state → (first : Depot D) (turns : List Turn) → Serves state first old.depot turns old.cluster → Serves state first new.depot (turns ++ turn ∷ []) new.cluster
+
+-- a line that makes a turn
+pub answers : {D : Type 0} {G : Ghosts D} (state : D → DiskState) (old new : Stage D G) (line text : List ℕ) (request : Request) (r : Reply) → is_blank line ≡ false → LineMeans line (Ok request) → text ≡ reply_line (place_of new.cluster) r
+    → placement_after (place_of old.cluster) (inner_turns (record { request = request; reply = r } ∷ [])) ≡ place_of new.cluster → Follows state old (record { request = request; reply = r }) new → Advances state old line text new
+answers state old new line text request r some means printed placed goes = λ first xs p.
+    let turn : Turn = record { request = request; reply = r } in
+    let x : Exchange = record { line = line; outcome = Answered turn; text = text } in
+    let known : known_place None (turns_of xs ++ turn ∷ []) ≡ place_of new.cluster = known_push (turns_of xs) turn ∙ ap (λ place. placement_after place (inner_turns (turn ∷ []))) p.place ∙ placed in
+    let same : turns_of xs ++ turn ∷ [] ≡ turns_of (xs ++ x ∷ []) = sym (turns_of-push xs x) in (
+      Answered turn,
+      record {
+        each = exchanges_push xs x p.each (some, means, printed ∙ ap (λ place. reply_line place r) (sym known));
+        place = subst (λ ts. known_place None ts ≡ place_of new.cluster) same known;
+        serves = λ empty. subst (λ ts. Serves state first new.depot ts new.cluster) same (goes empty.tell first (turns_of xs) (p.serves empty));
+      },
+    )
+
+-- a request that was served, and whose reply isn't made
+pub drops_served : {D : Type 0} {G : Ghosts D} (state : D → DiskState) (old new : Stage D G) (line : List ℕ) (request : Request) (r : Reply) → LineMeans line (Ok request) → Follows state old (record { request = request; reply = r }) new → Drops state old line new
+drops_served state old new line request r means goes = λ first xs p.
+    let turn : Turn = record { request = request; reply = r } in
+    record { unanswered = Some request; means = means; promises = λ empty. promised_more state first new xs turn request (goes empty.tell first (turns_of xs) (p.serves empty)) }
+
+-- a line that wasn't served
+pub drops_unserved : {D : Type 0} {G : Ghosts D} (state : D → DiskState) (now : Stage D G) (line : List ℕ) → Drops state now line now
+drops_unserved state now line = λ first xs p. record { unanswered = None; means = tt; promises = promised state first now xs None p }

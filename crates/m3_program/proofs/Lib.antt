@@ -1,6 +1,9 @@
 pub mod WrittenLemmas
 pub mod CauseLemmas
 pub mod LineLemmas
+pub mod FaultLemmas
+pub mod PromiseLemmas
+pub mod FreshLemmas
 pub mod ExchangeLemmas
 pub mod StreamLemmas
 pub mod RunLemmas

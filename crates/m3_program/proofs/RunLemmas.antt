@@ -1,19 +1,23 @@
 -- What is known of a run so far, where its source and its sink tell, and how it ends.
-use Rattle.std.proofs.Common.{◌≡◌, ℕ, ◌+◌, ◌<◌, List, [], ◌++◌, length, length-append, refl, sym, ap, ◌∙◌, subst, append_assoc, append-nil, arith}
-use Rattle.std.specs.Prelude.{Option, Some, None, ◌^◌, replicate}
+use Rattle.std.proofs.Common.{◌≡◌, ℕ, ◌+◌, ◌<◌, ◌≤◌, List, [], ◌++◌, length, length-append, refl, sym, ap, ◌∙◌, subst, append_assoc, append-nil, arith}
+use Rattle.std.specs.Prelude.{Option, Some, None, ◌^◌}
 use Rattle.std.specs.Io.KnownBytes.{Appends, Consumes, IsAtEnd}
-use Rattle.m3_cluster.specs.declared.cluster.Cluster.{Cluster}
-use Rattle.m3_cluster.specs.Serves.{Serves}
-use Rattle.m3_cluster.proofs.ServeLemmas.{serves_nothing}
+use Rattle.m3_outside.specs.DiskState.{DiskState}
+use Rattle.m3_outside.specs.declared.disk.Disk.{Ghosts}
+use Rattle.m3_outside.specs.declared.slot.Slot.{Slot}
+use Rattle.m3_model.proofs.PlaceLemmas.{not_empty}
+use Rattle.m3_cluster.specs.Depots.{Depot}
 use Rattle.m3_program.specs.declared.status.Status.{Status}
 use Rattle.m3_program.specs.declared.status.Status.TheVariants as status
 use Rattle.m3_program.specs.Causes.{EndsStep}
-use Rattle.m3_program.specs.Runs.{HasRun}
-use Rattle.m3_program.specs.Streams.{StreamState, TakesOn, Cuts, CutShort, Finished}
-use Rattle.m3_program.proofs.StreamLemmas.{cut_at, stream_begins}
+use Rattle.m3_program.specs.Faults.{Counts, counts_of}
+use Rattle.m3_program.specs.Runs.{HasRun, lines_of}
+use Rattle.m3_program.specs.Streams.{Stage, IsFresh, StreamState, TakesOn, Cuts, CutShort, Finished, counts_at}
+use Rattle.m3_program.proofs.PromiseLemmas.{promised_nothing, run_closes}
+use Rattle.m3_program.proofs.StreamLemmas.{cut_here, stream_begins}
 
 -- these bytes were read, these are left, and these were written after what stood there
-pub record Heard (input before : List ℕ) (left written : Option (List ℕ)) (n : ℕ) (c : Cluster) (line : List ℕ) : Type 0 where
+pub record Heard {D : Type 0} {G : Ghosts D} (state : D → DiskState) (first : Depot D) (input before : List ℕ) (left written : Option (List ℕ)) (n : ℕ) (now : Stage D G) (line : List ℕ) : Type 0 where
   pub got : List ℕ
   pub rest : List ℕ
   pub told : List ℕ
@@ -21,18 +25,19 @@ pub record Heard (input before : List ℕ) (left written : Option (List ℕ)) (n
   pub left_is : left ≡ Some rest
   pub written_is : written ≡ Some (before ++ told)
   pub count : length got ≡ n
-  pub stream : StreamState got told c line
+  pub stream : StreamState state first got told now line
 
-abbrev pub Known : Option (List ℕ) → Option (List ℕ) → Option (List ℕ) → Option (List ℕ) → ℕ → Cluster → List ℕ → Type 0
-Known left0 written0 left written n c line = (input before : List ℕ) → left0 ≡ Some input → written0 ≡ Some before → Heard input before left written n c line
+abbrev pub Known : {D : Type 0} {G : Ghosts D} → (D → DiskState) → Depot D → Option (List ℕ) → Option (List ℕ) → Option (List ℕ) → Option (List ℕ) → ℕ → Stage D G → List ℕ → Type 0
+Known state first left0 written0 left written n now line = (input before : List ℕ) → left0 ≡ Some input → written0 ≡ Some before → Heard state first input before left written n now line
 
 -- what a run tells at its end
-abbrev pub Told : Status → List ℕ → List ℕ → Option (List ℕ) → Option (List ℕ) → Type 0
-Told s input before left written = (rest told : List ℕ) × (left ≡ Some rest) × (written ≡ Some (before ++ told)) × HasRun [] None s input rest told
+abbrev pub Told : {D : Type 0} → (D → DiskState) → Depot D → Counts → Status → List ℕ → List ℕ → Option (List ℕ) → Option (List ℕ) → Type 0
+Told state first now s input before left written = (rest told : List ℕ) × (left ≡ Some rest) × (written ≡ Some (before ++ told)) × HasRun state first now [] None s input rest told
 
 -- a run that was cut short, before it is said by what
-abbrev pub Stopped : List ℕ → List ℕ → Option (List ℕ) → Option (List ℕ) → Type 0
-Stopped input before left written = (rest told taken : List ℕ) × (left ≡ Some rest) × (written ≡ Some (before ++ told)) × (input ≡ taken ++ rest) × CutShort input told
+abbrev pub Stopped : {D : Type 0} {G : Ghosts D} → (D → DiskState) → Depot D → Stage D G → List ℕ → List ℕ → Option (List ℕ) → Option (List ℕ) → Type 0
+Stopped state first now input before left written =
+    (rest told taken : List ℕ) × (left ≡ Some rest) × (written ≡ Some (before ++ told)) × (input ≡ taken ++ rest) × CutShort state first now input told
 
 consumed : (rest : List ℕ) (a b : Option (List ℕ)) (piece : List ℕ) → a ≡ Some rest → Consumes a b piece → (after : List ℕ) × (b ≡ Some after) × (rest ≡ piece ++ after)
 consumed rest None b piece e h = cc
@@ -48,8 +53,8 @@ at_end : (a : Option (List ℕ)) (rest : List ℕ) → IsAtEnd a → a ≡ Some 
 at_end None rest h e = cc
 at_end (Some xs) rest h e = let same : xs ≡ rest = cc in sym same ∙ h
 
-pub known_begins : (left written : Option (List ℕ)) (c : Cluster) (line : List ℕ) → Serves [] c → line ≡ [] → Known left written left written 0 c line
-known_begins left written c line serves empty = λ input before p q. record {
+pub known_begins : {D : Type 0} {G : Ghosts D} (state : D → DiskState) (left written : Option (List ℕ)) (now : Stage D G) (line : List ℕ) → IsFresh state now.cluster → line ≡ [] → Known state now.depot left written left written 0 now line
+known_begins state left written now line fresh empty = λ input before p q. record {
   got = [];
   rest = input;
   told = [];
@@ -57,12 +62,12 @@ known_begins left written c line serves empty = λ input before p q. record {
   left_is = p;
   written_is = q ∙ ap Some (sym (append-nil before));
   count = refl;
-  stream = subst (λ l. StreamState [] [] c l) (sym empty) (stream_begins c serves);
+  stream = subst (λ l. StreamState state now.depot [] [] now l) (sym empty) (stream_begins state now fresh);
 }
 
-pub known_more : (left0 written0 l l2 w w2 : Option (List ℕ)) (n k m : ℕ) (c c2 : Cluster) (line line2 piece text : List ℕ) → Known left0 written0 l w n c line → Consumes l l2 piece → length piece ≡ k → n + k ≡ m
-    → Appends w w2 text → TakesOn c line piece text c2 line2 → Known left0 written0 l2 w2 m c2 line2
-known_more left0 written0 l l2 w w2 n k m c c2 line line2 piece text known took size sum wrote takes = λ input before p q.
+pub known_more : {D : Type 0} {G : Ghosts D} (state : D → DiskState) (first : Depot D) (left0 written0 l l2 w w2 : Option (List ℕ)) (n k m : ℕ) (old new : Stage D G) (line line2 piece text : List ℕ)
+    → Known state first left0 written0 l w n old line → Consumes l l2 piece → length piece ≡ k → n + k ≡ m → Appends w w2 text → TakesOn state old line piece text new line2 → Known state first left0 written0 l2 w2 m new line2
+known_more state first left0 written0 l l2 w w2 n k m old new line line2 piece text known took size sum wrote takes = λ input before p q.
     let h = known input before p q in
     let after = consumed h.rest l l2 piece h.left_is took in
     record {
@@ -73,13 +78,14 @@ known_more left0 written0 l l2 w w2 n k m c c2 line line2 piece text known took 
       left_is = after.1;
       written_is = appended (before ++ h.told) w w2 text h.written_is wrote ∙ ap Some (append_assoc before h.told text);
       count = length-append h.got piece ∙ let e = h.count in omega arith;
-      stream = takes h.got h.told h.stream;
+      stream = takes first h.got h.told h.stream;
     }
 
 -- it stopped within a piece
-pub known_cuts : (left0 written0 l l2 w w2 : Option (List ℕ)) (n : ℕ) (c : Cluster) (line piece part : List ℕ) → Known left0 written0 l w n c line → Consumes l l2 piece → Appends w w2 part → Cuts c line piece part
-    → (input before : List ℕ) → left0 ≡ Some input → written0 ≡ Some before → Stopped input before l2 w2
-known_cuts left0 written0 l l2 w w2 n c line piece part known took wrote cuts input before p q =
+pub known_cuts : {D : Type 0} {G : Ghosts D} (state : D → DiskState) (first : Depot D) (left0 written0 l l2 w w2 : Option (List ℕ)) (n : ℕ) (old new : Stage D G) (line piece part : List ℕ)
+    → Known state first left0 written0 l w n old line → Consumes l l2 piece → Appends w w2 part → Cuts state old line piece part new
+    → (input before : List ℕ) → left0 ≡ Some input → written0 ≡ Some before → Stopped state first new input before l2 w2
+known_cuts state first left0 written0 l l2 w w2 n old new line piece part known took wrote cuts input before p q =
     let h = known input before p q in
     let after = consumed h.rest l l2 piece h.left_is took in
     let all : input ≡ (h.got ++ piece) ++ after.0 = h.parts ∙ ap (λ r. h.got ++ r) after.2 ∙ sym (append_assoc h.got piece after.0) in (
@@ -89,17 +95,19 @@ known_cuts left0 written0 l l2 w w2 n c line piece part known took wrote cuts in
       after.1,
       appended (before ++ h.told) w w2 part h.written_is wrote ∙ ap Some (append_assoc before h.told part),
       all,
-      subst (λ i. CutShort i (h.told ++ part)) (sym all) (cuts h.got h.told after.0 h.stream),
+      subst (λ i. CutShort state first new i (h.told ++ part)) (sym all) (cuts first h.got h.told after.0 h.stream),
     )
 
 -- all that was taken is the input
-heard_all : (input before : List ℕ) (l w : Option (List ℕ)) (n : ℕ) (c : Cluster) (line : List ℕ) → (h : Heard input before l w n c line) → IsAtEnd l → input ≡ h.got
-heard_all input before l w n c line h ended = h.parts ∙ ap (λ r. h.got ++ r) (at_end l h.rest ended h.left_is) ∙ append-nil h.got
+heard_all : {D : Type 0} {G : Ghosts D} (state : D → DiskState) (first : Depot D) (input before : List ℕ) (l w : Option (List ℕ)) (n : ℕ) (now : Stage D G) (line : List ℕ) → (h : Heard state first input before l w n now line) → IsAtEnd l → input ≡ h.got
+heard_all state first input before l w n now line h ended = h.parts ∙ ap (λ r. h.got ++ r) (at_end l h.rest ended h.left_is) ∙ append-nil h.got
 
 -- it stopped within the last line
-pub known_stops : (left0 written0 l w w2 : Option (List ℕ)) (n : ℕ) (c : Cluster) (line part : List ℕ) → Known left0 written0 l w n c line → IsAtEnd l → Appends w w2 part
-    → ((taken told : List ℕ) → StreamState taken told c line → CutShort taken (told ++ part)) → (input before : List ℕ) → left0 ≡ Some input → written0 ≡ Some before → Stopped input before l w2
-known_stops left0 written0 l w w2 n c line part known ended wrote stops input before p q =
+pub known_stops : {D : Type 0} {G : Ghosts D} (state : D → DiskState) (first : Depot D) (left0 written0 l w w2 : Option (List ℕ)) (n : ℕ) (old new : Stage D G) (line part : List ℕ)
+    → Known state first left0 written0 l w n old line → IsAtEnd l → Appends w w2 part
+    → ((first : Depot D) (taken told : List ℕ) → StreamState state first taken told old line → CutShort state first new taken (told ++ part))
+    → (input before : List ℕ) → left0 ≡ Some input → written0 ≡ Some before → Stopped state first new input before l w2
+known_stops state first left0 written0 l w w2 n old new line part known ended wrote stops input before p q =
     let h = known input before p q in (
       h.rest,
       h.told ++ part,
@@ -107,58 +115,73 @@ known_stops left0 written0 l w w2 n c line part known ended wrote stops input be
       h.left_is,
       appended (before ++ h.told) w w2 part h.written_is wrote ∙ ap Some (append_assoc before h.told part),
       h.parts,
-      subst (λ i. CutShort i (h.told ++ part)) (sym (heard_all input before l w n c line h ended)) (stops h.got h.told h.stream),
+      subst (λ i. CutShort state first new i (h.told ++ part)) (sym (heard_all state first input before l w n old line h ended)) (stops first h.got h.told h.stream),
     )
 
 -- it came to the end
-pub known_finishes : (left0 written0 l w w2 : Option (List ℕ)) (n : ℕ) (c : Cluster) (line text : List ℕ) → Known left0 written0 l w n c line → n < 2 ^ 32 → IsAtEnd l → Appends w w2 text
-    → ((taken told : List ℕ) → StreamState taken told c line → Finished taken (told ++ text)) → (input before : List ℕ) → left0 ≡ Some input → written0 ≡ Some before → Told status.Done input before l w2
-known_finishes left0 written0 l w w2 n c line text known below ended wrote finishes input before p q =
+pub known_finishes : {D : Type 0} {G : Ghosts D} (state : D → DiskState) (first : Depot D) (left0 written0 l w w2 : Option (List ℕ)) (n : ℕ) (old new : Stage D G) (line text : List ℕ)
+    → Known state first left0 written0 l w n old line → n < 2 ^ 32 → IsAtEnd l → Appends w w2 text
+    → ((first : Depot D) (taken told : List ℕ) → StreamState state first taken told old line → Finished state first new taken (told ++ text))
+    → (input before : List ℕ) → left0 ≡ Some input → written0 ≡ Some before → Told state first (counts_at state new) status.Done input before l w2
+known_finishes state first left0 written0 l w w2 n old new line text known below ended wrote finishes input before p q =
     let h = known input before p q in
     let none = at_end l h.rest ended h.left_is in
-    let end = subst (λ i. Finished i (h.told ++ text)) (sym (heard_all input before l w n c line h ended)) (finishes h.got h.told h.stream) in (
+    let end = subst (λ i. Finished state first new i (h.told ++ text)) (sym (heard_all state first input before l w n old line h ended)) (finishes first h.got h.told h.stream) in (
       h.rest,
       h.told ++ text,
       h.left_is,
       appended (before ++ h.told) w w2 text h.written_is wrote ∙ ap Some (append_assoc before h.told text),
-      record { taken = h.got; parts = h.parts; course = end.course; promises = end.promises; got_to = (end.all, end.written, none, let e = h.count in omega arith) },
+      record {
+        ran = record { taken = h.got; parts = h.parts; course = end.course; got_to = (end.all, end.written, none, let e = h.count in omega arith) };
+        promises = end.promises;
+      },
     )
 
 -- it took as much as may be taken
-pub known_limit : (left0 written0 l w : Option (List ℕ)) (n : ℕ) (c : Cluster) (line : List ℕ) → Known left0 written0 l w n c line → n ≡ 2 ^ 32
-    → (input before : List ℕ) → left0 ≡ Some input → written0 ≡ Some before → Told status.TooLong input before l w
-known_limit left0 written0 l w n c line known full input before p q =
+pub known_limit : {D : Type 0} {G : Ghosts D} (state : D → DiskState) (first : Depot D) (left0 written0 l w : Option (List ℕ)) (n : ℕ) (now : Stage D G) (line : List ℕ) → Known state first left0 written0 l w n now line → n ≡ 2 ^ 32
+    → (input before : List ℕ) → left0 ≡ Some input → written0 ≡ Some before → Told state first (counts_at state now) status.TooLong input before l w
+known_limit state first left0 written0 l w n now line known full input before p q =
     let h = known input before p q in
-    let cut : CutShort input h.told = subst (λ i. CutShort i h.told) (sym h.parts) (subst (CutShort (h.got ++ h.rest)) (append-nil h.told) (cut_at h.got h.told h.rest c line None h.stream tt)) in (
+    let cut : CutShort state first now input h.told =
+    subst (λ i. CutShort state first now i h.told) (sym h.parts) (subst (CutShort state first now (h.got ++ h.rest)) (append-nil h.told) (cut_here state first h.got h.told h.rest now line h.stream)) in (
       h.rest,
       h.told,
       h.left_is,
       h.written_is,
-      record { taken = h.got; parts = h.parts; course = cut.course; promises = cut.promises; got_to = (cut.written, h.count ∙ full) },
+      record { ran = record { taken = h.got; parts = h.parts; course = cut.course; got_to = (cut.written, h.count ∙ full) }; promises = cut.promises },
     )
 
--- the cluster with which a run begins
-abbrev first_cluster : Cluster
-first_cluster = record { members = None; calls = replicate 9 0 }
+-- no line was read
+pub told_of_usage : {D : Type 0} (state : D → DiskState) (first : Depot D) (left written : Option (List ℕ)) (input before : List ℕ) → left ≡ Some input → written ≡ Some before
+    → Told state first (counts_of first) status.Usage input before left written
+told_of_usage state first left written input before p q = (
+  input,
+  [],
+  p,
+  q ∙ ap Some (sym (append-nil before)),
+  record {
+    ran = record {
+      taken = [];
+      parts = refl;
+      course = record { exchanges = []; unanswered = None; later = lines_of input; lines_are = refl; each = λ earlier x after e. absurd (not_empty earlier x after e); next = tt };
+      got_to = (refl, refl);
+    };
+    promises = λ empty. promised_nothing (counts_of first);
+  },
+)
 
-serves_first : Serves [] first_cluster
-serves_first = serves_nothing first_cluster refl refl
+pub step_told : {D : Type 0} {G : Ghosts D} (state : D → DiskState) (first : Depot D) (now : Stage D G) (s : Status) (a b x y u v : ℕ) → EndsStep s a b x y u v
+    → (input before : List ℕ) (left written : Option (List ℕ)) → Stopped state first now input before left written → Told state first (counts_at state now) s input before left written
+step_told state first now status.ReadFault a b x y u v k input before left written (rest, told, taken, l, w, parts, cut) =
+    (rest, told, l, w, record { ran = record { taken = taken; parts = parts; course = cut.course; got_to = cut.written }; promises = cut.promises })
+step_told state first now status.WriteFault a b x y u v k input before left written (rest, told, taken, l, w, parts, cut) =
+    (rest, told, l, w, record { ran = record { taken = taken; parts = parts; course = cut.course; got_to = cut.written }; promises = cut.promises })
+step_told state first now status.Memory a b x y u v k input before left written (rest, told, taken, l, w, parts, cut) =
+    (rest, told, l, w, record { ran = record { taken = taken; parts = parts; course = cut.course; got_to = cut.written }; promises = cut.promises })
+step_told state first now _ a b x y u v k input before left written h = absurd k
 
--- nothing was taken yet
-pub stopped_at_once : (left written : Option (List ℕ)) (input before : List ℕ) → left ≡ Some input → written ≡ Some before → Stopped input before left written
-stopped_at_once left written input before p q =
-    (input, [], [], p, q ∙ ap Some (sym (append-nil before)), refl, cut_at [] [] input first_cluster [] None (stream_begins first_cluster serves_first) tt)
-
-pub told_of_usage : (left written : Option (List ℕ)) (input before : List ℕ) → left ≡ Some input → written ≡ Some before → Told status.Usage input before left written
-told_of_usage left written input before p q =
-    let cut = cut_at [] [] input first_cluster [] None (stream_begins first_cluster serves_first) tt in
-    (input, [], p, q ∙ ap Some (sym (append-nil before)), record { taken = []; parts = refl; course = cut.course; promises = cut.promises; got_to = (refl, refl) })
-
-pub step_told : (s : Status) (a b x y u v : ℕ) → EndsStep s a b x y u v → (input before : List ℕ) (left written : Option (List ℕ)) → Stopped input before left written → Told s input before left written
-step_told status.ReadFault a b x y u v k input before left written (rest, told, taken, l, w, parts, cut) = (rest, told, l, w, record { taken = taken; parts = parts; course = cut.course; promises = cut.promises; got_to = cut.written })
-step_told status.WriteFault a b x y u v k input before left written (rest, told, taken, l, w, parts, cut) = (rest, told, l, w, record { taken = taken; parts = parts; course = cut.course; promises = cut.promises; got_to = cut.written })
-step_told status.Memory a b x y u v k input before left written (rest, told, taken, l, w, parts, cut) = (rest, told, l, w, record { taken = taken; parts = parts; course = cut.course; promises = cut.promises; got_to = cut.written })
-step_told _ a b x y u v k input before left written h = absurd k
-
-pub told_of_memory : (input before : List ℕ) (left written : Option (List ℕ)) → Stopped input before left written → Told status.Memory input before left written
-told_of_memory = step_told status.Memory 0 0 0 0 0 0 tt
+-- the disks are given back
+pub told_closes : {D : Type 0} {G : Ghosts D} (state : D → DiskState) (first : Depot D) (mid : Stage D G) (last : Counts) (s : Status) → mid.depot.faults ≤ last.all → ((slot : Slot) → last.of_disk slot ≡ (counts_at state mid).of_disk slot)
+    → (input before : List ℕ) (left written : Option (List ℕ)) → Told state first (counts_at state mid) s input before left written → Told state first last s input before left written
+told_closes state first mid last s later same input before left written (rest, told, l, w, run) =
+    (rest, told, l, w, run_closes state first (counts_at state mid) last s input rest told later same run)

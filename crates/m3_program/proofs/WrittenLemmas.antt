@@ -52,6 +52,10 @@ pub on_err_map : {T E P Q : Type 0} (r : Result T E) → (P → Q) → OnErr r P
 on_err_map (Ok x) f h = tt
 on_err_map (Err e) f h = f h
 
+pub on_err_just : {T E P : Type 0} (r : Result T E) → P → OnErr r P
+on_err_just (Ok x) p = tt
+on_err_just (Err e) p = p
+
 pub keeps_consumes : (a b : Option (List ℕ)) → Keeps a b → Consumes a b []
 keeps_consumes None b h = tt
 keeps_consumes (Some xs) None h = absurd h

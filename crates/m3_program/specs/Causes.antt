@@ -17,7 +17,7 @@ EndsStep status.WriteFault read_before read_now faulted_before faulted_now stall
 EndsStep status.Memory read_before read_now faulted_before faulted_now stalled_before stalled_now = Unit {0}
 EndsStep _ read_before read_now faulted_before faulted_now stalled_before stalled_now = ⊥
 
--- what ends a run; no fault is answered that isn't counted, and there is no disk that could fail or be damaged
+-- what ends a run; no fault is answered that isn't counted, and a fault of a replica's disk ends none
 abbrev pub EndsRun : Bool → Status → ℕ → ℕ → ℕ → ℕ → ℕ → ℕ → Type 0
 EndsRun asked status.Done read_before read_now faulted_before faulted_now stalled_before stalled_now = asked ≡ true
 EndsRun asked status.TooLong read_before read_now faulted_before faulted_now stalled_before stalled_now = asked ≡ true

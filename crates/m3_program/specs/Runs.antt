@@ -2,11 +2,15 @@
 use Rattle.std.specs.Prelude.{◌≡◌, ℕ, ◌<◌, ◌^◌, List, [], ◌∷◌, ◌++◌, map, length, Option, Some, None, Ok, if◌then◌else◌, ◌==◌}
 use Rattle.m3_model.specs.declared.rules.MetaState.{MetaState}
 use Rattle.m3_model.specs.declared.turn.Request.{Request}
+use Rattle.m3_model.specs.Faults.{Fault}
 use Rattle.m3_model.specs.Record.{Record}
 use Rattle.m3_model.specs.Kept.{Kept}
 use Rattle.m3_model.specs.Caused.{Caused}
+use Rattle.m3_outside.specs.DiskState.{DiskState}
 use Rattle.m3_json.specs.Requests.{LineMeans}
+use Rattle.m3_cluster.specs.Depots.{Depot}
 use Rattle.m3_program.specs.Exchanges.{Exchange, AreExchanges, turns_of, replies_text}
+use Rattle.m3_program.specs.Faults.{AreCauses, AreEmpty, Counts, counts_of}
 use Rattle.m3_program.specs.declared.status.Status.{Status}
 use Rattle.m3_program.specs.declared.status.Status.TheVariants as status
 
@@ -39,10 +43,13 @@ pub record Course (start : Option MetaState) (input : List ℕ) : Type 0 where
 abbrev pub record_of : (start : Option MetaState) → List Exchange → Option Request → Record
 record_of start xs unanswered = record { start = start; turns = turns_of xs; unanswered = unanswered }
 
--- What holds of a run's record after the earlier runs on the same disks.
-pub record Promises (past : List Record) (present : Record) : Type 0 where
+-- What holds of a run's record after the earlier runs on the same disks: what its reads keep, and that its answers are caused, over faults that the counts show.
+pub record Promises (before now : Counts) (past : List Record) (present : Record) : Type 0 where
   pub kept : Kept (record { past = past; present = present })
-  pub caused : Caused (record { past = past; present = present })
+  pub taking : List Fault
+  pub failing : List Fault
+  pub counted : AreCauses present before now taking failing
+  pub caused : Caused (record { past = past; present = present }) (taking ++ failing)
 
 -- what was written is a front of all that was to be written
 abbrev pub IsWrittenOf : List ℕ → List Exchange → Type 0
@@ -58,10 +65,14 @@ GotTo status.Memory taken left written xs later = IsWrittenOf written xs
 GotTo status.Usage taken left written xs later = (taken ≡ []) × (written ≡ [])
 GotTo _ taken left written xs later = ⊥
 
--- What a run did that took this input from a source and wrote this to a sink.
-pub record HasRun (past : List Record) (start : Option MetaState) (ended : Status) (input left written : List ℕ) : Type 0 where
+-- What a run did that took this input from a source and wrote this to a sink, over any disks.
+pub record Ran (start : Option MetaState) (ended : Status) (input left written : List ℕ) : Type 0 where
   pub taken : List ℕ
   pub parts : input ≡ taken ++ left
   pub course : Course start input
-  pub promises : Promises past (record_of start course.exchanges course.unanswered)
   pub got_to : GotTo ended taken left written course.exchanges course.later
+
+-- The same over disks that were so when the run began and whose faults are counted so now, and what it promises where they tell what they hold and were empty.
+pub record HasRun {D : Type 0} (state : D → DiskState) (first : Depot D) (now : Counts) (past : List Record) (start : Option MetaState) (ended : Status) (input left written : List ℕ) : Type 0 where
+  pub ran : Ran start ended input left written
+  pub promises : AreEmpty state first.held → Promises (counts_of first) now past (record_of start ran.course.exchanges ran.course.unanswered)

@@ -1,31 +1,78 @@
--- How far reading and writing have come, within a run on empty disks.
+-- How far reading and writing have come, within a run.
 use Rattle.std.specs.Prelude.{◌≡◌, ℕ, List, [], ◌∷◌, ◌++◌, Option, None, Some, Ok, ◌⊎◌}
 use Rattle.std.specs.List.{flat_map}
 use Rattle.m3_model.specs.Members.{IsIn}
 use Rattle.m3_model.specs.declared.turn.Request.{Request}
+use Rattle.m3_outside.specs.DiskState.{DiskState}
+use Rattle.m3_outside.specs.declared.disk.Disk.{Ghosts}
+use Rattle.m3_outside.specs.Slots.{Held}
+use Rattle.m3_outside.specs.declared.slot.Slot.{Slot}
 use Rattle.m3_json.specs.Requests.{LineMeans}
+use Rattle.m3_cluster.specs.Depots.{Depot}
 use Rattle.m3_cluster.specs.declared.cluster.Cluster.{Cluster}
-use Rattle.m3_cluster.specs.Serves.{Serves}
-use Rattle.m3_program.specs.Exchanges.{Exchange, Outcome, AreExchanges, turns_of, replies_text}
+use Rattle.m3_cluster.specs.Serves.{Serves, count_at, machine_at, place_of}
+use Rattle.m3_program.specs.Exchanges.{Exchange, Outcome, AreExchanges, known_place, turns_of, replies_text}
+use Rattle.m3_program.specs.Faults.{AreEmpty, Counts, counts_of}
 use Rattle.m3_program.specs.Runs.{Course, Promises, IsWrittenOf, record_of}
 
--- the exchanges so far, and the cluster that they left
-pub record Progress (xs : List Exchange) (c : Cluster) : Type 0 where
+-- ---- how a run stands
+
+-- The cluster of a run, and the disks that it was given.
+pub record Stage (D : Type 0) (G : Ghosts D) : Type 0 where
+  pub cluster : Cluster D G
+  pub depot : Depot D
+
+abbrev pub stage : {D : Type 0} {G : Ghosts D} → Cluster D G → (Slot → Held D) → (Slot → ℕ) → ℕ → Stage D G
+stage cluster held counted faults = record { cluster = cluster; depot = record { held = held; counted = counted; faults = faults } }
+
+-- how many faults of a slot's disk are counted now; a disk that the cluster has counts its own
+abbrev pub count_now : {D : Type 0} {G : Ghosts D} → (D → DiskState) → Stage D G → Slot → ℕ
+count_now state now slot = count_at state now.depot (machine_at now.cluster (record { shard = slot.shard; node = slot.node })) (record { shard = slot.shard; node = slot.node })
+
+abbrev pub counts_at : {D : Type 0} {G : Ghosts D} → (D → DiskState) → Stage D G → Counts
+counts_at state now = record { all = now.depot.faults; of_disk = count_now state now }
+
+-- no request was served yet: no placement was printed, and where the disks are empty there is nothing that was to be kept
+pub record IsFresh {D : Type 0} {G : Ghosts D} (state : D → DiskState) (c : Cluster D G) : Type 0 where
+  pub no_place : place_of c ≡ None
+  pub serves : (first : Depot D) → AreEmpty state first.held → Serves state first first [] c
+
+-- the exchanges so far, and how the run stands after them
+pub record Progress {D : Type 0} {G : Ghosts D} (state : D → DiskState) (first : Depot D) (xs : List Exchange) (now : Stage D G) : Type 0 where
   pub each : AreExchanges None xs
-  pub serves : Serves (turns_of xs) c
+  pub place : known_place None (turns_of xs) ≡ place_of now.cluster
+  pub serves : AreEmpty state first.held → Serves state first now.depot (turns_of xs) now.cluster
+
+-- what the run promises after these exchanges, and with this request taken
+abbrev pub PromisesSo : {D : Type 0} {G : Ghosts D} → (D → DiskState) → Depot D → Stage D G → List Exchange → Option Request → Type 0
+PromisesSo state first now xs unanswered = AreEmpty state first.held → Promises (counts_of first) (counts_at state now) [] (record_of None xs unanswered)
+
+-- ---- one line
 
 -- one more line was answered, with this text
-abbrev pub Advances : Cluster → List ℕ → List ℕ → Cluster → Type 0
-Advances old line text new = (xs : List Exchange) → Progress xs old → (outcome : Outcome) × Progress (xs ++ record { line = line; outcome = outcome; text = text } ∷ []) new
+abbrev pub Advances : {D : Type 0} {G : Ghosts D} → (D → DiskState) → Stage D G → List ℕ → List ℕ → Stage D G → Type 0
+Advances {D} state old line text new =
+    (first : Depot D) (xs : List Exchange) → Progress state first xs old → (outcome : Outcome) × Progress state first (xs ++ record { line = line; outcome = outcome; text = text } ∷ []) new
 
 -- the line is the request, if there is one
 abbrev pub MayMean : List ℕ → Option Request → Type 0
 MayMean line None = Unit {0}
 MayMean line (Some request) = LineMeans line (Ok request)
 
+-- the line was taken and got no reply: it wasn't served, or it is a request that was
+pub record IsUnanswered {D : Type 0} {G : Ghosts D} (state : D → DiskState) (first : Depot D) (xs : List Exchange) (line : List ℕ) (now : Stage D G) : Type 0 where
+  pub unanswered : Option Request
+  pub means : MayMean line unanswered
+  pub promises : PromisesSo state first now xs unanswered
+
+abbrev pub Drops : {D : Type 0} {G : Ghosts D} → (D → DiskState) → Stage D G → List ℕ → Stage D G → Type 0
+Drops {D} state old line new = (first : Depot D) (xs : List Exchange) → Progress state first xs old → IsUnanswered state first xs line new
+
 -- a line was answered, and a front of its text is written; or memory was wanted, and nothing is written for it
-abbrev pub Halts : Cluster → List ℕ → List ℕ → Type 0
-Halts old line part = ((part ≡ []) × ((unanswered : Option Request) × MayMean line unanswered)) ⊎ ((rest : List ℕ) × (new : Cluster) × Advances old line (part ++ rest) new)
+abbrev pub Halts : {D : Type 0} {G : Ghosts D} → (D → DiskState) → Stage D G → List ℕ → List ℕ → Stage D G → Type 0
+Halts state old line part new = ((part ≡ []) × Drops state old line new) ⊎ ((rest : List ℕ) × Advances state old line (part ++ rest) new)
+
+-- ---- pieces of the input
 
 abbrev pub NoNewline : List ℕ → Type 0
 NoNewline line = IsIn line 10 → ⊥
@@ -35,31 +82,33 @@ abbrev pub lines_text : List Exchange → List ℕ
 lines_text xs = flat_map (λ x. x.line ++ 10 ∷ []) xs
 
 -- These bytes were read and these written; the last line has no end yet.
-pub record StreamState (taken told : List ℕ) (c : Cluster) (line : List ℕ) : Type 0 where
+pub record StreamState {D : Type 0} {G : Ghosts D} (state : D → DiskState) (first : Depot D) (taken told : List ℕ) (now : Stage D G) (line : List ℕ) : Type 0 where
   pub exchanges : List Exchange
-  pub progress : Progress exchanges c
+  pub progress : Progress state first exchanges now
   pub read : taken ≡ lines_text exchanges ++ line
   pub whole : (x : Exchange) → IsIn exchanges x → NoNewline x.line
   pub no_end : NoNewline line
   pub written : told ≡ replies_text exchanges
 
 -- The run was cut short: what is written is a front of the replies to lines of the input.
-pub record CutShort (input told : List ℕ) : Type 0 where
+pub record CutShort {D : Type 0} {G : Ghosts D} (state : D → DiskState) (first : Depot D) (now : Stage D G) (input told : List ℕ) : Type 0 where
   pub course : Course None input
-  pub promises : Promises [] (record_of None course.exchanges course.unanswered)
+  pub promises : PromisesSo state first now course.exchanges course.unanswered
   pub written : IsWrittenOf told course.exchanges
 
 -- The run came to the end of its input: all replies are written.
-pub record Finished (input told : List ℕ) : Type 0 where
+pub record Finished {D : Type 0} {G : Ghosts D} (state : D → DiskState) (first : Depot D) (now : Stage D G) (input told : List ℕ) : Type 0 where
   pub course : Course None input
-  pub promises : Promises [] (record_of None course.exchanges course.unanswered)
+  pub promises : PromisesSo state first now course.exchanges course.unanswered
   pub all : course.later ≡ []
   pub written : told ≡ replies_text course.exchanges
 
 -- reading goes on by a piece
-abbrev pub TakesOn : Cluster → List ℕ → List ℕ → List ℕ → Cluster → List ℕ → Type 0
-TakesOn old line piece text new line2 = (taken told : List ℕ) → StreamState taken told old line → StreamState (taken ++ piece) (told ++ text) new line2
+abbrev pub TakesOn : {D : Type 0} {G : Ghosts D} → (D → DiskState) → Stage D G → List ℕ → List ℕ → List ℕ → Stage D G → List ℕ → Type 0
+TakesOn {D} state old line piece text new line2 =
+    (first : Depot D) (taken told : List ℕ) → StreamState state first taken told old line → StreamState state first (taken ++ piece) (told ++ text) new line2
 
 -- it is cut short within a piece, whatever is left after it
-abbrev pub Cuts : Cluster → List ℕ → List ℕ → List ℕ → Type 0
-Cuts old line piece part = (taken told left : List ℕ) → StreamState taken told old line → CutShort ((taken ++ piece) ++ left) (told ++ part)
+abbrev pub Cuts : {D : Type 0} {G : Ghosts D} → (D → DiskState) → Stage D G → List ℕ → List ℕ → List ℕ → Stage D G → Type 0
+Cuts {D} state old line piece part new =
+    (first : Depot D) (taken told left : List ℕ) → StreamState state first taken told old line → CutShort state first new ((taken ++ piece) ++ left) (told ++ part)

@@ -1,8 +1,8 @@
-ghost use Rattle.std.specs.Prelude.{◌≡◌, List, Option, IfOk, OnErr};
+ghost use Rattle.std.specs.Prelude.{◌≡◌, Option, IfOk, OnErr};
 ghost use Rattle.std.specs.Option.{option_copied};
-ghost use Rattle.m3_model.specs.declared.turn.Request.{Request};
+ghost use Rattle.m3_cluster.specs.Depots.{OwnsDisks};
 ghost use Rattle.m3_program.specs.Exchanges.{is_blank, reply_line};
-ghost use Rattle.m3_program.specs.Streams.{Advances, MayMean};
+ghost use Rattle.m3_program.specs.Streams.{Advances, Drops, stage};
 
 use m3_cluster::cluster::Cluster;
 use m3_json::fault::LineErr;
@@ -11,6 +11,7 @@ use m3_model::answer::Answer;
 use m3_model::memory::Memory;
 use m3_model::placement::Placement;
 use m3_model::turn::Reply;
+use m3_outside::disks::Disks;
 use m3_replies::print_reply;
 use std::alloc::Global;
 
@@ -32,16 +33,25 @@ fn line_of(alloc: Global, reply: &Reply, place: Option<&Placement>) -> Result<Ve
 }
 
 /// What is to be written for a line, which has no newline. Where memory is wanted, the request may have been served.
-pub fn answer_line(alloc: Global, cluster: &mut Cluster, line: &[u8]) -> Result<Vec<u8>, Memory>
-    ensures ok { IfOk result (λ text. Advances cluster.old line.now text.items cluster.new) }
-    ensures err { OnErr result ((unanswered : Option Request) × MayMean line.now unanswered) }
+pub fn answer_line<X: Disks>(
+    alloc: Global,
+    cluster: &mut Cluster<X::D>,
+    disks: &mut X,
+    line: &[u8],
+) -> Result<Vec<u8>, Memory>
+    requires owned { OwnsDisks cluster.old (X.held disks.old) }
+    ensures ok { IfOk result (λ text. Advances X.D.state (stage cluster.old (X.held disks.old) (X.counted disks.old) (X.all_faults disks.old)) line.now text.items
+        (stage cluster.new (X.held disks.new) (X.counted disks.new) (X.all_faults disks.new))) }
+    ensures err { OnErr result (Drops X.D.state (stage cluster.old (X.held disks.old) (X.counted disks.old) (X.all_faults disks.old)) line.now
+        (stage cluster.new (X.held disks.new) (X.counted disks.new) (X.all_faults disks.new))) }
+    ensures owned { OwnsDisks cluster.new (X.held disks.new) }
 {
     if is_blank(line) {
         return Ok(Vec::new(alloc));
     }
     match read_line(alloc, line) {
         Ok(request) => {
-            let reply = cluster.serve(alloc, request);
+            let reply = cluster.serve(alloc, disks, request);
             line_of(alloc, &reply, cluster.place())
         }
         Err(LineErr::Form) => line_of(alloc, &Reply::One(Answer::Form), cluster.place()),

@@ -3,6 +3,7 @@
 
 mod exchange;
 mod input;
+pub mod laws;
 mod output;
 pub mod run;
 pub mod status;

@@ -1,7 +1,10 @@
 ghost use Rattle.std.specs.Prelude.{◌≡◌, ◌<◌, ◌≤◌, ◌+◌, ◌^◌, ℕ, List, [], ◌++◌, Some, None, true, map, length, string_bytes, IfOk, OnOk, OnErr, IfErr};
 ghost use Rattle.std.specs.Io.KnownBytes.{Appends, Consumes, IsAtEnd};
+ghost use Rattle.m3_outside.specs.Slots.{Out};
+ghost use Rattle.m3_outside.specs.declared.slot.Slot.{Slot};
+ghost use Rattle.m3_cluster.specs.Depots.{Depot, OwnsDisks};
 ghost use Rattle.m3_program.specs.Words.{is_run};
-ghost use Rattle.m3_program.specs.Streams.{StreamState, TakesOn, Cuts, CutShort, Finished};
+ghost use Rattle.m3_program.specs.Streams.{StreamState, TakesOn, Cuts, CutShort, Finished, IsFresh, counts_at, stage};
 ghost use Rattle.m3_program.specs.Causes.{EndsLine, EndsStep, EndsRun};
 ghost use Rattle.m3_program.specs.Runs.{HasRun};
 
@@ -10,6 +13,7 @@ use crate::output::serve_line;
 use crate::status::Status;
 use crate::words::is_run;
 use m3_cluster::cluster::Cluster;
+use m3_outside::disks::Disks;
 use m3_outside::sink::Sink;
 use m3_outside::source::Source;
 use std::alloc::Global;
@@ -21,25 +25,32 @@ const INPUT_LIMIT: u64 = 1 << 32;
 const PIECE: usize = 65536;
 
 /// Takes what one read gives; 0 is the end of the input.
-fn serve_read<S: Source, K: Sink>(
+fn serve_read<S: Source, K: Sink, X: Disks>(
     alloc: Global,
-    cluster: &mut Cluster,
+    cluster: &mut Cluster<X::D>,
+    disks: &mut X,
     line: &mut Vec<u8>,
     source: &mut S,
     out: &mut K,
     buf: &mut [u8],
 ) -> Result<usize, Status>
+    requires owned { OwnsDisks cluster.old (X.held disks.old) }
     ensures ok { IfOk result (λ n. (piece text : List ℕ) × Consumes (S.left source.old) (S.left source.new) piece × (length piece ≡ n) × (n ≤ length buf.old)
-        × Appends (K.written out.old) (K.written out.new) text × TakesOn cluster.old line.old.items piece text cluster.new line.new.items
+        × Appends (K.written out.old) (K.written out.new) text
+        × TakesOn X.D.state (stage cluster.old (X.held disks.old) (X.counted disks.old) (X.all_faults disks.old)) line.old.items piece text
+        (stage cluster.new (X.held disks.new) (X.counted disks.new) (X.all_faults disks.new)) line.new.items
         × (n ≡ 0 → 0 < length buf.old → IsAtEnd (S.left source.new))) }
     ensures err { OnErr result ((piece part : List ℕ) × Consumes (S.left source.old) (S.left source.new) piece
-        × Appends (K.written out.old) (K.written out.new) part × Cuts cluster.old line.old.items piece part) }
+        × Appends (K.written out.old) (K.written out.new) part
+        × Cuts X.D.state (stage cluster.old (X.held disks.old) (X.counted disks.old) (X.all_faults disks.old)) line.old.items piece part
+        (stage cluster.new (X.held disks.new) (X.counted disks.new) (X.all_faults disks.new))) }
+    ensures owned { OwnsDisks cluster.new (X.held disks.new) }
     ensures later { (S.faulted source.old ≤ S.faulted source.new) × (K.faulted out.old ≤ K.faulted out.new) × (K.stalled out.old ≤ K.stalled out.new) }
     ensures cause { IfErr result (λ s. EndsStep s (S.faulted source.old) (S.faulted source.new) (K.faulted out.old) (K.faulted out.new) (K.stalled out.old) (K.stalled out.new)) }
 {
     match source.read(buf) {
         Err(_) => Err(Status::ReadFault),
-        Ok(count) => match serve_piece(alloc, cluster, out, line, &buf[..count]) {
+        Ok(count) => match serve_piece(alloc, cluster, disks, out, line, &buf[..count]) {
             Ok(()) => Ok(count),
             Err(status) => Err(status),
         },
@@ -47,23 +58,28 @@ fn serve_read<S: Source, K: Sink>(
 }
 
 /// Takes a last line without a newline.
-fn serve_last<K: Sink>(
+fn serve_last<K: Sink, X: Disks>(
     alloc: Global,
-    cluster: &mut Cluster,
+    cluster: &mut Cluster<X::D>,
+    disks: &mut X,
     out: &mut K,
     line: &[u8],
 ) -> Result<(), Status>
+    requires owned { OwnsDisks cluster.old (X.held disks.old) }
     ensures ok { OnOk result ((text : List ℕ) × Appends (K.written out.old) (K.written out.new) text
-        × ((taken told : List ℕ) → StreamState taken told cluster.old line.now → Finished taken (told ++ text))) }
+        × ((first : Depot X.D) (taken told : List ℕ) → StreamState X.D.state first taken told (stage cluster.old (X.held disks.old) (X.counted disks.old) (X.all_faults disks.old)) line.now
+        → Finished X.D.state first (stage cluster.new (X.held disks.new) (X.counted disks.new) (X.all_faults disks.new)) taken (told ++ text))) }
     ensures err { OnErr result ((part : List ℕ) × Appends (K.written out.old) (K.written out.new) part
-        × ((taken told : List ℕ) → StreamState taken told cluster.old line.now → CutShort taken (told ++ part))) }
+        × ((first : Depot X.D) (taken told : List ℕ) → StreamState X.D.state first taken told (stage cluster.old (X.held disks.old) (X.counted disks.old) (X.all_faults disks.old)) line.now
+        → CutShort X.D.state first (stage cluster.new (X.held disks.new) (X.counted disks.new) (X.all_faults disks.new)) taken (told ++ part))) }
+    ensures owned { OwnsDisks cluster.new (X.held disks.new) }
     ensures later { (K.faulted out.old ≤ K.faulted out.new) × (K.stalled out.old ≤ K.stalled out.new) }
     ensures cause { IfErr result (λ s. EndsLine s (K.faulted out.old) (K.faulted out.new) (K.stalled out.old) (K.stalled out.new)) }
 {
     if line.is_empty() {
         return Ok(());
     }
-    serve_line(alloc, cluster, out, line)
+    serve_line(alloc, cluster, disks, out, line)
 }
 
 /// How much may be taken at once where this much was taken.
@@ -77,13 +93,23 @@ fn room_after(taken: u64) -> usize
     if left < 65536 { left as usize } else { PIECE }
 }
 
-/// Reads lines, serves each and writes its reply, to the end of the input.
-fn serve_all<S: Source, K: Sink>(alloc: Global, source: &mut S, out: &mut K) -> Status
+/// Reads lines, serves each and writes its reply, to the end of the input. The cluster keeps the disks that it has.
+fn serve_all<S: Source, K: Sink, X: Disks>(
+    alloc: Global,
+    cluster: &mut Cluster<X::D>,
+    disks: &mut X,
+    source: &mut S,
+    out: &mut K,
+) -> Status
+    requires fresh { IsFresh X.D.state cluster.old }
+    requires owned { OwnsDisks cluster.old (X.held disks.old) }
     ensures told { (input before : List ℕ) → S.left source.old ≡ Some input → K.written out.old ≡ Some before
-        → (left written : List ℕ) × (S.left source.new ≡ Some left) × (K.written out.new ≡ Some (before ++ written)) × HasRun [] None result input left written }
+        → (left written : List ℕ) × (S.left source.new ≡ Some left) × (K.written out.new ≡ Some (before ++ written))
+        × HasRun X.D.state (record { held = X.held disks.old; counted = X.counted disks.old; faults = X.all_faults disks.old })
+        (counts_at X.D.state (stage cluster.new (X.held disks.new) (X.counted disks.new) (X.all_faults disks.new))) [] None result input left written }
+    ensures owned { OwnsDisks cluster.new (X.held disks.new) }
     ensures cause { EndsRun true result (S.faulted source.old) (S.faulted source.new) (K.faulted out.old) (K.faulted out.new) (K.stalled out.old) (K.stalled out.new) }
 {
-    let mut cluster = Cluster::new();
     let mut line = Vec::new(alloc);
     let mut buf = [0u8; PIECE];
     let mut taken: u64 = 0;
@@ -91,7 +117,8 @@ fn serve_all<S: Source, K: Sink>(alloc: Global, source: &mut S, out: &mut K) -> 
         let room = room_after(taken);
         match serve_read(
             alloc,
-            &mut cluster,
+            cluster,
+            disks,
             &mut line,
             source,
             out,
@@ -99,7 +126,7 @@ fn serve_all<S: Source, K: Sink>(alloc: Global, source: &mut S, out: &mut K) -> 
         ) {
             Err(status) => return status,
             Ok(0) => {
-                return match serve_last(alloc, &mut cluster, out, line.as_slice()) {
+                return match serve_last(alloc, cluster, disks, out, line.as_slice()) {
                     Ok(()) => Status::Done,
                     Err(status) => status,
                 };
@@ -111,19 +138,27 @@ fn serve_all<S: Source, K: Sink>(alloc: Global, source: &mut S, out: &mut K) -> 
 }
 
 /// The program: where the words are the one word `run`, reads request lines to the input's end, serves each in order
-/// and writes each reply as a line.
-pub fn run<S: Source, K: Sink>(
+/// and writes each reply as a line. The nodes' replicas stand over these disks, which are all given back at the end.
+pub fn run<S: Source, K: Sink, X: Disks>(
     alloc: Global,
     words: &[String],
     source: &mut S,
     out: &mut K,
+    disks: &mut X,
 ) -> Status
+    requires none_out { (slot : Slot) → ¬ (X.held disks.old slot ≡ Out) }
     ensures told { (input before : List ℕ) → S.left source.old ≡ Some input → K.written out.old ≡ Some before
-        → (left written : List ℕ) × (S.left source.new ≡ Some left) × (K.written out.new ≡ Some (before ++ written)) × HasRun [] None result input left written }
+        → (left written : List ℕ) × (S.left source.new ≡ Some left) × (K.written out.new ≡ Some (before ++ written))
+        × HasRun X.D.state (record { held = X.held disks.old; counted = X.counted disks.old; faults = X.all_faults disks.old })
+        (record { all = X.all_faults disks.new; of_disk = X.counted disks.new }) [] None result input left written }
+    ensures none_out { (slot : Slot) → ¬ (X.held disks.new slot ≡ Out) }
     ensures cause { EndsRun (is_run (map string_bytes words.now)) result (S.faulted source.old) (S.faulted source.new) (K.faulted out.old) (K.faulted out.new) (K.stalled out.old) (K.stalled out.new) }
 {
     if !is_run(words) {
         return Status::Usage;
     }
-    serve_all(alloc, source, out)
+    let mut cluster = Cluster::new();
+    let status = serve_all(alloc, &mut cluster, disks, source, out);
+    cluster.close(disks);
+    status
 }

@@ -1,14 +1,18 @@
-//! Tests over several crates: lines go through `run`, over a source and a sink in memory, and points through a buffer.
+//! Tests over several crates: lines go through `run`, over a source, a sink and disks in memory, and points through a buffer.
 #![tactic(auto)]
 
 #[cfg(test)]
 mod buffers;
+#[cfg(test)]
+mod disks;
 #[cfg(test)]
 mod lines;
 #[cfg(test)]
 mod logs;
 #[cfg(test)]
 mod messages;
+#[cfg(test)]
+mod nodes;
 #[cfg(test)]
 mod script;
 #[cfg(test)]

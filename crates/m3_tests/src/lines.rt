@@ -1,5 +1,6 @@
 // What lines are answered with.
 use crate::messages::{LATE, LEVELS, LOST, NUMBERED, OUTLASTING, STOPS};
+use crate::nodes::{OUTAGE, RESTARTS, UNSTARTED};
 use crate::script::{INIT, NAMESPACE, PLACED, ended};
 use crate::stories::{
     BEFORE_INIT, EXPIRY, FETCH_RETURNS_WRITE, HIGHER_VALUE_STAYS, INITS, MATCHES, NAMESPACES,
@@ -10,8 +11,13 @@ use std::alloc::Global;
 use std::process::Abort;
 use std::test::Fail;
 
-// The lines of a story, and the replies that it tells of, behind these first ones.
-fn told(alloc: Global, input: &str, output: &str, story: &str) -> Result<(String, String), Fail> {
+/// The lines of a story, and the replies that it tells of, behind these first ones.
+pub fn told(
+    alloc: Global,
+    input: &str,
+    output: &str,
+    story: &str,
+) -> Result<(String, String), Fail> {
     let mut requests = String::from_str(alloc, input)?;
     let mut replies = String::from_str(alloc, output)?;
     let mut is_request = true;
@@ -64,6 +70,9 @@ fn stories_after_init(rt: HostRuntime) -> Result<(), Fail> {
         LATE,
         OUTLASTING,
         STOPS,
+        RESTARTS,
+        OUTAGE,
+        UNSTARTED,
     ] {
         answers(&rt, alloc, input.as_str(), output.as_str(), story)?;
     }

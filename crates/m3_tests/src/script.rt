@@ -1,8 +1,14 @@
 // The lines and replies that scripts begin with, and runs over them.
+ghost use Rattle.std.specs.Prelude.{◌≡◌};
+ghost use Rattle.m3_outside.specs.Slots.{Out};
+ghost use Rattle.m3_outside.specs.declared.slot.Slot.{Slot as AtSlot};
+ghost use Rattle.mem_disk.specs.Slots.{held_of};
+
 use m3_outside::mem_sink::MemSink;
 use m3_outside::mem_source::MemSource;
 use m3_program::run::run;
 use m3_program::status::Status;
+use mem_disk::disks::MemDisks;
 use std::alloc::Global;
 use std::test::Fail;
 
@@ -15,7 +21,29 @@ pub const NAMESPACE: &str =
 pub const PLACED: &str =
     "{\"ok\":true,\"placement\":{\"instances\":[[\"a\",\"g1\",false],[\"b\",\"g2\",false],[\"c\",\"g3\",false]],\"rf\":3,\"shards\":[[[\"a\",\"available\",1],[\"b\",\"available\",1],[\"c\",\"available\",1]]]},\"version\":1}\n";
 
-/// The status and the output of a run with these words, and with these calls of its streams failing.
+/// The status and the output of a run over these disks, with these words, and with these calls of its streams failing.
+pub fn ended_over(
+    alloc: Global,
+    words: &[&str],
+    input: &str,
+    fails: (&[u64], &[u64]),
+    disks: &mut MemDisks,
+) -> Result<(Status, String), Fail>
+    requires { (slot : AtSlot) → ¬ (held_of disks.old slot ≡ Out) }
+    ensures { (slot : AtSlot) → ¬ (held_of disks.new slot ≡ Out) }
+{
+    let (read_fails, write_fails) = fails;
+    let mut given = Vec::new(alloc);
+    for word in words {
+        given.push(String::from_str(alloc, word)?)?;
+    }
+    let mut source = MemSource::new(alloc, input.as_bytes(), read_fails)?;
+    let mut sink = MemSink::new(alloc, write_fails)?;
+    let status = run(alloc, given.as_slice(), &mut source, &mut sink, disks);
+    Ok((status, String::from_utf8_lossy(alloc, sink.bytes())?))
+}
+
+/// The same over empty disks that never fail.
 pub fn ended(
     alloc: Global,
     words: &[&str],
@@ -23,12 +51,6 @@ pub fn ended(
     read_fails: &[u64],
     write_fails: &[u64],
 ) -> Result<(Status, String), Fail> {
-    let mut given = Vec::new(alloc);
-    for word in words {
-        given.push(String::from_str(alloc, word)?)?;
-    }
-    let mut source = MemSource::new(alloc, input.as_bytes(), read_fails)?;
-    let mut sink = MemSink::new(alloc, write_fails)?;
-    let status = run(alloc, given.as_slice(), &mut source, &mut sink);
-    Ok((status, String::from_utf8_lossy(alloc, sink.bytes())?))
+    let mut disks = MemDisks::new(alloc)?;
+    ended_over(alloc, words, input, (read_fails, write_fails), &mut disks)
 }

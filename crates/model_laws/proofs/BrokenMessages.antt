@@ -32,7 +32,7 @@ use Rattle.model_laws.proofs.UncausedLives.{due_after, due_at, names_below}
 used_is : (lines : List Turn) (a : Act) (b : Answer) (used : Placement) → placement_at None (place_after lines a b) ≡ Some place → MayUse None (place_after lines a b) None used → place ≡ used
 used_is lines a b used stood may = elim may as (λ _. place ≡ used) [ inl e ↦ same_of_some place used (sym stood ∙ e) | inr none ↦ absurd none ]
 
-pub lost_and_acked-refused : ¬ Caused (life_of lost_and_acked)
+pub lost_and_acked-refused : ¬ Caused (life_of lost_and_acked) []
 lost_and_acked-refused caused =
     let lines = begun 100 (fated ((0, 0, codes "c", Lose) ∷ []) ∷ []) in
     let taken = acks (0 ∷ 1 ∷ 2 ∷ []) in
@@ -41,7 +41,7 @@ lost_and_acked-refused caused =
     let bad : false ≡ true = subst (λ x. reaches (place_after lines (write 100 (pos 5)) taken) x 2 ≡ true) (sym same) (due.reached 2 (inr (inr (inl refl)))) in
     cc
 
-pub stopped_and_acked-refused : ¬ Caused (life_of stopped_and_acked)
+pub stopped_and_acked-refused : ¬ Caused (life_of stopped_and_acked) []
 stopped_and_acked-refused caused =
     let lines = begun 100 (stopped (codes "c") ∷ []) in
     let taken = acks (0 ∷ 1 ∷ 2 ∷ []) in
@@ -50,21 +50,20 @@ stopped_and_acked-refused caused =
     let bad : false ≡ true = subst (λ x. reaches (place_after lines (write 100 (pos 5)) taken) x 2 ≡ true) (sym same) (due.reached 2 (inr (inr (inl refl)))) in
     cc
 
-pub down_unstopped-refused : ¬ Caused (life_of down_unstopped)
+pub down_unstopped-refused : ¬ Caused (life_of down_unstopped) []
 down_unstopped-refused caused =
-    let due : IsUnmet None (place_after (begun 100 []) (write 100 (pos 5)) (unmet 0 (by_each reason.Down))) 0 2 (by_each reason.Down) 0 = due_at 100 (write 100 (pos 5)) (unmet 0 (by_each reason.Down)) (λ e. cc) caused in
-    let bad : false ≡ true = (due.refused (0, reason.Down) (inl refl)).holds in
-    cc
+    let due : IsUnmet [] None (place_after (begun 100 []) (write 100 (pos 5)) (unmet 0 (by_each reason.Down))) 0 2 (by_each reason.Down) 0 = due_at 100 (write 100 (pos 5)) (unmet 0 (by_each reason.Down)) (λ e. cc) caused in
+    elim (due.refused (0, reason.Down) (inl refl)) as (λ _. ⊥) [ inl one ↦ let bad : false ≡ true = one.holds in cc | inr closed ↦ closed.among ]
 
-pub cut_by_other_fate-refused : ¬ Caused (life_of cut_by_other_fate)
+pub cut_by_other_fate-refused : ¬ Caused (life_of cut_by_other_fate) []
 cut_by_other_fate-refused caused =
     let lines = begun 100 (fated ((0, 1, codes "c", Lose) ∷ []) ∷ []) in
     let reasons : List (ℕ × Reason) = (1, reason.Memory) ∷ (2, reason.Cut) ∷ [] in
-    let due : IsUnmet None (place_after lines (write 100 (pos 5)) (unmet 1 reasons)) 1 2 reasons 0 = due_after lines (write 100 (pos 5)) (unmet 1 reasons) [] (λ e. cc) caused in
+    let due : IsUnmet [] None (place_after lines (write 100 (pos 5)) (unmet 1 reasons)) 1 2 reasons 0 = due_after lines (write 100 (pos 5)) (unmet 1 reasons) [] (λ e. cc) caused in
     let bad : false ≡ true = (due.refused (2, reason.Cut) (inr (inl refl))).holds in
     cc
 
-pub not_short_enough-refused : ¬ Caused (life_of not_short_enough)
+pub not_short_enough-refused : ¬ Caused (life_of not_short_enough) []
 unfolding murmur3
 not_short_enough-refused caused =
     let lines = begun 100 (stopped (codes "b") ∷ stopped (codes "c") ∷ []) in
@@ -77,12 +76,12 @@ not_short_enough-refused caused =
     let bad : 2 ≤ 1 = enough due.place same (due.not_short refl refl) in
     omega arith
 
-pub stopped_again-refused : ¬ Caused (life_of stopped_again)
+pub stopped_again-refused : ¬ Caused (life_of stopped_again) []
 stopped_again-refused caused =
     let due : answer.Done ≡ answer.State (codes "c") = due_after (begun 100 (stopped (codes "c") ∷ [])) (act.Stop (codes "c")) answer.Done [] (λ e. cc) caused in
     cc
 
-pub fate_of_nobody-refused : ¬ Caused (life_of fate_of_nobody)
+pub fate_of_nobody-refused : ¬ Caused (life_of fate_of_nobody) []
 fate_of_nobody-refused caused =
     let due : answer.Done ≡ answer.Unknown (codes "x") = due_after (begun 100 []) (act.Fates ((0, 0, codes "x", Lose) ∷ [])) answer.Done [] (λ e. cc) caused in
     cc
@@ -116,13 +115,13 @@ not_before used a b same of_a of_b a_is b_is before =
     ]
 
 -- no two messages in order have these outcomes
-not_twice : (used : Placement) (messages : List LateMessage) → place ≡ used → Ascends (IsLateBefore used) messages → AreOutcomes None delivery used messages twice → ⊥
+not_twice : (used : Placement) (messages : List LateMessage) → place ≡ used → Ascends (IsLateBefore used) messages → AreOutcomes [] None delivery used messages twice → ⊥
 not_twice used [] same in_order each = absurd each
 not_twice used (a ∷ []) same in_order each = absurd each.1
 not_twice used (a ∷ b ∷ []) same in_order each = not_before used a b same each.0.message each.1.0.message (sym each.0.node_is) (sym each.1.0.node_is) (in_order.0 b (inl refl))
 not_twice used (a ∷ b ∷ _ ∷ _) same in_order each = absurd each.1.1
 
-pub delivered_twice-refused : ¬ Caused (life_of delivered_twice)
+pub delivered_twice-refused : ¬ Caused (life_of delivered_twice) []
 delivered_twice-refused caused =
-    let due : IsDelivered None delivery twice = due_after lines_before act.Deliver (answer.Outcomes twice) [] (λ e. cc) caused in
+    let due : IsDelivered [] None delivery twice = due_after lines_before act.Deliver (answer.Outcomes twice) [] (λ e. cc) caused in
     not_twice due.place due.messages (same_of_some place due.place due.stands) due.in_order due.each

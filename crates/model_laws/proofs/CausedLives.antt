@@ -5,6 +5,7 @@ use Rattle.std.specs.Prelude.{Some, None, pos, slice_get, codes, option_map, cou
 use Rattle.std.specs.Option.{option_or}
 use Rattle.m3_model.specs.Caused.{Caused, CausedAt, IsDue, call_of, IsAcked, IsNamedBelow, IsUnmet, MayRefuse, MayServe, TakesPoint, IsOutside, IsFoundFor}
 use Rattle.m3_model.specs.Fates.{reaches}
+use Rattle.m3_model.specs.Faults.{Fault, AreDifferent}
 use Rattle.m3_model.specs.Rules.{IsPast, IsFuture}
 use Rattle.m3_model.specs.declared.act.ReadLevel.TheVariants as read_level
 use Rattle.m3_model.specs.Hash.{murmur3, shard_of}
@@ -58,7 +59,7 @@ first_shard = record {
       also tt);
 }
 
-first_placement : IsFirstPlacement 3 1 nodes place
+pub first_placement : IsFirstPlacement 3 1 nodes place
 first_placement = record {
   version_is = refl;
   rf_is = refl;
@@ -133,7 +134,7 @@ counted_reached lines rules a b node stood counts =
     counts.assignment (subst (λ xs. IsIn xs counts.assignment) same counts.assigned))
 
 -- what a moment lets a replica refuse is a reason
-refuses_by : (lines : List Turn) (rules : Rules) (a : Act) (b : Answer) (node : ℕ) (why : Reason) → StandsAt lines rules → WindowRefuses rules a why → MayRefuse None (place_after lines a b) place node why
+refuses_by : (lines : List Turn) (rules : Rules) (a : Act) (b : Answer) (node : ℕ) (why : Reason) → StandsAt lines rules → WindowRefuses rules a why → MayRefuse [] None (place_after lines a b) place 0 node why
 refuses_by lines rules a b node reason.Past stood may = subst (λ r. IsOutside IsPast r a) (sym stood.rules_is) may
 refuses_by lines rules a b node reason.Future stood may = subst (λ r. IsOutside IsFuture r a) (sym stood.rules_is) may
 refuses_by lines rules a b node reason.Memory stood may = tt
@@ -163,7 +164,7 @@ found_by lines rules from to b stood = record {
 -- fewer than the two nodes that are needed did as a call of `hello` asked
 unmet_by : (lines : List Turn) (rules : Rules) (a : Act) (needed : ℕ → ℕ) (got : ℕ) (reasons : List (ℕ × Reason)) → StandsAt lines rules → call_of a ≡ Some (call_with needed) → needed 3 ≡ 2 → got < 2 → got + length reasons ≡ 3
     → Each (λ r. IsCounted place 0 r.0) reasons → EachPair (λ r s. IsNamedBelow place r.0 s.0) reasons → Each (λ r. WindowRefuses rules a r.1) reasons → (0 < got → MayServe rules a)
-    → IsUnmet None (place_after lines a (unmet got reasons)) got 2 reasons 0
+    → IsUnmet [] None (place_after lines a (unmet got reasons)) got 2 reasons 0
 unfolding murmur3
 unmet_by lines rules a needed got reasons stood is two fewer others counted by_name refused served = record {
   call = call_with needed;
@@ -184,7 +185,7 @@ unmet_by lines rules a needed got reasons stood is two fewer others counted by_n
 
 -- all three nodes refused a write for one reason
 all_refuse : (lines : List Turn) (rules : Rules) (ns : List ℕ) (t : ℕ) (v : ℤ) (why : Reason) → StandsAt lines rules → WindowRefuses rules (write_in ns t v) why
-    → IsUnmet None (place_after lines (write_in ns t v) (unmet 0 (by_each why))) 0 2 (by_each why) 0
+    → IsUnmet [] None (place_after lines (write_in ns t v) (unmet 0 (by_each why))) 0 2 (by_each why) 0
 all_refuse lines rules ns t v why stood may =
     unmet_by lines rules (write_in ns t v) _ 0 (by_each why) stood refl refl (omega arith) refl
     (counted_0 also counted_1 also counted_2 also tt)
@@ -193,21 +194,26 @@ all_refuse lines rules ns t v why stood may =
     (λ some. absurd (omega (arith, some)))
 
 -- a first moment is never a lowered one
-first_moment : (now : ℕ) → CausedAt None (place_after (made ∷ named ∷ []) (act.Now now) answer.Done)
-first_moment now =
+first_moment : (faults : List Fault) (now : ℕ) → CausedAt faults None (place_after (made ∷ named ∷ []) (act.Now now) answer.Done)
+first_moment faults now =
     let test : nat_lt now 0 ≡ false = grind (arith, nat_tests) in
-    inr (subst (λ b. IsDue None (place_after (made ∷ named ∷ []) (act.Now now) answer.Done) (option_or (cond b (Some (answer.Clock 0)) None) None)) (sym test) tt)
+    inr (subst (λ b. IsDue faults None (place_after (made ∷ named ∷ []) (act.Now now) answer.Done) (option_or (cond b (Some (answer.Clock 0)) None) None)) (sym test) tt)
 
--- the first three lines have their causes
-pub begun_caused : (now : ℕ) (turns : List Turn) → EachSplit (λ lines line after. EachInLine (CausedAt None) lines line) (begun now []) turns → Caused (life_of (begun now turns))
-begun_caused now turns each = caused_by_places (life_of (begun now turns)) (only (inr (first_placement, refl)) also only (inr tt) also only (first_moment now) also each)
+-- the first three lines have their causes, over any faults
+pub begun_caused_over : (faults : List Fault) (now : ℕ) (turns : List Turn) → AreDifferent faults → EachSplit (λ lines line after. EachInLine (CausedAt faults None) lines line) (begun now []) turns → Caused (life_of (begun now turns)) faults
+begun_caused_over faults now turns different each =
+    caused_by_places faults (life_of (begun now turns)) different (only (inr (first_placement, refl)) also only (inr tt) also only (first_moment faults now) also each)
 
-pub at_moment-caused : (now : ℕ) (a : Act) (b : Answer) → CausedAt None (place_after (begun now []) a b) → Caused (life_of (at_moment now a b))
+-- and without any
+pub begun_caused : (now : ℕ) (turns : List Turn) → EachSplit (λ lines line after. EachInLine (CausedAt [] None) lines line) (begun now []) turns → Caused (life_of (begun now turns)) []
+begun_caused now turns each = begun_caused_over [] now turns tt each
+
+pub at_moment-caused : (now : ℕ) (a : Act) (b : Answer) → CausedAt [] None (place_after (begun now []) a b) → Caused (life_of (at_moment now a b)) []
 at_moment-caused now a b here = begun_caused now _ (only here also tt)
 
-pub with_eight-caused : (a : Act) (b : Answer) → CausedAt None (place_after eight_made a b) → Caused (life_of (with_eight a b))
+pub with_eight-caused : (a : Act) (b : Answer) → CausedAt [] None (place_after eight_made a b) → Caused (life_of (with_eight a b)) []
 with_eight-caused a b here =
-    caused_by_places (life_of (with_eight a b)) (
+    caused_by_places [] (life_of (with_eight a b)) tt (
     only (inr (first_placement, refl))
     also only (inr tt)
     also only (inr tt)
@@ -220,51 +226,51 @@ with_eight-caused a b here =
     also only here
     also tt)
 
-pub write_then_read-caused : Caused (life_of write_then_read)
-write_then_read-caused = begun_caused 100 _ (only (inr (all_take _ (rules_when 100) _ _ _ _ _ (stands refl refl refl refl (λ name. refl)) refl refl (omega arith) (omega arith))) also only (inr (found_by _ (rules_when 100) _ _ _ (stands refl refl refl refl (λ name. refl)))) also tt)
+pub write_then_read-caused : Caused (life_of write_then_read) []
+write_then_read-caused = begun_caused 100 _ (only (inr (all_take _ (rules_when 100) _ _ _ _ _ (stands refl refl refl refl (λ name. refl) (λ name shard. refl)) refl refl (omega arith) (omega arith))) also only (inr (found_by _ (rules_when 100) _ _ _ (stands refl refl refl refl (λ name. refl) (λ name shard. refl)))) also tt)
 
-pub edge_writes-caused : Caused (life_of edge_writes)
+pub edge_writes-caused : Caused (life_of edge_writes) []
 edge_writes-caused =
     begun_caused 250 _ (
-    only (inr (all_refuse _ (rules_when 250) _ _ _ _ (stands refl refl refl refl (λ name. refl)) (past_by (rules_when 250) _ 0 space _ _ refl refl (omega arith))))
-    also only (inr (all_take _ (rules_when 250) _ _ _ _ _ (stands refl refl refl refl (λ name. refl)) refl refl (omega arith) (omega arith)))
-    also only (inr (all_take _ (rules_when 250) _ _ _ _ _ (stands refl refl refl refl (λ name. refl)) refl refl (omega arith) (omega arith)))
-    also only (inr (all_refuse _ (rules_when 250) _ _ _ _ (stands refl refl refl refl (λ name. refl)) (future_by (rules_when 250) _ 0 space _ _ refl refl (omega arith))))
-    also only (inr (found_by _ (rules_when 250) _ _ _ (stands refl refl refl refl (λ name. refl))))
+    only (inr (all_refuse _ (rules_when 250) _ _ _ _ (stands refl refl refl refl (λ name. refl) (λ name shard. refl)) (past_by (rules_when 250) _ 0 space _ _ refl refl (omega arith))))
+    also only (inr (all_take _ (rules_when 250) _ _ _ _ _ (stands refl refl refl refl (λ name. refl) (λ name shard. refl)) refl refl (omega arith) (omega arith)))
+    also only (inr (all_take _ (rules_when 250) _ _ _ _ _ (stands refl refl refl refl (λ name. refl) (λ name shard. refl)) refl refl (omega arith) (omega arith)))
+    also only (inr (all_refuse _ (rules_when 250) _ _ _ _ (stands refl refl refl refl (λ name. refl) (λ name shard. refl)) (future_by (rules_when 250) _ 0 space _ _ refl refl (omega arith))))
+    also only (inr (found_by _ (rules_when 250) _ _ _ (stands refl refl refl refl (λ name. refl) (λ name shard. refl))))
     also tt)
 
 -- the rules with both namespaces at moment 250
 abbrev both_rules : Rules
 both_rules = record { now = 250; spaces = space ∷ narrow ∷ [] }
 
-pub narrow_writes-caused : Caused (life_of narrow_writes)
+pub narrow_writes-caused : Caused (life_of narrow_writes) []
 narrow_writes-caused =
-    caused_by_places (life_of narrow_writes) (
+    caused_by_places [] (life_of narrow_writes) tt (
     only (inr (first_placement, refl))
     also only (inr tt)
     also only (inr tt)
     also only (inr tt)
-    also only (inr (all_refuse _ both_rules _ _ _ _ (stands refl refl refl refl (λ name. refl)) (past_by both_rules _ 1 narrow _ _ refl refl (omega arith))))
-    also only (inr (all_take _ both_rules _ 1 narrow _ _ (stands refl refl refl refl (λ name. refl)) refl refl (omega arith) (omega arith)))
-    also only (inr (all_take _ both_rules _ 1 narrow _ _ (stands refl refl refl refl (λ name. refl)) refl refl (omega arith) (omega arith)))
-    also only (inr (all_refuse _ both_rules _ _ _ _ (stands refl refl refl refl (λ name. refl)) (future_by both_rules _ 1 narrow _ _ refl refl (omega arith))))
-    also only (inr (all_take _ both_rules _ 0 space _ _ (stands refl refl refl refl (λ name. refl)) refl refl (omega arith) (omega arith)))
-    also only (inr (all_take _ both_rules _ 0 space _ _ (stands refl refl refl refl (λ name. refl)) refl refl (omega arith) (omega arith)))
+    also only (inr (all_refuse _ both_rules _ _ _ _ (stands refl refl refl refl (λ name. refl) (λ name shard. refl)) (past_by both_rules _ 1 narrow _ _ refl refl (omega arith))))
+    also only (inr (all_take _ both_rules _ 1 narrow _ _ (stands refl refl refl refl (λ name. refl) (λ name shard. refl)) refl refl (omega arith) (omega arith)))
+    also only (inr (all_take _ both_rules _ 1 narrow _ _ (stands refl refl refl refl (λ name. refl) (λ name shard. refl)) refl refl (omega arith) (omega arith)))
+    also only (inr (all_refuse _ both_rules _ _ _ _ (stands refl refl refl refl (λ name. refl) (λ name shard. refl)) (future_by both_rules _ 1 narrow _ _ refl refl (omega arith))))
+    also only (inr (all_take _ both_rules _ 0 space _ _ (stands refl refl refl refl (λ name. refl) (λ name shard. refl)) refl refl (omega arith) (omega arith)))
+    also only (inr (all_take _ both_rules _ 0 space _ _ (stands refl refl refl refl (λ name. refl) (λ name shard. refl)) refl refl (omega arith) (omega arith)))
     also tt)
 
-pub unmet_then_read-caused : (points : List (ℕ × ℤ)) → Caused (life_of (unmet_then_read points))
+pub unmet_then_read-caused : (points : List (ℕ × ℤ)) → Caused (life_of (unmet_then_read points)) []
 unmet_then_read-caused points =
     begun_caused 100 _ (
-    only (inr (unmet_by _ (rules_when 100) _ _ 1 _ (stands refl refl refl refl (λ name. refl)) refl refl (omega arith) refl
+    only (inr (unmet_by _ (rules_when 100) _ _ 1 _ (stands refl refl refl refl (λ name. refl) (λ name shard. refl)) refl refl (omega arith) refl
     (counted_1 also counted_2 also tt) ((below_1_2 also tt) also tt also tt) (tt also tt also tt)
     (λ some. takes_by (rules_when 100) _ 0 space _ _ refl refl (omega arith) (omega arith))))
-    also only (inr (found_by _ (rules_when 100) _ _ _ (stands refl refl refl refl (λ name. refl))))
+    also only (inr (found_by _ (rules_when 100) _ _ _ (stands refl refl refl refl (λ name. refl) (λ name shard. refl))))
     also tt)
 
-pub fetch_unmet-caused : Caused (life_of (at_moment 100 (fetch 0 200) (unmet 1 ((0, reason.Memory) ∷ (2, reason.Memory) ∷ []))))
+pub fetch_unmet-caused : Caused (life_of (at_moment 100 (fetch 0 200) (unmet 1 ((0, reason.Memory) ∷ (2, reason.Memory) ∷ [])))) []
 fetch_unmet-caused =
     at_moment-caused 100 _ _ (
-    inr (unmet_by _ (rules_when 100) _ _ 1 _ (stands refl refl refl refl (λ name. refl)) refl refl (omega arith) refl
+    inr (unmet_by _ (rules_when 100) _ _ 1 _ (stands refl refl refl refl (λ name. refl) (λ name shard. refl)) refl refl (omega arith) refl
     (counted_0 also counted_2 also tt) ((below_0_2 also tt) also tt also tt) (tt also tt also tt) (λ some. tt)))
 
 -- a shard with one replica
@@ -285,8 +291,8 @@ first_placement_of_two = record {
   each_shard = each_in (IsFirstShard 1 (first_instances two_nodes)) place_of_two.shards (first_shard_of 0 (omega arith) also first_shard_of 1 (omega arith) also tt);
 }
 
-with_two_shards-caused : (a : Act) (b : Answer) → CausedAt None (place_after two_made a b) → Caused (life_of (with_two_shards a b))
-with_two_shards-caused a b here = caused_by_places (life_of (with_two_shards a b)) (only (inr (first_placement_of_two, refl)) also only (inr tt) also only here also tt)
+with_two_shards-caused : (a : Act) (b : Answer) → CausedAt [] None (place_after two_made a b) → Caused (life_of (with_two_shards a b)) []
+with_two_shards-caused a b here = caused_by_places [] (life_of (with_two_shards a b)) tt (only (inr (first_placement_of_two, refl)) also only (inr tt) also only here also tt)
 
 counted_of_two : IsCounted place_of_two 1 1
 counted_of_two = record { assignments = assigned 1 ∷ []; stands = refl; assignment = assigned 1; assigned = inl refl; to_node = refl; available = refl }
@@ -309,7 +315,7 @@ same_second node counts =
     let same : counts.assignments ≡ assigned 1 ∷ [] = same_of_some counts.assignments (assigned 1 ∷ []) (sym counts.stands) in
     elim (subst (λ xs. IsIn xs counts.assignment) same counts.assigned) as (λ _. 1 ≡ node) [ inl e ↦ ap (λ (x : Assignment). x.node) e ∙ counts.to_node | inr none ↦ absurd none ]
 
-second_unmet : IsUnmet None (place_after two_made (write 10 (pos 5)) (answer.Consistency 0 1 ((1, reason.Memory) ∷ []) 1)) 0 1 ((1, reason.Memory) ∷ []) 1
+second_unmet : IsUnmet [] None (place_after two_made (write 10 (pos 5)) (answer.Consistency 0 1 ((1, reason.Memory) ∷ []) 1)) 0 1 ((1, reason.Memory) ∷ []) 1
 unfolding murmur3
 second_unmet = record {
   call = call_with _;
@@ -324,12 +330,12 @@ second_unmet = record {
   by_name = ascends_by (λ r s. IsNamedBelow place_of_two r.0 s.0) ((1, reason.Memory) ∷ []) (tt also tt);
   others = refl;
   silent = λ node counts quiet. inl (same_second node counts);
-  refused = each_in (λ r. MayRefuse None (place_after two_made (write 10 (pos 5)) (answer.Consistency 0 1 ((1, reason.Memory) ∷ []) 1)) place_of_two r.0 r.1) ((1, reason.Memory) ∷ []) (tt also tt);
+  refused = each_in (λ r. MayRefuse [] None (place_after two_made (write 10 (pos 5)) (answer.Consistency 0 1 ((1, reason.Memory) ∷ []) 1)) place_of_two 1 r.0 r.1) ((1, reason.Memory) ∷ []) (tt also tt);
   served = λ some. absurd (omega (arith, some));
 }
 
-pub second_took-caused : Caused (life_of (with_two_shards (write 10 (pos 5)) (acks (1 ∷ []))))
+pub second_took-caused : Caused (life_of (with_two_shards (write 10 (pos 5)) (acks (1 ∷ [])))) []
 second_took-caused = with_two_shards-caused _ _ (inr second_took)
 
-pub second_unmet-caused : Caused (life_of (with_two_shards (write 10 (pos 5)) (answer.Consistency 0 1 ((1, reason.Memory) ∷ []) 1)))
+pub second_unmet-caused : Caused (life_of (with_two_shards (write 10 (pos 5)) (answer.Consistency 0 1 ((1, reason.Memory) ∷ []) 1))) []
 second_unmet-caused = with_two_shards-caused _ _ (inr second_unmet)

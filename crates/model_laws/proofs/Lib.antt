@@ -10,3 +10,5 @@ pub mod GeneralLemmas
 pub mod TagLemmas
 pub mod MessageLives
 pub mod BrokenMessages
+pub mod FaultLives
+pub mod BrokenFaults

@@ -4,7 +4,8 @@ use Rattle.std.specs.Prelude.{Some, None, map, pos, codes, slice_get, IsTrue}
 use Rattle.m3_model.specs.Caused.{Caused, call_of, IsAcked, IsUnmet, IsFoundFor, MayRefuse, MayServe, TakesPoint, LateMessage, IsLateMessage, IsLateBefore, IsDelivered, IsNamedBelow, delivers_nothing, placement_at, reached_of}
 use Rattle.m3_model.specs.Fates.{reaches, OfNode}
 use Rattle.m3_model.specs.Hash.{murmur3, shard_of}
-use Rattle.m3_model.specs.Levels.{needed_read}
+use Rattle.m3_model.specs.Faults.{Fault}
+use Rattle.m3_model.specs.Levels.{needed_write, needed_read}
 use Rattle.m3_model.specs.Members.{IsIn}
 use Rattle.m3_model.specs.Placements.{IsCounted, seed_after}
 use Rattle.m3_model.specs.Record.{TurnPlace, inner_turns}
@@ -12,7 +13,7 @@ use Rattle.m3_model.specs.Rules.{rules_at, InWindow}
 use Rattle.m3_model.specs.declared.act.Act.TheVariants as act
 use Rattle.m3_model.specs.declared.act.ReadLevel.{ReadLevel}
 use Rattle.m3_model.specs.declared.act.ReadLevel.TheVariants as read_level
-use Rattle.m3_model.specs.declared.act.WriteLevel.TheVariants as write_level
+use Rattle.m3_model.specs.declared.act.WriteLevel.{WriteLevel}
 use Rattle.m3_model.specs.declared.answer.Answer.TheVariants as answer
 use Rattle.m3_model.specs.declared.placement.Assignment.{Assignment}
 use Rattle.m3_model.specs.declared.placement.Instance.{Instance}
@@ -25,7 +26,7 @@ use Rattle.model_laws.proofs.SampleLemmas.{rules_when, call_with, hello}
 use Rattle.model_laws.proofs.CausedLives.{all_three, begun_caused, takes_by, counted_0, counted_1, counted_2, below_0_1, below_0_2, below_1_2}
 
 -- a fact of a node that is known
-of_node : (Holds : List ℕ → Type 0) (node : ℕ) (one : Instance) → slice_get place.instances node ≡ Some one → Holds one.name → OfNode place node Holds
+pub of_node : (Holds : List ℕ → Type 0) (node : ℕ) (one : Instance) → slice_get place.instances node ≡ Some one → Holds one.name → OfNode place node Holds
 of_node Holds node one stood holds = record { instance_ = one; stands = stood; holds = holds }
 
 -- a fact of each node that counts for the only shard
@@ -35,7 +36,7 @@ counted_each P each node counts =
     subst P counts.to_node (each_in (λ (a : Assignment). P a.node) all_three each counts.assignment (subst (λ xs. IsIn xs counts.assignment) same counts.assigned))
 
 -- a read of `hello` at a place from which it reaches so many replicas
-found_when : (p : TurnPlace) (level : ReadLevel) (short : Bool) (n : ℕ) → placement_at None p ≡ Some place → seed_after None (inner_turns p.lines) ≡ 0 → reached_of p place 0 ≡ n → needed_read level 3 ≤ n
+pub found_when : (p : TurnPlace) (level : ReadLevel) (short : Bool) (n : ℕ) → placement_at None p ≡ Some place → seed_after None (inner_turns p.lines) ≡ 0 → reached_of p place 0 ≡ n → needed_read level 3 ≤ n
     → (short ≡ true → level ≡ read_level.Unstrict) → (short ≡ false → level ≡ read_level.Unstrict → 2 ≤ n) → IsFoundFor None p (Some (codes "hello")) level None short
 unfolding murmur3
 found_when p level short n place_is seed_is reached enough may_be_short not_short =
@@ -48,31 +49,31 @@ found_when p level short n place_is seed_is reached enough may_be_short not_shor
       not_short = λ whole is shard asked. subst (λ k. 2 ≤ reached_of p place k) (sym (zero_is shard asked)) (subst (λ m. 2 ≤ m) (sym reached) (not_short whole is));
     }
 
--- a call of `hello` at a place from which fewer than the two replicas that it needs did as it asked
-unmet_when : (p : TurnPlace) (needed : ℕ → ℕ) (got : ℕ) (reasons : List (ℕ × Reason)) → placement_at None p ≡ Some place → seed_after None (inner_turns p.lines) ≡ 0 → call_of p.turn.act ≡ Some (call_with needed) → needed 3 ≡ 2
-    → got < 2 → got + length reasons ≡ 3 → Each (λ r. IsCounted place 0 r.0) reasons → EachPair (λ r s. IsNamedBelow place r.0 s.0) reasons → Each (λ (a : Assignment). reaches p place a.node ≡ false → IsIn (map (λ r. r.0) reasons) a.node) all_three
-    → Each (λ r. MayRefuse None p place r.0 r.1) reasons → (0 < got → MayServe (rules_at None p) p.turn.act) → IsUnmet None p got 2 reasons 0
+-- a call of `hello` at a place from which fewer than the replicas that it needs did as it asked
+pub unmet_when : {faults : List Fault} {n : ℕ} (p : TurnPlace) (needed : ℕ → ℕ) (got : ℕ) (reasons : List (ℕ × Reason)) → placement_at None p ≡ Some place → seed_after None (inner_turns p.lines) ≡ 0 → call_of p.turn.act ≡ Some (call_with needed) → needed 3 ≡ n
+    → got < n → got + length reasons ≡ 3 → Each (λ r. IsCounted place 0 r.0) reasons → EachPair (λ r s. IsNamedBelow place r.0 s.0) reasons → Each (λ (a : Assignment). reaches p place a.node ≡ false → IsIn (map (λ r. r.0) reasons) a.node) all_three
+    → Each (λ r. MayRefuse faults None p place 0 r.0 r.1) reasons → (0 < got → MayServe (rules_at None p) p.turn.act) → IsUnmet faults None p got n reasons 0
 unfolding murmur3
-unmet_when p needed got reasons place_is seed_is is two fewer others counted by_name silent refused served = record {
+unmet_when {faults = faults} p needed got reasons place_is seed_is is needs fewer others counted by_name silent refused served = record {
   call = call_with needed;
   of_act = is;
   place = place;
   may_use = inl place_is;
   asked = subst (λ seed. 0 ≡ shard_of (codes "hello") seed 1) (sym seed_is) refl;
   first = λ lower below too. absurd (omega (arith, below));
-  needed_is = sym two;
+  needed_is = sym needs;
   fewer = fewer;
   counted = each_in (λ r. IsCounted place 0 r.0) reasons counted;
   by_name = ascends_by (λ r s. IsNamedBelow place r.0 s.0) reasons by_name;
   others = others;
   silent = counted_each (λ node. reaches p place node ≡ false → IsIn (map (λ r. r.0) reasons) node) silent;
-  refused = each_in (λ r. MayRefuse None p place r.0 r.1) reasons refused;
+  refused = each_in (λ r. MayRefuse faults None p place 0 r.0 r.1) reasons refused;
   served = served;
 }
 
 -- a write of `hello` that these nodes took, each of which it reached
-taken_when : (p : TurnPlace) (taken : List ℕ) → placement_at None p ≡ Some place → seed_after None (inner_turns p.lines) ≡ 0 → Each (IsCounted place 0) taken → EachPair (IsNamedBelow place) taken → Each (λ node. reaches p place node ≡ true) taken → 2 ≤ length taken
-    → TakesPoint (rules_at None p) p.turn.act → IsAcked None p (codes "hello") write_level.Majority None taken
+pub taken_when : {level : WriteLevel} (p : TurnPlace) (taken : List ℕ) → placement_at None p ≡ Some place → seed_after None (inner_turns p.lines) ≡ 0 → Each (IsCounted place 0) taken → EachPair (IsNamedBelow place) taken → Each (λ node. reaches p place node ≡ true) taken → needed_write level 3 ≤ length taken
+    → TakesPoint (rules_at None p) p.turn.act → IsAcked None p (codes "hello") level None taken
 unfolding murmur3
 taken_when p taken place_is seed_is counted by_name reached enough takes = record {
   place = place;
@@ -85,10 +86,10 @@ taken_when p taken place_is seed_is counted by_name reached enough takes = recor
 }
 
 -- a write of `hello` at 100 or a little later is one that is taken at 100
-takes_near : (t : ℕ) (v : ℤ) → 0 < t → t < 150 → TakesPoint (rules_when 100) (write t v)
+pub takes_near : (t : ℕ) (v : ℤ) → 0 < t → t < 150 → TakesPoint (rules_when 100) (write t v)
 takes_near t v above below = takes_by (rules_when 100) _ 0 space t v refl refl (omega (arith, above)) (omega (arith, below))
 
-pub lost_messages-caused : Caused (life_of lost_messages)
+pub lost_messages-caused : Caused (life_of lost_messages) []
 lost_messages-caused =
     begun_caused 100 _ (
     only (inr tt)
@@ -100,7 +101,7 @@ lost_messages-caused =
     also only (inr (found_when _ read_level.Majority false 3 refl refl refl (omega arith) (λ e. cc) (λ e f. cc)))
     also tt)
 
-pub stopped_nodes-caused : Caused (life_of stopped_nodes)
+pub stopped_nodes-caused : Caused (life_of stopped_nodes) []
 stopped_nodes-caused =
     begun_caused 100 _ (
     only (inr (taken_when _ (0 ∷ 1 ∷ 2 ∷ []) refl refl (counted_0 also counted_1 also counted_2 also tt) ((below_0_1 also below_0_2 also tt) also (below_1_2 also tt) also tt also tt) (refl also refl also refl also tt) (omega arith) (takes_near 100 (pos 5) (omega arith) (omega arith))))
@@ -109,7 +110,7 @@ stopped_nodes-caused =
     also only (inr (found_when _ read_level.Unstrict true 1 refl refl refl (omega arith) (λ e. refl) (λ e f. cc)))
     also only (inr (unmet_when _ _ 1 _ refl refl refl refl (omega arith) refl (counted_1 also counted_2 also tt) ((below_1_2 also tt) also tt also tt)
     ((λ quiet. cc) also (λ quiet. inl refl) also (λ quiet. inr (inl refl)) also tt)
-    (of_node _ 1 _ refl refl also of_node _ 2 _ refl refl also tt)
+    (inl (of_node _ 1 _ refl refl) also inl (of_node _ 2 _ refl refl) also tt)
     (λ some. tt)))
     also tt)
 
@@ -146,7 +147,7 @@ to_c-late = record {
   not_yet = λ line none. absurd none;
 }
 
-both_delivered : IsDelivered None delivery ((1, 0, None) ∷ (2, 0, None) ∷ [])
+both_delivered : IsDelivered [] None delivery ((1, 0, None) ∷ (2, 0, None) ∷ [])
 unfolding murmur3
 both_delivered = record {
   place = place;
@@ -159,7 +160,7 @@ both_delivered = record {
   );
 }
 
-pub late_messages-caused : Caused (life_of late_messages)
+pub late_messages-caused : Caused (life_of late_messages) []
 late_messages-caused =
     begun_caused 100 _ (
     only (inr tt)

@@ -7,6 +7,7 @@ use Rattle.m3_model.specs.Points.{sent_at, acked_at}
 use Rattle.m3_model.specs.Reads.{Read, Found, read_of, found_of}
 use Rattle.m3_model.specs.Kept.{Kept, KeptAt, KeepsRead, KeepsPoints}
 use Rattle.m3_model.specs.Caused.{Caused, CausedAt}
+use Rattle.m3_model.specs.Faults.{Fault, AreDifferent}
 use Rattle.m3_model.specs.declared.rules.MetaState.{MetaState}
 use Rattle.m3_model.specs.declared.turn.Turn.{Turn}
 use Rattle.m3_model.specs.declared.act.Act.{Act}
@@ -55,8 +56,8 @@ each_place P turns each p h =
 pub kept_by_places : (life : Life) → EachInRun (KeptAt life.past life.present.start) life.present.turns → Kept life
 kept_by_places life each = each_place (KeptAt life.past life.present.start) life.present.turns each
 
-pub caused_by_places : (life : Life) → EachInRun (CausedAt life.present.start) life.present.turns → Caused life
-caused_by_places life each = each_place (CausedAt life.present.start) life.present.turns each
+pub caused_by_places : (faults : List Fault) (life : Life) → AreDifferent faults → EachInRun (CausedAt faults life.present.start) life.present.turns → Caused life faults
+caused_by_places faults life different each = record { different = different; each = each_place (CausedAt faults life.present.start) life.present.turns each }
 
 -- the only one of its kind, as the act of a line outside `par`
 pub only : {A : Type 0} → A → (A × Unit {0}) × Unit {0}

@@ -10,6 +10,7 @@ use Rattle.m3_model.specs.Placements.{placement_after, seed_after}
 use Rattle.m3_model.specs.Points.{sent_at, acked_at}
 use Rattle.m3_model.specs.Reads.{Read, Found, read_of, IsSought}
 use Rattle.m3_model.specs.Kept.{Kept, KeepsPoints}
+use Rattle.m3_model.specs.Faults.{waits_after}
 use Rattle.m3_model.specs.Fates.{numbering_after, call_number, fate_in, fate_at, is_cut, is_stopped, is_reached, reaches}
 use Rattle.std.specs.Option.{option_map_or}
 use Rattle.m3_model.specs.declared.act.Act.{Act}
@@ -37,10 +38,11 @@ pub record StandsAt (lines : List Turn) (rules : Rules) : Type 0 where
   pub seed_is : seed_after None (inner_turns lines) ≡ 0
   pub no_fates : (numbering_after 0 lines).fates ≡ []
   pub none_stopped : (name : List ℕ) → is_stopped (inner_turns lines) name ≡ false
+  pub none_waits : (name : List ℕ) (shard : ℕ) → waits_after false (inner_turns lines) name shard ≡ false
 
 pub stands : {lines : List Turn} {rules : Rules} → placement_after None (inner_turns lines) ≡ Some place → rules_after (start_rules None) (inner_turns lines) ≡ rules → seed_after None (inner_turns lines) ≡ 0
-    → (numbering_after 0 lines).fates ≡ [] → ((name : List ℕ) → is_stopped (inner_turns lines) name ≡ false) → StandsAt lines rules
-stands place_is rules_is seed_is no_fates none_stopped = record { place_is = place_is; rules_is = rules_is; seed_is = seed_is; no_fates = no_fates; none_stopped = none_stopped }
+    → (numbering_after 0 lines).fates ≡ [] → ((name : List ℕ) → is_stopped (inner_turns lines) name ≡ false) → ((name : List ℕ) (shard : ℕ) → waits_after false (inner_turns lines) name shard ≡ false) → StandsAt lines rules
+stands place_is rules_is seed_is no_fates none_stopped none_waits = record { place_is = place_is; rules_is = rules_is; seed_is = seed_is; no_fates = no_fates; none_stopped = none_stopped; none_waits = none_waits }
 
 -- nothing is lost or late then
 pub not_cut : (lines : List Turn) (rules : Rules) (a : Act) (b : Answer) (name : List ℕ) → StandsAt lines rules → is_cut (fate_at (place_after lines a b) name) ≡ false

@@ -4,3 +4,4 @@ pub mod Refused
 pub mod Uncaused
 pub mod General
 pub mod Messages
+pub mod Faulty

@@ -2,6 +2,7 @@
 #![tactic(auto)]
 
 pub mod accepted;
+pub mod faults;
 pub mod general;
 pub mod messages;
 pub mod numbers;

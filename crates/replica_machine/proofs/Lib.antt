@@ -1,5 +1,13 @@
 pub mod RefusalLemmas
 pub mod LiveLemmas
-pub mod ReplicaLemmas
+pub mod ReasonLemmas
+pub mod DiskLemmas
+pub mod HeldByLemmas
+pub mod StepLemmas
 pub mod PutLemmas
-pub mod ReadLemmas
+pub mod FenceLemmas
+pub mod OtherLemmas
+pub mod TenureLemmas
+pub mod BootLemmas
+pub mod BeginLemmas
+pub mod PartLemmas

@@ -1,37 +1,168 @@
 -- A put is a step of the core.
-use Rattle.std.proofs.Common.{◌≡◌, ℕ, sym, subst}
-use Rattle.std.specs.Prelude.{None, Result, Ok, Err}
+use Rattle.std.proofs.Common.{◌≡◌, ◌<◌, inl, inr, ℕ, List, [], ◌∷◌, ◌++◌, length, refl, sym, ap, subst, ◌∙◌, Option, Some, None, Result, Ok, Err}
+use Rattle.std.specs.Prelude.{⊤, ◌≢◌, OnOk, IfErr, IsErrOf}
+use Rattle.std.specs.Option.{option_or}
+use Rattle.m3_model.specs.Contents.{raised}
 use Rattle.m3_model.specs.Rules.{InWindow}
 use Rattle.m3_model.specs.declared.point.Point.{Point}
 use Rattle.m3_model.specs.declared.reason.Reason.{Reason}
 use Rattle.m3_model.specs.declared.reason.Reason.TheVariants as reason
+use Rattle.m3_model.specs.declared.replica.Standing.{Standing}
+use Rattle.m3_model.specs.declared.replica.Standing.TheVariants as standing
 use Rattle.m3_model.specs.declared.rules.Rules.{Rules}
+use Rattle.m3_outside.specs.Causes.{CountsFaults}
+use Rattle.m3_outside.specs.Files.{Files}
+use Rattle.m3_outside.specs.DiskState.{DiskState}
+use Rattle.m3_outside.specs.declared.disk_err.DiskErr.{DiskErr}
+use Rattle.m3_outside.specs.declared.disk_err.DiskErr.TheVariants as refused
+use Rattle.shard_store.specs.Gains.{a_point, Brings}
+use Rattle.shard_store.specs.Stores.{StoreState}
+use Rattle.shard_store.proofs.LogStepLemmas.{on_ok_as, counts_same}
+use Rattle.cluster_core.specs.Refusals.{shut, unowned, outdated, outside, first_refusal}
+use Rattle.cluster_core.specs.Replicas.{after}
+use Rattle.cluster_core.specs.declared.event.StepCall.{StepCall}
 use Rattle.cluster_core.specs.declared.event.StepCall.TheVariants as call
 use Rattle.cluster_core.specs.declared.event.StepReply.TheVariants as reply
-use Rattle.replica_machine.specs.Machines.{MachineState, unserved, with_point}
-use Rattle.replica_machine.specs.Steps.{reply_by, IsStep}
-use Rattle.replica_machine.proofs.ReplicaLemmas.{taken_follows, serving}
+use Rattle.cluster_core.specs.declared.replica_state.ReplicaState.{ReplicaState}
+use Rattle.replica_machine.specs.Machines.{MachineState, IsMachineOf, IsHeldBy, IsRefusedFor, refusal, unserved, shut_machine, settled, settled_answer}
+use Rattle.replica_machine.specs.Steps.{reply_by, IsStep, BringsTo}
+use Rattle.replica_machine.proofs.RefusalLemmas.{up}
+use Rattle.replica_machine.proofs.ReasonLemmas.{IsPlain, plain_lawful, plain_no_fault, put_plain, shut_alike, after_three, refused_none, refused_some}
+use Rattle.replica_machine.proofs.DiskLemmas.{each_step, reply_counts, brings_settled, brings_none_to}
+use Rattle.replica_machine.proofs.HeldByLemmas.{held_doubt}
+use Rattle.replica_machine.proofs.StepLemmas.{machine_of, kept_machine, shut_follows, put_follows, serving}
 
-pub put_taken : (m : MachineState) (client number version : ℕ) (rules : Rules) (p : Point) → unserved m version ≡ None → InWindow rules p
-    → IsStep m (call.Put client number rules version p) reply.Done (with_point m p)
-put_taken m client number version rules p up in_window = record {
-  lawful = λ r h tells past n s given. record { serving = serving r m version h up; in_window = in_window; sent = given.1; clock = given.0 };
-  follows = λ r h. taken_follows r m p h;
-}
+-- what a put answers and leaves
+pub record PutDone {D : Type 0} (state : D → DiskState) (old : MachineState D) (version : ℕ) (rules : Rules) (p : Point) (result : Result ⊤ Reason) (new : MachineState D) : Type 0 where
+  pub ok : OnOk result (new ≡ record old { disk = new.disk; content = raised old.content p })
+  pub window : OnOk result (InWindow rules p)
+  pub err : IfErr result (λ why. why ≢ reason.Disk → new ≡ record old { disk = new.disk })
+  pub fault : IsErrOf result reason.Disk → new ≡ shut_machine standing.Down old new.disk
+  pub refused : (client number : ℕ) → IsRefusedFor (refusal old (call.Put client number rules version p)) result
+  pub disk : BringsTo (a_point p) result (state old.disk) (state new.disk)
+  pub step : (client number : ℕ) → IsStep state old (call.Put client number rules version p) (reply_by (λ _. reply.Done) result) new
 
--- want of memory is lawful at any place
-pub put_short : (m : MachineState) (client number version : ℕ) (rules : Rules) (p : Point) → IsStep m (call.Put client number rules version p) (reply.Refused reason.Memory) m
-put_short m client number version rules p = record { lawful = λ r h tells past n s given. tt; follows = λ r h. h }
+-- what a store's put did
+pub record PutBy {D : Type 0} (state : D → DiskState) (old mid : MachineState D) (p : Point) (said : Result ⊤ DiskErr) : Type 0 where
+  pub ok : OnOk said (mid ≡ record old { disk = mid.disk; content = raised old.content p })
+  pub memory : IsErrOf said refused.Memory → mid ≡ record old { disk = mid.disk }
+  pub fault : mid ≡ record old { disk = mid.disk; content = mid.content }
+  pub disk : Brings (a_point p) said (state old.disk) (state mid.disk)
 
--- the same of what a put leaves and answers
-pub put_done : (m after_it : MachineState) (client number version : ℕ) (rules : Rules) (p : Point) (result : Result (Unit {0}) Reason) → unserved m version ≡ None → InWindow rules p → result ≡ Ok tt → after_it ≡ with_point m p
-    → IsStep m (call.Put client number rules version p) (reply_by (λ _. reply.Done) result) after_it
-put_done m after_it client number version rules p result up in_window said left_is =
-    subst (λ (x : Result (Unit {0}) Reason). IsStep m (call.Put client number rules version p) (reply_by (λ _. reply.Done) x) after_it) (sym said)
-    (subst (λ (x : MachineState). IsStep m (call.Put client number rules version p) reply.Done x) (sym left_is) (put_taken m client number version rules p up in_window))
+left_plain : (r : ReplicaState) (client number version : ℕ) (rules : Rules) (p : Point) (why : Reason) → IsPlain why → r ≡ after r (call.Put client number rules version p) (reply.Refused why)
+left_plain r client number version rules p reason.Down plain = refl
+left_plain r client number version rules p reason.Boot plain = refl
+left_plain r client number version rules p reason.NotOwned plain = refl
+left_plain r client number version rules p (reason.Stale fence) plain = refl
+left_plain r client number version rules p reason.Past plain = refl
+left_plain r client number version rules p reason.Future plain = refl
+left_plain r client number version rules p reason.Disk plain = absurd plain
+left_plain r client number version rules p reason.Cut plain = absurd plain
+left_plain r client number version rules p reason.Memory plain = absurd plain
+left_plain r client number version rules p (reason.Corrupt damage) plain = absurd plain
 
-pub put_not_done : (m after_it : MachineState) (client number version : ℕ) (rules : Rules) (p : Point) (result : Result (Unit {0}) Reason) → result ≡ Err reason.Memory → after_it ≡ m
-    → IsStep m (call.Put client number rules version p) (reply_by (λ _. reply.Done) result) after_it
-put_not_done m after_it client number version rules p result said left_is =
-    subst (λ (x : Result (Unit {0}) Reason). IsStep m (call.Put client number rules version p) (reply_by (λ _. reply.Done) x) after_it) (sym said)
-    (subst (λ (x : MachineState). IsStep m (call.Put client number rules version p) (reply.Refused reason.Memory) x) (sym left_is) (put_short m client number version rules p))
+module _ {D : Type 0} (state : D → DiskState) (old : MachineState D) (version : ℕ) (rules : Rules) (p : Point) where
+  alike : (r : ReplicaState) (client number : ℕ) → IsMachineOf state r old → first_refusal r (call.Put client number rules version p) ≡ refusal old (call.Put client number rules version p)
+  alike r client number h = shut_alike state r old h (λ t f. option_or (unowned t version) (option_or (outdated f version) (outside rules p)))
+
+  -- refused before the store was called
+  pub put_refused : (why : Reason) → option_or (shut old.standing) (option_or (unowned old.tenure version) (option_or (outdated old.fence version) (outside rules p))) ≡ Some why → PutDone state old version rules p (Err why) old
+  put_refused why first =
+      let plain = put_plain old.standing old.tenure old.fence version rules p why first in
+      let fault : (let r : Result ⊤ Reason = Err why in IsErrOf r reason.Disk) → ⊥ = λ f. plain_no_fault why plain (err_same f) in
+      record {
+        ok = tt;
+        window = tt;
+        err = λ not. refl;
+        fault = λ f. absurd (fault f);
+        refused = λ client number. refused_some ⊤ (refusal old (call.Put client number rules version p)) why first;
+        disk = brings_none_to (a_point p) why (state old.disk) (plain_no_fault why plain);
+        step = λ client number. record {
+          lawful = λ r h past n s given. plain_lawful _ past s r (call.Put client number rules version p) (λ e. e) why plain (alike r client number h ∙ first);
+          follows = λ r h. subst (λ (q : ReplicaState). IsMachineOf state q old) (left_plain r client number version rules p why plain) h;
+          faults = counts_same _ _ (λ e. plain_no_fault why plain (reply_same e));
+        };
+      }
+    where
+      err_same : (let r : Result ⊤ Reason = Err why in IsErrOf r reason.Disk) → why ≡ reason.Disk
+      err_same f = cc
+
+      reply_same : reply.Refused why ≡ reply.Refused reason.Disk → why ≡ reason.Disk
+      reply_same e = cc
+
+  module _ (served : unserved old version ≡ None) (in_window : InWindow rules p) (inside : outside rules p ≡ None) (mid : MachineState D) where
+    none_first : option_or (shut old.standing) (option_or (unowned old.tenure version) (option_or (outdated old.fence version) (outside rules p))) ≡ None
+    none_first = after_three (shut old.standing) (unowned old.tenure version) (outdated old.fence version) (outside rules p) None served inside
+
+    answer_counts : (said : Result ⊤ DiskErr) → PutBy state old mid p said → CountsFaults (reply_by (λ _. reply.Done) (settled_answer said) ≡ reply.Refused reason.Disk) (state old.disk).faults (state mid.disk).faults
+    answer_counts said by = reply_counts (λ _. reply.Done) (settled_answer said) _ _ (λ x e. cc) (brings_settled (a_point p) said (state old.disk) (state mid.disk) by.disk).faults
+
+    put_step : (said : Result ⊤ DiskErr) (client number : ℕ) → PutBy state old mid p said → IsStep state old (call.Put client number rules version p) (reply_by (λ _. reply.Done) (settled_answer said)) (settled said mid)
+    put_step (Ok u) client number by = record {
+      lawful = λ r h past n s given. record { serving = serving state r old version h served; in_window = in_window; sent = given.1; clock = given.0 };
+      follows = λ r h.
+          subst (λ (m : MachineState D). IsMachineOf state (record r { sure = r.sure ++ p ∷ [] }) m) (sym by.ok)
+          (put_follows state r old mid.disk p (up old.standing old.tenure old.fence version served).open_ by.disk.tells (λ t. by.disk.acknowledged t) h);
+      faults = answer_counts (Ok u) by;
+    }
+    put_step (Err refused.Failed) client number by = record {
+      lawful = λ r h past n s given. record { uses = refl; taken = alike r client number h ∙ none_first; clock = tt; there = given.1 };
+      follows = λ r h.
+          let q : ReplicaState = record r { standing = standing.Down; doubt = r.doubt ++ p ∷ [] } in
+          subst (λ (m : MachineState D). IsMachineOf state q m) (ap (λ (m : MachineState D). shut_machine standing.Down m mid.disk) (sym by.fault))
+          (shut_follows state r q old standing.Down mid.disk (λ e. cc) refl refl refl h
+          (λ b. each_step (state old.disk) (state mid.disk) (IsHeldBy r) (IsHeldBy q) by.disk.tells (λ t. (by.disk.any_moment t).images)
+          (λ x y may held. held_doubt r q p refl refl refl (record { begun = λ t all. all; known = λ t is. is; fence = λ t f is. is }) x y may held) (h.files b)));
+      faults = answer_counts (Err refused.Failed) by;
+    }
+    put_step (Err refused.Memory) client number by = record {
+      lawful = λ r h past n s given. tt;
+      follows = λ r h. subst (λ (m : MachineState D). IsMachineOf state r m) (sym (by.memory refl)) (kept_machine state r old mid.disk by.disk.tells (λ t. by.disk.unchanged t refl) h);
+      faults = answer_counts (Err refused.Memory) by;
+    }
+
+    put_done_said : (said : Result ⊤ DiskErr) → PutBy state old mid p said → PutDone state old version rules p (settled_answer said) (settled said mid)
+    put_done_said (Ok u) by = record {
+      ok = by.ok;
+      window = in_window;
+      err = tt;
+      fault = λ f. absurd (never f);
+      refused = λ client number. refused_none (refusal old (call.Put client number rules version p)) (Ok u) none_first;
+      disk = brings_settled (a_point p) (Ok u) (state old.disk) (state mid.disk) by.disk;
+      step = λ client number. put_step (Ok u) client number by;
+    }
+      where
+        never : (let r : Result ⊤ Reason = Ok u in IsErrOf r reason.Disk) → ⊥
+        never f = cc
+    put_done_said (Err refused.Failed) by = record {
+      ok = tt;
+      window = tt;
+      err = λ not. absurd (not refl);
+      fault = λ f. ap (λ (m : MachineState D). shut_machine standing.Down m mid.disk) by.fault;
+      refused = λ client number. refused_none (refusal old (call.Put client number rules version p)) (Err refused.Failed) none_first;
+      disk = brings_settled (a_point p) (Err refused.Failed) (state old.disk) (state mid.disk) by.disk;
+      step = λ client number. put_step (Err refused.Failed) client number by;
+    }
+    put_done_said (Err refused.Memory) by = record {
+      ok = tt;
+      window = tt;
+      err = λ not. by.memory refl;
+      fault = λ f. absurd (never f);
+      refused = λ client number. refused_none (refusal old (call.Put client number rules version p)) (Err refused.Memory) none_first;
+      disk = brings_settled (a_point p) (Err refused.Memory) (state old.disk) (state mid.disk) by.disk;
+      step = λ client number. put_step (Err refused.Memory) client number by;
+    }
+      where
+        never : (let r : Result ⊤ Reason = Err reason.Memory in IsErrOf r reason.Disk) → ⊥
+        never f = cc
+
+    pub put_done : (said : Result ⊤ DiskErr) (result : Result ⊤ Reason) (new : MachineState D) → result ≡ settled_answer said → new ≡ settled said mid → PutBy state old mid p said → PutDone state old version rules p result new
+    put_done said result new is left by =
+        subst (λ (x : Result ⊤ Reason). PutDone state old version rules p x new) (sym is) (subst (λ (m : MachineState D). PutDone state old version rules p (settled_answer said) m) (sym left) (put_done_said said by))
+
+pub put_by : {D : Type 0} (state : D → DiskState) (s : Standing) (tenure : Option ℕ) (begun : ℕ) (old : MachineState D) (before now : StoreState D) (p : Point) (said : Result ⊤ DiskErr) → machine_of s tenure begun before ≡ old
+    → OnOk said (now ≡ record before { disk = now.disk; content = raised before.content p }) → (IsErrOf said refused.Memory → now ≡ record before { disk = now.disk }) → now ≡ record before { disk = now.disk; content = now.content }
+    → Brings (a_point p) said (state before.disk) (state now.disk) → PutBy state old (machine_of s tenure begun now) p said
+put_by state s tenure begun old before now p said view ok memory fault brings =
+    subst (λ (m : MachineState _). PutBy state m (machine_of s tenure begun now) p said) view
+    (record { ok = on_ok_as said (ap (machine_of s tenure begun)) ok; memory = λ f. ap (machine_of s tenure begun) (memory f); fault = ap (machine_of s tenure begun) fault; disk = brings })

@@ -1,2 +1,4 @@
 pub mod Machines
 pub mod Steps
+pub mod Damages
+pub mod Boots

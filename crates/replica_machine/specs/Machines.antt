@@ -1,12 +1,13 @@
 -- A machine as its contracts see it, what it refuses, and the replica of the core that it is.
-use Rattle.std.specs.Prelude.{◌≡◌, ℕ, List, [], Option, Some, None, Result, Bool, true, false, refl, IsErrOf, IsOkUnless}
+use Rattle.std.specs.Prelude.{◌≡◌, ◌≢◌, ◌⊎◌, ⊤, ℕ, ◌≤◌, max, List, [], ◌++◌, Option, Some, None, Result, Ok, Err, Bool, true, false, refl, IsErrOf}
 use Rattle.std.specs.Coded.{Coded, code_by, coded×, coded_ℕ, coded_bool, coded_option}
 use Rattle.std.specs.FinMap as finite
+use Rattle.std.specs.List.{All, Any}
 use Rattle.std.specs.Option.{option_or}
 use Rattle.m3_model.specs.Answers.{IsWanted}
-use Rattle.m3_model.specs.Contents.{Contents, contents_code, raised}
+use Rattle.m3_model.specs.Contents.{Contents, contents_code}
 use Rattle.m3_model.specs.Members.{IsIn}
-use Rattle.m3_model.specs.Reads.{IsOrdered, points_in, space_picked}
+use Rattle.m3_model.specs.Reads.{Covers, IsOrdered, points_in, space_picked}
 use Rattle.m3_model.specs.Rules.{IsLive}
 use Rattle.m3_model.specs.declared.point.Pick.{Pick}
 use Rattle.m3_model.specs.declared.point.Point.{Point}
@@ -16,21 +17,28 @@ use Rattle.m3_model.specs.declared.reason.Reason.TheVariants as reason
 use Rattle.m3_model.specs.declared.replica.Standing.{Standing}
 use Rattle.m3_model.specs.declared.replica.Standing.TheVariants as standing
 use Rattle.m3_model.specs.declared.rules.Rules.{Rules}
+use Rattle.m3_outside.specs.Files.{Files}
+use Rattle.m3_outside.specs.DiskState.{DiskState, EachImage}
+use Rattle.m3_outside.specs.declared.disk_err.DiskErr.{DiskErr}
+use Rattle.m3_outside.specs.declared.disk_err.DiskErr.TheVariants as refused
+use Rattle.shard_store.specs.Held.{Held}
+use Rattle.shard_store.specs.Stores.{StoreState, closed_over}
 use Rattle.cluster_core.specs.Refusals.{shut, unowned, outdated, first_refusal}
-use Rattle.cluster_core.specs.Replicas.{Shows, fresh, after}
+use Rattle.cluster_core.specs.Replicas.{Shows, IsGone, fresh}
 use Rattle.cluster_core.specs.declared.event.StepCall.{StepCall}
-use Rattle.cluster_core.specs.declared.event.StepCall.TheVariants as call
-use Rattle.cluster_core.specs.declared.event.StepReply.TheVariants as reply
 use Rattle.cluster_core.specs.declared.replica_state.ReplicaState.{ReplicaState}
 
 -- ---- a machine
 
--- What a machine is: how it stands, the version that gave it its shard, the version below which it refuses, and its points.
-pub record MachineState : Type 0 where
+-- What a machine is: how it stands, the version that gave it its shard, the greatest with which it began, and its disk; and, while it is open, the
+-- version below which it refuses and its points.
+pub record MachineState (D : Type 0) : Type 0 where
   pub standing : Standing
   pub tenure : Option ℕ
+  pub begun : ℕ
   pub fence : ℕ
   pub content : Contents
+  pub disk : D
 
 abbrev pub standing_bits : Standing → Option Bool
 standing_bits standing.Down = None
@@ -50,41 +58,66 @@ standing_by_own_bits standing.Open = refl
 abbrev pub standing_code : Coded Standing
 standing_code = code_by (Option Bool) (coded_option coded_bool) standing_bits standing_by_bits standing_by_own_bits
 
-abbrev pub machine_code : Coded MachineState
-machine_code =
-    code_by (Standing × (Option ℕ × (ℕ × Contents))) (coded× standing_code (coded× (coded_option coded_ℕ) (coded× coded_ℕ contents_code))) (λ m. (m.standing, (m.tenure, (m.fence, m.content))))
-    (λ p. record { standing = p.0; tenure = p.1.0; fence = p.1.1.0; content = p.1.1.1 }) (λ _. refl)
+abbrev pub machine_code : {D : Type 0} → Coded D → Coded (MachineState D)
+machine_code {D} disk_code =
+    code_by (Standing × (Option ℕ × (ℕ × (ℕ × (Contents × D))))) (coded× standing_code (coded× (coded_option coded_ℕ) (coded× coded_ℕ (coded× coded_ℕ (coded× contents_code disk_code)))))
+    (λ m. (m.standing, (m.tenure, (m.begun, (m.fence, (m.content, m.disk))))))
+    (λ p. record { standing = p.0; tenure = p.1.0; begun = p.1.1.0; fence = p.1.1.1.0; content = p.1.1.1.1.0; disk = p.1.1.1.1.1 }) (λ _. refl)
 
--- open, with its shard since version 1, and without points
-abbrev pub first_machine : MachineState
-first_machine = record { standing = standing.Open; tenure = Some 1; fence = 1; content = finite.empty }
+-- the machine's store is open exactly where the machine is, and else has nothing in memory
+abbrev pub IsStoreOf : {D : Type 0} → Standing → StoreState D → Type 0
+IsStoreOf standing.Down s = s ≡ closed_over s.disk
+IsStoreOf standing.Boot s = s ≡ closed_over s.disk
+IsStoreOf standing.Open s = s.open_ ≡ true
 
--- with the point joined to its content
-abbrev pub with_point : MachineState → Point → MachineState
-with_point m p = record m { content = raised m.content p }
+-- over a disk from which nothing was read yet
+abbrev pub first_machine : {D : Type 0} → D → MachineState D
+first_machine disk = record { standing = standing.Boot; tenure = None; begun = 0; fence = 0; content = finite.empty; disk = disk }
 
--- closed, and else as it was
-abbrev pub stopped : MachineState → MachineState
-stopped m = record m { standing = standing.Down }
+-- without points in memory
+abbrev pub shut_machine : {D : Type 0} → Standing → MachineState D → D → MachineState D
+shut_machine s m disk = record { standing = s; tenure = m.tenure; begun = m.begun; fence = 0; content = finite.empty; disk = disk }
 
--- ---- what it refuses, and what it finds
+-- ---- what it answers for its disk, what it refuses, and what it finds
+
+abbrev pub reason_of : DiskErr → Reason
+reason_of refused.Failed = reason.Disk
+reason_of refused.Memory = reason.Memory
+
+-- a fault closes the machine
+abbrev pub left_by : {D : Type 0} → DiskErr → MachineState D → MachineState D
+left_by refused.Failed m = shut_machine standing.Down m m.disk
+left_by refused.Memory m = m
+
+abbrev pub settled_answer : Result ⊤ DiskErr → Result ⊤ Reason
+settled_answer (Ok u) = Ok u
+settled_answer (Err why) = Err (reason_of why)
+
+abbrev pub settled : {D : Type 0} → Result ⊤ DiskErr → MachineState D → MachineState D
+settled (Ok u) m = m
+settled (Err why) m = left_by why m
 
 -- the replica that stands like the machine, of which nothing else is said
-abbrev pub standing_like : MachineState → ReplicaState
+abbrev pub standing_like : {D : Type 0} → MachineState D → ReplicaState
 standing_like m = record fresh { standing = m.standing; tenure = m.tenure; fence = m.fence }
 
 -- the first reason that stands against the call
-abbrev pub refusal : MachineState → StepCall → Option Reason
+abbrev pub refusal : {D : Type 0} → MachineState D → StepCall → Option Reason
 refusal m c = first_refusal (standing_like m) c
 
 -- why a write or a read of this version is refused, whatever the write's time
-abbrev pub unserved : MachineState → ℕ → Option Reason
+abbrev pub unserved : {D : Type 0} → MachineState D → ℕ → Option Reason
 unserved m version = option_or (shut m.standing) (option_or (unowned m.tenure version) (outdated m.fence version))
 
--- a call is refused for the reason that stands against it; where none does, only want of memory refuses it
+-- want of memory, or a fault of the disk
+abbrev pub IsOwn : Reason → Type 0
+IsOwn why = (why ≡ reason.Memory) ⊎ (why ≡ reason.Disk)
+
+-- a call is refused for the reason that stands against it; where none does, only want of memory or a fault refuses it
 abbrev pub IsRefusedFor : {X : Type 0} → Option Reason → Result X Reason → Type 0
 IsRefusedFor (Some why) result = IsErrOf result why
-IsRefusedFor None result = IsOkUnless result reason.Memory
+IsRefusedFor None (Ok x) = ⊤
+IsRefusedFor None (Err why) = IsOwn why
 
 -- the series hold exactly the live points of the content that match the pick and lie in the range, in order
 pub record IsLiveAnswer (c : Contents) (rules : Rules) (pick : Pick) (from to : ℕ) (series : List Series) : Type 0 where
@@ -94,17 +127,40 @@ pub record IsLiveAnswer (c : Contents) (rules : Rules) (pick : Pick) (from to : 
 
 -- ---- the replica that it is
 
--- the replica of the core that began with tenure 1 and loaded nothing
-abbrev pub first_replica : ReplicaState
-first_replica = after fresh (call.Begin 1) (reply.Began 1 [])
+-- Files that the replica may begin with. Their points are sure or in doubt, and cover the sure ones that aren't gone. Their tenure is one with which
+-- it began, or was to begin when the disk failed, and none with which it began is above it. Their fence is the replica's or one in doubt, and not below
+-- their tenure.
+pub record IsHeldBy (r : ReplicaState) (files : Files) : Type 0 where
+  pub points : List Point
+  pub tenure : ℕ
+  pub fence : ℕ
+  pub held : Held points tenure fence files
+  pub source : All (λ p. IsIn r.sure p ⊎ IsIn r.doubt p) points
+  pub all_there : All (λ p. ¬ IsGone r p → Covers points p) r.sure
+  pub none_higher : All (λ begun. begun ≤ tenure) r.begun
+  pub known : IsIn r.begun tenure ⊎ IsIn r.tried tenure
+  pub fence_is : (fence ≡ max tenure r.fence) ⊎ Any (λ doubtful. fence ≡ max doubtful (max tenure r.fence)) r.doubt_fences
 
--- the machine has the tenure and the fence of the replica, and a content that shows it
-pub record HasAllOf (r : ReplicaState) (m : MachineState) : Type 0 where
+-- an open machine has the tenure and the fence of the replica, which began and of which nothing is in doubt, and where the disk tells a content that
+-- shows it
+pub record HasAllOf {D : Type 0} (state : D → DiskState) (r : ReplicaState) (m : MachineState D) : Type 0 where
+  pub begun : r.begun ≢ []
   pub tenure : m.tenure ≡ r.tenure
   pub fence : m.fence ≡ r.fence
-  pub shows : Shows r m.content
+  pub sure : r.doubt ≡ []
+  pub sure_fences : r.doubt_fences ≡ []
+  pub shows : (state m.disk).tells ≡ true → Shows r m.content
 
--- the machine is the replica's: it stands as the replica does and, where it is open, has all that the replica has
-pub record IsMachineOf (r : ReplicaState) (m : MachineState) : Type 0 where
+-- the machine's greatest tenure is the greatest with which the replica began, and 0 where it hasn't
+pub record IsGreatest (begun : ℕ) (all : List ℕ) : Type 0 where
+  pub none_higher : All (λ one. one ≤ begun) all
+  pub one_of : (begun ≡ 0) ⊎ IsIn all begun
+
+-- The machine is the replica's: it stands as the replica does, has all that the replica has where it is open, and each stop leaves files that the
+-- replica may begin with, once it began.
+pub record IsMachineOf {D : Type 0} (state : D → DiskState) (r : ReplicaState) (m : MachineState D) : Type 0 where
   pub stands : m.standing ≡ r.standing
-  pub open_ : m.standing ≡ standing.Open → HasAllOf r m
+  pub begun : IsGreatest m.begun r.begun
+  pub empty : r.begun ≡ [] → r.sure ≡ []
+  pub open_ : m.standing ≡ standing.Open → HasAllOf state r m
+  pub files : r.begun ≢ [] → EachImage (state m.disk) (IsHeldBy r)

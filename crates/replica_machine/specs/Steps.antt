@@ -1,6 +1,11 @@
 -- A call of a machine as a step of the core.
-use Rattle.std.specs.Prelude.{ℕ, ⊤, List, Result, Ok, Err, Bool}
+use Rattle.std.specs.Prelude.{◌≡◌, ◌≢◌, ℕ, ⊤, true, List, Result, Ok, Err, OnOk, IfErr, IsErr, IsErrOf}
 use Rattle.m3_model.specs.declared.reason.Reason.{Reason}
+use Rattle.m3_model.specs.declared.reason.Reason.TheVariants as reason
+use Rattle.m3_outside.specs.Causes.{CountsFaults}
+use Rattle.m3_outside.specs.Files.{Files, Stays}
+use Rattle.m3_outside.specs.DiskState.{DiskState, StepOf, Elapses, Proceeds}
+use Rattle.shard_store.specs.Gains.{Gain, nothing, Gains, MayGain}
 use Rattle.cluster_core.specs.Earlier.{HasClock, HasSend, HasTenure, HasPage}
 use Rattle.cluster_core.specs.Replicas.{after}
 use Rattle.cluster_core.specs.Rows.{LawfulStep}
@@ -28,8 +33,26 @@ IsGiven past n s (call.Flush rules) = HasClock past rules
 IsGiven past n s (call.Digests rules) = HasClock past rules
 IsGiven past n s _ = ⊤
 
--- the answer is a lawful step of each replica that the machine is, at each slot and after all events that have what the call
--- is given; and the machine is then the one of what the step leaves of the replica
-pub record IsStep (old : MachineState) (c : StepCall) (a : StepReply) (new : MachineState) : Type 0 where
-  pub lawful : (r : ReplicaState) → IsMachineOf r old → (tells : Bool) (past : List Event) (n s : ℕ) → IsGiven past n s c → LawfulStep tells past n s r c a
-  pub follows : (r : ReplicaState) → IsMachineOf r old → IsMachineOf (after r c a) new
+-- The answer is a lawful step of each replica that the machine is, at each slot and after all events that have what the call is given; and the machine
+-- is then the one of what the step leaves of the replica. It answers Disk only where its disk's count of faults rose, and this count never falls.
+pub record IsStep {D : Type 0} (state : D → DiskState) (old : MachineState D) (c : StepCall) (a : StepReply) (new : MachineState D) : Type 0 where
+  pub lawful : (r : ReplicaState) → IsMachineOf state r old → (past : List Event) (n s : ℕ) → IsGiven past n s c → LawfulStep (state old.disk).tells past n s r c a
+  pub follows : (r : ReplicaState) → IsMachineOf state r old → IsMachineOf state (after r c a) new
+  pub faults : CountsFaults (a ≡ reply.Refused reason.Disk) (state old.disk).faults (state new.disk).faults
+
+-- What a call does to the disk that brings something to its files. A stop at any moment since it began leaves part of it; once it answered Ok, all of
+-- it; where it was refused for another reason than the disk, nothing. It answered Disk only where the count of faults rose.
+pub record BringsTo {X : Type 0} (gain : Gain) (result : Result X Reason) (old new : DiskState) : Type 0 where
+  pub any_moment : old.tells ≡ true → Elapses (MayGain gain) old new
+  pub acknowledged : old.tells ≡ true → OnOk result ((c : Files) → new.images c → StepOf (Gains gain) old.images c)
+  pub unchanged : old.tells ≡ true → IfErr result (λ why. why ≢ reason.Disk → (c : Files) → new.images c → StepOf (Gains nothing) old.images c)
+  pub tells : new.tells ≡ old.tells
+  pub faults : CountsFaults (IsErrOf result reason.Disk) old.faults new.faults
+
+-- What a restart does to the disk: reads give one of the images, and then the only one. Where it was refused, files and images stay; it answered Disk
+-- only where the count of faults rose.
+pub record RestartsTo (result : Result ⊤ Reason) (old new : DiskState) : Type 0 where
+  pub proceeds : Proceeds Stays (IsErrOf result reason.Disk) old new
+  pub image : old.tells ≡ true → OnOk result (old.images new.files)
+  pub only : old.tells ≡ true → OnOk result ((c : Files) → new.images c → c ≡ new.files)
+  pub refused : old.tells ≡ true → IsErr result → new.files ≡ old.files

@@ -1,7 +1,8 @@
-//! A replica of a shard: how it stands, what it refuses, and the points that it holds.
+//! A replica of a shard: how it stands, what it refuses, and the points that it holds on its disk.
 #![tactic(auto)]
 
+mod boot;
+mod damage;
 pub mod machine;
+mod opening;
 mod refusals;
-#[cfg(test)]
-mod tests;

@@ -14,14 +14,20 @@ use Rattle.m3_model.specs.declared.point.Pick.TheVariants as pick
 use Rattle.m3_model.specs.declared.point.Point.{Point}
 use Rattle.m3_model.specs.declared.point.Series.{Series}
 use Rattle.m3_model.specs.declared.reason.Reason.{Reason}
-use Rattle.session.specs.Gathering.{IsAllOf, IsShortAt, IsSeries}
+use Rattle.m3_outside.specs.declared.disk.Disk.{Ghosts}
+use Rattle.session.specs.Gathering.{IsAllOf, IsShortAt, IsGathered, IsSeries}
 use Rattle.session.specs.Outcomes.{Told, answering, refusing}
-use Rattle.session.specs.Reads.{Wish, first_asked, end_asked, IsAsked, IsGivenBy, IsJoinedWith, IsFound, IsFirstShort}
+use Rattle.session.specs.Reads.{Wish, first_asked, end_asked, IsAsked, IsGivenBy, IsJoinedWith, IsFound, IsFirstShort, IsRefusedRead}
+use Rattle.session.specs.Writes.{IsShortOf}
 use Rattle.session.specs.declared.call.Call.{Call}
 use Rattle.session.specs.declared.net.Net.{Net}
+use Rattle.session.specs.declared.read.Gathered.TheVariants as gathered
+use Rattle.session.specs.declared.session_err.SessionErr.{SessionErr}
+use Rattle.session.specs.declared.session_err.SessionErr.TheVariants as err
+use Rattle.session.specs.declared.tally.Tally.{Tally}
 
 -- before the first shard
-pub all_of_none : (net : Net) (call : Call) (w : Wish) (first needed most : ℕ) (c : Contents) → ((p : Point) → HasPoint c p → ⊥) → IsAllOf net call w first first needed most true c
+pub all_of_none : {D : Type 0} {ghosts : Ghosts D} (net : Net D ghosts) (call : Call) (w : Wish) (first needed most : ℕ) (c : Contents) → ((p : Point) → HasPoint c p → ⊥) → IsAllOf net call w first first needed most true c
 all_of_none net call w first needed most c none = record {
   told = λ k. [];
   asked = λ k low high. absurd (omega arith);
@@ -69,7 +75,7 @@ not_both true b e = inr e
 not_both false b e = inl refl
 
 -- one more shard
-pub all_of_more : (net : Net) (call : Call) (w : Wish) (first k needed most : ℕ) (whole test : Bool) (old new : Contents) (x : List Told) → first ≤ k → IsAllOf net call w first k needed most whole old
+pub all_of_more : {D : Type 0} {ghosts : Ghosts D} (net : Net D ghosts) (call : Call) (w : Wish) (first k needed most : ℕ) (whole test : Bool) (old new : Contents) (x : List Told) → first ≤ k → IsAllOf net call w first k needed most whole old
     → IsAsked net call w k x → needed ≤ length (answering x) → (test ≡ true → most ≤ length (answering x)) → (test ≡ false → length (answering x) < most)
     → IsJoinedWith (IsGivenBy net.machines net.state.rules w k x) old new → IsAllOf net call w first (k + 1) needed most (whole && test) new
 all_of_more net call w first k needed most whole test old new x order was asked enough passes fails joins = record {
@@ -95,7 +101,7 @@ all_of_more net call w first k needed most whole test old new x order was asked 
 }
 
 -- the next shard fell short
-pub short_here : (net : Net) (call : Call) (w : Wish) (first end k needed most : ℕ) (whole : Bool) (c : Contents) (answered : List ℕ) (x : List Told) → first ≤ k → k < end → IsAllOf net call w first k needed most whole c
+pub short_here : {D : Type 0} {ghosts : Ghosts D} (net : Net D ghosts) (call : Call) (w : Wish) (first end k needed most : ℕ) (whole : Bool) (c : Contents) (answered : List ℕ) (x : List Told) → first ≤ k → k < end → IsAllOf net call w first k needed most whole c
     → IsAsked net call w k x → answered ≡ answering x → length answered < needed → IsShortAt net call w first end needed k answered x
 short_here net call w first end k needed most whole c answered x order below was asked answered_are fewer = record {
   not_before = order;
@@ -124,7 +130,7 @@ covered c ns to series p h holds here below = record {
 }
 
 -- what was gathered of the shards is what a fetch finds
-pub found_all : (net : Net) (call : Call) (w : Wish) (level : ReadLevel) (needed most ns : ℕ) (whole short : Bool) (c : Contents) (series : List Series)
+pub found_all : {D : Type 0} {ghosts : Ghosts D} (net : Net D ghosts) (call : Call) (w : Wish) (level : ReadLevel) (needed most ns : ℕ) (whole short : Bool) (c : Contents) (series : List Series)
     → ns ≡ space_picked w.pick → needed ≡ needed_read level net.state.place.rf → most ≡ majority net.state.place.rf
     → (short ≡ true → level ≡ read.Unstrict) → (short ≡ true → whole ≡ false) → (level ≡ read.Unstrict → whole ≡ false → short ≡ true)
     → IsAllOf net call w (first_asked net.state w.pick) (end_asked net.state w.pick) needed most whole c → IsSeries c ns w.to series → IsFound net call w level series short
@@ -151,7 +157,7 @@ found_all net call w level needed most ns whole short c series ns_is needs most_
         by_whole false e = refl
 
 -- the first shard that fell short refuses a fetch
-pub refused_at : (net : Net) (call : Call) (w : Wish) (due shard needed got : ℕ) (answered : List ℕ) (reasons others : List (ℕ × Reason)) (told : List Told)
+pub refused_at : {D : Type 0} {ghosts : Ghosts D} (net : Net D ghosts) (call : Call) (w : Wish) (due shard needed got : ℕ) (answered : List ℕ) (reasons others : List (ℕ × Reason)) (told : List Told)
     → IsShortAt net call w (first_asked net.state w.pick) (end_asked net.state w.pick) due shard answered told → others ≡ refusing told → needed ≡ due → got ≡ length answered → reasons ≡ others
     → IsFirstShort net call w due shard needed got reasons
 refused_at net call w due shard needed got answered reasons others told h others_are needed_is got_is reasons_are = record {
@@ -168,3 +174,12 @@ refused_at net call w due shard needed got answered reasons others told h others
     reasons_are = reasons_are ∙ others_are ∙ ap refusing (sym h.last);
   };
 }
+
+-- so does its error
+pub refused_by : {D : Type 0} {ghosts : Ghosts D} (net : Net D ghosts) (call : Call) (w : Wish) (level : ReadLevel) (needed most shard : ℕ) (tally : Tally) (e : SessionErr) → needed ≡ needed_read level net.state.place.rf
+    → IsGathered net call w needed most (gathered.TooFew shard tally) → IsShortOf needed shard tally.answered.items tally.reasons.items e → IsRefusedRead net call w level e
+refused_by net call w level needed most shard tally (err.Consistency at n got reasons) is h short =
+    let due : ℕ = needed_read level net.state.place.rf in
+    subst (λ k. IsFirstShort net call w due k n got reasons) (sym short.0) (refused_at net call w due shard n got tally.answered.items reasons tally.reasons.items h.0
+    (subst (λ d. IsShortAt net call w (first_asked net.state w.pick) (end_asked net.state w.pick) d shard tally.answered.items h.0) is h.1) h.2 (short.1 ∙ is) short.2 short.4)
+refused_by net call w level needed most shard tally err.Memory is h short = absurd short

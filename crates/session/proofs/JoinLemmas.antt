@@ -43,16 +43,16 @@ joined_from (q ∷ points) c p h = elim (joined_from points (raised c q) p h) as
 ]
 
 -- the answer of a machine was joined
-pub joined_answer : (rules : Rules) (w : Wish) (machine : Option MachineState) (outcome : Option Reason) (ns : ℕ) (series : List Series) (old new : Contents) → outcome ≡ None → ns ≡ space_picked w.pick → IsAnswered machine rules w.pick w.from w.to series
+pub joined_answer : {D : Type 0} (rules : Rules) (w : Wish) (machine : Option (MachineState D)) (outcome : Option Reason) (ns : ℕ) (series : List Series) (old new : Contents) → outcome ≡ None → ns ≡ space_picked w.pick → IsAnswered machine rules w.pick w.from w.to series
     → new ≡ joined old (points_in ns series) → IsJoinedWith (λ p. (outcome ≡ None) × IsGiven rules w machine p) old new
-joined_answer rules w machine outcome ns series old new answered ns_is answer is =
+joined_answer {D = D} rules w machine outcome ns series old new answered ns_is answer is =
     let whole : new ≡ joined old (points_in (space_picked w.pick) series) = is ∙ ap (λ n. joined old (points_in n series)) ns_is in
     let here : machine ≡ Some answer.0 = answer.1 in
     record {
       stays = λ p h. subst (λ c. Holds c p) (sym whole) (joined_stays (points_in (space_picked w.pick) series) old p h);
       covers = λ p g.
           let same : g.1.0 ≡ answer.0 = ap (λ o. unwrap_or o answer.0) (sym g.1.1 ∙ here) in
-          subst (λ c. Holds c p) (sym whole) (joined_has (points_in (space_picked w.pick) series) old p (answer.2.whole p (subst (λ (m : MachineState). IsWanted m.content w.pick w.from w.to p) same g.1.2) g.1.3));
+          subst (λ c. Holds c p) (sym whole) (joined_has (points_in (space_picked w.pick) series) old p (answer.2.whole p (subst (λ (m : MachineState D). IsWanted m.content w.pick w.from w.to p) same g.1.2) g.1.3));
       nothing_else = λ p h. elim (joined_from (points_in (space_picked w.pick) series) old p (subst (λ c. HasPoint c p) whole h)) as (λ _. HasPoint old p ⊎ ((outcome ≡ None) × IsGiven rules w machine p)) [
         | inl before ↦ inl before
         | inr given ↦ let found = answer.2.nothing_else p given in inr (answered, (answer.0, here, found.0, found.1))
@@ -75,7 +75,7 @@ joined_more G H V old mid new first then either wide wider = record {
 }
 
 -- the answer of one more node was joined, if it answered
-pub joined_told : (machines : MachineMap) (rules : Rules) (w : Wish) (shard node : ℕ) (told : List Told) (outcome : Option Reason) (old mid new : Contents) → IsJoinedWith (IsGivenBy machines rules w shard told) old mid
+pub joined_told : {D : Type 0} (machines : MachineMap D) (rules : Rules) (w : Wish) (shard node : ℕ) (told : List Told) (outcome : Option Reason) (old mid new : Contents) → IsJoinedWith (IsGivenBy machines rules w shard told) old mid
     → IsJoinedWith (λ p. (outcome ≡ None) × IsGiven rules w (finite.get machines (slot_at node shard)) p) mid new → IsJoinedWith (IsGivenBy machines rules w shard (told ++ (node, outcome) ∷ [])) old new
 joined_told machines rules w shard node told outcome old mid new was here =
     joined_more (IsGivenBy machines rules w shard told) (λ p. (outcome ≡ None) × IsGiven rules w (finite.get machines (slot_at node shard)) p) (IsGivenBy machines rules w shard (told ++ (node, outcome) ∷ [])) old mid new was here

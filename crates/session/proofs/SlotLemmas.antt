@@ -1,11 +1,10 @@
 -- Slots are ordered, and what a map of machines has after one of them changed.
 use Rattle.std.proofs.Common.{◌≡◌, Bool, true, false, cond, refl, sym, ap, ◌∙◌}
-use Rattle.std.specs.Prelude.{Option, Some, None, is_some, Result, Ok, Err, IfOk, OnOk, OnErr}
+use Rattle.std.specs.Prelude.{Some, None, is_some, Result, Ok, Err, IfOk, IsErrOf}
 use Rattle.std.specs.FinMap as finite
-use Rattle.std.specs.FinMap.{IsAntisymmetric, nat_cmp-IsAntisymmetric, is_sorted, from_sorted, get-insert, same_map}
+use Rattle.std.specs.FinMap.{IsAntisymmetric, nat_cmp-IsAntisymmetric, is_sorted, from_sorted, get-insert}
 use Rattle.std.specs.BTreeMap.{BTreeMap, get_by, WritesThrough}
 use Rattle.std.specs.Cmp.{IsTotalOrder, tied_itself}
-use Rattle.std.specs.Option.{option_map_or}
 use Rattle.std.specs.Ordering.{nat_cmp, ordering_then, eq_by_cmp, is_eq}
 use Rattle.std.specs.declared.cmp.Ordering.{Ordering}
 use Rattle.std.specs.declared.cmp.Ordering.TheVariants.{Less, Equal, Greater}
@@ -13,7 +12,7 @@ use Rattle.std.proofs.lemmas.Cmp.{then_total, on_total, nat_cmp_total}
 use Rattle.m3_model.proofs.Keyed.{equal_of}
 use Rattle.block_buffer.proofs.MapLemmas.{sorted_of, get_of, inserted}
 use Rattle.replica_machine.specs.Machines.{MachineState}
-use Rattle.session.specs.Slots.{slot_cmp, MachineMap, changed_at}
+use Rattle.session.specs.Slots.{slot_cmp, MachineMap}
 use Rattle.session.specs.declared.slot.Slot.{Slot}
 
 pub slot_cmp_total : IsTotalOrder slot_cmp
@@ -32,15 +31,30 @@ slot_cmp-IsAntisymmetric x y e =
 pub same_slot : (x y : Slot) → eq_by_cmp slot_cmp x y ≡ true → x ≡ y
 same_slot x y e = slot_cmp-IsAntisymmetric x y (equal_of _ e)
 
+-- ---- the machine of a slot
+
+-- what stands at the slot where a machine was put
+pub get-insert_here : {D : Type 0} (machines : MachineMap D) (s : Slot) (m : MachineState D) → finite.get (finite.insert machines s m) s ≡ Some m
+get-insert_here machines s m =
+    get-insert slot_cmp_total machines s m s ∙ ap (λ o. cond (is_eq o) (Some m) (finite.get machines s)) (tied_itself slot_cmp_total s)
+
+-- and at each other
+pub get-insert_other : {D : Type 0} (machines : MachineMap D) (s : Slot) (m : MachineState D) (q : Slot) → ¬ (q ≡ s) → finite.get (finite.insert machines s m) q ≡ finite.get machines q
+get-insert_other machines s m q apart = by_test (eq_by_cmp slot_cmp q s) refl
+  where
+    by_test : (b : Bool) → eq_by_cmp slot_cmp q s ≡ b → finite.get (finite.insert machines s m) q ≡ finite.get machines q
+    by_test true t = absurd (apart (same_slot q s t))
+    by_test false t = get-insert slot_cmp_total machines s m q ∙ ap (λ b. cond b (Some m) (finite.get machines q)) t
+
 -- ---- through a `&mut` to a machine
 
 -- what was written through a `&mut` to a machine
-pub record Wrote (m n : BTreeMap Slot MachineState) (s : Slot) (v w : MachineState) : Type 0 where
+pub record Wrote {D : Type 0} (m n : BTreeMap Slot (MachineState D)) (s : Slot) (v w : MachineState D) : Type 0 where
   pub sorted : is_sorted slot_cmp n.entries ≡ true
   pub found : finite.get (from_sorted {R = slot_cmp} m.entries) s ≡ Some v
   pub after : from_sorted {R = slot_cmp} n.entries ≡ finite.insert (from_sorted {R = slot_cmp} m.entries) s w
 
-pub wrote : (m n : BTreeMap Slot MachineState) (s : Slot) (v w : MachineState) → is_sorted slot_cmp m.entries ≡ true → WritesThrough slot_cmp (slot_cmp s) m w n
+pub wrote : {D : Type 0} (m n : BTreeMap Slot (MachineState D)) (s : Slot) (v w : MachineState D) → is_sorted slot_cmp m.entries ≡ true → WritesThrough slot_cmp (slot_cmp s) m w n
     → Some v ≡ get_by (slot_cmp s) m → Wrote m n s v w
 wrote m n s v w was through is =
     let ordered : is_sorted slot_cmp n.entries ≡ true = sorted_of slot_cmp n.entries through.4 in
@@ -50,45 +64,26 @@ wrote m n s v w was through is =
       after = inserted slot_cmp slot_cmp_total slot_cmp-IsAntisymmetric m.entries n.entries s w was ordered (through.3 (ap is_some (sym is))).0;
     }
 
--- what stood there was written again
-pub insert_same : (machines : MachineMap) (s : Slot) (m : MachineState) → finite.get machines s ≡ Some m → finite.insert machines s m ≡ machines
-insert_same machines s m e = same_map slot_cmp_total slot_cmp-IsAntisymmetric _ _ (λ q. get-insert slot_cmp_total machines s m q ∙ by_test q (eq_by_cmp slot_cmp q s) refl)
-  where
-    by_test : (q : Slot) (b : Bool) → eq_by_cmp slot_cmp q s ≡ b → cond b (Some m) (finite.get machines q) ≡ finite.get machines q
-    by_test q true t = sym (ap (finite.get machines) (same_slot q s t) ∙ e)
-    by_test q false t = refl
+-- the slot has no machine
+pub none_at : {D : Type 0} (m : BTreeMap Slot (MachineState D)) (s : Slot) → is_sorted slot_cmp m.entries ≡ true → None ≡ get_by (slot_cmp s) m → finite.get (from_sorted {R = slot_cmp} m.entries) s ≡ None
+none_at m s was is = get_of slot_cmp m.entries s was ∙ sym is
+
+-- and one where it has
+pub found_not_none : {D : Type 0} (old : MachineMap D) (m : BTreeMap Slot (MachineState D)) (s : Slot) (v : MachineState D) → from_sorted {R = slot_cmp} m.entries ≡ old → is_sorted slot_cmp m.entries ≡ true → Some v ≡ get_by (slot_cmp s) m
+    → finite.get old s ≡ None → ⊥
+found_not_none old m s v was sorted is gone = let bad : Some v ≡ None = is ∙ sym (get_of slot_cmp m.entries s sorted) ∙ ap (λ o. finite.get o s) was ∙ gone in cc
+
+-- the machine that was found is the one that stands there
+pub found_same : {D : Type 0} (old : MachineMap D) (m : BTreeMap Slot (MachineState D)) (s : Slot) (v w : MachineState D) → from_sorted {R = slot_cmp} m.entries ≡ old → is_sorted slot_cmp m.entries ≡ true → Some v ≡ get_by (slot_cmp s) m
+    → finite.get old s ≡ Some w → v ≡ w
+found_same old m s v w was sorted is at = let both : Some v ≡ Some w = is ∙ sym (get_of slot_cmp m.entries s sorted) ∙ ap (λ o. finite.get o s) was ∙ at in cc
 
 -- ---- results
-
-pub on_ok : {T E P Q : Type 0} (r : Result T E) → (P → Q) → OnOk r P → OnOk r Q
-on_ok (Ok x) f h = f h
-on_ok (Err e) f h = tt
 
 pub if_ok : {T E : Type 0} {P Q : T → Type 0} (r : Result T E) → ((x : T) → P x → Q x) → IfOk r P → IfOk r Q
 if_ok (Ok x) f h = f x h
 if_ok (Err e) f h = tt
 
-pub on_err : {T E P Q : Type 0} (r : Result T E) → (P → Q) → OnErr r P → OnErr r Q
-on_err (Ok x) f h = tt
-on_err (Err e) f h = f h
-
--- ---- one machine changed
-
-pub changed-found : (machines : MachineMap) (s : Slot) (f : MachineState → MachineState) (m : MachineState) → finite.get machines s ≡ Some m → changed_at machines s f ≡ finite.insert machines s (f m)
-changed-found machines s f m e = ap (λ o. option_map_or (λ x. finite.insert machines s (f x)) o machines) e
-
-pub changed-none : (machines : MachineMap) (s : Slot) (f : MachineState → MachineState) → finite.get machines s ≡ None → changed_at machines s f ≡ machines
-changed-none machines s f e = ap (λ o. option_map_or (λ x. finite.insert machines s (f x)) o machines) e
-
-pub get-changed_here : (machines : MachineMap) (s : Slot) (f : MachineState → MachineState) (m : MachineState) → finite.get machines s ≡ Some m → finite.get (changed_at machines s f) s ≡ Some (f m)
-get-changed_here machines s f m e =
-    ap (λ (n : MachineMap). finite.get n s) (changed-found machines s f m e) ∙ get-insert slot_cmp_total machines s (f m) s
-    ∙ ap (λ o. cond (is_eq o) (Some (f m)) (finite.get machines s)) (tied_itself slot_cmp_total s)
-
-pub get-changed_other : (machines : MachineMap) (s : Slot) (f : MachineState → MachineState) (q : Slot) → eq_by_cmp slot_cmp q s ≡ false → finite.get (changed_at machines s f) q ≡ finite.get machines q
-get-changed_other machines s f q apart = by_machine (finite.get machines s) refl
-  where
-    by_machine : (o : Option MachineState) → finite.get machines s ≡ o → finite.get (changed_at machines s f) q ≡ finite.get machines q
-    by_machine None e = ap (λ (n : MachineMap). finite.get n q) (changed-none machines s f e)
-    by_machine (Some m) e =
-        ap (λ (n : MachineMap). finite.get n q) (changed-found machines s f m e) ∙ get-insert slot_cmp_total machines s (f m) q ∙ ap (λ b. cond b (Some (f m)) (finite.get machines q)) apart
+-- an error stays the same where the value would be another
+pub err_still : {T U E : Type 0} (e f : E) → IsErrOf {T = T} (Err e) f → IsErrOf {T = U} (Err e) f
+err_still e f h = let same : e ≡ f = cc in ap (λ x. Err x) same

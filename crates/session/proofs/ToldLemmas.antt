@@ -8,6 +8,7 @@ use Rattle.std.proofs.lemmas.List.Elements.{filter-append, filter_map-append}
 use Rattle.m3_model.specs.Fates.{is_cut}
 use Rattle.m3_model.specs.Members.{IsIn}
 use Rattle.m3_model.specs.declared.reason.Reason.{Reason}
+use Rattle.m3_model.specs.declared.reason.Reason.TheVariants as reason
 use Rattle.m3_model.proofs.MemberLemmas.{IsIn-append_left, IsIn-append_right, IsIn-append_cases}
 use Rattle.std.specs.FinMap as finite
 use Rattle.cluster_core.specs.declared.event.StepCall.{StepCall}
@@ -55,23 +56,27 @@ answering-last told n = subst (λ xs. IsIn xs n) (sym (answering_push told (n, N
 pub outcome_of_result : {X : Type 0} (against : Option Reason) (result : Result X Reason) → IsRefusedFor against result → IsOutcome false against (result_err result)
 outcome_of_result (Some why) result h = ap result_err h
 outcome_of_result None (Ok x) h = inl refl
-outcome_of_result None (Err e) h = inr (ap Some h)
+outcome_of_result None (Err e) h = inr (elim h as (λ _. (Some e ≡ Some reason.Memory) ⊎ (Some e ≡ Some reason.Disk)) [ inl m ↦ inl (ap Some m) | inr d ↦ inr (ap Some d) ])
 
 -- no node was asked
-pub asked_none : (machines : MachineMap) (fates : FateMap) (call : Call) (step : StepCall) (shard : ℕ) → AreAsked machines fates call step shard [] []
-asked_none machines fates call _ shard = record { one_each = refl; each = λ x m. absurd m }
+pub asked_none : {D : Type 0} (machines : MachineMap D) (fates : FateMap) (call : Call) (step : StepCall) (shard : ℕ) → AreAsked machines fates call step shard [] []
+asked_none machines fates call _ shard = record { one_each = refl; each = λ x m. absurd m; no_fault = λ x m. absurd m }
 
 -- one more node was asked
-pub asked_more : (machines : MachineMap) (fates : FateMap) (call : Call) (step : StepCall) (shard : ℕ) (nodes : List ℕ) (i : ℕ) (told : List Told) (outcome : Option Reason)
+pub asked_more : {D : Type 0} (machines : MachineMap D) (fates : FateMap) (call : Call) (step : StepCall) (shard : ℕ) (nodes : List ℕ) (i : ℕ) (told : List Told) (outcome : Option Reason)
     → i < length nodes → AreAsked machines fates call step shard (take i nodes) told
-    → IsOutcome (is_cut (fate_to fates call (get_or nodes i 0))) (refusal_of (finite.get machines (slot_at (get_or nodes i 0) shard)) step) outcome
+    → IsOutcome (is_cut (fate_to fates call (get_or nodes i 0))) (refusal_of (finite.get machines (slot_at (get_or nodes i 0) shard)) step) outcome → ¬ (outcome ≡ Some reason.Disk)
     → AreAsked machines fates call step shard (take (i + 1) nodes) (told ++ (get_or nodes i 0, outcome) ∷ [])
-asked_more machines fates call step shard nodes i told outcome below was here =
+asked_more machines fates call step shard nodes i told outcome below was here quiet =
     let node : ℕ = get_or nodes i 0 in
     record {
       one_each = map-append (λ x. x.0) told ((node, outcome) ∷ []) ∙ ap (λ xs. xs ++ node ∷ []) was.one_each ∙ sym (take_more nodes i 0 below);
       each = λ x m. elim (IsIn-append_cases told ((node, outcome) ∷ []) x m) as (λ _. IsOutcome (is_cut (fate_to fates call x.0)) (refusal_of (finite.get machines (slot_at x.0 shard)) step) x.1) [
         | inl before ↦ was.each x before
         | inr last ↦ subst (λ (y : Told). IsOutcome (is_cut (fate_to fates call y.0)) (refusal_of (finite.get machines (slot_at y.0 shard)) step) y.1) (only_in (node, outcome) x last) here
+      ];
+      no_fault = λ x m. elim (IsIn-append_cases told ((node, outcome) ∷ []) x m) as (λ _. ¬ (x.1 ≡ Some reason.Disk)) [
+        | inl before ↦ was.no_fault x before
+        | inr last ↦ subst (λ (y : Told). ¬ (y.1 ≡ Some reason.Disk)) (only_in (node, outcome) x last) quiet
       ];
     }

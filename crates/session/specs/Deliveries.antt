@@ -1,16 +1,15 @@
 -- What becomes of late writes when they are delivered.
-use Rattle.std.specs.Prelude.{◌≡◌, ℕ, List, [], map, filter, length, Option, None, false, ◌⊎◌, nat_lt}
-use Rattle.std.specs.FinMap as finite
-use Rattle.m3_model.specs.Members.{IsIn}
-use Rattle.m3_model.specs.declared.point.Point.{Point}
+use Rattle.std.specs.Prelude.{◌≡◌, ℕ, List, [], ◌∷◌, map, filter, length, Option, ◌⊎◌, nat_lt}
 use Rattle.m3_model.specs.declared.reason.Reason.{Reason}
 use Rattle.m3_model.specs.declared.rules.Rules.{Rules}
 use Rattle.cluster_core.specs.declared.event.StepCall.{StepCall}
 use Rattle.cluster_core.specs.declared.event.StepCall.TheVariants as step
 use Rattle.net_plan.specs.declared.late_write.LateWrite.{LateWrite}
-use Rattle.session.specs.Changes.{AreChangedBy}
-use Rattle.session.specs.Outcomes.{IsOutcome}
-use Rattle.session.specs.Slots.{MachineMap, slot_at, refusal_of}
+use Rattle.m3_model.specs.declared.act.Fate.TheVariants as fate
+use Rattle.m3_outside.specs.DiskState.{DiskState}
+use Rattle.m3_outside.specs.declared.disk.Disk.{Ghosts}
+use Rattle.session.specs.Changes.{IsPutAt}
+use Rattle.session.specs.Slots.{MachineMap, slot_at}
 use Rattle.session.specs.declared.net.Net.{Net}
 use Rattle.session.specs.declared.slot.Slot.{Slot}
 
@@ -34,24 +33,21 @@ late_step rules late = step.Put late.client late.number rules late.version late.
 abbrev pub outcome_of : Delivery → ℕ × ℕ × Option Reason
 outcome_of d = (d.0.node, d.0.shard, d.1)
 
--- one of the late writes brought the point to the slot, where it was taken
-abbrev pub Brought : List Delivery → Slot → Point → Type 0
-Brought deliveries s p = (d : Delivery) × IsIn deliveries d × (goal_of d.0 ≡ s) × (d.1 ≡ None) × (d.0.point ≡ p)
-
 -- each of the late writes was put once, in their order, at its own version
-pub record AreDelivered (old : MachineMap) (rules : Rules) (late : List LateWrite) (deliveries : List Delivery) (new : MachineMap) : Type 0 where
-  pub one_each : map (λ d. d.0) deliveries ≡ late
-  pub each : (d : Delivery) → IsIn deliveries d → IsOutcome false (refusal_of (finite.get old (goal_of d.0)) (late_step rules d.0)) d.1
-  pub changes : AreChangedBy (Brought deliveries) old new
+abbrev pub AreDelivered : {D : Type 0} → (D → DiskState) → Rules → List LateWrite → List Delivery → MachineMap D → MachineMap D → Type 0
+AreDelivered state rules [] [] old new = new ≡ old
+AreDelivered {D} state rules (one ∷ late) (d ∷ deliveries) old new =
+    (d.0 ≡ one) × (mid : MachineMap D) × IsPutAt state fate.Deliver (goal_of one) (late_step rules one) d.1 old mid × AreDelivered state rules late deliveries mid new
+AreDelivered state rules _ _ old new = ⊥
 
 -- all late writes of the bag were delivered, and it is empty
-pub record IsDelivered (old : Net) (outcomes : List (ℕ × ℕ × Option Reason)) (new : Net) : Type 0 where
+pub record IsDelivered {D : Type 0} {ghosts : Ghosts D} (state : D → DiskState) (old : Net D ghosts) (outcomes : List (ℕ × ℕ × Option Reason)) (new : Net D ghosts) : Type 0 where
   pub deliveries : List Delivery
-  pub put : AreDelivered old.machines old.state.rules (known old.state.rules old.bag) deliveries new.machines
+  pub put : AreDelivered state old.state.rules (known old.state.rules old.bag) deliveries old.machines new.machines
   pub outcomes_are : outcomes ≡ map outcome_of deliveries
   pub emptied : new.bag ≡ []
 
 -- no machine was asked, and the late writes are still there or all lost
-pub record IsUndelivered (old new : Net) : Type 0 where
+pub record IsUndelivered {D : Type 0} {ghosts : Ghosts D} (old new : Net D ghosts) : Type 0 where
   pub machines : new.machines ≡ old.machines
   pub bag : (new.bag ≡ old.bag) ⊎ (new.bag ≡ [])

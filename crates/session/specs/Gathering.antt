@@ -7,6 +7,7 @@ use Rattle.m3_model.specs.declared.point.Pick.{Pick}
 use Rattle.m3_model.specs.declared.point.Pick.TheVariants as pick
 use Rattle.m3_model.specs.declared.point.Point.{Point}
 use Rattle.m3_model.specs.declared.point.Series.{Series}
+use Rattle.m3_outside.specs.declared.disk.Disk.{Ghosts}
 use Rattle.session.specs.Outcomes.{Told, answering, refusing}
 use Rattle.session.specs.Reads.{Wish, first_asked, end_asked, IsAsked, IsGivenBy}
 use Rattle.session.specs.declared.call.Call.{Call}
@@ -20,7 +21,7 @@ wish_of pick asking = record { pick = pick; from = asking.from; to = asking.to }
 
 -- the content is what as many nodes as needed of each shard from `first` up to `end` give; `whole` tells whether at least `most`
 -- of each answered
-pub record IsAllOf (net : Net) (call : Call) (w : Wish) (first end needed most : ℕ) (whole : Bool) (c : Contents) : Type 0 where
+pub record IsAllOf {D : Type 0} {ghosts : Ghosts D} (net : Net D ghosts) (call : Call) (w : Wish) (first end needed most : ℕ) (whole : Bool) (c : Contents) : Type 0 where
   pub told : ℕ → List Told
   pub asked : (k : ℕ) → first ≤ k → k < end → IsAsked net call w k (told k)
   pub enough : (k : ℕ) → first ≤ k → k < end → needed ≤ length (answering (told k))
@@ -30,7 +31,7 @@ pub record IsAllOf (net : Net) (call : Call) (w : Wish) (first end needed most :
   pub nothing_else : (p : Point) → HasPoint c p → (k : ℕ) × (first ≤ k) × (k < end) × IsGivenBy net.machines net.state.rules w k (told k) p
 
 -- of this shard fewer than needed answered, and of each before it as many as needed
-pub record IsShortAt (net : Net) (call : Call) (w : Wish) (first end needed shard : ℕ) (answered : List ℕ) (told_last : List Told) : Type 0 where
+pub record IsShortAt {D : Type 0} {ghosts : Ghosts D} (net : Net D ghosts) (call : Call) (w : Wish) (first end needed shard : ℕ) (answered : List ℕ) (told_last : List Told) : Type 0 where
   pub not_before : first ≤ shard
   pub before_end : shard < end
   pub told : ℕ → List Told
@@ -41,7 +42,7 @@ pub record IsShortAt (net : Net) (call : Call) (w : Wish) (first end needed shar
   pub fewer : length answered < needed
 
 -- what was gathered: all of it, or the first shard that fell short
-abbrev pub IsGathered : Net → Call → Wish → ℕ → ℕ → Gathered → Type 0
+abbrev pub IsGathered : {D : Type 0} {ghosts : Ghosts D} → Net D ghosts → Call → Wish → ℕ → ℕ → Gathered → Type 0
 IsGathered net call w needed most (gathered.Found joined whole) = IsAllOf net call w (first_asked net.state w.pick) (end_asked net.state w.pick) needed most whole joined.points
 IsGathered net call w needed most (gathered.TooFew shard tally) =
     (told : List Told) × IsShortAt net call w (first_asked net.state w.pick) (end_asked net.state w.pick) needed shard tally.answered.items told × (tally.reasons.items ≡ refusing told)

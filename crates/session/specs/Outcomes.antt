@@ -44,13 +44,14 @@ abbrev pub refusing : List Told → List (ℕ × Reason)
 refusing told = filter_map (λ x. option_map (λ why. (x.0, why)) x.1) told
 
 -- what may be told of a message: Cut where it isn't delivered, else the reason that stands against it; and where none does, an
--- answer or want of memory
+-- answer, want of memory or a fault
 abbrev pub IsOutcome : Bool → Option Reason → Option Reason → Type 0
 IsOutcome true against outcome = outcome ≡ Some reason.Cut
 IsOutcome false (Some why) outcome = outcome ≡ Some why
-IsOutcome false None outcome = (outcome ≡ None) ⊎ (outcome ≡ Some reason.Memory)
+IsOutcome false None outcome = (outcome ≡ None) ⊎ ((outcome ≡ Some reason.Memory) ⊎ (outcome ≡ Some reason.Disk))
 
--- these nodes were asked, each once and in this order, and each was told of what may be
-pub record AreAsked (machines : MachineMap) (fates : FateMap) (call : Call) (step : StepCall) (shard : ℕ) (nodes : List ℕ) (told : List Told) : Type 0 where
+-- These nodes were asked, each once and in this order, and each was told of what may be: of a call that changes no machine and meets no disk.
+pub record AreAsked {D : Type 0} (machines : MachineMap D) (fates : FateMap) (call : Call) (step : StepCall) (shard : ℕ) (nodes : List ℕ) (told : List Told) : Type 0 where
   pub one_each : map (λ x. x.0) told ≡ nodes
   pub each : (x : Told) → IsIn told x → IsOutcome (is_cut (fate_to fates call x.0)) (refusal_of (finite.get machines (slot_at x.0 shard)) step) x.1
+  pub no_fault : (x : Told) → IsIn told x → ¬ (x.1 ≡ Some reason.Disk)

@@ -17,6 +17,7 @@ use Rattle.m3_model.specs.declared.point.Series.{Series}
 use Rattle.m3_model.specs.declared.reason.Reason.{Reason}
 use Rattle.m3_model.specs.declared.rules.MetaState.{MetaState}
 use Rattle.m3_model.specs.declared.rules.Rules.{Rules}
+use Rattle.m3_outside.specs.declared.disk.Disk.{Ghosts}
 use Rattle.cluster_core.specs.declared.event.StepCall.{StepCall}
 use Rattle.cluster_core.specs.declared.event.StepCall.TheVariants as step
 use Rattle.replica_machine.specs.Machines.{MachineState, IsLiveAnswer}
@@ -48,26 +49,26 @@ end_asked state (pick.One ns id) = suc (shard_of id state.seed (length state.pla
 end_asked state (pick.Match ns wanted) = length state.place.shards
 
 -- the machine holds this very point, which is asked for and hasn't expired
-abbrev pub IsGiven : Rules → Wish → Option MachineState → Point → Type 0
-IsGiven rules w machine p = (m : MachineState) × (machine ≡ Some m) × IsWanted m.content w.pick w.from w.to p × IsLive rules p
+abbrev pub IsGiven : {D : Type 0} → Rules → Wish → Option (MachineState D) → Point → Type 0
+IsGiven {D} rules w machine p = (m : MachineState D) × (machine ≡ Some m) × IsWanted m.content w.pick w.from w.to p × IsLive rules p
 
 -- the series are what the machine gives, in order
-abbrev pub IsAnswered : Option MachineState → Rules → Pick → ℕ → ℕ → List Series → Type 0
-IsAnswered machine rules pick from to series = (m : MachineState) × (machine ≡ Some m) × IsLiveAnswer m.content rules pick from to series
+abbrev pub IsAnswered : {D : Type 0} → Option (MachineState D) → Rules → Pick → ℕ → ℕ → List Series → Type 0
+IsAnswered {D} machine rules pick from to series = (m : MachineState D) × (machine ≡ Some m) × IsLiveAnswer m.content rules pick from to series
 
 -- a node that answered gives the point
-abbrev pub IsGivenBy : MachineMap → Rules → Wish → ℕ → List Told → Point → Type 0
+abbrev pub IsGivenBy : {D : Type 0} → MachineMap D → Rules → Wish → ℕ → List Told → Point → Type 0
 IsGivenBy machines rules w shard told p = (node : ℕ) × IsIn (answering told) node × IsGiven rules w (finite.get machines (slot_at node shard)) p
 
 -- all nodes that count for the shard were asked
-pub record IsAsked (net : Net) (call : Call) (w : Wish) (shard : ℕ) (told : List Told) : Type 0 where
+pub record IsAsked {D : Type 0} {ghosts : Ghosts D} (net : Net D ghosts) (call : Call) (w : Wish) (shard : ℕ) (told : List Told) : Type 0 where
   pub nodes : List ℕ
   pub counted : AreCounted net.state.place shard nodes
   pub asked : AreAsked net.machines net.fates call (read_step call net.state.rules (version_of net.state.place call) w) shard nodes told
 
 -- The series are exactly the join of what the nodes of the asked shards answered, of each as many as the level needs. It is
 -- short exactly where the level is unstrict and fewer than a majority of one of the shards answered.
-pub record IsFound (net : Net) (call : Call) (w : Wish) (level : ReadLevel) (series : List Series) (short : Bool) : Type 0 where
+pub record IsFound {D : Type 0} {ghosts : Ghosts D} (net : Net D ghosts) (call : Call) (w : Wish) (level : ReadLevel) (series : List Series) (short : Bool) : Type 0 where
   pub told : ℕ → List Told
   pub asked : (k : ℕ) → first_asked net.state w.pick ≤ k → k < end_asked net.state w.pick → IsAsked net call w k (told k)
   pub enough : (k : ℕ) → first_asked net.state w.pick ≤ k → k < end_asked net.state w.pick → needed_read level net.state.place.rf ≤ length (answering (told k))
@@ -79,7 +80,7 @@ pub record IsFound (net : Net) (call : Call) (w : Wish) (level : ReadLevel) (ser
       → (p : Point) → IsGivenBy net.machines net.state.rules w k (told k) p → Covers (points_in (space_picked w.pick) series) p
 
 -- this is the first of the asked shards of which fewer nodes than needed answered
-pub record IsFirstShort (net : Net) (call : Call) (w : Wish) (due : ℕ) (shard needed got : ℕ) (reasons : List (ℕ × Reason)) : Type 0 where
+pub record IsFirstShort {D : Type 0} {ghosts : Ghosts D} (net : Net D ghosts) (call : Call) (w : Wish) (due : ℕ) (shard needed got : ℕ) (reasons : List (ℕ × Reason)) : Type 0 where
   pub not_before : first_asked net.state w.pick ≤ shard
   pub before_end : shard < end_asked net.state w.pick
   pub told : ℕ → List Told
@@ -88,7 +89,7 @@ pub record IsFirstShort (net : Net) (call : Call) (w : Wish) (due : ℕ) (shard 
   pub too_few : IsTooFew due shard (told shard) shard needed got reasons
 
 -- too few answered of one of the shards, or it wanted memory
-abbrev pub IsRefusedRead : Net → Call → Wish → ReadLevel → SessionErr → Type 0
+abbrev pub IsRefusedRead : {D : Type 0} {ghosts : Ghosts D} → Net D ghosts → Call → Wish → ReadLevel → SessionErr → Type 0
 IsRefusedRead net call w level (err.Consistency shard needed got reasons) = IsFirstShort net call w (needed_read level net.state.place.rf) shard needed got reasons
 IsRefusedRead net call w level err.Memory = ⊤
 

@@ -2,7 +2,6 @@
 use Rattle.std.specs.Prelude.{ℕ, Option, Some, None, refl}
 use Rattle.std.specs.Coded.{Coded, code_by, coded×, coded_ℕ}
 use Rattle.std.specs.FinMap as finite
-use Rattle.std.specs.Option.{option_map_or}
 use Rattle.std.specs.Ordering.{nat_cmp, on, then_cmp}
 use Rattle.std.specs.declared.cmp.Ordering.{Ordering}
 use Rattle.m3_model.specs.declared.reason.Reason.{Reason}
@@ -22,18 +21,14 @@ slot_code = code_by (ℕ × ℕ) (coded× coded_ℕ coded_ℕ) (λ s. (s.shard, 
 abbrev pub slot_at : ℕ → ℕ → Slot
 slot_at node shard = record { shard = shard; node = node }
 
-abbrev pub MachineMap : Type 0
-MachineMap = finite.FinMap slot_cmp MachineState
+abbrev pub MachineMap : Type 0 → Type 0
+MachineMap D = finite.FinMap slot_cmp (MachineState D)
 
-abbrev pub machine_map_code : Coded MachineMap
-machine_map_code = finite.code slot_code machine_code
-
--- the machine of the slot, if there is one, changes so
-abbrev pub changed_at : MachineMap → Slot → (MachineState → MachineState) → MachineMap
-changed_at machines slot change = option_map_or (λ m. finite.insert machines slot (change m)) (finite.get machines slot) machines
+abbrev pub machine_map_code : {D : Type 0} → Coded D → Coded (MachineMap D)
+machine_map_code disk_code = finite.code slot_code (machine_code disk_code)
 
 -- the reason that stands against a call at a slot: the machine's, and where the slot has no machine, that its node doesn't own
 -- the shard
-abbrev pub refusal_of : Option MachineState → StepCall → Option Reason
+abbrev pub refusal_of : {D : Type 0} → Option (MachineState D) → StepCall → Option Reason
 refusal_of None c = Some reason.NotOwned
 refusal_of (Some m) c = refusal m c

@@ -1,29 +1,27 @@
 -- What a write answers, and what it leaves.
-use Rattle.std.specs.Prelude.{◌≡◌, ℕ, ◌<◌, ◌≤◌, List, [], ◌∷◌, ◌++◌, map, filter, length, take, Option, Some, None, Bool, true, false, ◌⊎◌, if◌then◌else◌, nat_eq, fold}
-use Rattle.std.specs.FinMap as finite
+use Rattle.std.specs.Prelude.{◌≡◌, ℕ, ◌<◌, ◌≤◌, List, [], ◌∷◌, ◌++◌, map, filter, length, take, Bool, true, false, ◌⊎◌, if◌then◌else◌, nat_eq, fold}
 use Rattle.m3_model.specs.Hash.{shard_of}
 use Rattle.m3_model.specs.Levels.{needed_write}
-use Rattle.m3_model.specs.Members.{IsIn}
 use Rattle.m3_model.specs.declared.act.Fate.{Fate}
 use Rattle.m3_model.specs.declared.act.Fate.TheVariants as fate
 use Rattle.m3_model.specs.declared.act.WriteLevel.{WriteLevel}
 use Rattle.m3_model.specs.declared.point.Point.{Point}
 use Rattle.m3_model.specs.declared.reason.Reason.{Reason}
-use Rattle.m3_model.specs.declared.reason.Reason.TheVariants as reason
 use Rattle.m3_model.specs.declared.rules.MetaState.{MetaState}
 use Rattle.m3_model.specs.declared.rules.Rules.{Rules}
 use Rattle.cluster_core.specs.declared.event.StepCall.{StepCall}
 use Rattle.cluster_core.specs.declared.event.StepCall.TheVariants as step
 use Rattle.net_plan.specs.Fates.{FateMap}
 use Rattle.net_plan.specs.declared.late_write.LateWrite.{LateWrite}
-use Rattle.session.specs.Changes.{AreChangedBy, IsHeld}
-use Rattle.session.specs.Outcomes.{Told, version_of, fate_to, AreCounted, answering, refusing, AreAsked}
+use Rattle.m3_outside.specs.DiskState.{DiskState}
+use Rattle.m3_outside.specs.declared.disk.Disk.{Ghosts}
+use Rattle.session.specs.Changes.{IsPutAt}
+use Rattle.session.specs.Outcomes.{Told, version_of, fate_to, AreCounted, answering, refusing}
 use Rattle.session.specs.Slots.{MachineMap, slot_at}
 use Rattle.session.specs.declared.call.Call.{Call}
 use Rattle.session.specs.declared.net.Net.{Net}
 use Rattle.session.specs.declared.session_err.SessionErr.{SessionErr}
 use Rattle.session.specs.declared.session_err.SessionErr.TheVariants as err
-use Rattle.session.specs.declared.slot.Slot.{Slot}
 
 -- the shard of a point
 abbrev pub shard_of_point : MetaState → Point → ℕ
@@ -57,31 +55,24 @@ filled bag more = fold kept_in bag more
 
 -- ---- a write
 
--- a node that answered has taken the point; one that was told it twice and wanted memory at first may have taken it then
-abbrev pub MayHave : Fate → Option Reason → Type 0
-MayHave f outcome = (outcome ≡ None) ⊎ ((f ≡ fate.Twice) × (outcome ≡ Some reason.Memory))
-
--- the slot is of a node that was asked for this shard, which may have taken the point
-abbrev pub TookIt : FateMap → Call → ℕ → Point → List Told → Slot → Point → Type 0
-TookIt fates call shard point told s p = (s.shard ≡ shard) × (p ≡ point) × ((outcome : Option Reason) × IsIn told (s.node, outcome) × MayHave (fate_to fates call s.node) outcome)
-
--- the point was put on the machines of these nodes
-pub record ArePut (old : MachineMap) (rules : Rules) (fates : FateMap) (call : Call) (shard version : ℕ) (p : Point) (nodes : List ℕ) (told : List Told) (new : MachineMap) : Type 0 where
-  pub asked : AreAsked old fates call (put_step call rules version p) shard nodes told
-  pub changes : AreChangedBy (TookIt fates call shard p told) old new
-  pub held : (node : ℕ) → IsIn (answering told) node → IsHeld (finite.get new (slot_at node shard)) p
+-- the point was put on the machines of these nodes, one after the other, and each was told of
+abbrev pub ArePut : {D : Type 0} → (D → DiskState) → FateMap → Call → StepCall → ℕ → List ℕ → List Told → MachineMap D → MachineMap D → Type 0
+ArePut state fates call c shard [] [] old new = new ≡ old
+ArePut {D} state fates call c shard (node ∷ nodes) (x ∷ told) old new =
+    (x.0 ≡ node) × (mid : MachineMap D) × IsPutAt state (fate_to fates call node) (slot_at node shard) c x.1 old mid × ArePut state fates call c shard nodes told mid new
+ArePut state fates call c shard _ _ old new = ⊥
 
 -- the write was sent to all nodes that count for its shard: its late messages are in the bag, and the others were put
-pub record IsSent (old : Net) (call : Call) (p : Point) (told : List Told) (new : Net) : Type 0 where
+pub record IsSent {D : Type 0} {ghosts : Ghosts D} (state : D → DiskState) (old : Net D ghosts) (call : Call) (p : Point) (told : List Told) (new : Net D ghosts) : Type 0 where
   pub nodes : List ℕ
   pub counted : AreCounted old.state.place (shard_of_point old.state p) nodes
-  pub put : ArePut old.machines old.state.rules old.fates call (shard_of_point old.state p) (version_of old.state.place call) p nodes told new.machines
+  pub put : ArePut state old.fates call (put_step call old.state.rules (version_of old.state.place call) p) (shard_of_point old.state p) nodes told old.machines new.machines
   pub late : new.bag ≡ filled old.bag (late_among old.fates call (shard_of_point old.state p) (version_of old.state.place call) p nodes)
 
 -- as many nodes as the level needs took the point; they are named in their order
-pub record IsAcknowledged (old : Net) (call : Call) (p : Point) (level : WriteLevel) (acks : List ℕ) (new : Net) : Type 0 where
+pub record IsAcknowledged {D : Type 0} {ghosts : Ghosts D} (state : D → DiskState) (old : Net D ghosts) (call : Call) (p : Point) (level : WriteLevel) (acks : List ℕ) (new : Net D ghosts) : Type 0 where
   pub told : List Told
-  pub sent : IsSent old call p told new
+  pub sent : IsSent state old call p told new
   pub acks_are : acks ≡ answering told
   pub enough : needed_write level old.state.place.rf ≤ length acks
 
@@ -99,13 +90,13 @@ IsShortOf due asked answered others (err.Consistency shard needed got reasons) =
 IsShortOf due asked answered others err.Memory = ⊥
 
 -- no machine was asked; of the messages to some first ones of the nodes the late ones may be in the bag
-pub record IsUnsent (old : Net) (call : Call) (p : Point) (new : Net) : Type 0 where
+pub record IsUnsent {D : Type 0} {ghosts : Ghosts D} (old : Net D ghosts) (call : Call) (p : Point) (new : Net D ghosts) : Type 0 where
   pub machines : new.machines ≡ old.machines
   pub bag : (new.bag ≡ old.bag) ⊎ ((nodes : List ℕ) × (k : ℕ) × AreCounted old.state.place (shard_of_point old.state p) nodes
       × (new.bag ≡ filled old.bag (late_among old.fates call (shard_of_point old.state p) (version_of old.state.place call) p (take k nodes))))
 
 -- the write was sent to all and too few answered, or it wanted memory and nothing was put
-abbrev pub IsRefusedWrite : Net → Call → Point → WriteLevel → Net → SessionErr → Type 0
-IsRefusedWrite old call p level new (err.Consistency shard needed got reasons) =
-    (told : List Told) × IsSent old call p told new × IsTooFew (needed_write level old.state.place.rf) (shard_of_point old.state p) told shard needed got reasons
-IsRefusedWrite old call p level new err.Memory = IsUnsent old call p new
+abbrev pub IsRefusedWrite : {D : Type 0} {ghosts : Ghosts D} → (D → DiskState) → Net D ghosts → Call → Point → WriteLevel → Net D ghosts → SessionErr → Type 0
+IsRefusedWrite state old call p level new (err.Consistency shard needed got reasons) =
+    (told : List Told) × IsSent state old call p told new × IsTooFew (needed_write level old.state.place.rf) (shard_of_point old.state p) told shard needed got reasons
+IsRefusedWrite state old call p level new err.Memory = IsUnsent old call p new

@@ -1,8 +1,9 @@
-ghost use Rattle.std.specs.Prelude.{◌≡◌, ◌<◌, ◌≤◌, ◌^◌, ℕ, suc, List, None, length, true, false, IfOk, IfErr, OnOk};
+ghost use Rattle.std.specs.Prelude.{◌≡◌, ◌<◌, ◌≤◌, ◌^◌, ℕ, suc, List, None, Some, length, true, false, IfOk, IfErr, OnOk};
 ghost use Rattle.std.specs.FinMap as finite;
 ghost use Rattle.m3_model.specs.Fates.{is_cut};
 ghost use Rattle.m3_model.specs.Reads.{points_in, space_picked};
 ghost use Rattle.m3_model.specs.declared.act.ReadLevel.TheVariants as read;
+ghost use Rattle.m3_model.specs.declared.reason.Reason.TheVariants as reason;
 ghost use Rattle.block_buffer.specs.Joins.{joined};
 ghost use Rattle.cluster_core.specs.declared.event.StepCall.TheVariants as step;
 ghost use Rattle.session.specs.Gathering.{wish_of, IsGathered, IsSeries};
@@ -23,6 +24,7 @@ use m3_model::point::{Pick, Series};
 use m3_model::reason::Reason;
 use m3_model::rules::{MetaState, Rules};
 use m3_model::seq::Seq;
+use m3_outside::disk::Disk;
 use placement_core::replicas::counted;
 use quorum_count::{majority, needed_read};
 use series_id::shard_of;
@@ -93,8 +95,8 @@ fn join_all(into: &mut Buffer, ns: u8, series: &[Series]) -> Result<(), Memory>
 
 // Asks the machine at the slot and joins what it answers, unless the message is cut. Gives the reason for which it
 // didn't answer, if it didn't.
-fn ask_machine(
-    machines: &Machines,
+fn ask_machine<D: Disk>(
+    machines: &Machines<D>,
     fate: Fate,
     slot: Slot,
     rules: &Rules,
@@ -104,6 +106,7 @@ fn ask_machine(
 ) -> Result<Option<Reason>, Memory>
     requires { space_picked pick.now < length rules.now.spaces }
     ensures outcome { IfOk result (λ outcome. (client number : ℕ) → IsOutcome (is_cut fate) (refusal_of (finite.get machines.now slot) (step.Read client number rules.entry.now asking.now.version pick.now asking.now.from asking.now.to)) outcome) }
+    ensures no_fault { IfOk result (λ outcome. ¬ (outcome ≡ Some reason.Disk)) }
     ensures joins { IfOk result (λ outcome. IsJoinedWith (λ p. (outcome ≡ None) × IsGiven rules.entry.now (wish_of pick.now asking.now) (finite.get machines.now slot) p) into.old.points into.new.points) }
 {
     if is_cut(fate) {
@@ -119,9 +122,9 @@ fn ask_machine(
 }
 
 // Asks every node that counts for the shard, and joins what they answer.
-fn ask_shard(
+fn ask_shard<D: Disk>(
     alloc: Global,
-    net: &Net,
+    net: &Net<D>,
     asking: &Asking,
     pick: &Pick,
     shard: u32,
@@ -174,9 +177,9 @@ fn asked_shards(state: &MetaState, pick: &Pick) -> (u32, u32)
 
 // Asks the shards of a fetch one after the other, and joins what they answer. It ends with the first of which fewer
 // nodes than needed answered.
-fn gather(
+fn gather<D: Disk>(
     alloc: Global,
-    net: &Net,
+    net: &Net<D>,
     asking: &Asking,
     pick: &Pick,
     quorum: Quorum,
@@ -231,8 +234,8 @@ fn is_short(level: ReadLevel, whole: bool) -> bool
 ///
 /// `Consistency` names the first shard of which fewer nodes than the level needs answered, and the others of its nodes
 /// with their reasons; later shards aren't asked.
-pub fn fetch(
-    net: &Net,
+pub fn fetch<D: Disk>(
+    net: &Net<D>,
     alloc: Global,
     call: &Call,
     pick: &Pick,

@@ -1,4 +1,5 @@
-ghost use Rattle.std.specs.Prelude.{◌≡◌, length, IfOk};
+ghost use Rattle.std.specs.Prelude.{◌≡◌, ◌≤◌, length, IfOk};
+ghost use Rattle.wire_bytes.specs.Entries.{IsBounded};
 
 use crate::call::Call;
 use crate::deliver::deliver;
@@ -16,6 +17,7 @@ use m3_model::reason::Reason;
 use m3_model::rules::{MetaState, Rules, Space};
 use m3_model::seq::Seq;
 use m3_model::text::Text;
+use mem_disk::disk::MemDisk;
 use net_plan::bag::Bag;
 use net_plan::fates::{Fates, is_fates_row};
 use replica_machine::machine::Machine;
@@ -91,15 +93,26 @@ fn rules(alloc: Global) -> Result<Rules, Memory> {
     })
 }
 
-fn machines(alloc: Global) -> Result<Machines, Memory> {
+// Each of them began with tenure 1. Of the first one's disk all calls fail after so many, until it is restarted.
+fn machines(alloc: Global, fuse: Option<u64>) -> Result<Machines<MemDisk>, Memory> {
     let mut all = Machines::new(alloc);
     for node in 0u8..3 {
-        all.insert(Slot { shard: 0, node }, Machine::new(alloc))?;
+        let fuse = if node == 0 { fuse } else { None };
+        let mut machine = Machine::new(alloc, MemDisk::new(alloc, &[], fuse)?);
+        if machine.boot(1).is_err() {
+            return Err(Memory);
+        }
+        if all.insert(Slot { shard: 0, node }, machine).is_err() {
+            return Err(Memory);
+        }
     }
     Ok(all)
 }
 
-fn point(alloc: Global, t: u64, v: i64) -> Result<Point, Memory> {
+fn point(alloc: Global, t: u64, v: i64) -> Result<Point, Memory>
+    requires { t ≤ 1000 }
+    ensures { IfOk result IsBounded }
+{
     Ok(Point {
         ns: 0,
         id: Text::from_str(alloc, "up")?,
@@ -129,6 +142,8 @@ fn letter_of(reason: &Reason) -> u8 {
     match reason {
         Reason::Cut => b'x',
         Reason::Down => b'-',
+        Reason::Boot => b'^',
+        Reason::Disk => b'~',
         Reason::Past => b'<',
         Reason::Future => b'>',
         _ => b'?',
@@ -187,12 +202,14 @@ fn print_outcomes(out: &mut Vec<u8>, outcomes: &[(u8, u32, Option<Reason>)]) -> 
 
 fn send(
     alloc: Global,
-    net: &mut Net,
+    net: &mut Net<MemDisk>,
     call: &Call,
     point: &Point,
     level: WriteLevel,
     out: &mut Vec<u8>,
-) -> Result<(), Memory> {
+) -> Result<(), Memory>
+    requires { IsBounded point.now }
+{
     if net.state.rules.spaces.len() <= point.ns as usize {
         return Ok(());
     }
@@ -207,10 +224,26 @@ fn send(
     }
 }
 
-// `wM05` writes 5 at 100 with level Majority, `rU` reads, `s0` stops a, `d` delivers, and `t1` goes on to moment 160.
+// The letter of the reason for which a call was refused, if it was.
+fn print_answer(out: &mut Vec<u8>, answer: Result<(), Reason>) -> Result<(), Memory> {
+    if let Err(reason) = answer {
+        out.push(letter_of(&reason))?;
+    }
+    Ok(())
+}
+
+fn slot_of(node: u8) -> Slot {
+    Slot {
+        shard: 0,
+        node: digit(node),
+    }
+}
+
+// `wM05` writes 5 at 100 with level Majority, `rU` reads, `s0` stops a, `b0` restarts it and `o0` has it begin, `d` delivers,
+// and `t1` goes on to moment 160.
 fn act(
     alloc: Global,
-    net: &mut Net,
+    net: &mut Net<MemDisk>,
     call: &Call,
     word: &str,
     out: &mut Vec<u8>,
@@ -233,10 +266,9 @@ fn act(
                 Err(refusal) => print_refusal(out, &refusal)?,
             }
         }
-        [b's', node] => net.machines.stop(Slot {
-            shard: 0,
-            node: digit(*node),
-        }),
+        [b's', node] => net.machines.stop(slot_of(*node)),
+        [b'b', node] => print_answer(out, net.machines.restart(slot_of(*node), 0))?,
+        [b'o', node] => print_answer(out, net.machines.boot(slot_of(*node), 1))?,
         [b't', _] => net.state.rules.now = 160,
         _ => print_outcomes(out, deliver(net, alloc)?.as_slice())?,
     }
@@ -244,7 +276,7 @@ fn act(
 }
 
 // What the acts of a row answer, one word each.
-fn story(alloc: Global, listed: &str, acts: &str) -> Result<Vec<u8>, Memory> {
+fn story(alloc: Global, fuse: Option<u64>, listed: &str, acts: &str) -> Result<Vec<u8>, Memory> {
     let mut out = Vec::new(alloc);
     let mut net = Net {
         state: MetaState {
@@ -252,7 +284,7 @@ fn story(alloc: Global, listed: &str, acts: &str) -> Result<Vec<u8>, Memory> {
             seed: 0,
             place: placement(alloc)?,
         },
-        machines: machines(alloc)?,
+        machines: machines(alloc, fuse)?,
         fates: fates(alloc, listed)?,
         bag: Bag::new(alloc)?,
     };
@@ -268,23 +300,28 @@ fn story(alloc: Global, listed: &str, acts: &str) -> Result<Vec<u8>, Memory> {
     Ok(out)
 }
 
-// Fates, acts, and their answers, each ended by a colon. An act's number is its place.
-const STORIES: &str = "|wM05 rM d|abc:05,.::
-01B 12B 22L|wM05 wM16 wM27 d d s0 s1 rU rM rO|ac:ab:ab:b+c+::::05,16,!:1/2a-b-:05,16,.:
-00L 01L 02L|wO05 rO d|0/1axbxcx:.::
-01B|wA05 rM d rA|2/3bx:05,.:b+:05,.:
-00T 02B|wM05 s2 d rA rM|ab::c-:2/3c-:05,.:
-00B 30T|wM05 wM03 t1 rM d rU|bc:abc::.:a<:.:
-10L 11B|wM05 rM rU rO|abc:1/2axbx:05,.:05,.:
-20B 21L|s2 wM05 rU wA19|:ab:0/1axbxc-:2/3c-:
-|wA05 wM09 wO02 rA|abc:abc:abc:09,.:";
+// How many calls of the first disk pass, if not all; fates, acts, and their answers, each ended by a colon. An act's number is
+// its place.
+const STORIES: &str = "||wM05 rM d|abc:05,.::
+|01B 12B 22L|wM05 wM16 wM27 d d s0 s1 rU rM rO|ac:ab:ab:b+c+::::05,16,!:1/2a-b-:05,16,.:
+|00L 01L 02L|wO05 rO d|0/1axbxcx:.::
+|01B|wA05 rM d rA|2/3bx:05,.:b+:05,.:
+|00T 02B|wM05 s2 d rA rM|ab::c-:2/3c-:05,.:
+|00B 30T|wM05 wM03 t1 rM d rU|bc:abc::.:a<:.:
+|10L 11B|wM05 rM rU rO|abc:1/2axbx:05,.:05,.:
+|20B 21L|s2 wM05 rU wA19|:ab:0/1axbxc-:2/3c-:
+||wA05 wM09 wO02 rA|abc:abc:abc:09,.:
+||wA05 s0 b0 wA16 o0 s1 s2 rO wO27 rO|abc:::2/3a^::::05,.:a:05,27,.:
+||o7 b7 s0 o0 b0 o0 rA|?:::-:::.:
+20||wA05 wA16 wA27 b0 o0 s1 s2 rO|abc:2/3a~:2/3a-:::::05,.:";
 
 #[test]
 fn stories_are_told(rt: HostRuntime) -> Result<(), Fail> {
     for row in STORIES.lines() {
-        let (listed, rest) = row.split_once('|').unwrap_or(("", ""));
+        let (fuse, rest) = row.split_once('|').unwrap_or(("", ""));
+        let (listed, rest) = rest.split_once('|').unwrap_or(("", ""));
         let (acts, want) = rest.split_once('|').unwrap_or(("", ""));
-        let told = story(rt.alloc(), listed, acts)?;
+        let told = story(rt.alloc(), fuse.parse::<u64>().ok(), listed, acts)?;
         assert!(rt; told.as_slice() == want.as_bytes(), "{row}");
     }
     Ok(())

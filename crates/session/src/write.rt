@@ -1,13 +1,12 @@
 ghost use Rattle.std.specs.Prelude.{◌≡◌, ◌<◌, ◌≤◌, ℕ, List, [], ◌∷◌, None, false, length, take, IfOk, IfErr, OnOk, OnErr};
-ghost use Rattle.std.specs.FinMap as finite;
-ghost use Rattle.m3_model.specs.Fates.{is_cut};
 ghost use Rattle.m3_model.specs.declared.act.Fate.TheVariants as fate;
 ghost use Rattle.cluster_core.specs.declared.event.StepCall.TheVariants as step;
-ghost use Rattle.session.specs.Changes.{AreChangedBy, IsHeld};
-ghost use Rattle.session.specs.Outcomes.{Told, IsOutcome, answering, refusing};
-ghost use Rattle.session.specs.Slots.{refusal_of};
+ghost use Rattle.m3_outside.specs.DiskState.{DiskState};
+ghost use Rattle.wire_bytes.specs.Entries.{IsBounded};
+ghost use Rattle.session.specs.Changes.{IsPutAt};
+ghost use Rattle.session.specs.Outcomes.{Told, answering, refusing};
 ghost use Rattle.session.specs.Tallies.{HasRoom};
-ghost use Rattle.session.specs.Writes.{late_to, late_among, filled, MayHave, ArePut, IsAcknowledged, IsRefusedWrite, IsShortOf};
+ghost use Rattle.session.specs.Writes.{put_step, late_to, late_among, filled, ArePut, IsAcknowledged, IsRefusedWrite, IsShortOf};
 
 use crate::call::Call;
 use crate::machines::Machines;
@@ -22,6 +21,7 @@ use m3_model::point::Point;
 use m3_model::reason::Reason;
 use m3_model::rules::Rules;
 use m3_model::seq::Seq;
+use m3_outside::disk::Disk;
 use net_plan::bag::Bag;
 use net_plan::fates::Fates;
 use net_plan::late_write::LateWrite;
@@ -84,63 +84,48 @@ fn keep_one(
 }
 
 // Puts the point on the machine at the slot. Gives the reason for which it didn't take it, if it didn't.
-pub(crate) fn put_once(
-    machines: &mut Machines,
+pub(crate) fn put_once<D: Disk>(
+    machines: &mut Machines<D>,
     slot: Slot,
     rules: &Rules,
     version: u64,
     point: &Point,
 ) -> Option<Reason>
-    requires { point.now.ns < length rules.now.spaces }
-    ensures outcome { (client number : ℕ) → IsOutcome false (refusal_of (finite.get machines.old slot) (step.Put client number rules.entry.now version point.now)) result }
-    ensures changes { AreChangedBy (λ s p. (s ≡ slot) × (p ≡ point.now) × (result ≡ None)) machines.old machines.new }
-    ensures held { result ≡ None → IsHeld (finite.get machines.new slot) point.now }
+    requires known { point.now.ns < length rules.now.spaces }
+    requires bounded { IsBounded point.now }
+    ensures { (client number : ℕ) → IsPutAt D.state fate.Deliver slot (step.Put client number rules.entry.now version point.now) result machines.old machines.new }
 {
     machines.put(slot, rules, version, point).err()
 }
 
-// Puts the point there twice: the first answer counts.
-fn put_twice(
-    machines: &mut Machines,
-    slot: Slot,
-    rules: &Rules,
-    version: u64,
-    point: &Point,
-) -> Option<Reason>
-    requires { point.now.ns < length rules.now.spaces }
-    ensures outcome { (client number : ℕ) → IsOutcome false (refusal_of (finite.get machines.old slot) (step.Put client number rules.entry.now version point.now)) result }
-    ensures changes { AreChangedBy (λ s p. (s ≡ slot) × (p ≡ point.now) × MayHave fate.Twice result) machines.old machines.new }
-    ensures held { result ≡ None → IsHeld (finite.get machines.new slot) point.now }
-{
-    let first = put_once(machines, slot, rules, version, point);
-    put_once(machines, slot, rules, version, point);
-    first
-}
-
-// Puts the point there as the message's fate has it: a message that is cut isn't delivered.
-fn put_by_fate(
-    machines: &mut Machines,
+// Puts the point there as the message's fate has it: a message that is cut isn't delivered, and of one that is delivered
+// twice the first answer counts.
+fn put_by_fate<D: Disk>(
+    machines: &mut Machines<D>,
     fate: Fate,
     slot: Slot,
     rules: &Rules,
     version: u64,
     point: &Point,
 ) -> Option<Reason>
-    requires { point.now.ns < length rules.now.spaces }
-    ensures outcome { (client number : ℕ) → IsOutcome (is_cut fate) (refusal_of (finite.get machines.old slot) (step.Put client number rules.entry.now version point.now)) result }
-    ensures changes { AreChangedBy (λ s p. (s ≡ slot) × (p ≡ point.now) × MayHave fate result) machines.old machines.new }
-    ensures held { result ≡ None → IsHeld (finite.get machines.new slot) point.now }
+    requires known { point.now.ns < length rules.now.spaces }
+    requires bounded { IsBounded point.now }
+    ensures { (client number : ℕ) → IsPutAt D.state fate slot (step.Put client number rules.entry.now version point.now) result machines.old machines.new }
 {
     match fate {
         Fate::Lose | Fate::Late => Some(Reason::Cut),
         Fate::Deliver => put_once(machines, slot, rules, version, point),
-        Fate::Twice => put_twice(machines, slot, rules, version, point),
+        Fate::Twice => {
+            let first = put_once(machines, slot, rules, version, point);
+            put_once(machines, slot, rules, version, point);
+            first
+        }
     }
 }
 
 // Puts the point on the machines of these nodes, one after the other, and counts what each answers.
-fn put_all(
-    machines: &mut Machines,
+fn put_all<D: Disk>(
+    machines: &mut Machines<D>,
     fates: &Fates,
     sending: &Sending,
     rules: &Rules,
@@ -149,10 +134,11 @@ fn put_all(
     tally: &mut Tally,
 )
     requires known { point.now.ns < length rules.now.spaces }
+    requires bounded { IsBounded point.now }
     requires room { HasRoom (length nodes.now) tally.old }
     requires none_answered { tally.old.answered.items ≡ [] }
     requires none_refused { tally.old.reasons.items ≡ [] }
-    ensures { (told : List Told) × ArePut machines.old rules.entry.now fates.now sending.now.call sending.now.shard sending.now.version point.now nodes.now told machines.new
+    ensures { (told : List Told) × ArePut D.state fates.now sending.now.call (put_step sending.now.call rules.entry.now sending.now.version point.now) sending.now.shard nodes.now told machines.old machines.new
         × (tally.new.answered.items ≡ answering told) × (tally.new.reasons.items ≡ refusing told) }
 {
     for node in nodes {
@@ -187,16 +173,17 @@ fn answer_of(shard: u32, needed: u32, tally: Tally) -> Result<Seq<u8>, SessionEr
 ///
 /// `Consistency` where fewer nodes than needed took it: the others stand in it with their reasons, and the machines that
 /// took the point keep it. After `Memory` no machine was asked, but late messages may be in the bag.
-pub fn write(
-    net: &mut Net,
+pub fn write<D: Disk>(
+    net: &mut Net<D>,
     alloc: Global,
     call: &Call,
     point: &Point,
     level: WriteLevel,
 ) -> Result<Seq<u8>, SessionErr>
-    requires { point.now.ns < length net.old.state.rules.spaces }
-    ensures ok { IfOk result (λ acks. IsAcknowledged net.old call.now point.now level acks net.new) }
-    ensures err { IfErr result (IsRefusedWrite net.old call.now point.now level net.new) }
+    requires known { point.now.ns < length net.old.state.rules.spaces }
+    requires bounded { IsBounded point.now }
+    ensures ok { IfOk result (λ acks. IsAcknowledged D.state net.old call.now point.now level acks net.new) }
+    ensures err { IfErr result (IsRefusedWrite D.state net.old call.now point.now level net.new) }
     ensures state { net.new.state ≡ net.old.state }
     ensures fates { net.new.fates ≡ net.old.fates }
 {

@@ -1,8 +1,11 @@
 -- What files hold, and one more entry.
-use Rattle.std.proofs.Common.{◌≡◌, ◌⊎◌, inl, inr, ⊎_elim, ℕ, ◌+◌, ◌≤◌, List, [], ◌∷◌, ◌++◌, map, max, sym, ap, subst, ◌∙◌, arith, append_assoc, append-nil}
+use Rattle.std.proofs.Common.{◌≡◌, ◌⊎◌, inl, inr, ⊎_elim, ℕ, ◌+◌, ◌≤◌, List, [], ◌∷◌, ◌++◌, length, map, max, refl, sym, ap, subst, ◌∙◌, arith, append_assoc, append-nil}
 use Rattle.std.proofs.lemmas.List.{map_push}
-use Rattle.m3_outside.specs.Files.{Files}
-use Rattle.commit_log.specs.Contents.{numbers}
+use Rattle.std.specs.FinMap.{empty, entries, len-entries, len-empty}
+use Rattle.m3_model.specs.declared.point.Point.{Point}
+use Rattle.m3_outside.specs.Files.{Files, name_cmp}
+use Rattle.m3_outside.specs.declared.file_name.FileName.{FileName}
+use Rattle.commit_log.specs.Contents.{numbers, numbers_of, PartsHold}
 use Rattle.commit_log.specs.Segment.{segment, MayAdd, Adds}
 use Rattle.commit_log.specs.LogEnd.{NoneAbove, MayBegin}
 use Rattle.commit_log.specs.LogLaws.{IsLog}
@@ -11,7 +14,7 @@ use Rattle.commit_log.proofs.LogLemmas.{may_add_log, adds_log, begun_log}
 use Rattle.shard_store.specs.declared.entries.LogEntry.{LogEntry}
 use Rattle.shard_store.specs.declared.entries.LogEntry.TheVariants as entry
 use Rattle.shard_store.specs.Entries.{spelled, IsWithin, AreWithin}
-use Rattle.shard_store.specs.Held.{HoldsEntries, points_in, tenure_in, fence_in, points_of, tenure_of, fence_of}
+use Rattle.shard_store.specs.Held.{HoldsEntries, Held, points_in, tenure_in, fence_in, points_of, tenure_of, fence_of}
 use Rattle.shard_store.specs.HeldLaws.{OneSpelling, EntriesAreOne, HeldIsOne, OneMore}
 use Rattle.shard_store.proofs.SpellingLemmas.{same_entry, same_entries, within_more}
 
@@ -52,6 +55,21 @@ tenure_is_fence (entry.Tenure n) = omega arith
 pub tenures_are_fences : (es : List LogEntry) → tenure_of es ≤ fence_of es
 tenures_are_fences [] = omega arith
 tenures_are_fences (e ∷ es) = let one = tenure_is_fence e in let later = tenures_are_fences es in omega (arith, one, later)
+
+pub held_is_ordered : (points : List Point) (tenure fence : ℕ) (files : Files) → Held points tenure fence files → tenure ≤ fence
+held_is_ordered points tenure fence files held = let up = tenures_are_fences held.entries in omega (arith, up, held.amount.tenure_is, held.amount.fence_is)
+
+none_of_length : {X : Type 0} (xs : List X) → length xs ≡ 0 → xs ≡ []
+none_of_length [] e = refl
+none_of_length (x ∷ xs) e = absurd (omega (arith, e))
+
+no_numbers : numbers empty ≡ []
+no_numbers =
+    let none : entries (empty {X = List ℕ} {R = name_cmp}) ≡ [] = none_of_length _ (sym (len-entries _) ∙ len-empty name_cmp (List ℕ)) in
+    ap (λ (es : List (FileName × List ℕ)). numbers_of (map (λ (e : FileName × List ℕ). e.0) es)) none
+
+pub no_files_hold_nothing : Held [] 0 0 empty
+no_files_hold_nothing = record { entries = []; holds = record { parts = subst (λ (ns : List ℕ). PartsHold ns empty []) (sym no_numbers) refl; within = tt }; amount = record { points_are = refl; tenure_is = refl; fence_is = refl } }
 
 -- the entries as a log that ends in this segment
 as_log : (es : List LogEntry) (number : ℕ) (files : Files) → HoldsEntries es files → NoneAbove number files → IsLog (map spelled es) number files

@@ -7,6 +7,7 @@ pub mod CandidateLemmas
 pub mod AnswerLemmas
 pub mod SpellingLemmas
 pub mod HeldLemmas
+pub mod DamageLemmas
 pub mod PlaceLemmas
 pub mod AmountLemmas
 pub mod GainLemmas

@@ -111,7 +111,7 @@ counts_for f g a b to one = record { later = one.later; stays = one.stays; rose 
 elapses_same : (step : Files → Files → Type 0) (a : DiskState) → ((x : Files) → a.images x → step x x) → Elapses step a a
 elapses_same step a same = record { later = omega arith; images = λ c image. record { before = c; was = image; stepped = same c image }; nothing_else = λ t c le left. inl left; keeps = λ t c le left. left }
 
-counts_same : (f : Type 0) (n : ℕ) → (f → ⊥) → CountsFaults f n n
+pub counts_same : (f : Type 0) (n : ℕ) → (f → ⊥) → CountsFaults f n n
 counts_same f n never = record { later = omega arith; stays = λ e. e; rose = λ h. absurd (never h) }
 
 pub not_failed : (let q : Result ⊤ DiskErr = Err Memory in IsErrOf q DiskFailed) → ⊥

@@ -1,14 +1,14 @@
 -- What is found of the entries in files, or why none are.
-use Rattle.std.specs.Prelude.{⊤, ℕ, List}
+use Rattle.std.specs.Prelude.{◌≡◌, ◌⊎◌, ⊤, ℕ, ◌+◌, List, Some, slice_get}
 use Rattle.m3_outside.specs.Files.{Files}
 use Rattle.m3_outside.specs.declared.disk_err.DiskErr.{DiskErr}
 use Rattle.m3_outside.specs.declared.disk_err.DiskErr.TheVariants as disk
-use Rattle.commit_log.specs.Contents.{numbers, PartsHold, FirstDamaged}
+use Rattle.commit_log.specs.Contents.{numbers, FirstDamaged}
+use Rattle.commit_log.specs.Places.{ArePlaced}
 use Rattle.commit_log.specs.declared.log_err.LogErr.{LogErr}
 use Rattle.commit_log.specs.declared.log_err.LogErr.TheVariants as errors
+use Rattle.commit_log.specs.declared.place.ChunkPlace.{ChunkPlace}
 use Rattle.shard_store.specs.Entries.{FirstBreaks}
-use Rattle.shard_store.specs.declared.entries.EntriesErr.{EntriesErr}
-use Rattle.shard_store.specs.declared.entries.EntriesErr.TheVariants as broken
 use Rattle.shard_store.specs.declared.load.LoadErr.{LoadErr}
 use Rattle.shard_store.specs.declared.load.LoadErr.TheVariants as failures
 
@@ -19,21 +19,29 @@ of_disk disk.Memory = failures.Memory
 abbrev pub of_log : LogErr → LoadErr
 of_log errors.Disk = failures.Disk
 of_log errors.Memory = failures.Memory
-of_log (errors.Form number at) = failures.Segment number at
+of_log (errors.Form number at) = failures.Form number at
 
-abbrev pub of_entries : EntriesErr → LoadErr
-of_entries broken.Memory = failures.Memory
-of_entries (broken.Form index at) = failures.Entry index at
-
--- all segments are whole, and of their chunks the one of this index is the first that is no entry
-pub record ChunkBreaks (index at : ℕ) (files : Files) : Type 0 where
+-- All segments are whole. Of their chunks the first that is no entry stands in the segment of this number, and breaks at this place there, counted from
+-- the segment's begin: behind the chunk's gate and length.
+pub record EntryBreaks (number at : ℕ) (files : Files) : Type 0 where
   pub chunks : List (List ℕ)
-  pub parts : PartsHold (numbers files) files chunks
-  pub breaks : FirstBreaks chunks index at
+  pub places : List ChunkPlace
+  pub placed : ArePlaced (numbers files) files chunks places
+  pub index : ℕ
+  pub inner : ℕ
+  pub breaks : FirstBreaks chunks index inner
+  pub place : ChunkPlace
+  pub stands : slice_get places index ≡ Some place
+  pub number_is : number ≡ place.number
+  pub at_is : at ≡ place.at + 5 + inner
+
+-- The first damage of a replica's files: the lowest segment that isn't in the grammar of a log or, where all are, the first chunk that is no entry; and the
+-- first place in that segment at which no grammar goes on.
+abbrev pub IsDamagedAt : ℕ → ℕ → Files → Type 0
+IsDamagedAt number at files = FirstDamaged (numbers files) number at files ⊎ EntryBreaks number at files
 
 -- why these files hold no entries; a fault has its own cause, and memory may always be wanted
 abbrev pub MayBeUnsound : Files → LoadErr → Type 0
 MayBeUnsound files failures.Disk = ⊤
 MayBeUnsound files failures.Memory = ⊤
-MayBeUnsound files (failures.Segment number at) = FirstDamaged (numbers files) number at files
-MayBeUnsound files (failures.Entry index at) = ChunkBreaks index at files
+MayBeUnsound files (failures.Form number at) = IsDamagedAt number at files

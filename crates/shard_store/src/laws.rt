@@ -1,6 +1,11 @@
 //! Laws over the definitions of what a replica's files hold.
-ghost use Rattle.std.specs.Prelude.{List};
+ghost use Rattle.std.specs.Prelude.{List, [], ℕ, ◌≤◌};
+ghost use Rattle.std.specs.FinMap.{empty};
+ghost use Rattle.m3_model.specs.declared.point.Point.{Point};
+ghost use Rattle.m3_outside.specs.Files.{Files};
 ghost use Rattle.shard_store.specs.declared.entries.LogEntry.{LogEntry};
+ghost use Rattle.shard_store.specs.Held.{Held, IsSound};
+ghost use Rattle.shard_store.specs.Loading.{IsDamagedAt};
 ghost use Rattle.shard_store.specs.HeldLaws.{OneSpelling, EntriesAreOne, HeldIsOne, OneMore, GrownIsJoined, StopLeavesPart};
 
 use m3_outside::disk::Disk;
@@ -18,6 +23,21 @@ pub fn entries_are_one()
 /// Files hold at most one list of points, with one tenure and one fence.
 pub fn held_is_one()
     ensures { HeldIsOne }
+{}
+
+/// Where there are no files, nothing is held.
+pub fn no_files_hold_nothing()
+    ensures { Held [] 0 0 empty }
+{}
+
+/// What files hold has a tenure that isn't above its fence.
+pub fn held_is_ordered()
+    ensures { (points : List Point) (tenure fence : ℕ) (files : Files) → Held points tenure fence files → tenure ≤ fence }
+{}
+
+/// Damaged files hold nothing.
+pub fn damaged_is_unsound()
+    ensures { (number at : ℕ) (files : Files) → IsDamagedAt number at files → ¬ IsSound files }
 {}
 
 /// One more entry brings its points, and its tenure and its fence where they are greater.

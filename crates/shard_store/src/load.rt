@@ -1,4 +1,4 @@
-ghost use Rattle.std.specs.Prelude.{◌≡◌, ◌≤◌, true, IfOk, IfErr, IsErrOf};
+ghost use Rattle.std.specs.Prelude.{◌≡◌, ◌≤◌, ◌+◌, true, IfOk, IfErr, IsErrOf};
 ghost use Rattle.m3_outside.specs.Causes.{CountsFaults};
 ghost use Rattle.m3_outside.specs.DiskState.{DiskState, Told, EachImage, Elapses};
 ghost use Rattle.m3_outside.specs.DiskCalls.{LeavesFiles};
@@ -11,13 +11,16 @@ ghost use Rattle.shard_store.specs.declared.load.LoadErr.TheVariants as failures
 use crate::amount::join_entries;
 use crate::entries::{EntriesErr, LogEntry, read_entries};
 use crate::sync::sync_all;
-use commit_log::{LogErr, read_all};
+use commit_log::{ChunkPlace, LogErr, read_all};
 use m3_model::memory::Memory;
 use m3_model::point::Point;
 use m3_model::seq::Seq;
 use m3_outside::disk::Disk;
 use m3_outside::disk_err::DiskErr;
 use std::alloc::Global;
+
+// The bytes of a chunk in front of its entry.
+const HEAD_BYTES: u64 = 5;
 
 // What a replica's log holds.
 #[derive(Drop)]
@@ -35,11 +38,8 @@ pub enum LoadErr {
     Disk,
     /// Want of memory.
     Memory,
-    /// From the place `at` on the bytes of the segment are none of a log.
-    Segment { number: u64, at: u64 },
-    /// The chunk of this index, counted over the whole log, is the first that is no entry, by its byte at the place `at`,
-    /// or for want of it.
-    Entry { index: usize, at: usize },
+    /// In the segment of this number no replica's log goes on with the byte at the place `at`, or for want of it.
+    Form { number: u64, at: u64 },
 }
 
 impl From<LogErr> for LoadErr {
@@ -52,7 +52,7 @@ impl From<LogErr> for LoadErr {
         match e {
             LogErr::Disk => LoadErr::Disk,
             LogErr::Memory => LoadErr::Memory,
-            LogErr::Form { number, at } => LoadErr::Segment { number, at },
+            LogErr::Form { number, at } => LoadErr::Form { number, at },
         }
     }
 }
@@ -71,20 +71,6 @@ impl From<DiskErr> for LoadErr {
     }
 }
 
-impl From<EntriesErr> for LoadErr {
-    ghost use Rattle.std.specs.Prelude.{◌≡◌};
-    ghost use Rattle.shard_store.specs.Loading.{of_entries};
-
-    ghost from_gives = { λ d e. e ≡ of_entries d };
-
-    fn from(e: EntriesErr) -> LoadErr {
-        match e {
-            EntriesErr::Memory => LoadErr::Memory,
-            EntriesErr::Form { index, at } => LoadErr::Entry { index, at },
-        }
-    }
-}
-
 impl From<Memory> for LoadErr {
     ghost use Rattle.std.specs.Prelude.{◌≡◌};
     ghost use Rattle.shard_store.specs.declared.load.LoadErr.TheVariants as failures;
@@ -96,6 +82,17 @@ impl From<Memory> for LoadErr {
     }
 }
 
+// The damage of a chunk that stands there, by its byte at the place `at`.
+fn damage(place: ChunkPlace, at: usize) -> LoadErr
+    requires { place.at + 5 + at ≤ 65536 }
+    ensures { result ≡ failures.Form place.number (place.at + 5 + at) }
+{
+    LoadErr::Form {
+        number: place.number,
+        at: place.at + HEAD_BYTES + at as u64,
+    }
+}
+
 // Reads the entries of a whole log.
 fn held_entries<D: Disk>(alloc: Global, disk: &mut D) -> Result<HeldEntries, LoadErr>
     ensures leaves { LeavesFiles (IsErrOf result failures.Disk) (D.state disk.old) (D.state disk.new) }
@@ -104,11 +101,14 @@ fn held_entries<D: Disk>(alloc: Global, disk: &mut D) -> Result<HeldEntries, Loa
     ensures err { (D.state disk.old).tells ≡ true → IfErr result (MayBeUnsound (D.state disk.old).files) }
 {
     let found = read_all(alloc, disk)?;
-    let entries = read_entries(alloc, found.chunks.as_slice())?;
-    Ok(HeldEntries {
-        entries,
-        next: found.next,
-    })
+    match read_entries(alloc, found.chunks.as_slice()) {
+        Ok(entries) => Ok(HeldEntries {
+            entries,
+            next: found.next,
+        }),
+        Err(EntriesErr::Memory) => Err(LoadErr::Memory),
+        Err(EntriesErr::Form { index, at }) => Err(damage(found.places.as_slice()[index], at)),
+    }
 }
 
 /// What a replica's disk holds.
@@ -147,8 +147,8 @@ fn read_disk<D: Disk>(alloc: Global, disk: &mut D) -> Result<Loaded, LoadErr>
 ///
 /// # Errors
 ///
-/// A fault. Damage: the lowest segment that isn't in the grammar of a log or, where there is none, the first chunk that is
-/// no entry, each with its first such place. Want of memory, also where a segment has the number 2^64 - 1. Reads give
+/// A fault. Damage: the lowest segment that isn't in the grammar of a log or, where there is none, the segment of the first
+/// chunk that is no entry, each with the first such place in it. Want of memory, also where a segment has the number 2^64 - 1. Reads give
 /// what they gave, and a stop leaves what it might have left before.
 pub fn load<D: Disk>(alloc: Global, disk: &mut D) -> Result<Loaded, LoadErr>
     ensures ok { IfOk result (λ l. Told (D.state disk.new) (Held l.points l.tenure l.fence)) }

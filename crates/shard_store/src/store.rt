@@ -1,4 +1,4 @@
-ghost use Rattle.std.specs.Prelude.{◌≡◌, ◌≤◌, true, max, IfOk, IfErr, OnOk, OnErr, IsErrOf};
+ghost use Rattle.std.specs.Prelude.{◌≡◌, ◌⊎◌, ◌≤◌, true, false, max, IfOk, IfErr, OnOk, OnErr, IsErrOf};
 ghost use Rattle.m3_model.specs.Answers.{IsAnswer};
 ghost use Rattle.m3_model.specs.Contents.{raised, content_of};
 ghost use Rattle.m3_outside.specs.Causes.{CountsFaults};
@@ -68,8 +68,8 @@ impl<D: Disk> Store<D> {
 
     /// Syncs the files and reads what they hold, as `load`. The store stays as it is.
     pub fn load(&mut self) -> Result<Loaded, LoadErr>
-        requires { self.old ≡ closed_over self.old.disk }
-        ensures closed { self.new ≡ closed_over self.new.disk }
+        requires { self.old.open_ ≡ false }
+        ensures closed { self.new ≡ record self.old { disk = self.new.disk } }
         ensures ok { IfOk result (λ l. Told (D.state self.new.disk) (Held l.points l.tenure l.fence)) }
         ensures only { IfOk result (λ _. EachImage (D.state self.new.disk) (λ c. c ≡ (D.state self.new.disk).files)) }
         ensures fresh { IfOk result (λ l. Told (D.state self.new.disk) (NoneFrom l.next_segment)) }
@@ -89,13 +89,13 @@ impl<D: Disk> Store<D> {
     ///
     /// A fault or want of memory. The store stays closed, and the files hold what they held.
     pub fn open(&mut self, loaded: &Loaded) -> Result<(), DiskErr>
-        requires closed { self.old ≡ closed_over self.old.disk }
+        requires closed { self.old.open_ ≡ false }
         requires held { Told (D.state self.old.disk) (Held loaded.now.points loaded.now.tenure loaded.now.fence) }
         requires only { EachImage (D.state self.old.disk) (λ c. c ≡ (D.state self.old.disk).files) }
         requires fresh { Told (D.state self.old.disk) (NoneFrom loaded.now.next_segment) }
         requires order { loaded.now.tenure ≤ loaded.now.fence }
         ensures ok { OnOk result (self.new ≡ record { disk = self.new.disk; open_ = true; content = content_of loaded.now.points; tenure = loaded.now.tenure; fence = loaded.now.fence }) }
-        ensures err { OnErr result (self.new ≡ closed_over self.new.disk) }
+        ensures err { OnErr result (self.new ≡ record self.old { disk = self.new.disk }) }
         ensures disk { Brings nothing result (D.state self.old.disk) (D.state self.new.disk) }
     {
         let held = hold(self.alloc, loaded.points.as_slice())?;
@@ -121,9 +121,7 @@ impl<D: Disk> Store<D> {
         ensures err { OnErr result (self.new ≡ record self.old { disk = self.new.disk }) }
         ensures disk { Brings (a_tenure tenure) result (D.state self.old.disk) (D.state self.new.disk) }
     {
-        let Some(opened) = &mut self.opened else {
-            unreachable!()
-        };
+        let opened = self.opened.as_mut().unwrap();
         opened.begin(&mut self.disk, tenure)
     }
 
@@ -138,9 +136,7 @@ impl<D: Disk> Store<D> {
         ensures err { OnErr result (self.new ≡ record self.old { disk = self.new.disk }) }
         ensures disk { Brings (a_fence version) result (D.state self.old.disk) (D.state self.new.disk) }
     {
-        let Some(opened) = &mut self.opened else {
-            unreachable!()
-        };
+        let opened = self.opened.as_mut().unwrap();
         opened.fence(&mut self.disk, version)
     }
 
@@ -158,11 +154,10 @@ impl<D: Disk> Store<D> {
         ensures ok { OnOk result (self.new ≡ record self.old { disk = self.new.disk; content = raised self.old.content point.now }) }
         ensures memory { IsErrOf result WantOfMemory → self.new ≡ record self.old { disk = self.new.disk } }
         ensures fault { self.new ≡ record self.old { disk = self.new.disk; content = self.new.content } }
+        ensures either { (self.new.content ≡ self.old.content) ⊎ (self.new.content ≡ raised self.old.content point.now) }
         ensures disk { Brings (a_point point.now) result (D.state self.old.disk) (D.state self.new.disk) }
     {
-        let Some(opened) = &mut self.opened else {
-            unreachable!()
-        };
+        let opened = self.opened.as_mut().unwrap();
         opened.put(&mut self.disk, point)
     }
 
@@ -175,27 +170,8 @@ impl<D: Disk> Store<D> {
         requires { self.now.open_ ≡ true }
         ensures { IfOk result (IsAnswer self.now.content pick.now from to) }
     {
-        let Some(opened) = &self.opened else {
-            unreachable!()
-        };
+        let opened = self.opened.as_ref().unwrap();
         opened.held.fetch(pick, from, to)
-    }
-
-    /// Whether its points are in memory.
-    pub fn is_open(&self) -> bool
-        ensures { result ≡ self.now.open_ }
-    {
-        self.opened.is_some()
-    }
-
-    /// The greatest tenure that it began with, also before it was opened; 0 where there is none, and of a closed store.
-    pub fn tenure(&self) -> u64
-        ensures { result ≡ self.now.tenure }
-    {
-        match &self.opened {
-            Some(opened) => opened.tenure,
-            None => 0,
-        }
     }
 
     /// The greatest fence or tenure; 0 where there is none, and of a closed store.
@@ -215,17 +191,19 @@ impl<D: Disk> Store<D> {
         self.opened = None;
     }
 
-    /// Restarts the disk of a closed store, as after a stop of the process.
+    /// Restarts the disk, as after a stop of the process, and closes the store.
     ///
     /// # Errors
     ///
-    /// A fault or want of memory. Files and images stay.
+    /// A fault or want of memory. The store, its files and images stay.
     pub fn restart(&mut self, pick: u64) -> Result<(), DiskErr>
-        requires { self.old ≡ closed_over self.old.disk }
-        ensures closed { self.new ≡ closed_over self.new.disk }
+        ensures ok { OnOk result (self.new ≡ closed_over self.new.disk) }
+        ensures err { OnErr result (self.new ≡ record self.old { disk = self.new.disk }) }
         ensures restarts { Restarts result (D.state self.old.disk) (D.state self.new.disk) }
     {
-        self.disk.restart(pick)
+        self.disk.restart(pick)?;
+        self.opened.take();
+        Ok(())
     }
 
     /// The disk. Takes no memory.

@@ -9,7 +9,8 @@ use Rattle.commit_log.proofs.read.read_segments.Goals as goal
 pub loop-number-init : goal.loop-number-init
 loop-number-init g c = record {
   leaves = leaves_none ⊥ (g.D.Disk.state c.args.disk.now) (λ f. f);
-  found = λ t. finds_none (g.D.Disk.state c.args.disk.now).files c.args.chunks.now.items;
+  found = λ t. finds_none (g.D.Disk.state c.args.disk.now).files c.args.chunks.now.items c.args.places.now.items;
+  inside = λ h. h;
 }
 
 pub returns-in_err-read_segment-clause-leaves : goal.returns-in_err-read_segment-clause-leaves
@@ -23,7 +24,7 @@ returns-in_err-read_segment-clause-err g c = λ t.
     let same = c.loop-number.invariant.leaves.files t in
     let told = c.loop-number.invariant.leaves.proceeds.tells ∙ t in
     passed_on c.from_residual.result c.in_err-read_segment.field-0.0 (MayBeFirstDamage c.args.numbers.now (g.D.Disk.state c.args.disk.now).files) c.from_residual.ensures.1
-    (first_damage c.args.numbers.now c.loop-number.number-index _ (g.D.Disk.state c.args.disk.now).files c.args.chunks.now.items c.loop-number.chunks.items (omega arith) refl (c.loop-number.invariant.found t) c.in_err-read_segment.field-0.0
+    (first_damage c.args.numbers.now c.loop-number.number-index _ (g.D.Disk.state c.args.disk.now).files c.args.chunks.now.items c.loop-number.chunks.items c.args.places.now.items c.loop-number.places.items (omega arith) refl (c.loop-number.invariant.found t) c.in_err-read_segment.field-0.0
     (subst (λ (m : Files). MayBeDamaged (get_or c.args.numbers.now c.loop-number.number-index 0) m c.in_err-read_segment.field-0.0) same (c.in_err-read_segment.ensures.err told)))
 
 pub loop-number-preserved : goal.loop-number-preserved
@@ -34,6 +35,7 @@ loop-number-preserved g c =
       found = λ t.
           let same = c.loop-number.invariant.leaves.files t in
           let told = c.loop-number.invariant.leaves.proceeds.tells ∙ t in
-          finds_next c.args.numbers.now c.loop-number.number-index _ (g.D.Disk.state c.args.disk.now).files c.args.chunks.now.items c.loop-number.chunks.items c.read_segment.new.chunks.items (omega arith) refl (c.loop-number.invariant.found t)
-          (subst (λ (m : Files). FindsMore (get_or c.args.numbers.now c.loop-number.number-index 0) m c.loop-number.chunks.items c.read_segment.new.chunks.items) same (c.in_ok-read_segment.ensures.ok told));
+          finds_next c.args.numbers.now c.loop-number.number-index _ (g.D.Disk.state c.args.disk.now).files c.args.chunks.now.items c.loop-number.chunks.items c.read_segment.new.chunks.items c.args.places.now.items c.loop-number.places.items c.read_segment.new.places.items (omega arith) refl (c.loop-number.invariant.found t)
+          (subst (λ (m : Files). FindsMore (get_or c.args.numbers.now c.loop-number.number-index 0) m c.loop-number.chunks.items c.read_segment.new.chunks.items c.loop-number.places.items c.read_segment.new.places.items) same (c.in_ok-read_segment.ensures.ok told));
+      inside = λ h. c.in_ok-read_segment.ensures.inside (c.loop-number.invariant.inside h);
     }

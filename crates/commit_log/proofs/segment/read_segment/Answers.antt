@@ -14,7 +14,7 @@ returns-clause-ok g c = λ t.
     let b = c.in_ok-bytes.ensures.ok t in
     let is = c.as_slice.ensures.value in
     on_ok_weaker c.read_chunks.result
-    (λ more. finds_more c.args.number (g.D.Disk.state c.args.disk.now).files c.as_slice.result.now c.args.chunks.now.items c.read_chunks.new.chunks.items (b.0 ∙ ap Some (sym is)) (ap length is ∙ b.1) more)
+    (λ more. finds_more c.args.number (g.D.Disk.state c.args.disk.now).files c.as_slice.result.now c.args.chunks.now.items c.read_chunks.new.chunks.items c.args.places.now.items c.read_chunks.new.places.items (b.0 ∙ ap Some (sym is)) (ap length is ∙ b.1) more)
     c.read_chunks.ensures.ok
 
 pub returns-clause-err : goal.returns-clause-err

@@ -1,5 +1,5 @@
 use Rattle.std.proofs.Common.{◌∷◌, [], ◌++◌, false, ap, sym, ◌∙◌}
-use Rattle.m3_cluster.proofs.FirstLemmas.{replicate_push}
+use Rattle.m3_cluster.proofs.ListLemmas.{replicate_push}
 use Rattle.m3_cluster.proofs.first.none_stopped.Goals as goal
 
 pub loop-preserved : goal.loop-preserved

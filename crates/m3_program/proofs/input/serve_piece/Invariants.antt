@@ -1,6 +1,7 @@
 use Rattle.std.proofs.Common.{◌≡◌, ◌≤◌, ◌++◌, ℕ, List, length}
 use Rattle.std.specs.Io.KnownBytes.{Appends}
-use Rattle.m3_program.specs.Streams.{TakesOn}
+use Rattle.m3_cluster.specs.Depots.{OwnsDisks}
+use Rattle.m3_program.specs.Streams.{TakesOn, stage}
 use Rattle.m3_program.proofs.input.serve_piece.Given as goal
 
 abbrev pub invariant-loop-end : goal.invariant-loop-end
@@ -9,7 +10,9 @@ invariant-loop-end g l = record {
   text : List ℕ;
   parts : l.fn.piece ≡ done ++ l.rest;
   written : Appends (g.K.Sink.written l.fn.out) (g.K.Sink.written l.out) text;
-  takes : TakesOn l.fn.cluster l.fn.line.items done text l.cluster l.line.items;
+  takes : TakesOn g.X.D.Disk.state (stage l.fn.cluster (g.X.Disks.held l.fn.disks) (g.X.Disks.counted l.fn.disks) (g.X.Disks.all_faults l.fn.disks)) l.fn.line.items done text
+      (stage l.cluster (g.X.Disks.held l.disks) (g.X.Disks.counted l.disks) (g.X.Disks.all_faults l.disks)) l.line.items;
+  owned : OwnsDisks l.cluster (g.X.Disks.held l.disks);
   faults : g.K.Sink.faulted l.fn.out ≤ g.K.Sink.faulted l.out;
   stalls : g.K.Sink.stalled l.fn.out ≤ g.K.Sink.stalled l.out;
 }

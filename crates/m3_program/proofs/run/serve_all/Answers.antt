@@ -1,38 +1,48 @@
 use Rattle.std.proofs.Common.{◌≡◌, ◌+◌, ◌^◌, length-take, refl, sym, arith, subst}
-use Rattle.m3_program.specs.Streams.{StreamState}
+use Rattle.m3_program.specs.Streams.{Stage, StreamState, stage}
 use Rattle.m3_program.proofs.CauseLemmas.{step_ends_run, line_ends_step}
 use Rattle.m3_program.proofs.RunLemmas.{known_begins, known_more, known_cuts, known_stops, known_finishes, known_limit, step_told}
 use Rattle.m3_program.proofs.run.serve_all.Goals as goal
 use Rattle.m3_program.proofs.run.serve_all.Goals.{in-Ok-serve_last, in-Err-serve_last}
 
 pub loop-taken-init : goal.loop-taken-init
-loop-taken-init g c = record {
-  known = known_begins (g.S.Source.left c.args.source.now) (g.K.Sink.written c.args.out.now) c.new-cluster.result c.new-line.result.items c.new-cluster.ensures.serves c.new-line.ensures.items;
-  below = omega arith;
-  reads = omega arith;
-  faults = omega arith;
-  stalls = omega arith;
-}
+loop-taken-init g c =
+    let now : Stage g.row.X-D.Denot g.X.D.Disk = stage c.args.cluster.now (g.X.Disks.held c.args.disks.now) (g.X.Disks.counted c.args.disks.now) (g.X.Disks.all_faults c.args.disks.now) in
+    record {
+      known = known_begins g.X.D.Disk.state (g.S.Source.left c.args.source.now) (g.K.Sink.written c.args.out.now) now c.new-line.result.items c.requires.fresh c.new-line.ensures.items;
+      owned = c.requires.owned;
+      below = omega arith;
+      reads = omega arith;
+      faults = omega arith;
+      stalls = omega arith;
+    }
 
 pub returns-in-Err-clause-told : goal.returns-in-Err-clause-told
 returns-in-Err-clause-told g c = λ input before p q.
+    let first : Stage g.row.X-D.Denot g.X.D.Disk = stage c.args.cluster.now (g.X.Disks.held c.args.disks.now) (g.X.Disks.counted c.args.disks.now) (g.X.Disks.all_faults c.args.disks.now) in
+    let old : Stage g.row.X-D.Denot g.X.D.Disk = stage c.loop-taken.cluster (g.X.Disks.held c.loop-taken.disks) (g.X.Disks.counted c.loop-taken.disks) (g.X.Disks.all_faults c.loop-taken.disks) in
+    let new : Stage g.row.X-D.Denot g.X.D.Disk = stage c.serve_read.new.cluster (g.X.Disks.held c.serve_read.new.disks) (g.X.Disks.counted c.serve_read.new.disks) (g.X.Disks.all_faults c.serve_read.new.disks) in
     let w = c.in-Err.ensures.err in
-    step_told c.in-Err.status _ _ _ _ _ _ c.in-Err.ensures.cause input before (g.S.Source.left c.serve_read.new.source) (g.K.Sink.written c.serve_read.new.out)
-    (known_cuts (g.S.Source.left c.args.source.now) (g.K.Sink.written c.args.out.now) (g.S.Source.left c.loop-taken.source) (g.S.Source.left c.serve_read.new.source)
-    (g.K.Sink.written c.loop-taken.out) (g.K.Sink.written c.serve_read.new.out) c.loop-taken.taken c.loop-taken.cluster c.loop-taken.line.items w.0 w.1 c.loop-taken.invariant.known w.2 w.3 w.4 input before p q)
+    step_told g.X.D.Disk.state first.depot new c.in-Err.status _ _ _ _ _ _ c.in-Err.ensures.cause input before (g.S.Source.left c.serve_read.new.source) (g.K.Sink.written c.serve_read.new.out)
+    (known_cuts g.X.D.Disk.state first.depot (g.S.Source.left c.args.source.now) (g.K.Sink.written c.args.out.now) (g.S.Source.left c.loop-taken.source) (g.S.Source.left c.serve_read.new.source)
+    (g.K.Sink.written c.loop-taken.out) (g.K.Sink.written c.serve_read.new.out) c.loop-taken.taken old new c.loop-taken.line.items w.0 w.1 c.loop-taken.invariant.known w.2 w.3 w.4 input before p q)
 
 pub returns-in-Err-clause-cause : goal.returns-in-Err-clause-cause
 returns-in-Err-clause-cause g c = step_ends_run c.in-Err.status _ _ _ _ _ _ _ _ _ c.loop-taken.invariant.reads c.loop-taken.invariant.faults c.loop-taken.invariant.stalls c.in-Err.ensures.cause
 
 pub loop-taken-preserved : goal.loop-taken-preserved
 loop-taken-preserved g c =
+    let first : Stage g.row.X-D.Denot g.X.D.Disk = stage c.args.cluster.now (g.X.Disks.held c.args.disks.now) (g.X.Disks.counted c.args.disks.now) (g.X.Disks.all_faults c.args.disks.now) in
+    let old : Stage g.row.X-D.Denot g.X.D.Disk = stage c.loop-taken.cluster (g.X.Disks.held c.loop-taken.disks) (g.X.Disks.counted c.loop-taken.disks) (g.X.Disks.all_faults c.loop-taken.disks) in
+    let new : Stage g.row.X-D.Denot g.X.D.Disk = stage c.serve_read.new.cluster (g.X.Disks.held c.serve_read.new.disks) (g.X.Disks.counted c.serve_read.new.disks) (g.X.Disks.all_faults c.serve_read.new.disks) in
     let was = c.loop-taken.invariant in
     let w = c.in-Ok.ensures.ok in
     let later = c.in-Ok.ensures.later in
     record {
-      known = known_more (g.S.Source.left c.args.source.now) (g.K.Sink.written c.args.out.now) (g.S.Source.left c.loop-taken.source) (g.S.Source.left c.serve_read.new.source)
-          (g.K.Sink.written c.loop-taken.out) (g.K.Sink.written c.serve_read.new.out) c.loop-taken.taken c.in-Ok.count (c.loop-taken.taken + c.in-Ok.count) c.loop-taken.cluster c.serve_read.new.cluster c.loop-taken.line.items c.serve_read.new.line.items
+      known = known_more g.X.D.Disk.state first.depot (g.S.Source.left c.args.source.now) (g.K.Sink.written c.args.out.now) (g.S.Source.left c.loop-taken.source) (g.S.Source.left c.serve_read.new.source)
+          (g.K.Sink.written c.loop-taken.out) (g.K.Sink.written c.serve_read.new.out) c.loop-taken.taken c.in-Ok.count (c.loop-taken.taken + c.in-Ok.count) old new c.loop-taken.line.items c.serve_read.new.line.items
           w.0 w.1 was.known w.2 w.3 refl w.5 w.6;
+      owned = c.in-Ok.ensures.owned;
       below = let room = c.room_after-room.ensures.limit in let size = w.4 in let part = length-take c.room_after-room.result c.loop-taken.buf in omega arith;
       reads = let a = was.reads in let h = later.0 in omega arith;
       faults = let a = was.faults in let h = later.1 in omega arith;
@@ -41,27 +51,33 @@ loop-taken-preserved g c =
 
 pub returns-clause-told : goal.returns-clause-told
 returns-clause-told g c =
-    known_limit (g.S.Source.left c.args.source.now) (g.K.Sink.written c.args.out.now) (g.S.Source.left c.loop-taken.source) (g.K.Sink.written c.loop-taken.out) c.loop-taken.taken c.loop-taken.cluster c.loop-taken.line.items
+    let first : Stage g.row.X-D.Denot g.X.D.Disk = stage c.args.cluster.now (g.X.Disks.held c.args.disks.now) (g.X.Disks.counted c.args.disks.now) (g.X.Disks.all_faults c.args.disks.now) in
+    let now : Stage g.row.X-D.Denot g.X.D.Disk = stage c.loop-taken.cluster (g.X.Disks.held c.loop-taken.disks) (g.X.Disks.counted c.loop-taken.disks) (g.X.Disks.all_faults c.loop-taken.disks) in
+    known_limit g.X.D.Disk.state first.depot (g.S.Source.left c.args.source.now) (g.K.Sink.written c.args.out.now) (g.S.Source.left c.loop-taken.source) (g.K.Sink.written c.loop-taken.out) c.loop-taken.taken now c.loop-taken.line.items
     c.loop-taken.invariant.known (let below = c.loop-taken.invariant.below in let full : c.loop-taken.taken ≡ 2 ^ 32 = omega arith in full)
 
 pub returns-in-Ok-eq0-clause-told : goal.returns-in-Ok-eq0-clause-told
 returns-in-Ok-eq0-clause-told g c = λ input before p q.
+    let first : Stage g.row.X-D.Denot g.X.D.Disk = stage c.args.cluster.now (g.X.Disks.held c.args.disks.now) (g.X.Disks.counted c.args.disks.now) (g.X.Disks.all_faults c.args.disks.now) in
+    let old : Stage g.row.X-D.Denot g.X.D.Disk = stage c.loop-taken.cluster (g.X.Disks.held c.loop-taken.disks) (g.X.Disks.counted c.loop-taken.disks) (g.X.Disks.all_faults c.loop-taken.disks) in
+    let mid : Stage g.row.X-D.Denot g.X.D.Disk = stage c.serve_read.new.cluster (g.X.Disks.held c.serve_read.new.disks) (g.X.Disks.counted c.serve_read.new.disks) (g.X.Disks.all_faults c.serve_read.new.disks) in
+    let new : Stage g.row.X-D.Denot g.X.D.Disk = stage c.serve_last.new.cluster (g.X.Disks.held c.serve_last.new.disks) (g.X.Disks.counted c.serve_last.new.disks) (g.X.Disks.all_faults c.serve_last.new.disks) in
     let w = c.in-Ok-eq0.ensures.ok in
-    let known = known_more (g.S.Source.left c.args.source.now) (g.K.Sink.written c.args.out.now) (g.S.Source.left c.loop-taken.source) (g.S.Source.left c.serve_read.new.source)
-    (g.K.Sink.written c.loop-taken.out) (g.K.Sink.written c.serve_read.new.out) c.loop-taken.taken c.in-Ok-eq0.field-0 (c.loop-taken.taken + c.in-Ok-eq0.field-0) c.loop-taken.cluster c.serve_read.new.cluster c.loop-taken.line.items c.serve_read.new.line.items
+    let known = known_more g.X.D.Disk.state first.depot (g.S.Source.left c.args.source.now) (g.K.Sink.written c.args.out.now) (g.S.Source.left c.loop-taken.source) (g.S.Source.left c.serve_read.new.source)
+    (g.K.Sink.written c.loop-taken.out) (g.K.Sink.written c.serve_read.new.out) c.loop-taken.taken c.in-Ok-eq0.field-0 (c.loop-taken.taken + c.in-Ok-eq0.field-0) old mid c.loop-taken.line.items c.serve_read.new.line.items
     w.0 w.1 c.loop-taken.invariant.known w.2 w.3 refl w.5 w.6 in
     let ended = w.7 c.in-Ok-eq0.field-0-test (let some = c.room_after-room.ensures.some in let part = length-take c.room_after-room.result c.loop-taken.buf in let piece = c.room_after-room.ensures.piece in omega arith) in
     elim c.match-serve_last.branch [
       | in-Ok-serve_last v ↦
           let f = v.in-Ok-serve_last.ensures.ok in
-          rw v.result-is (known_finishes (g.S.Source.left c.args.source.now) (g.K.Sink.written c.args.out.now) (g.S.Source.left c.serve_read.new.source) (g.K.Sink.written c.serve_read.new.out) (g.K.Sink.written c.serve_last.new.out)
-          _ c.serve_read.new.cluster c.serve_read.new.line.items f.0 known (let zero = c.in-Ok-eq0.field-0-test in let test = c.loop-taken-test.true in omega arith) ended
-          f.1 (λ taken told t. f.2 taken told (subst (λ l. StreamState taken told c.serve_read.new.cluster l) (sym c.as_slice.ensures.value) t)) input before p q)
+          rw v.result-is (known_finishes g.X.D.Disk.state first.depot (g.S.Source.left c.args.source.now) (g.K.Sink.written c.args.out.now) (g.S.Source.left c.serve_read.new.source) (g.K.Sink.written c.serve_read.new.out) (g.K.Sink.written c.serve_last.new.out)
+          _ mid new c.serve_read.new.line.items f.0 known (let zero = c.in-Ok-eq0.field-0-test in let test = c.loop-taken-test.true in omega arith) ended
+          f.1 (λ first taken told t. f.2 first taken told (subst (λ l. StreamState g.X.D.Disk.state first taken told mid l) (sym c.as_slice.ensures.value) t)) input before p q)
       | in-Err-serve_last v ↦
           let f = v.in-Err-serve_last.ensures.err in
-          rw v.result-is (step_told v.in-Err-serve_last.status 0 0 _ _ _ _ (line_ends_step v.in-Err-serve_last.status 0 0 _ _ _ _ v.in-Err-serve_last.ensures.cause) input before (g.S.Source.left c.serve_read.new.source) (g.K.Sink.written c.serve_last.new.out)
-          (known_stops (g.S.Source.left c.args.source.now) (g.K.Sink.written c.args.out.now) (g.S.Source.left c.serve_read.new.source) (g.K.Sink.written c.serve_read.new.out) (g.K.Sink.written c.serve_last.new.out)
-          _ c.serve_read.new.cluster c.serve_read.new.line.items f.0 known ended f.1 (λ taken told t. f.2 taken told (subst (λ l. StreamState taken told c.serve_read.new.cluster l) (sym c.as_slice.ensures.value) t)) input before p q))
+          rw v.result-is (step_told g.X.D.Disk.state first.depot new v.in-Err-serve_last.status 0 0 _ _ _ _ (line_ends_step v.in-Err-serve_last.status 0 0 _ _ _ _ v.in-Err-serve_last.ensures.cause) input before (g.S.Source.left c.serve_read.new.source) (g.K.Sink.written c.serve_last.new.out)
+          (known_stops g.X.D.Disk.state first.depot (g.S.Source.left c.args.source.now) (g.K.Sink.written c.args.out.now) (g.S.Source.left c.serve_read.new.source) (g.K.Sink.written c.serve_read.new.out) (g.K.Sink.written c.serve_last.new.out)
+          _ mid new c.serve_read.new.line.items f.0 known ended f.1 (λ first taken told t. f.2 first taken told (subst (λ l. StreamState g.X.D.Disk.state first taken told mid l) (sym c.as_slice.ensures.value) t)) input before p q))
     ]
 
 pub returns-in-Ok-eq0-clause-cause : goal.returns-in-Ok-eq0-clause-cause

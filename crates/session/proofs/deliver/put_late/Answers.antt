@@ -1,29 +1,29 @@
-use Rattle.std.proofs.Common.{◌<◌, ◌≤◌, length, [], ◌∷◌, ◌++◌, List, sym, ap, ◌∙◌, subst, arith}
+use Rattle.std.proofs.Common.{◌<◌, ◌≤◌, length, [], ◌∷◌, ◌++◌, List, refl, sym, ap, ◌∙◌, subst, arith}
 use Rattle.std.proofs.lemmas.List.{take_all}
 use Rattle.net_plan.specs.declared.late_write.LateWrite.{LateWrite}
 use Rattle.session.specs.Deliveries.{known, AreDelivered}
-use Rattle.session.proofs.DeliverLemmas.{below_test, above_test, delivered_none, delivered_pass, delivered_more, outcomes_push}
+use Rattle.session.proofs.DeliverLemmas.{below_test, above_test, delivered_pass, delivered_more, outcomes_push}
 use Rattle.session.proofs.deliver.put_late.Goals as goal
 use Rattle.session.proofs.deliver.put_late.Goals.{then-one-len, else-one-len}
 
 pub loop-one-init : goal.loop-one-init
-loop-one-init c = record {
+loop-one-init g c = record {
   room = omega arith;
   deliveries = [];
-  put = delivered_none c.args.machines.now c.args.rules.now;
+  put = refl;
   outcomes_are = c.requires.none;
 }
 
 pub returns : goal.returns
-returns c =
+returns g c =
     let was = c.loop-one.invariant in (
       was.deliveries,
-      subst (λ (xs : List LateWrite). AreDelivered c.args.machines.now c.args.rules.now (known c.args.rules.now xs) was.deliveries c.loop-one.machines) (take_all c.loop-one.one-index c.args.late.now (omega arith)) was.put,
+      subst (λ (xs : List LateWrite). AreDelivered g.D.Disk.state c.args.rules.now (known c.args.rules.now xs) was.deliveries c.args.machines.now c.loop-one.machines) (take_all c.loop-one.one-index c.args.late.now (omega arith)) was.put,
       was.outcomes_are,
     )
 
 pub loop-one-preserved : goal.loop-one-preserved
-loop-one-preserved c =
+loop-one-preserved g c =
     let was = c.loop-one.invariant in
     let one = c.one-item.result in
     let rules = c.args.rules.now in
@@ -41,8 +41,8 @@ loop-one-preserved c =
           record {
             room = rw w.outcomes-is (omega arith);
             deliveries = was.deliveries ++ (one, outcome) ∷ [];
-            put = rw w.machines-is (delivered_more c.args.machines.now c.loop-one.machines w.put_once-outcome.new.machines rules late i one was.deliveries outcome below c.one-item.is (below_test one.point.ns (length rules.spaces) test) was.put
-                (w.put_once-outcome.ensures.outcome one.client one.number) w.put_once-outcome.ensures.changes);
+            put = rw w.machines-is (delivered_more g.D.Disk.state c.args.machines.now c.loop-one.machines w.put_once-outcome.new.machines rules late i one was.deliveries outcome below c.one-item.is (below_test one.point.ns (length rules.spaces) test) was.put
+                (w.put_once-outcome.ensures one.client one.number));
             outcomes_are = rw w.outcomes-is (w.push_reserved.ensures.items ∙ ap (λ xs. xs ++ (one.node, one.shard, outcome) ∷ []) was.outcomes_are ∙ sym (outcomes_push was.deliveries one outcome));
           }
       | else-one-len w ↦
@@ -50,7 +50,7 @@ loop-one-preserved c =
           record {
             room = rw w.outcomes-is (omega arith);
             deliveries = was.deliveries;
-            put = rw w.machines-is (delivered_pass c.args.machines.now c.loop-one.machines rules late i one was.deliveries below c.one-item.is (above_test one.point.ns (length rules.spaces) test) was.put);
+            put = rw w.machines-is (delivered_pass g.D.Disk.state c.args.machines.now c.loop-one.machines rules late i one was.deliveries below c.one-item.is (above_test one.point.ns (length rules.spaces) test) was.put);
             outcomes_are = rw w.outcomes-is was.outcomes_are;
           }
     ]

@@ -11,7 +11,7 @@ use Rattle.session.proofs.ToldLemmas.{asked_none, asked_more}
 use Rattle.session.proofs.read.ask_shard.Goals as goal
 
 pub loop-node-init : goal.loop-node-init
-loop-node-init c =
+loop-node-init g c =
     let w = wish_of c.args.pick.now c.args.asking.now in
     let net = c.args.net.now in
     let size : length c.as_slice-node-items.result.now ≡ c.len.result = ap length c.as_slice-node-items.ensures ∙ sym c.len.ensures in
@@ -27,10 +27,10 @@ loop-node-init c =
     }
 
 pub add-requires : goal.add-requires
-add-requires c = c.loop-node.invariant.room 1 (omega arith)
+add-requires g c = c.loop-node.invariant.room 1 (omega arith)
 
 pub loop-node-preserved : goal.loop-node-preserved
-loop-node-preserved c =
+loop-node-preserved g c =
     let was = c.loop-node.invariant in
     let w = wish_of c.args.pick.now c.args.asking.now in
     let net = c.args.net.now in
@@ -42,14 +42,14 @@ loop-node-preserved c =
       room = λ n fits. c.add.ensures.room n (was.room (suc n) (omega (arith, fits)));
       told = was.told ++ (node, outcome) ∷ [];
       asked = asked_more net.machines net.fates asking.call step c.args.shard c.as_slice-node-items.result.now c.loop-node.node-index was.told outcome (omega arith) was.asked
-          (subst (λ f. IsOutcome (is_cut f) (refusal_of (finite.get net.machines (slot_at node c.args.shard)) step) outcome) c.fate_to-fate.ensures (c.in_ok-outcome.ensures.outcome asking.call.client asking.call.number));
+          (subst (λ f. IsOutcome (is_cut f) (refusal_of (finite.get net.machines (slot_at node c.args.shard)) step) outcome) c.fate_to-fate.ensures (c.in_ok-outcome.ensures.outcome asking.call.client asking.call.number)) c.in_ok-outcome.ensures.no_fault;
       answered = c.add.ensures.answered was.told was.answered;
       refused = c.add.ensures.reasons was.told was.refused;
       joins = joined_told net.machines net.state.rules w c.args.shard node was.told outcome c.args.into.now.points c.loop-node.into.points c.ask_machine.new.into.points was.joins c.in_ok-outcome.ensures.joins;
     }
 
 pub returns : goal.returns
-returns c =
+returns g c =
     let was = c.loop-node.invariant in
     let w = wish_of c.args.pick.now c.args.asking.now in
     let net = c.args.net.now in

@@ -6,7 +6,7 @@ use Rattle.session.specs.Tallies.{HasRoom}
 use Rattle.session.proofs.read.ask_shard.Given as goal
 
 abbrev pub invariant-loop-node : goal.invariant-loop-node
-invariant-loop-node l = record {
+invariant-loop-node g l = record {
   room : (n : ℕ) → n + l.node-index ≤ length l.node-items → HasRoom n l.tally;
   told : List Told;
   asked : AreAsked l.net.machines l.net.fates l.asking.call (read_step l.asking.call l.net.state.rules l.asking.version (wish_of l.pick l.asking)) l.shard (take l.node-index l.node-items) told;

@@ -12,14 +12,14 @@ use Rattle.session.proofs.GatherLemmas.{all_of_none, all_of_more, short_here}
 use Rattle.session.proofs.read.gather.Goals as goal
 
 pub loop-shard-init : goal.loop-shard-init
-loop-shard-init c = record {
+loop-shard-init g c = record {
   order = omega arith;
   all = all_of_none c.args.net.now c.args.asking.now.call (wish_of c.args.pick.now c.args.asking.now) c.asked_shards-first.result.0 c.args.quorum.needed c.args.quorum.majority c.new-joined.result.points
       (λ p h. let none = get-empty {X = ℤ} key_cmp (key_of p) in let bad : None ≡ Some p.v = sym none ∙ ap (λ (b : Held). get b.points (key_of p)) (sym c.new-joined.ensures) ∙ h in cc);
 }
 
 pub returns-then-len-quorum : goal.returns-then-len-quorum
-returns-then-len-quorum c =
+returns-then-len-quorum g c =
     let was = c.loop-shard.invariant in
     let net = c.args.net.now in
     let call = c.args.asking.now.call in
@@ -36,7 +36,7 @@ returns-then-len-quorum c =
     )
 
 pub loop-shard-preserved : goal.loop-shard-preserved
-loop-shard-preserved c =
+loop-shard-preserved g c =
     let was = c.loop-shard.invariant in
     let told = c.in_ok-tally.ensures in
     let k = c.loop-shard.shard in

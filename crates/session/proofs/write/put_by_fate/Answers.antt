@@ -1,14 +1,13 @@
-use Rattle.std.proofs.Common.{◌≡◌, None, inl, sym, subst}
-use Rattle.session.specs.Changes.{AreChangedBy}
-use Rattle.session.specs.Writes.{MayHave}
-use Rattle.session.proofs.ChangeLemmas.{changed_on}
+use Rattle.cluster_core.specs.declared.event.StepCall.TheVariants as step
+use Rattle.session.proofs.PutLemmas.{put_cut, put_twice}
 use Rattle.session.proofs.write.put_by_fate.Goals as goal
 
-pub returns-in-Deliver-clause-changes : goal.returns-in-Deliver-clause-changes
-returns-in-Deliver-clause-changes c =
-    changed_on (λ s p. (s ≡ c.args.slot) × (p ≡ c.args.point.now) × (c.put_once.result ≡ None)) (λ s p. (s ≡ c.args.slot) × (p ≡ c.args.point.now) × MayHave c.args.fate c.put_once.result) c.args.machines.now c.put_once.new.machines
-    (λ s p h. (h.0, h.1, inl h.2)) c.put_once.ensures.changes
+pub returns-in-Lose : goal.returns-in-Lose
+returns-in-Lose g c client number =
+    let asked = step.Put client number c.args.rules.now c.args.version c.args.point.now in
+    put_cut g.D.Disk.state c.args.fate c.args.slot asked c.args.machines.now c.in-Lose.is
 
-pub returns-in-Twice-clause-changes : goal.returns-in-Twice-clause-changes
-returns-in-Twice-clause-changes c =
-    subst (λ f. AreChangedBy (λ s p. (s ≡ c.args.slot) × (p ≡ c.args.point.now) × MayHave f c.put_twice.result) c.args.machines.now c.put_twice.new.machines) (sym c.in-Twice.is) c.put_twice.ensures.changes
+pub returns-in-Twice : goal.returns-in-Twice
+returns-in-Twice g c client number =
+    rw c.in-Twice.is (put_twice g.D.Disk.state c.args.slot (step.Put client number c.args.rules.now c.args.version c.args.point.now) c.put_once-first.result c.put_once-in-Twice.result c.args.machines.now c.put_once-first.new.machines
+    c.put_once-in-Twice.new.machines (c.put_once-first.ensures client number) (c.put_once-in-Twice.ensures client number))

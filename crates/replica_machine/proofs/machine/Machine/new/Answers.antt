@@ -1,9 +1,13 @@
-use Rattle.std.proofs.Common.{Some, sym, subst}
-use Rattle.m3_model.specs.Contents.{Contents}
-use Rattle.m3_model.specs.declared.replica.Standing.TheVariants.{Open}
-use Rattle.replica_machine.specs.Machines.{IsMachineOf, first_replica}
-use Rattle.replica_machine.proofs.ReplicaLemmas.{first_follows}
+use Rattle.std.proofs.Common.{None, ap, sym, subst}
+use Rattle.m3_model.specs.declared.replica.Standing.TheVariants.{Boot}
+use Rattle.cluster_core.specs.Replicas.{fresh}
+use Rattle.replica_machine.specs.Machines.{IsMachineOf}
+use Rattle.replica_machine.proofs.OtherLemmas.{first_follows}
+use Rattle.replica_machine.proofs.StepLemmas.{machine_of}
 use Rattle.replica_machine.proofs.machine.Machine.new.Goals as goal
 
-pub returns-clause-begun : goal.returns-clause-begun
-returns-clause-begun c = subst (λ (held : Contents). IsMachineOf first_replica (record { standing = Open; tenure = Some 1; fence = 1; content = held })) (sym c.new.ensures) first_follows
+pub returns-clause-first : goal.returns-clause-first
+returns-clause-first g c = ap (machine_of Boot None 0) c.new.ensures
+
+pub returns-clause-fresh : goal.returns-clause-fresh
+returns-clause-fresh g c = subst (λ store. IsMachineOf g.D.Disk.state fresh (machine_of Boot None 0 store)) (sym c.new.ensures) (first_follows g.D.Disk.state c.args.disk)

@@ -1,19 +1,118 @@
-use Rattle.std.proofs.Common.{ap, ◌∙◌}
-use Rattle.m3_model.specs.Contents.{Contents}
-use Rattle.replica_machine.specs.Machines.{MachineState, with_point}
-use Rattle.replica_machine.proofs.RefusalLemmas.{in_window}
-use Rattle.replica_machine.proofs.PutLemmas.{put_done, put_not_done}
+use Rattle.std.proofs.Common.{◌≡◌, Some, None, sym, subst, ap, ◌∙◌, Result, Err}
+use Rattle.std.specs.Prelude.{⊤}
+use Rattle.m3_model.specs.declared.reason.Reason.{Reason}
+use Rattle.cluster_core.specs.Refusals.{shut, unowned, outdated, outside}
+use Rattle.shard_store.proofs.LogStepLemmas.{err_is}
+use Rattle.replica_machine.proofs.RefusalLemmas.{in_window, up}
+use Rattle.replica_machine.proofs.ReasonLemmas.{first_of_three, after_three}
+use Rattle.replica_machine.proofs.StepLemmas.{machine_of, store_open, store_stays}
+use Rattle.replica_machine.proofs.PutLemmas.{PutDone, put_refused, put_by, put_done}
+use Rattle.replica_machine.proofs.machine.Machine.put.Given.{Over}
 use Rattle.replica_machine.proofs.machine.Machine.put.Goals as goal
-use Rattle.replica_machine.proofs.machine.Machine.put.Goals.{in-Ok, in-Err}
 
-pub returns-clause-step : goal.returns-clause-step
-returns-clause-step c client number =
+-- refused at its version
+not_served : (g : Over) (c : goal.After-from_residual g) → PutDone g.D.Disk.state c.args.self.now c.args.version c.args.rules.now c.args.point.now c.from_residual.result c.args.self.now
+not_served g c =
+    let old = c.args.self.now in
     let rules = c.args.rules.now in
     let point = c.args.point.now in
+    let version = c.args.version in
+    let why = c.in_err-check_version.field-0.0 in
+    subst (λ (r : Result ⊤ Reason). PutDone g.D.Disk.state old version rules point r old) (sym (err_is c.from_residual.result why c.from_residual.ensures))
+    (put_refused g.D.Disk.state old version rules point why (first_of_three (shut old.standing) (unowned old.tenure version) (outdated old.fence version) (outside rules point) why c.in_err-check_version.ensures.err))
+
+-- refused for the point's time
+not_inside : (g : Over) (c : goal.After-from_residual-in_err-check_window g) → PutDone g.D.Disk.state c.args.self.now c.args.version c.args.rules.now c.args.point.now c.from_residual-in_err-check_window.result c.args.self.now
+not_inside g c =
+    let old = c.args.self.now in
+    let rules = c.args.rules.now in
+    let point = c.args.point.now in
+    let version = c.args.version in
+    let why = c.in_err-check_window.field-0.0 in
+    subst (λ (r : Result ⊤ Reason). PutDone g.D.Disk.state old version rules point r old) (sym (err_is c.from_residual-in_err-check_window.result why c.from_residual-in_err-check_window.ensures))
+    (put_refused g.D.Disk.state old version rules point why
+    (after_three (shut old.standing) (unowned old.tenure version) (outdated old.fence version) (outside rules point) (Some why) c.in_ok-check_version.ensures.ok c.in_err-check_window.ensures.err))
+
+-- what the store answered
+settles : (g : Over) (c : goal.After-settle g) → PutDone g.D.Disk.state c.args.self.now c.args.version c.args.rules.now c.args.point.now c.settle.result c.settle.new.self
+settles g c =
     let inside = c.self.inside in
-    let with_content = λ (held : Contents). let m : MachineState = record { standing = inside.standing; tenure = inside.tenure; fence = inside.fence; content = held } in m in
-    elim c.match-put.branch [
-      | in-Ok w ↦ put_done c.args.self.now _ client number c.args.version rules point c.match-put.result c.in_ok-check_version.ensures.ok (in_window rules point c.requires c.in_ok-check_window.ensures.ok) w.result-is
-          (ap with_content w.in-Ok.ensures.ok ∙ ap (λ m. with_point m point) c.self.view_is)
-      | in-Err w ↦ put_not_done c.args.self.now _ client number c.args.version rules point c.match-put.result w.result-is (ap with_content w.in-Err.ensures.err ∙ c.self.view_is)
-    ]
+    let rules = c.args.rules.now in
+    let point = c.args.point.now in
+    let by = put_by g.D.Disk.state inside.standing inside.tenure inside.begun c.args.self.now inside.store c.put-said.new.self point c.put-said.result c.self.view_is c.put-said.ensures.ok c.put-said.ensures.memory c.put-said.ensures.fault c.put-said.ensures.disk in
+    put_done g.D.Disk.state c.args.self.now c.args.version rules point c.in_ok-check_version.ensures.ok (in_window rules point c.requires.space c.in_ok-check_window.ensures.ok) c.in_ok-check_window.ensures.ok
+    (machine_of inside.standing inside.tenure inside.begun c.put-said.new.self) c.put-said.result c.settle.result c.settle.new.self c.settle.ensures.said c.settle.ensures.left by
+
+pub put-said-requires-clause-open_ : goal.put-said-requires-clause-open_
+put-said-requires-clause-open_ g c = λ a b.
+    let is_up = up c.args.self.now.standing c.args.self.now.tenure c.args.self.now.fence c.args.version c.in_ok-check_version.ensures.ok in
+    store_open c.self.inside.standing c.self.inside.store c.self.invariant (ap (λ m. m.standing) c.self.view_is ∙ is_up.open_)
+
+pub invariant_of-self : goal.invariant_of-self
+invariant_of-self g c =
+    let is_up = up c.args.self.now.standing c.args.self.now.tenure c.args.self.now.fence c.args.version c.in_ok-check_version.ensures.ok in
+    let is_open = ap (λ m. m.standing) c.self.view_is ∙ is_up.open_ in
+    store_stays c.self.inside.standing c.put-said.new.self is_open (ap (λ s. s.open_) c.put-said.ensures.fault ∙ store_open c.self.inside.standing c.self.inside.store c.self.invariant is_open)
+
+pub returns-in_err-check_version-clause-ok : goal.returns-in_err-check_version-clause-ok
+returns-in_err-check_version-clause-ok g c = (not_served g c).ok
+
+pub returns-in_err-check_version-clause-window : goal.returns-in_err-check_version-clause-window
+returns-in_err-check_version-clause-window g c = (not_served g c).window
+
+pub returns-in_err-check_version-clause-err : goal.returns-in_err-check_version-clause-err
+returns-in_err-check_version-clause-err g c = (not_served g c).err
+
+pub returns-in_err-check_version-clause-fault : goal.returns-in_err-check_version-clause-fault
+returns-in_err-check_version-clause-fault g c = (not_served g c).fault
+
+pub returns-in_err-check_version-clause-refused : goal.returns-in_err-check_version-clause-refused
+returns-in_err-check_version-clause-refused g c = (not_served g c).refused
+
+pub returns-in_err-check_version-clause-disk : goal.returns-in_err-check_version-clause-disk
+returns-in_err-check_version-clause-disk g c = (not_served g c).disk
+
+pub returns-in_err-check_version-clause-step : goal.returns-in_err-check_version-clause-step
+returns-in_err-check_version-clause-step g c = (not_served g c).step
+
+pub returns-in_err-check_window-clause-ok : goal.returns-in_err-check_window-clause-ok
+returns-in_err-check_window-clause-ok g c = (not_inside g c).ok
+
+pub returns-in_err-check_window-clause-window : goal.returns-in_err-check_window-clause-window
+returns-in_err-check_window-clause-window g c = (not_inside g c).window
+
+pub returns-in_err-check_window-clause-err : goal.returns-in_err-check_window-clause-err
+returns-in_err-check_window-clause-err g c = (not_inside g c).err
+
+pub returns-in_err-check_window-clause-fault : goal.returns-in_err-check_window-clause-fault
+returns-in_err-check_window-clause-fault g c = (not_inside g c).fault
+
+pub returns-in_err-check_window-clause-refused : goal.returns-in_err-check_window-clause-refused
+returns-in_err-check_window-clause-refused g c = (not_inside g c).refused
+
+pub returns-in_err-check_window-clause-disk : goal.returns-in_err-check_window-clause-disk
+returns-in_err-check_window-clause-disk g c = (not_inside g c).disk
+
+pub returns-in_err-check_window-clause-step : goal.returns-in_err-check_window-clause-step
+returns-in_err-check_window-clause-step g c = (not_inside g c).step
+
+pub returns-clause-ok : goal.returns-clause-ok
+returns-clause-ok g c = (settles g c).ok
+
+pub returns-clause-window : goal.returns-clause-window
+returns-clause-window g c = (settles g c).window
+
+pub returns-clause-err : goal.returns-clause-err
+returns-clause-err g c = (settles g c).err
+
+pub returns-clause-fault : goal.returns-clause-fault
+returns-clause-fault g c = (settles g c).fault
+
+pub returns-clause-refused : goal.returns-clause-refused
+returns-clause-refused g c = (settles g c).refused
+
+pub returns-clause-disk : goal.returns-clause-disk
+returns-clause-disk g c = (settles g c).disk
+
+pub returns-clause-step : goal.returns-clause-step
+returns-clause-step g c = (settles g c).step

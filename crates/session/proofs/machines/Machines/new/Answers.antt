@@ -5,4 +5,4 @@ use Rattle.session.specs.Slots.{slot_cmp}
 use Rattle.session.proofs.machines.Machines.new.Goals as goal
 
 pub returns : goal.returns
-returns c = ap (λ xs. from_sorted {R = slot_cmp} xs) c.new.ensures.empty ∙ from_sorted-empty slot_cmp
+returns g c = ap (λ xs. from_sorted {R = slot_cmp} xs) c.new.ensures.empty ∙ from_sorted-empty slot_cmp

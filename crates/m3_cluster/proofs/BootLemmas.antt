@@ -1,0 +1,103 @@
+-- What boots leave of one machine.
+use Rattle.std.proofs.Common.{◌≡◌, ◌⊎◌, List, [], ◌∷◌, refl, sym, ap, subst, ◌∙◌, inl, inr, Bool, true, ◌||◌}
+use Rattle.m3_outside.specs.DiskState.{DiskState}
+use Rattle.m3_model.specs.Members.{IsIn}
+use Rattle.m3_model.specs.declared.point.Point.{Point}
+use Rattle.m3_model.specs.declared.reason.Reason.TheVariants as reason
+use Rattle.m3_model.specs.declared.replica.Standing.TheVariants as standing
+use Rattle.cluster_core.specs.declared.event.StepCall.TheVariants as call
+use Rattle.cluster_core.specs.declared.event.StepReply.{StepReply}
+use Rattle.cluster_core.specs.declared.event.StepReply.TheVariants as reply
+use Rattle.replica_machine.specs.Machines.{MachineState}
+use Rattle.replica_machine.specs.Steps.{IsStep}
+use Rattle.session.specs.Changes.{Step, TakesSteps}
+use Rattle.m3_cluster.specs.Chains.{EndsBoots, IsPassed, first_tenure}
+use Rattle.m3_cluster.specs.Depots.{TellAll}
+use Rattle.m3_cluster.specs.Replicas.{HasReplica}
+use Rattle.m3_cluster.proofs.LinkLemmas.{one_asked, or_first, or_true}
+use Rattle.m3_cluster.proofs.ReplicaLemmas.{IsAsked, IsDone, begin_refused, has_fault, is_fault, replica_next, standing_next}
+
+-- ---- one boot
+
+-- the step of a boot that was replied to so
+abbrev pub boot_step : StepReply → Step
+boot_step r = record { call = call.Begin first_tenure; reply = r }
+
+-- a boot that was passed over opens the machine, or finds it down
+pub one_boot : {D : Type 0} (state : D → DiskState) → TellAll state → (Sent Sure : Point → Type 0) (r : StepReply) (x y : MachineState D) → IsPassed r → IsStep state x (call.Begin first_tenure) r y → HasReplica state Sent Sure x
+    → (y.standing ≡ standing.Open) ⊎ ((y.standing ≡ x.standing) × (x.standing ≡ standing.Down))
+one_boot state tell Sent Sure (reply.Began fence points) x y passed step has = inl (standing_next state Sent Sure (boot_step (reply.Began fence points) ∷ []) x y (y, step, refl) has)
+one_boot state tell Sent Sure (reply.Refused why) x y passed step has =
+    elim (begin_refused state tell Sent Sure x y why (y, step, refl) has) as (λ _. (y.standing ≡ standing.Open) ⊎ ((y.standing ≡ x.standing) × (x.standing ≡ standing.Down))) [
+      | inl own ↦ elim own as (λ _. (y.standing ≡ standing.Open) ⊎ ((y.standing ≡ x.standing) × (x.standing ≡ standing.Down))) [
+        | inl memory ↦ absurd (passed (subst EndsBoots (sym memory) tt))
+        | inr disk ↦ absurd (passed (subst EndsBoots (sym disk) tt))
+      ]
+      | inr other ↦ elim other as (λ _. (y.standing ≡ standing.Open) ⊎ ((y.standing ≡ x.standing) × (x.standing ≡ standing.Down))) [
+        | inl corrupt ↦ absurd (passed (subst EndsBoots (sym corrupt.1) tt))
+        | inr down ↦ inr (standing_next state Sent Sure (boot_step (reply.Refused reason.Down) ∷ []) x y (y, subst (λ w. IsStep state x (call.Begin first_tenure) (reply.Refused w) y) down.0 step, refl) has, down.1)
+      ]
+    ]
+one_boot state tell Sent Sure _ x y passed step has = absurd passed
+
+-- what a step of a bootstrap is
+pub record IsBoot (Replied : StepReply → Type 0) (step : Step) : Type 0 where
+  pub call : step.call ≡ call.Begin first_tenure
+  pub replied : Replied step.reply
+
+pub boot_asked : (Sent : Point → Type 0) (Replied : StepReply → Type 0) (step : Step) → IsBoot Replied step → IsAsked Sent step.call
+boot_asked Sent Replied step boot = subst (IsAsked Sent) (sym boot.call) refl
+
+after_boot : {D : Type 0} (state : D → DiskState) → TellAll state → (Sent Sure : Point → Type 0) (Replied : StepReply → Type 0) (step : Step) (x y : MachineState D) → IsBoot Replied step → IsStep state x step.call step.reply y → HasReplica state Sent Sure x
+    → HasReplica state Sent (λ p. Sure p ⊎ IsDone (step ∷ []) p) y
+after_boot state tell Sent Sure Replied step x y boot taken has = replica_next state tell Sent Sent Sure (λ p sent. sent) (step ∷ []) (one_asked Sent step (boot_asked Sent Replied step boot)) x y (y, taken, refl) has
+
+-- several that were passed over
+pub boots_open : {D : Type 0} (state : D → DiskState) → TellAll state → (Sent Sure : Point → Type 0) (steps : List Step) → ((step : Step) → IsIn steps step → IsBoot IsPassed step) → (x y : MachineState D) → TakesSteps state steps x y → HasReplica state Sent Sure x
+    → (y.standing ≡ standing.Open) ⊎ ((y.standing ≡ x.standing) × ((steps ≡ []) ⊎ (x.standing ≡ standing.Down)))
+boots_open {D} state tell Sent Sure [] boots x y taken has = inr (ap (λ (m : MachineState D). m.standing) taken, inl refl)
+boots_open {D} state tell Sent Sure (step ∷ steps) boots x y taken has =
+    let mid = taken.0 in
+    let boot = boots step (inl refl) in
+    let next = after_boot state tell Sent Sure IsPassed step x mid boot taken.1 has in
+    let first = one_boot state tell Sent Sure step.reply x mid boot.replied (subst (λ c. IsStep state x c step.reply mid) boot.call taken.1) has in
+    let rest = boots_open state tell Sent (λ p. Sure p ⊎ IsDone (step ∷ []) p) steps (λ z i. boots z (inr i)) mid y taken.2 next in
+    elim rest as (λ _. (y.standing ≡ standing.Open) ⊎ ((y.standing ≡ x.standing) × ((step ∷ steps ≡ []) ⊎ (x.standing ≡ standing.Down)))) [
+      | inl open_ ↦ inl open_
+      | inr still ↦ elim first as (λ _. (y.standing ≡ standing.Open) ⊎ ((y.standing ≡ x.standing) × ((step ∷ steps ≡ []) ⊎ (x.standing ≡ standing.Down)))) [
+        | inl open_ ↦ inl (still.0 ∙ open_)
+        | inr down ↦ inr (still.0 ∙ down.0, inr down.1)
+      ]
+    ]
+
+-- passed over, or refused for a fault or for want of memory
+abbrev pub IsTried : StepReply → Type 0
+IsTried r = IsPassed r ⊎ ((r ≡ reply.Refused reason.Disk) ⊎ (r ≡ reply.Refused reason.Memory))
+
+-- open, as it was, or closed by a fault
+abbrev pub Outcome : {D : Type 0} → MachineState D → MachineState D → Bool → Type 0
+Outcome before after failed = (after.standing ≡ standing.Open) ⊎ ((after.standing ≡ before.standing) ⊎ ((after.standing ≡ standing.Down) × (failed ≡ true)))
+
+pub one_try : {D : Type 0} (state : D → DiskState) → TellAll state → (Sent Sure : Point → Type 0) (r : StepReply) (x y : MachineState D) → IsTried r → IsStep state x (call.Begin first_tenure) r y → HasReplica state Sent Sure x → Outcome x y (is_fault r)
+one_try state tell Sent Sure r x y (inl passed) begun has = elim (one_boot state tell Sent Sure r x y passed begun has) as (λ _. Outcome x y (is_fault r)) [ inl open_ ↦ inl open_ | inr down ↦ inr (inl down.0) ]
+one_try state tell Sent Sure r x y (inr (inl disk)) begun has =
+    inr (inr (standing_next state Sent Sure (boot_step (reply.Refused reason.Disk) ∷ []) x y (y, subst (λ z. IsStep state x (call.Begin first_tenure) z y) disk begun, refl) has, ap is_fault disk))
+one_try state tell Sent Sure r x y (inr (inr memory)) begun has =
+    inr (inl (standing_next state Sent Sure (boot_step (reply.Refused reason.Memory) ∷ []) x y (y, subst (λ z. IsStep state x (call.Begin first_tenure) z y) memory begun, refl) has))
+
+joined : {D : Type 0} (x mid y : MachineState D) (a b : Bool) → Outcome x mid a → Outcome mid y b → Outcome x y (a || b)
+joined x mid y a b first (inl open_) = inl open_
+joined x mid y a b first (inr (inr down)) = inr (inr (down.0, ap (λ t. a || t) down.1 ∙ or_true a))
+joined x mid y a b (inl open_) (inr (inl still)) = inl (still ∙ open_)
+joined x mid y a b (inr (inl same)) (inr (inl still)) = inr (inl (still ∙ same))
+joined x mid y a b (inr (inr down)) (inr (inl still)) = inr (inr (still ∙ down.0, or_first a b down.1))
+
+-- several that may have been refused
+pub tries_open : {D : Type 0} (state : D → DiskState) → TellAll state → (Sent Sure : Point → Type 0) (steps : List Step) → ((step : Step) → IsIn steps step → IsBoot IsTried step) → (x y : MachineState D) → TakesSteps state steps x y → HasReplica state Sent Sure x
+    → Outcome x y (has_fault steps)
+tries_open {D} state tell Sent Sure [] boots x y taken has = inr (inl (ap (λ (m : MachineState D). m.standing) taken))
+tries_open {D} state tell Sent Sure (step ∷ steps) boots x y taken has =
+    let mid = taken.0 in
+    let boot = boots step (inl refl) in
+    joined x mid y (is_fault step.reply) (has_fault steps) (one_try state tell Sent Sure step.reply x mid boot.replied (subst (λ c. IsStep state x c step.reply mid) boot.call taken.1) has)
+    (tries_open state tell Sent (λ p. Sure p ⊎ IsDone (step ∷ []) p) steps (λ z i. boots z (inr i)) mid y taken.2 (after_boot state tell Sent Sure IsTried step x mid boot taken.1 has))

@@ -1,0 +1,45 @@
+-- What is due where no cluster stands, and where one does.
+use Rattle.std.proofs.Common.{◌≡◌, ℕ, List, sym, ap, ◌∙◌, subst, inr, Bool}
+use Rattle.std.specs.Prelude.{Option, Some, None, option_map}
+use Rattle.m3_outside.specs.declared.disk.Disk.{Ghosts}
+use Rattle.m3_outside.specs.DiskState.{DiskState}
+use Rattle.m3_model.specs.Caused.{CausedAt, IsDue, placement_at}
+use Rattle.m3_model.specs.Faults.{Fault}
+use Rattle.m3_model.specs.Fates.{is_stopped}
+use Rattle.m3_model.specs.Record.{inner_turns}
+use Rattle.m3_model.specs.Refusals.{refusal_by}
+use Rattle.m3_model.specs.Rules.{rules_at}
+use Rattle.m3_model.specs.declared.act.Act.{Act}
+use Rattle.m3_model.specs.declared.answer.Answer.{Answer}
+use Rattle.m3_model.specs.declared.answer.Answer.TheVariants as answer
+use Rattle.m3_model.specs.declared.placement.Placement.{Placement}
+use Rattle.m3_model.specs.declared.rules.Rules.{Rules}
+use Rattle.m3_model.specs.declared.turn.Turn.{Turn}
+use Rattle.m3_cluster.specs.Serves.{Stands}
+use Rattle.m3_cluster.specs.declared.cluster.Cluster.{Cluster}
+use Rattle.m3_cluster.specs.declared.members.Members.{Members}
+use Rattle.m3_cluster.proofs.CallLemmas.{place_after, At, place_at, rules_there}
+
+pub standing : {D : Type 0} {G : Ghosts D} {state : D → DiskState} {faults : List Fault} {lines : List Turn} {c : Cluster D G} {m : Members D G} → Stands state faults lines c → c.members ≡ Some m → At state faults lines c m
+standing s is = record { stands = s; members = is }
+
+-- where no cluster stands there is no placement
+pub nowhere : {D : Type 0} {G : Ghosts D} {state : D → DiskState} {faults : List Fault} {lines : List Turn} {c : Cluster D G} → Stands state faults lines c → c.members ≡ None → (a : Act) (b : Answer) → placement_at None (place_after lines a b) ≡ None
+nowhere {D} {G} {state} {faults} {lines} {c} s none a b = s.place ∙ ap (option_map (λ (m : Members D G). m.net.state.place)) none
+
+-- there an act is out of order
+pub due_nowhere : {D : Type 0} {G : Ghosts D} {state : D → DiskState} {faults : List Fault} {lines : List Turn} {c : Cluster D G} → Stands state faults lines c → (more : List Fault) (a : Act) (b : Answer) → c.members ≡ None
+    → ((rules : Rules) (stopped : List ℕ → Bool) → refusal_by None rules stopped a ≡ Some answer.Order) → b ≡ answer.Order → CausedAt more None (place_after lines a b)
+due_nowhere {D} {G} {state} {faults} {lines} {c} s more a b none refused is =
+    let p = place_after lines a b in
+    let stopped = is_stopped (inner_turns lines) in
+    inr (subst (λ (o : Option Placement). IsDue more None p (refusal_by o (rules_at None p) stopped a)) (sym (nowhere s none a b)) (subst (IsDue more None p) (sym (refused (rules_at None p) stopped)) is))
+
+-- where one stands, what its placement, its rules and its stopped nodes refuse
+pub due_there : {D : Type 0} {G : Ghosts D} {state : D → DiskState} {faults : List Fault} {lines : List Turn} {c : Cluster D G} {m : Members D G} (h : At state faults lines c m) (more : List Fault) (a : Act) (b : Answer) (refusal : Option Answer)
+    → refusal_by (Some m.net.state.place) m.net.state.rules (is_stopped (inner_turns lines)) a ≡ refusal → IsDue more None (place_after lines a b) refusal → CausedAt more None (place_after lines a b)
+due_there {D} {G} {state} {faults} {lines} {c} {m} h more a b refusal is due =
+    let p = place_after lines a b in
+    let stopped = is_stopped (inner_turns lines) in
+    inr (subst (λ (o : Option Placement). IsDue more None p (refusal_by o (rules_at None p) stopped a)) (sym (place_at h a b))
+    (subst (λ (r : Rules). IsDue more None p (refusal_by (Some m.net.state.place) r stopped a)) (sym (rules_there h a b)) (subst (IsDue more None p) (sym is) due)))

@@ -1,0 +1,200 @@
+-- The faults of the disks in the line of `init`: those of the slots whose first boot failed.
+use Rattle.std.proofs.Common.{◌≡◌, ◌⊎◌, ◌+◌, ◌≤◌, ℕ, List, [], ◌∷◌, ◌++◌, length, length-append, map, min, refl, sym, ap, subst, ◌∙◌, inl, inr, arith, append-nil, append_assoc, Bool, true, false, cond, ◌||◌}
+use Rattle.std.specs.Prelude.{Option, Some, None}
+use Rattle.std.specs.FinMap.{empty, get}
+use Rattle.std.specs.List.{All}
+use Rattle.std.proofs.lemmas.List.Elements.{All-append}
+use Rattle.std.proofs.lemmas.List.Sums.{sum_by-append}
+use Rattle.m3_outside.specs.Causes.{RoseBy, last_count}
+use Rattle.m3_outside.specs.declared.disk.Disk.{Ghosts}
+use Rattle.m3_outside.specs.DiskState.{DiskState}
+use Rattle.m3_model.specs.Faults.{AreDifferent, Fault}
+use Rattle.m3_model.specs.Members.{IsIn}
+use Rattle.m3_model.specs.declared.turn.Turn.{Turn}
+use Rattle.m3_model.proofs.MemberLemmas.{IsIn-map, map-IsIn}
+use Rattle.placement_core.proofs.ListLemmas.{All-from_each, each-from_All}
+use Rattle.cluster_core.specs.declared.event.StepReply.{StepReply}
+use Rattle.cluster_core.specs.declared.event.StepReply.TheVariants as reply
+use Rattle.replica_machine.specs.Machines.{MachineState, first_machine}
+use Rattle.session.specs.Changes.{Step}
+use Rattle.session.specs.Slots.{MachineMap}
+use Rattle.session.specs.declared.slot.Slot.{Slot}
+use Rattle.m3_cluster.specs.Chains.{Link}
+use Rattle.m3_cluster.specs.Depots.{Depot, place_of_slot}
+use Rattle.m3_cluster.specs.First.{AreApart, HasOpened, HasReturned, IsFirstBooted, IsGivenBack, first_boot}
+use Rattle.m3_cluster.specs.Replicas.{faults_at}
+use Rattle.m3_cluster.specs.Serves.{AreCounted, IsEarlier, count_at, machine_at}
+use Rattle.m3_cluster.specs.declared.cluster.Cluster.{Cluster}
+use Rattle.m3_cluster.specs.declared.members.Members.{Members}
+use Rattle.m3_cluster.proofs.LinkLemmas.{or_first, or_true, steps_among, steps_in}
+use Rattle.m3_cluster.proofs.ReplicaFaults.{count_next, different_both, earlier_more, has_fault, is_fault, line_different, line_earlier, line_faults, most_one, none_of, not_before, rose_less, rose_more}
+use Rattle.m3_cluster.proofs.ReplicaLinks.{steps_at}
+use Rattle.m3_cluster.proofs.SlotLists.{in_or_out}
+
+-- ---- what the first boots answered
+
+-- each of these slots was booted once
+abbrev pub AreFirstBooted : {D : Type 0} → (D → DiskState) → List Slot → Depot D → MachineMap D → Type 0
+AreFirstBooted state slots depot machines = (s : Slot) → IsIn slots s → IsFirstBooted state depot machines s
+
+-- what the boot of a slot answered
+abbrev pub answer_at : {D : Type 0} {state : D → DiskState} {depot : Depot D} {machines : MachineMap D} (slots : List Slot) → AreFirstBooted state slots depot machines → Slot → StepReply
+answer_at {D} {state} {depot} {machines} slots each s = by_place (in_or_out slots s)
+  where
+    by_place : IsIn slots s ⊎ ¬ IsIn slots s → StepReply
+    by_place (inl among) = (each s among).answer
+    by_place (inr out) = reply.Done
+
+-- What is known of a slot that was booted: its record is the one whose answer is taken.
+pub record BootedAs {D : Type 0} (state : D → DiskState) (depot : Depot D) (machines : MachineMap D) (s : Slot) (answered : StepReply) : Type 0 where
+  pub booted : IsFirstBooted state depot machines s
+  pub answer : booted.answer ≡ answered
+
+pub booted_as : {D : Type 0} {state : D → DiskState} {depot : Depot D} {machines : MachineMap D} (slots : List Slot) (each : AreFirstBooted state slots depot machines) (s : Slot) → IsIn slots s → BootedAs state depot machines s (answer_at slots each s)
+booted_as {D} {state} {depot} {machines} slots each s i = by_place (in_or_out slots s) refl
+  where
+    by_place : (o : IsIn slots s ⊎ ¬ IsIn slots s) → in_or_out slots s ≡ o → BootedAs state depot machines s (answer_at slots each s)
+    by_place (inl among) e = record { booted = each s among; answer = sym (rw e refl) }
+    by_place (inr out) e = absurd (out i)
+
+-- the boots as links
+abbrev pub first_link : (Slot → StepReply) → Slot → Link
+first_link answers s = record { slot = s; steps = first_boot (answers s) ∷ [] }
+
+any_in : (steps : List Step) (step : Step) → IsIn steps step → is_fault step.reply ≡ true → has_fault steps ≡ true
+any_in [] step i fault = absurd i
+any_in (x ∷ steps) step i fault =
+    elim i as (λ _. (is_fault x.reply || has_fault steps) ≡ true) [
+      | inl same ↦ or_first (is_fault x.reply) (has_fault steps) (ap (λ (z : Step). is_fault z.reply) same ∙ fault)
+      | inr later ↦ ap (λ t. is_fault x.reply || t) (any_in steps step later fault) ∙ or_true (is_fault x.reply)
+    ]
+
+in_any : (steps : List Step) → has_fault steps ≡ true → (step : Step) × IsIn steps step × (is_fault step.reply ≡ true)
+in_any [] e = cc
+in_any (x ∷ steps) e = by_test (is_fault x.reply) refl e (in_any steps)
+  where
+    by_test : (t : Bool) → is_fault x.reply ≡ t → (t || has_fault steps) ≡ true → (has_fault steps ≡ true → (step : Step) × IsIn steps step × (is_fault step.reply ≡ true)) → (step : Step) × IsIn (x ∷ steps) step × (is_fault step.reply ≡ true)
+    by_test true f g later = (x, inl refl, f)
+    by_test false f g later = let found = later g in (found.0, inr found.1, found.2)
+
+-- a slot has a fault among its steps exactly where its boot failed
+pub first_fault : (answers : Slot → StepReply) (slots : List Slot) (s : Slot) → IsIn slots s → is_fault (answers s) ≡ true → has_fault (steps_at s (map (first_link answers) slots)) ≡ true
+first_fault answers slots s i fault =
+    any_in (steps_at s (map (first_link answers) slots)) (first_boot (answers s)) (steps_in s (map (first_link answers) slots) (first_link answers s) (first_boot (answers s)) (map-IsIn (first_link answers) slots s i) refl (inl refl)) fault
+
+fault_first : (answers : Slot → StepReply) (slots : List Slot) (s : Slot) → has_fault (steps_at s (map (first_link answers) slots)) ≡ true → is_fault (answers s) ≡ true
+fault_first answers slots s has =
+    let found = in_any (steps_at s (map (first_link answers) slots)) has in
+    let from = steps_among s (map (first_link answers) slots) found.0 found.1 in
+    let at = IsIn-map (first_link answers) slots from.0 from.1 in
+    let here : at.0 ≡ s = ap (λ (l : Link). l.slot) at.2 ∙ from.2 in
+    elim (subst (λ (l : Link). IsIn l.steps found.0) (sym at.2) from.3) as (λ _. is_fault (answers s) ≡ true) [
+      | inl same ↦ ap (λ q. is_fault (answers q)) (sym here) ∙ ap (λ (z : Step). is_fault z.reply) same ∙ found.2
+      | inr none ↦ absurd none
+    ]
+
+few_of : (k : ℕ) (a b : Bool) → (a ≡ true → b ≡ true) → k ≤ cond a 1 0 → k ≤ cond (b || false) 1 0
+few_of k true true h few = few
+few_of k true false h few = let clash : false ≡ true = h refl in cc
+few_of k false b h few = omega (arith, few)
+
+-- ---- counts
+
+rose_still : (last n before mid now : ℕ) → mid ≤ now → min (before + n) last ≤ mid → min (before + n) last ≤ now
+rose_still last n before mid now later rose = omega (arith, later, rose)
+
+rose_none : (last n before now : ℕ) → min (before + n) last ≤ now → min (before + (n + 0)) last ≤ now
+rose_none last n before now rose = omega (arith, rose)
+
+count_none : {D : Type 0} {G : Ghosts D} (state : D → DiskState) (now : Depot D) (c : Cluster D G) (s : Slot) → c.members ≡ None → count_at state now (machine_at c s) s ≡ now.counted (place_of_slot s)
+count_none state now c s none = rw none refl
+
+count_some : {D : Type 0} {G : Ghosts D} (state : D → DiskState) (now : Depot D) (c : Cluster D G) (g : Members D G) (s : Slot) → c.members ≡ Some g → count_at state now (machine_at c s) s ≡ count_at state now (get g.net.machines s) s
+count_some state now c g s is = rw is refl
+
+-- the counts after an `init` that made a cluster
+pub made_counted : {D : Type 0} {G : Ghosts D} (state : D → DiskState) (first now after : Depot D) (lines : List Turn) (turn : Turn) (old new : Cluster D G) (g : Members D G) (taking failing : List Fault) → old.members ≡ None → new.members ≡ Some g → AreApart g.slots.items
+    → HasOpened state g.slots.items now g.net.machines after → (each : AreFirstBooted state g.slots.items now g.net.machines) → AreCounted state first now lines old taking failing
+    → AreCounted state first after (lines ++ turn ∷ []) new taking (failing ++ line_faults (length lines) (map (first_link (answer_at g.slots.items each)) g.slots.items) g.slots.items)
+made_counted {D} {G} state first now after lines turn old new g taking failing none is apart opened each counted = record {
+  different = subst AreDifferent all (different_both (taking ++ failing) added counted.different (line_different (length lines) links slots apart) (not_before lines links slots (taking ++ failing) counted.earlier));
+  earlier =
+      subst (λ (l : List Fault). All (IsEarlier (lines ++ turn ∷ [])) l) all
+      (All-append (IsEarlier (lines ++ turn ∷ [])) (taking ++ failing) added (earlier_more lines turn (taking ++ failing) counted.earlier) (line_earlier lines turn links slots));
+  of_taking = rose_still last_count (length taking) first.faults now.faults after.faults opened.later counted.of_taking;
+  of_disks = λ s.
+      let summed : faults_at s (failing ++ added) ≡ faults_at s failing + faults_at s added = sum_by-append _ failing added in
+      subst (λ n. RoseBy (faults_at s (failing ++ added)) (first.counted (place_of_slot s)) n) (sym (count_some state after new g s is))
+      (subst (λ n. RoseBy n (first.counted (place_of_slot s)) (count_at state after (get g.net.machines s) s)) (sym summed) (by_place s (in_or_out slots s)));
+}
+  where
+    slots : List Slot
+    slots = g.slots.items
+
+    links : List Link
+    links = map (first_link (answer_at g.slots.items each)) g.slots.items
+
+    added : List Fault
+    added = line_faults (length lines) links slots
+
+    all : (taking ++ failing) ++ added ≡ taking ++ (failing ++ added)
+    all = append_assoc taking failing added
+
+    stood : (s : Slot) → RoseBy (faults_at s failing) (first.counted (place_of_slot s)) (now.counted (place_of_slot s))
+    stood s = subst (λ n. RoseBy (faults_at s failing) (first.counted (place_of_slot s)) n) (count_none state now old s none) (counted.of_disks s)
+
+    by_place : (s : Slot) → IsIn slots s ⊎ ¬ IsIn slots s → RoseBy (faults_at s failing + faults_at s added) (first.counted (place_of_slot s)) (count_at state after (get g.net.machines s) s)
+    by_place s (inl among) =
+        let known = booted_as slots each s among in
+        let booted = known.booted in
+        let steps = first_boot booted.answer ∷ [] in
+        let few = few_of (faults_at s added) (has_fault (steps_at s links)) (is_fault booted.answer) (λ has. ap is_fault known.answer ∙ fault_first (answer_at slots each) slots s has) (most_one (length lines) links slots s apart) in
+        let next = count_next state steps (first_machine booted.disk) booted.machine (booted.machine, booted.booted, refl) in
+        let rose = rose_less last_count (faults_at s added) (cond (has_fault steps) 1 0) (state booted.disk).faults (state booted.machine.disk).faults few next in
+        let before = subst (λ n. RoseBy (faults_at s failing) (first.counted (place_of_slot s)) n) (sym booted.counted) (stood s) in
+        subst (λ (o : Option (MachineState D)). RoseBy (faults_at s failing + faults_at s added) (first.counted (place_of_slot s)) (count_at state after o s)) (sym booted.stands)
+        (rose_more (faults_at s failing) (faults_at s added) (first.counted (place_of_slot s)) (state booted.disk).faults (state booted.machine.disk).faults before rose)
+    by_place s (inr out) =
+        let untouched = opened.others s out in
+        let zero_is : 0 ≡ faults_at s added = sym (none_of (length lines) links slots s out) in
+        subst (λ n. RoseBy (faults_at s failing + n) (first.counted (place_of_slot s)) (count_at state after (get g.net.machines s) s)) zero_is
+        (subst (λ (o : Option (MachineState D)). RoseBy (faults_at s failing + 0) (first.counted (place_of_slot s)) (count_at state after o s)) (sym untouched.no_machine)
+        (rose_none last_count (faults_at s failing) (first.counted (place_of_slot s)) (after.counted (place_of_slot s)) (subst (λ n. RoseBy (faults_at s failing) (first.counted (place_of_slot s)) n) (sym untouched.counted) (stood s))))
+
+-- ---- an `init` that was refused
+
+-- the count of a slot whose disk was given back never fell
+back_counted : {D : Type 0} (state : D → DiskState) (now : Depot D) (machines : MachineMap D) (after : Depot D) (s : Slot) (n before : ℕ) → IsGivenBack state now machines after s → RoseBy n before (now.counted (place_of_slot s)) → RoseBy n before (after.counted (place_of_slot s))
+back_counted state now machines after s n before back rose =
+    let steps = map first_boot back.opened.answers in
+    let next = count_next state steps (first_machine back.opened.disk) back.machine back.opened.booted in
+    let none = rose_less last_count 0 (cond (has_fault steps) 1 0) (state back.opened.disk).faults (state back.machine.disk).faults (omega arith) next in
+    let both = rose_more n 0 before (state back.opened.disk).faults (state back.machine.disk).faults (subst (λ k. RoseBy n before k) (sym back.opened.counted) rose) none in
+    subst (λ k. RoseBy n before k) (sym back.counted) (rose_less last_count n (n + 0) before (state back.machine.disk).faults (omega arith) both)
+
+-- the counts after an `init` that was refused, by these faults of taking disks
+pub returned_counted : {D : Type 0} {G : Ghosts D} (state : D → DiskState) (first now after : Depot D) (lines : List Turn) (turn : Turn) (old new : Cluster D G) (taking : List Fault) (more : List Fault) → old.members ≡ None → new.members ≡ None
+    → HasReturned state now empty after → AreDifferent more → All (λ (f : Fault). (f.line ≡ length lines) × (f.is_damage ≡ false)) more → RoseBy (length more) now.faults after.faults → AreCounted state first now lines old taking []
+    → AreCounted state first after (lines ++ turn ∷ []) new (taking ++ more) []
+returned_counted {D} {G} state first now after lines turn old new taking more none still returned apart of_line rose counted = record {
+  different = subst AreDifferent (sym (append-nil (taking ++ more))) (different_both taking more (subst AreDifferent (append-nil taking) counted.different) apart (λ f i j.
+      let was = each-from_All (IsEarlier lines) taking earlier f i in
+      let low = was.line_low in
+      let at = (each-from_All (λ (x : Fault). (x.line ≡ length lines) × (x.is_damage ≡ false)) more of_line f j).0 in
+      omega (arith, low, at)));
+  earlier = subst (λ (l : List Fault). All (IsEarlier (lines ++ turn ∷ [])) l) (sym (append-nil (taking ++ more)))
+      (All-append (IsEarlier (lines ++ turn ∷ [])) taking more (earlier_more lines turn taking earlier) (All-from_each (IsEarlier (lines ++ turn ∷ [])) more (λ f j.
+      let is = each-from_All (λ (x : Fault). (x.line ≡ length lines) × (x.is_damage ≡ false)) more of_line f j in
+      let longer : length (lines ++ turn ∷ []) ≡ length lines + 1 = length-append lines (turn ∷ []) in
+      record { line_low = omega (arith, longer, is.0); no_damage = is.1 })));
+  of_taking = subst (λ n. RoseBy n first.faults after.faults) (sym (length-append taking more)) (rose_more (length taking) (length more) first.faults now.faults after.faults counted.of_taking rose);
+  of_disks = λ s.
+      let stood : RoseBy 0 (first.counted (place_of_slot s)) (now.counted (place_of_slot s)) = subst (λ n. RoseBy 0 (first.counted (place_of_slot s)) n) (count_none state now old s none) (counted.of_disks s) in
+      subst (λ n. RoseBy 0 (first.counted (place_of_slot s)) n) (sym (count_none state after new s still)) (elim (returned.each s) as (λ _. RoseBy 0 (first.counted (place_of_slot s)) (after.counted (place_of_slot s))) [
+        | inl untouched ↦ subst (λ n. RoseBy 0 (first.counted (place_of_slot s)) n) (sym untouched.counted) stood
+        | inr back ↦ back_counted state now empty after s 0 (first.counted (place_of_slot s)) back stood
+      ]);
+}
+  where
+    earlier : All (IsEarlier lines) taking
+    earlier = subst (λ (l : List Fault). All (IsEarlier lines) l) (append-nil taking) counted.earlier

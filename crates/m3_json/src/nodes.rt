@@ -1,0 +1,87 @@
+ghost use Rattle.std.specs.Prelude.{◌≡◌, ◌<◌, IfOk, IfSome};
+ghost use Rattle.serde_json.specs.View.{view};
+ghost use Rattle.m3_model.specs.Limits.{MeetsLimits, IsMoment};
+ghost use Rattle.m3_json.specs.Fields.{Gives};
+ghost use Rattle.m3_json.specs.Rows.{stop_of, pick_at, restart_of, shard_at, bootstrap_of};
+
+use crate::fault::LineErr;
+use crate::fields::{has_only, name_at, number_of};
+use crate::moment::MOMENT_LIMIT;
+use m3_model::act::Act;
+use m3_model::text::Text;
+use serde_json::Value;
+use std::alloc::Global;
+
+/// The stop of a node that an object spells.
+#[tactic(auto, unfolding(crate::specs::Rows::stop_of))]
+pub fn stop_of(alloc: Global, value: &Value) -> Result<Act, LineErr>
+    ensures gives { Gives (λ a. a) result (stop_of (view value.now)) }
+    ensures within { IfOk result MeetsLimits }
+{
+    if !has_only(value, &["node", "op"]) {
+        return Err(LineErr::Form);
+    }
+    let node = name_at(value, "node")?;
+    Ok(Act::Stop {
+        node: Text::from_str(alloc, node)?,
+    })
+}
+
+// How many shards there may be.
+const SHARD_LIMIT: u64 = 64;
+
+#[tactic(auto, unfolding(crate::specs::Rows::pick_at))]
+fn pick_at(value: &Value) -> Result<u64, LineErr>
+    ensures gives { Gives (λ n. n) result (pick_at (view value.now)) }
+    ensures within { IfOk result IsMoment }
+{
+    match value.get("pick") {
+        None => Ok(0),
+        Some(pick) => number_of(pick, 0, MOMENT_LIMIT),
+    }
+}
+
+/// The restart of a node that an object spells.
+#[tactic(auto, unfolding(crate::specs::Rows::restart_of))]
+pub fn restart_of(alloc: Global, value: &Value) -> Result<Act, LineErr>
+    ensures gives { Gives (λ a. a) result (restart_of (view value.now)) }
+    ensures within { IfOk result MeetsLimits }
+{
+    if !has_only(value, &["node", "op", "pick"]) {
+        return Err(LineErr::Form);
+    }
+    let node = name_at(value, "node")?;
+    let pick = pick_at(value)?;
+    Ok(Act::Restart {
+        node: Text::from_str(alloc, node)?,
+        pick,
+    })
+}
+
+#[tactic(auto, unfolding(crate::specs::Rows::shard_at))]
+fn shard_at(value: &Value) -> Result<Option<u32>, LineErr>
+    ensures gives { Gives (λ n. n) result (shard_at (view value.now)) }
+    ensures within { IfOk result (λ shard. IfSome shard (λ s. s < 64)) }
+{
+    match value.get("shard") {
+        None => Ok(None),
+        Some(shard) => Ok(Some(number_of(shard, 0, SHARD_LIMIT)? as u32)),
+    }
+}
+
+/// The bootstrap of a node that an object spells.
+#[tactic(auto, unfolding(crate::specs::Rows::bootstrap_of))]
+pub fn bootstrap_of(alloc: Global, value: &Value) -> Result<Act, LineErr>
+    ensures gives { Gives (λ a. a) result (bootstrap_of (view value.now)) }
+    ensures within { IfOk result MeetsLimits }
+{
+    if !has_only(value, &["node", "op", "shard"]) {
+        return Err(LineErr::Form);
+    }
+    let node = name_at(value, "node")?;
+    let shard = shard_at(value)?;
+    Ok(Act::Bootstrap {
+        node: Text::from_str(alloc, node)?,
+        shard,
+    })
+}

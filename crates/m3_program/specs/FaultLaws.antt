@@ -1,0 +1,16 @@
+-- What counts that stay constant tell of a run.
+use Rattle.std.specs.Prelude.{◌≡◌, List, [], ◌++◌}
+use Rattle.m3_model.specs.Faults.{Fault}
+use Rattle.m3_model.specs.Record.{Record}
+use Rattle.m3_outside.specs.Laws.{IsConstant}
+use Rattle.m3_outside.specs.declared.slot.Slot.{Slot}
+use Rattle.m3_program.specs.Faults.{AreCauses, Counts}
+
+-- each count is below its last value, and is the same afterwards
+pub record AreConstant (before now : Counts) : Type 0 where
+  pub all : IsConstant before.all now.all
+  pub of_disks : (slot : Slot) → IsConstant (before.of_disk slot) (now.of_disk slot)
+
+-- no fault is a cause in a run in which no count rises
+abbrev pub ConstantMeansNoFault : Type 0
+ConstantMeansNoFault = (run : Record) (before now : Counts) (taking failing : List Fault) → AreCauses run before now taking failing → AreConstant before now → taking ++ failing ≡ []

@@ -1,0 +1,193 @@
+-- A fence is a step of the core.
+use Rattle.std.proofs.Common.{◌≡◌, inl, inr, ℕ, max, List, [], ◌∷◌, ◌++◌, refl, sym, ap, subst, ◌∙◌, Some, None, Result, Ok, Err, ◌≤◌, Bool, true, false, cond}
+use Rattle.std.specs.Prelude.{⊤, ◌≢◌, Option, nat_le, OnOk, OnErr, IfErr, IsErrOf}
+use Rattle.std.specs.Option.{option_or}
+use Rattle.std.proofs.lemmas.Bool.{leb-true}
+use Rattle.m3_model.specs.declared.reason.Reason.{Reason}
+use Rattle.m3_model.specs.declared.reason.Reason.TheVariants as reason
+use Rattle.m3_model.specs.declared.replica.Standing.{Standing}
+use Rattle.m3_model.specs.declared.replica.Standing.TheVariants as standing
+use Rattle.m3_outside.specs.Causes.{CountsFaults}
+use Rattle.m3_outside.specs.DiskState.{DiskState}
+use Rattle.m3_outside.specs.declared.disk_err.DiskErr.{DiskErr}
+use Rattle.m3_outside.specs.declared.disk_err.DiskErr.TheVariants as refused
+use Rattle.shard_store.specs.Gains.{a_fence, Brings}
+use Rattle.shard_store.specs.Stores.{StoreState}
+use Rattle.shard_store.proofs.LogStepLemmas.{on_ok_as, counts_same}
+use Rattle.cluster_core.specs.Refusals.{shut, unowned, first_refusal}
+use Rattle.cluster_core.specs.Replicas.{after}
+use Rattle.cluster_core.specs.Rows.{IsOwner}
+use Rattle.cluster_core.specs.declared.event.StepCall.TheVariants as call
+use Rattle.cluster_core.specs.declared.event.StepReply.TheVariants as reply
+use Rattle.cluster_core.specs.declared.replica_state.ReplicaState.{ReplicaState}
+use Rattle.replica_machine.specs.Machines.{MachineState, IsStoreOf, IsMachineOf, IsHeldBy, IsRefusedFor, refusal, shut_machine, settled, settled_answer}
+use Rattle.replica_machine.specs.Steps.{reply_by, IsStep, BringsTo}
+use Rattle.replica_machine.proofs.ReasonLemmas.{IsPlain, plain_lawful, plain_no_fault, fence_plain, shut_alike, refused_none, refused_some}
+use Rattle.replica_machine.proofs.DiskLemmas.{each_step, reply_counts, brings_settled, brings_none_to}
+use Rattle.replica_machine.proofs.HeldByLemmas.{held_fence_doubt}
+use Rattle.replica_machine.proofs.StepLemmas.{machine_of, store_open, store_stays, kept_machine, shut_follows, fence_follows}
+
+-- what a fence answers and leaves
+pub record FenceDone {D : Type 0} (state : D → DiskState) (old : MachineState D) (version : ℕ) (result : Result ⊤ Reason) (new : MachineState D) : Type 0 where
+  pub ok : OnOk result (new ≡ record old { disk = new.disk; fence = max old.fence version })
+  pub err : IfErr result (λ why. why ≢ reason.Disk → new ≡ record old { disk = new.disk })
+  pub fault : IsErrOf result reason.Disk → new ≡ shut_machine standing.Down old new.disk
+  pub refused : IsRefusedFor (refusal old (call.Fence version)) result
+  pub disk : BringsTo (a_fence version) result (state old.disk) (state new.disk)
+  pub step : IsStep state old (call.Fence version) (reply_by (λ _. reply.Done) result) new
+
+-- what a store's fence did
+pub record FenceBy {D : Type 0} (state : D → DiskState) (old mid : MachineState D) (version : ℕ) (said : Result ⊤ DiskErr) : Type 0 where
+  pub ok : OnOk said (mid ≡ record old { disk = mid.disk; fence = max old.fence version })
+  pub err : IfErr said (λ why. mid ≡ record old { disk = mid.disk })
+  pub disk : Brings (a_fence version) said (state old.disk) (state mid.disk)
+
+left_plain : (r : ReplicaState) (version : ℕ) (why : Reason) → IsPlain why → r ≡ after r (call.Fence version) (reply.Refused why)
+left_plain r version reason.Down plain = refl
+left_plain r version reason.Boot plain = refl
+left_plain r version reason.NotOwned plain = refl
+left_plain r version (reason.Stale fence) plain = refl
+left_plain r version reason.Past plain = refl
+left_plain r version reason.Future plain = refl
+left_plain r version reason.Disk plain = absurd plain
+left_plain r version reason.Cut plain = absurd plain
+left_plain r version reason.Memory plain = absurd plain
+left_plain r version (reason.Corrupt damage) plain = absurd plain
+
+-- an open machine owns its shard at the version
+pub record IsOwning (s : Standing) (t : Option ℕ) (version : ℕ) : Type 0 where
+  pub open_ : s ≡ standing.Open
+  pub tenure : ℕ
+  pub owned : t ≡ Some tenure
+  pub tenure_low : tenure ≤ version
+
+owning_by : (tenure version : ℕ) (b : Bool) → nat_le tenure version ≡ b → cond b None (Some reason.NotOwned) ≡ None → IsOwning standing.Open (Some tenure) version
+owning_by tenure version true is e = record { open_ = refl; tenure = tenure; owned = refl; tenure_low = leb-true tenure version is }
+owning_by tenure version false is e = let wrong : Some reason.NotOwned ≡ None = e in absurd (cc)
+
+owning : (s : Standing) (t : Option ℕ) (version : ℕ) → option_or (shut s) (unowned t version) ≡ None → IsOwning s t version
+owning standing.Down t version e = let wrong : Some reason.Down ≡ None = e in absurd (cc)
+owning standing.Boot t version e = let wrong : Some reason.Boot ≡ None = e in absurd (cc)
+owning standing.Open None version e = let wrong : Some reason.NotOwned ≡ None = e in absurd (cc)
+owning standing.Open (Some tenure) version e = owning_by tenure version (nat_le tenure version) refl e
+
+module _ {D : Type 0} (state : D → DiskState) (old : MachineState D) (version : ℕ) where
+  alike : (r : ReplicaState) → IsMachineOf state r old → first_refusal r (call.Fence version) ≡ refusal old (call.Fence version)
+  alike r h = shut_alike state r old h (λ t f. unowned t version)
+
+  -- refused before the store was called
+  pub fence_refused : (why : Reason) → option_or (shut old.standing) (unowned old.tenure version) ≡ Some why → FenceDone state old version (Err why) old
+  fence_refused why first =
+      let plain = fence_plain old.standing old.tenure version why first in
+      let fault : (let r : Result ⊤ Reason = Err why in IsErrOf r reason.Disk) → ⊥ = λ f. plain_no_fault why plain (err_same f) in
+      record {
+        ok = tt;
+        err = λ not. refl;
+        fault = λ f. absurd (fault f);
+        refused = refused_some ⊤ (refusal old (call.Fence version)) why first;
+        disk = brings_none_to (a_fence version) why (state old.disk) (plain_no_fault why plain);
+        step = record {
+          lawful = λ r h past n s given. plain_lawful _ past s r (call.Fence version) (λ e. e) why plain (alike r h ∙ first);
+          follows = λ r h. subst (λ (q : ReplicaState). IsMachineOf state q old) (left_plain r version why plain) h;
+          faults = counts_same _ _ (λ e. plain_no_fault why plain (reply_same e));
+        };
+      }
+    where
+      err_same : (let r : Result ⊤ Reason = Err why in IsErrOf r reason.Disk) → why ≡ reason.Disk
+      err_same f = cc
+
+      reply_same : reply.Refused why ≡ reply.Refused reason.Disk → why ≡ reason.Disk
+      reply_same e = cc
+
+  module _ (first : option_or (shut old.standing) (unowned old.tenure version) ≡ None) (mid : MachineState D) where
+    is_owner : (r : ReplicaState) → IsMachineOf state r old → IsOwner r version
+    is_owner r h =
+        let own = owning old.standing old.tenure version first in
+        let all = h.open_ own.open_ in
+        record { open_ = sym h.stands ∙ own.open_; tenure = own.tenure; owned = sym all.tenure ∙ own.owned; tenure_low = own.tenure_low }
+
+    answer_counts : (said : Result ⊤ DiskErr) → FenceBy state old mid version said → CountsFaults (reply_by (λ _. reply.Done) (settled_answer said) ≡ reply.Refused reason.Disk) (state old.disk).faults (state mid.disk).faults
+    answer_counts said by = reply_counts (λ _. reply.Done) (settled_answer said) _ _ (λ x e. cc) (brings_settled (a_fence version) said (state old.disk) (state mid.disk) by.disk).faults
+
+    fence_step : (said : Result ⊤ DiskErr) → FenceBy state old mid version said → IsStep state old (call.Fence version) (reply_by (λ _. reply.Done) (settled_answer said)) (settled said mid)
+    fence_step (Ok u) by = record {
+      lawful = λ r h past n s given. is_owner r h;
+      follows = λ r h.
+          subst (λ (m : MachineState D). IsMachineOf state (after r (call.Fence version) reply.Done) m) (sym by.ok)
+          (fence_follows state r old mid.disk version (owning old.standing old.tenure version first).open_ by.disk.tells (λ t. by.disk.acknowledged t) h);
+      faults = answer_counts (Ok u) by;
+    }
+    fence_step (Err refused.Failed) by = record {
+      lawful = λ r h past n s given. record { uses = refl; taken = alike r h ∙ first; clock = tt; there = tt };
+      follows = λ r h.
+          let q : ReplicaState = record r { standing = standing.Down; doubt_fences = r.doubt_fences ++ version ∷ [] } in
+          let all = h.open_ (owning old.standing old.tenure version first).open_ in
+          subst (λ (m : MachineState D). IsMachineOf state q m) (ap (λ (m : MachineState D). shut_machine standing.Down m mid.disk) (sym by.err))
+          (shut_follows state r q old standing.Down mid.disk (λ e. cc) refl refl refl h
+          (λ b. each_step (state old.disk) (state mid.disk) (IsHeldBy r) (IsHeldBy q) by.disk.tells (λ t. (by.disk.any_moment t).images)
+          (λ x y may held. held_fence_doubt r version all.sure_fences q refl refl refl (record { kept = λ o m. m; gained = λ o m. absurd m; gone = λ o stays. stays }) (λ t a. a) (λ t a. a) x y may held) (h.files b)));
+      faults = answer_counts (Err refused.Failed) by;
+    }
+    fence_step (Err refused.Memory) by = record {
+      lawful = λ r h past n s given. tt;
+      follows = λ r h. subst (λ (m : MachineState D). IsMachineOf state r m) (sym by.err) (kept_machine state r old mid.disk by.disk.tells (λ t. by.disk.unchanged t refl) h);
+      faults = answer_counts (Err refused.Memory) by;
+    }
+
+    fence_done_said : (said : Result ⊤ DiskErr) → FenceBy state old mid version said → FenceDone state old version (settled_answer said) (settled said mid)
+    fence_done_said (Ok u) by = record {
+      ok = by.ok;
+      err = tt;
+      fault = λ f. absurd (never f);
+      refused = refused_none (refusal old (call.Fence version)) (Ok u) first;
+      disk = brings_settled (a_fence version) (Ok u) (state old.disk) (state mid.disk) by.disk;
+      step = fence_step (Ok u) by;
+    }
+      where
+        never : (let r : Result ⊤ Reason = Ok u in IsErrOf r reason.Disk) → ⊥
+        never f = cc
+    fence_done_said (Err refused.Failed) by = record {
+      ok = tt;
+      err = λ not. absurd (not refl);
+      fault = λ f. ap (λ (m : MachineState D). shut_machine standing.Down m mid.disk) by.err;
+      refused = refused_none (refusal old (call.Fence version)) (Err refused.Failed) first;
+      disk = brings_settled (a_fence version) (Err refused.Failed) (state old.disk) (state mid.disk) by.disk;
+      step = fence_step (Err refused.Failed) by;
+    }
+    fence_done_said (Err refused.Memory) by = record {
+      ok = tt;
+      err = λ not. by.err;
+      fault = λ f. absurd (never f);
+      refused = refused_none (refusal old (call.Fence version)) (Err refused.Memory) first;
+      disk = brings_settled (a_fence version) (Err refused.Memory) (state old.disk) (state mid.disk) by.disk;
+      step = fence_step (Err refused.Memory) by;
+    }
+      where
+        never : (let r : Result ⊤ Reason = Err reason.Memory in IsErrOf r reason.Disk) → ⊥
+        never f = cc
+
+    pub fence_done : (said : Result ⊤ DiskErr) (result : Result ⊤ Reason) (new : MachineState D) → result ≡ settled_answer said → new ≡ settled said mid → FenceBy state old mid version said → FenceDone state old version result new
+    fence_done said result new is left by =
+        subst (λ (x : Result ⊤ Reason). FenceDone state old version x new) (sym is) (subst (λ (m : MachineState D). FenceDone state old version (settled_answer said) m) (sym left) (fence_done_said said by))
+
+pub fence_by : {D : Type 0} (state : D → DiskState) (s : Standing) (tenure : Option ℕ) (begun : ℕ) (old : MachineState D) (before now : StoreState D) (version : ℕ) (said : Result ⊤ DiskErr) → machine_of s tenure begun before ≡ old
+    → OnOk said (now ≡ record { disk = now.disk; open_ = true; content = before.content; tenure = before.tenure; fence = max before.fence version }) → OnErr said (now ≡ record before { disk = now.disk })
+    → Brings (a_fence version) said (state before.disk) (state now.disk) → FenceBy state old (machine_of s tenure begun now) version said
+fence_by state s tenure begun old before now version said view ok err brings =
+    subst (λ (m : MachineState _). FenceBy state m (machine_of s tenure begun now) version said) view (record { ok = on_ok_as said (ap (machine_of s tenure begun)) ok; err = err_as said err; disk = brings })
+  where
+    err_as : (said : Result ⊤ DiskErr) → OnErr said (now ≡ record before { disk = now.disk }) → IfErr said (λ why. machine_of s tenure begun now ≡ record (machine_of s tenure begun before) { disk = now.disk })
+    err_as (Ok u) e = tt
+    err_as (Err why) e = ap (machine_of s tenure begun) e
+
+-- an open machine's store is open, where nothing stands against a fence
+pub fence_open : (s : Standing) → shut s ≡ None → s ≡ standing.Open
+fence_open standing.Down e = let wrong : Some reason.Down ≡ None = e in absurd (cc)
+fence_open standing.Boot e = let wrong : Some reason.Boot ≡ None = e in absurd (cc)
+fence_open standing.Open e = refl
+
+-- the store stays as open as it was
+pub fence_kept : {D : Type 0} (s : Standing) (before now : StoreState D) (version : ℕ) (said : Result ⊤ DiskErr) → s ≡ standing.Open → IsStoreOf s before
+    → OnOk said (now ≡ record { disk = now.disk; open_ = true; content = before.content; tenure = before.tenure; fence = max before.fence version }) → OnErr said (now ≡ record before { disk = now.disk }) → IsStoreOf s now
+fence_kept s before now version (Ok u) is_open of ok err = store_stays s now is_open (ap (λ (x : StoreState _). x.open_) ok)
+fence_kept s before now version (Err why) is_open of ok err = store_stays s now is_open (ap (λ (x : StoreState _). x.open_) err ∙ store_open s before of is_open)

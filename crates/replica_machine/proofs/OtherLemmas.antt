@@ -1,0 +1,212 @@
+-- Stops, restarts, reports and reads are steps of the core.
+use Rattle.std.proofs.Common.{◌≡◌, inl, inr, ℕ, List, [], refl, sym, ap, subst, ◌∙◌, true, Some, None, Result, Ok, Err, arith}
+use Rattle.std.specs.Prelude.{⊤, ◌≢◌, Option, slice_get, OnOk, IfErr, IsErrOf}
+use Rattle.std.proofs.lemmas.Bool.{OnTrue_from}
+use Rattle.m3_model.specs.Reads.{space_picked}
+use Rattle.m3_model.specs.declared.point.Pick.{Pick}
+use Rattle.m3_model.specs.declared.point.Series.{Series}
+use Rattle.m3_model.specs.declared.reason.Reason.{Reason}
+use Rattle.m3_model.specs.declared.reason.Reason.TheVariants as reason
+use Rattle.m3_model.specs.declared.replica.Report.{Report}
+use Rattle.m3_model.specs.declared.replica.Standing.{Standing}
+use Rattle.m3_model.specs.declared.replica.Standing.TheVariants as standing
+use Rattle.m3_model.specs.declared.rules.Rules.{Rules}
+use Rattle.m3_model.specs.declared.rules.Space.{Space}
+use Rattle.m3_outside.specs.Files.{Files, Stays}
+use Rattle.m3_outside.specs.DiskState.{DiskState, StepOf}
+use Rattle.m3_outside.specs.DiskCalls.{Restarts}
+use Rattle.m3_outside.specs.declared.disk_err.DiskErr.{DiskErr}
+use Rattle.m3_outside.specs.declared.disk_err.DiskErr.TheVariants as refused
+use Rattle.m3_outside.proofs.Moments.{step_as}
+use Rattle.shard_store.specs.Gains.{nothing, Gains}
+use Rattle.shard_store.specs.Stores.{StoreState, closed_over}
+use Rattle.shard_store.proofs.GainLemmas.{gains_nothing}
+use Rattle.shard_store.proofs.LogStepLemmas.{counts_for, counts_same}
+use Rattle.cluster_core.specs.Replicas.{fresh}
+use Rattle.cluster_core.specs.Rows.{IsReport, open_fence}
+use Rattle.cluster_core.specs.declared.event.StepCall.TheVariants as call
+use Rattle.cluster_core.specs.declared.event.StepReply.TheVariants as reply
+use Rattle.cluster_core.specs.declared.replica_state.ReplicaState.{ReplicaState}
+use Rattle.replica_machine.specs.Machines.{MachineState, IsStoreOf, IsMachineOf, IsHeldBy, IsLiveAnswer, IsOwn, first_machine, shut_machine, unserved, reason_of, left_by, settled_answer}
+use Rattle.replica_machine.specs.Steps.{reply_by, IsStep, RestartsTo}
+use Rattle.replica_machine.proofs.LiveLemmas.{live_found}
+use Rattle.replica_machine.proofs.ReasonLemmas.{own_reason}
+use Rattle.replica_machine.proofs.DiskLemmas.{each_step}
+use Rattle.replica_machine.proofs.HeldByLemmas.{held_nothing}
+use Rattle.replica_machine.proofs.StepLemmas.{machine_of, stands_at, kept_machine, shut_follows, serving, shown}
+
+pub stays_nothing : (x y : Files) → Stays x y → Gains nothing x y
+stays_nothing x y same = subst (Gains nothing x) (sym same) (gains_nothing x)
+
+-- a store of which only the disk changed is still its machine's
+pub store_moved : {D : Type 0} (s : Standing) (store after : StoreState D) → after ≡ record store { disk = after.disk } → IsStoreOf s store → IsStoreOf s after
+store_moved standing.Down store after is of = is ∙ ap (λ (x : StoreState _). record x { disk = after.disk }) of
+store_moved standing.Boot store after is of = is ∙ ap (λ (x : StoreState _). record x { disk = after.disk }) of
+store_moved standing.Open store after is of = ap (λ (x : StoreState _). x.open_) is ∙ of
+
+module _ {D : Type 0} (state : D → DiskState) (old : MachineState D) where
+  pub stop_step : IsStep state old call.Stop reply.Done (shut_machine standing.Down old old.disk)
+  stop_step = record {
+    lawful = λ r h past n s given. tt;
+    follows = λ r h.
+        let q : ReplicaState = record r { standing = standing.Down } in
+        shut_follows state r q old standing.Down old.disk (λ e. cc) refl refl refl h (λ b tells c image. held_nothing r q (stands_at r standing.Down) c c (gains_nothing c) (h.files b tells c image));
+    faults = counts_same _ _ (λ e. cc);
+  }
+
+  report_fence : (r : ReplicaState) → IsMachineOf state r old → (s : Standing) → old.standing ≡ s → open_fence s old.fence ≡ open_fence s r.fence
+  report_fence r h standing.Down e = refl
+  report_fence r h standing.Boot e = refl
+  report_fence r h standing.Open e = (h.open_ e).fence
+
+  pub report_step : (report : Report) → report.standing ≡ old.standing → report.fence ≡ open_fence old.standing old.fence → IsStep state old call.Report (reply.Told report) old
+  report_step report stands fence = record {
+    lawful = λ r h past n s given. record {
+      standing = stands ∙ h.stands;
+      fence = fence ∙ report_fence r h old.standing refl ∙ ap (λ (s : Standing). open_fence s r.fence) h.stands;
+    };
+    follows = λ r h. h;
+    faults = counts_same _ _ (λ e. cc);
+  }
+
+  pub read_found : (client number version from to : ℕ) (rules : Rules) (pick : Pick) (space : Space) (series : List Series) → slice_get rules.spaces (space_picked pick) ≡ Some space → unserved old version ≡ None
+      → IsLiveAnswer old.content rules pick from to series → IsStep state old (call.Read client number rules version pick from to) (reply.Found series) old
+  read_found client number version from to rules pick space series at up answer = record {
+    lawful = λ r h past n s given. (serving state r old version h up, given, OnTrue_from (state old.disk).tells _ (λ tells. live_found r old.content rules pick from to space series at (shown state r old version h up tells) answer));
+    follows = λ r h. h;
+    faults = counts_same _ _ (λ e. cc);
+  }
+
+pub first_follows : {D : Type 0} (state : D → DiskState) (disk : D) → IsMachineOf state fresh (first_machine disk)
+first_follows state disk = record {
+  stands = refl;
+  begun = record { none_higher = λ k d lt. absurd (omega (arith, lt)); one_of = inl refl };
+  empty = λ e. refl;
+  open_ = λ e. cc;
+  files = λ b. absurd (b refl);
+}
+
+-- ---- restarts
+
+-- a restart of the disk, as the machine answers it
+restarts_as : (said : Result ⊤ DiskErr) (a b : DiskState) → Restarts said a b → RestartsTo (settled_answer said) a b
+restarts_as (Ok u) a b r = record {
+  proceeds = record { tells = r.proceeds.tells; faults = counts_for _ _ _ _ (λ e. absurd (never e)) r.proceeds.faults; told = r.proceeds.told };
+  image = r.image;
+  only = r.only;
+  refused = r.refused;
+}
+  where
+    never : (let x : Result ⊤ Reason = Ok u in IsErrOf x reason.Disk) → ⊥
+    never e = cc
+restarts_as (Err refused.Failed) a b r = record {
+  proceeds = record { tells = r.proceeds.tells; faults = counts_for _ _ _ _ (λ e. refl) r.proceeds.faults; told = r.proceeds.told };
+  image = r.image;
+  only = r.only;
+  refused = r.refused;
+}
+restarts_as (Err refused.Memory) a b r = record {
+  proceeds = record { tells = r.proceeds.tells; faults = counts_for _ _ _ _ (λ e. absurd (never e)) r.proceeds.faults; told = r.proceeds.told };
+  image = r.image;
+  only = r.only;
+  refused = r.refused;
+}
+  where
+    never : (let x : Result ⊤ Reason = Err reason.Memory in IsErrOf x reason.Disk) → ⊥
+    never e = cc
+
+-- what a restart answers and leaves
+pub record RestartDone {D : Type 0} (state : D → DiskState) (old : MachineState D) (result : Result ⊤ Reason) (new : MachineState D) : Type 0 where
+  pub ok : OnOk result (new ≡ shut_machine standing.Boot old new.disk)
+  pub memory : IsErrOf result reason.Memory → new ≡ record old { disk = new.disk }
+  pub fault : IsErrOf result reason.Disk → new ≡ shut_machine standing.Down old new.disk
+  pub err : IfErr result IsOwn
+  pub restarts : RestartsTo result (state old.disk) (state new.disk)
+  pub step : IsStep state old call.Restart (reply_by (λ _. reply.Done) result) new
+
+module _ {D : Type 0} (state : D → DiskState) (old : MachineState D) (d : D) where
+  pub restart_ok : (u : ⊤) → Restarts (Ok u) (state old.disk) (state d) → RestartDone state old (Ok u) (shut_machine standing.Boot old d)
+  restart_ok u restarts = record {
+    ok = refl;
+    memory = λ f. absurd (no_memory f);
+    fault = λ f. absurd (no_fault f);
+    err = tt;
+    restarts = restarts_as (Ok u) (state old.disk) (state d) restarts;
+    step = record {
+      lawful = λ r h past n s given. tt;
+      follows = λ r h.
+          let q : ReplicaState = record r { standing = standing.Boot } in
+          shut_follows state r q old standing.Boot d (λ e. cc) refl refl refl h
+          (λ b tells c image.
+          let told : (state old.disk).tells ≡ true = sym restarts.proceeds.tells ∙ tells in
+          let files = (state d).files in
+          let held = held_nothing r q (stands_at r standing.Boot) files files (gains_nothing files) (h.files b told files (restarts.image told)) in
+          subst (IsHeldBy q) (sym (restarts.only told c image)) held);
+      faults = counts_for _ _ _ _ (λ e. cc) restarts.proceeds.faults;
+    };
+  }
+    where
+      no_memory : (let x : Result ⊤ Reason = Ok u in IsErrOf x reason.Memory) → ⊥
+      no_memory f = cc
+
+      no_fault : (let x : Result ⊤ Reason = Ok u in IsErrOf x reason.Disk) → ⊥
+      no_fault f = cc
+
+  steps : (e : DiskErr) → (let x : Result ⊤ DiskErr = Err e in Restarts x (state old.disk) (state d)) → (state old.disk).tells ≡ true → (c : Files) → (state d).images c → StepOf (Gains nothing) (state old.disk).images c
+  steps e restarts tells c image = step_as (λ x y was is. stays_nothing x y is) c ((restarts.proceeds.told tells).images c image)
+
+  restart_left : (e : DiskErr) → (let x : Result ⊤ DiskErr = Err e in Restarts x (state old.disk) (state d)) → RestartDone state old (Err (reason_of e)) (left_by e (record old { disk = d }))
+  restart_left refused.Failed restarts = record {
+    ok = tt;
+    memory = λ f. absurd (no_memory f);
+    fault = λ f. refl;
+    err = inr refl;
+    restarts = restarts_as (Err refused.Failed) (state old.disk) (state d) restarts;
+    step = record {
+      lawful = λ r h past n s given. record { uses = refl; taken = refl; clock = tt; there = tt };
+      follows = λ r h.
+          let q : ReplicaState = record r { standing = standing.Down } in
+          shut_follows state r q old standing.Down d (λ e. cc) refl refl refl h
+          (λ b. each_step (state old.disk) (state d) (IsHeldBy r) (IsHeldBy q) restarts.proceeds.tells (steps refused.Failed restarts) (λ x y gains held. held_nothing r q (stands_at r standing.Down) x y gains held) (h.files b));
+      faults = counts_for _ _ _ _ (λ e. refl) restarts.proceeds.faults;
+    };
+  }
+    where
+      no_memory : (let x : Result ⊤ Reason = Err reason.Disk in IsErrOf x reason.Memory) → ⊥
+      no_memory f = cc
+  restart_left refused.Memory restarts = record {
+    ok = tt;
+    memory = λ f. refl;
+    fault = λ f. absurd (no_fault f);
+    err = inl refl;
+    restarts = restarts_as (Err refused.Memory) (state old.disk) (state d) restarts;
+    step = record {
+      lawful = λ r h past n s given. tt;
+      follows = λ r h. kept_machine state r old d restarts.proceeds.tells (steps refused.Memory restarts) h;
+      faults = counts_for _ _ _ _ (λ e. cc) restarts.proceeds.faults;
+    };
+  }
+    where
+      no_fault : (let x : Result ⊤ Reason = Err reason.Memory in IsErrOf x reason.Disk) → ⊥
+      no_fault f = cc
+
+  pub restart_refused : (e : DiskErr) (why : Reason) (new : MachineState D) → why ≡ reason_of e → new ≡ left_by e (record old { disk = d }) → (let x : Result ⊤ DiskErr = Err e in Restarts x (state old.disk) (state d)) → RestartDone state old (Err why) new
+  restart_refused e why new is left restarts =
+      subst (λ (w : Reason). RestartDone state old (Err w) new) (sym is) (subst (λ (m : MachineState D). RestartDone state old (Err (reason_of e)) m) (sym left) (restart_left e restarts))
+
+-- the same by a machine's parts
+module _ {D : Type 0} (state : D → DiskState) (s : Standing) (tenure : Option ℕ) (begun : ℕ) (old : MachineState D) (before now : StoreState D) (view : machine_of s tenure begun before ≡ old) where
+  pub restart_refused_of : (e : DiskErr) (why : Reason) (new : MachineState D) → now ≡ record before { disk = now.disk } → why ≡ reason_of e → new ≡ left_by e (machine_of s tenure begun now) → (let x : Result ⊤ DiskErr = Err e in Restarts x (state before.disk) (state now.disk))
+      → RestartDone state old (Err why) new
+  restart_refused_of e why new moved is left restarts =
+      subst (λ (m : MachineState D). RestartDone state m (Err why) new) view (restart_refused state (machine_of s tenure begun before) now.disk e why new is (left ∙ ap (left_by e) (ap (machine_of s tenure begun) moved)) restarts)
+
+  pub restart_ok_of : (u : ⊤) → now ≡ closed_over now.disk → Restarts (Ok u) (state before.disk) (state now.disk) → RestartDone state old (Ok u) (machine_of standing.Boot tenure begun now)
+  restart_ok_of u closed restarts =
+      subst (λ (m : MachineState D). RestartDone state m (Ok u) (machine_of standing.Boot tenure begun now)) view
+      (subst (λ (store : StoreState D). RestartDone state (machine_of s tenure begun before) (Ok u) (machine_of standing.Boot tenure begun store)) (sym closed) (restart_ok state (machine_of s tenure begun before) now.disk u restarts))
+
+  pub stop_step_of : now ≡ closed_over before.disk → IsStep state old call.Stop reply.Done (machine_of standing.Down tenure begun now)
+  stop_step_of closed =
+      subst (λ (m : MachineState D). IsStep state m call.Stop reply.Done (machine_of standing.Down tenure begun now)) view
+      (subst (λ (store : StoreState D). IsStep state (machine_of s tenure begun before) call.Stop reply.Done (machine_of standing.Down tenure begun store)) (sym closed) (stop_step state (machine_of s tenure begun before)))

@@ -1,0 +1,125 @@
+-- What calls leave of a machine is what they leave of its replica.
+use Rattle.std.proofs.Common.{◌≡◌, inl, inr, ⊎_elim, ℕ, ◌≤◌, max, true, List, [], ◌∷◌, ◌++◌, refl, sym, ap, subst, ◌∙◌, Option, Some, None, Result, Ok, Err}
+use Rattle.std.specs.Prelude.{⊤, ◌≢◌, OnOk}
+use Rattle.m3_model.specs.Contents.{Contents, Holds, raised, point_at}
+use Rattle.m3_model.specs.Members.{IsIn}
+use Rattle.m3_model.specs.declared.point.Point.{Point}
+use Rattle.m3_model.specs.declared.reason.Reason.{Reason}
+use Rattle.m3_model.specs.declared.replica.Standing.{Standing}
+use Rattle.m3_model.specs.declared.replica.Standing.TheVariants as standing
+use Rattle.m3_model.proofs.JoinLemmas.{raised_holds, raised_keeps, raised_source}
+use Rattle.m3_model.proofs.MemberLemmas.{IsIn-append_left, IsIn-append_cases, IsIn-push}
+use Rattle.m3_outside.specs.Files.{Files}
+use Rattle.m3_outside.specs.DiskState.{DiskState, EachImage, StepOf}
+use Rattle.shard_store.specs.Gains.{nothing, a_point, a_fence, Gains}
+use Rattle.cluster_core.specs.Replicas.{Shows, greater}
+use Rattle.cluster_core.specs.Rows.{IsServing, IsOwner}
+use Rattle.cluster_core.specs.declared.replica_state.ReplicaState.{ReplicaState}
+use Rattle.shard_store.specs.Stores.{StoreState}
+use Rattle.replica_machine.specs.Machines.{MachineState, IsStoreOf, IsMachineOf, IsHeldBy, IsGreatest, shut_machine, unserved}
+use Rattle.replica_machine.proofs.DiskLemmas.{each_step}
+use Rattle.replica_machine.proofs.HeldByLemmas.{StandsElse, held_nothing, held_point, held_fence, greater_is_max}
+use Rattle.replica_machine.proofs.RefusalLemmas.{IsUp, up}
+
+-- a content that gains the point that the replica takes shows it still
+shows_raised : (r : ReplicaState) (c : Contents) (p : Point) → Shows r c → Shows (record r { sure = r.sure ++ p ∷ [] }) (raised c p)
+shows_raised r c p h = record {
+  sure = λ k v e.
+      elim (raised_source c p k v e) as (λ _. IsIn (r.sure ++ p ∷ []) (point_at k v)) [
+        | inl new ↦ subst (IsIn (r.sure ++ p ∷ [])) new (IsIn-push r.sure p)
+        | inr old ↦ IsIn-append_left r.sure (p ∷ []) (point_at k v) (h.sure k v old)
+      ];
+  all = λ q m stays.
+      elim (IsIn-append_cases r.sure (p ∷ []) q m) as (λ _. Holds (raised c p) q) [
+        | inl old ↦ raised_keeps c p q (h.all q old stays)
+        | inr new ↦ elim new as (λ _. Holds (raised c p) q) [ inl same ↦ subst (Holds (raised c p)) same (raised_holds c p) | inr none ↦ absurd none ]
+      ];
+}
+
+pub stands_same : (r : ReplicaState) → StandsElse r r
+stands_same r = record { sure = refl; moves = record { kept = λ p m. m; gained = λ p m. absurd m; gone = λ p stays. stays }; numbers = record { begun = λ t all. all; known = λ t is. is; fence = λ t f is. is } }
+
+pub stands_at : (r : ReplicaState) (s : Standing) → StandsElse r (record r { standing = s })
+stands_at r s = record { sure = refl; moves = record { kept = λ p m. m; gained = λ p m. absurd m; gone = λ p stays. stays }; numbers = record { begun = λ t all. all; known = λ t is. is; fence = λ t f is. is } }
+
+module _ {D : Type 0} (state : D → DiskState) where
+  -- a machine whose disk is as it was
+  pub kept_machine : (r : ReplicaState) (old : MachineState D) (d : D) → (state d).tells ≡ (state old.disk).tells → ((state old.disk).tells ≡ true → (c : Files) → (state d).images c → StepOf (Gains nothing) (state old.disk).images c)
+      → IsMachineOf state r old → IsMachineOf state r (record old { disk = d })
+  kept_machine r old d same steps h = record {
+    stands = h.stands;
+    begun = h.begun;
+    empty = h.empty;
+    open_ = λ o. let a = h.open_ o in record { begun = a.begun; tenure = a.tenure; fence = a.fence; sure = a.sure; sure_fences = a.sure_fences; shows = λ t. a.shows (sym same ∙ t) };
+    files = λ b. each_step (state old.disk) (state d) (IsHeldBy r) (IsHeldBy r) same steps (λ x y gains held. held_nothing r r (stands_same r) x y gains held) (h.files b);
+  }
+
+  -- a machine that isn't open any more
+  pub shut_follows : (r q : ReplicaState) (old : MachineState D) (s : Standing) (d : D) → s ≢ standing.Open → q.standing ≡ s → q.begun ≡ r.begun → q.sure ≡ r.sure → IsMachineOf state r old → (r.begun ≢ [] → EachImage (state d) (IsHeldBy q))
+      → IsMachineOf state q (shut_machine s old d)
+  shut_follows r q old s d not stands begun sure h files = record {
+    stands = sym stands;
+    begun = subst (IsGreatest old.begun) (sym begun) h.begun;
+    empty = λ e. sure ∙ h.empty (sym begun ∙ e);
+    open_ = λ o. absurd (not o);
+    files = λ b. files (λ e. b (begun ∙ e));
+  }
+
+  -- with a point that is in the log
+  pub put_follows : (r : ReplicaState) (old : MachineState D) (d : D) (p : Point) → old.standing ≡ standing.Open → (state d).tells ≡ (state old.disk).tells
+      → ((state old.disk).tells ≡ true → (c : Files) → (state d).images c → StepOf (Gains (a_point p)) (state old.disk).images c) → IsMachineOf state r old
+      → IsMachineOf state (record r { sure = r.sure ++ p ∷ [] }) (record old { disk = d; content = raised old.content p })
+  put_follows r old d p is_open same steps h =
+      let a = h.open_ is_open in
+      record {
+        stands = h.stands;
+        begun = h.begun;
+        empty = λ e. absurd (a.begun e);
+        open_ = λ o. record { begun = a.begun; tenure = a.tenure; fence = a.fence; sure = a.sure; sure_fences = a.sure_fences; shows = λ t. shows_raised r old.content p (a.shows (sym same ∙ t)) };
+        files = λ b. each_step (state old.disk) (state d) (IsHeldBy r) (IsHeldBy (record r { sure = r.sure ++ p ∷ [] })) same steps (λ x y gains held. held_point r p x y gains held) (h.files b);
+      }
+
+  -- with a fence that is in the log
+  pub fence_follows : (r : ReplicaState) (old : MachineState D) (d : D) (version : ℕ) → old.standing ≡ standing.Open → (state d).tells ≡ (state old.disk).tells
+      → ((state old.disk).tells ≡ true → (c : Files) → (state d).images c → StepOf (Gains (a_fence version)) (state old.disk).images c) → IsMachineOf state r old
+      → IsMachineOf state (record r { fence = greater r.fence version }) (record old { disk = d; fence = max old.fence version })
+  fence_follows r old d version is_open same steps h =
+      let a = h.open_ is_open in
+      record {
+        stands = h.stands;
+        begun = h.begun;
+        empty = h.empty;
+        open_ = λ o. record {
+          begun = a.begun;
+          tenure = a.tenure;
+          fence = ap (λ (f : ℕ). max f version) a.fence ∙ sym (greater_is_max r.fence version);
+          sure = a.sure;
+          sure_fences = a.sure_fences;
+          shows = λ t. let shown = a.shows (sym same ∙ t) in record { sure = shown.sure; all = shown.all };
+        };
+        files = λ b. each_step (state old.disk) (state d) (IsHeldBy r) (IsHeldBy (record r { fence = greater r.fence version })) same steps (λ x y gains held. held_fence r version a.sure_fences x y gains held) (h.files b);
+      }
+
+  -- where nothing stands against a version the replica serves it
+  pub serving : (r : ReplicaState) (m : MachineState D) (version : ℕ) → IsMachineOf state r m → unserved m version ≡ None → IsServing r version
+  serving r m version h e =
+      let is_up : IsUp m.standing m.tenure m.fence version = up m.standing m.tenure m.fence version e in
+      let all = h.open_ is_up.open_ in
+      record {
+        owner = record { open_ = sym h.stands ∙ is_up.open_; tenure = is_up.tenure; owned = sym all.tenure ∙ is_up.owned; tenure_low = is_up.tenure_low };
+        fence_low = subst (λ f. f ≤ version) all.fence is_up.fence_low;
+      }
+
+  pub shown : (r : ReplicaState) (m : MachineState D) (version : ℕ) → IsMachineOf state r m → unserved m version ≡ None → (state m.disk).tells ≡ true → Shows r m.content
+  shown r m version h e tells = (h.open_ (up m.standing m.tenure m.fence version e).open_).shows tells
+
+-- the store of an open machine is open
+pub store_open : {D : Type 0} (s : Standing) (store : StoreState D) → IsStoreOf s store → s ≡ standing.Open → store.open_ ≡ true
+store_open s store of is_open = subst (λ (x : Standing). IsStoreOf x store) is_open of
+
+pub store_stays : {D : Type 0} (s : Standing) (store : StoreState D) → s ≡ standing.Open → store.open_ ≡ true → IsStoreOf s store
+store_stays s store is_open open_ = subst (λ (x : Standing). IsStoreOf x store) (sym is_open) open_
+
+-- a machine by its own fields and its store
+abbrev pub machine_of : {D : Type 0} → Standing → Option ℕ → ℕ → StoreState D → MachineState D
+machine_of s tenure begun store = record { standing = s; tenure = tenure; begun = begun; fence = store.fence; content = store.content; disk = store.disk }

@@ -1,0 +1,54 @@
+-- How a machine begins a tenure.
+use Rattle.std.specs.Prelude.{◌≡◌, ◌⊎◌, ℕ, ◌<◌, ◌≤◌, max, [], List, Some}
+use Rattle.m3_model.specs.Contents.{content_of}
+use Rattle.m3_model.specs.declared.point.Point.{Point}
+use Rattle.m3_model.specs.declared.reason.Reason.{Reason}
+use Rattle.m3_model.specs.declared.reason.Reason.TheVariants as reason
+use Rattle.m3_model.specs.declared.replica.Standing.TheVariants as standing
+use Rattle.m3_outside.specs.Files.{Files}
+use Rattle.m3_outside.specs.DiskState.{DiskState, Told}
+use Rattle.shard_store.specs.Held.{Held}
+use Rattle.shard_store.specs.declared.load.LoadErr.{LoadErr}
+use Rattle.shard_store.specs.declared.load.LoadErr.TheVariants as failures
+use Rattle.replica_machine.specs.Damages.{damage_of}
+use Rattle.replica_machine.specs.Machines.{MachineState, shut_machine}
+use Rattle.replica_machine.specs.declared.machine.Began.{Began}
+
+-- from Boot: open with what the files hold, of which the tenure isn't higher
+pub record BeganFrom {D : Type 0} (state : D → DiskState) (tenure : ℕ) (old new : MachineState D) (began : Began) : Type 0 where
+  pub tenure_found : ℕ
+  pub fence_found : ℕ
+  pub held : Told (state old.disk) (Held began.points tenure_found fence_found)
+  pub not_higher : tenure_found ≤ tenure
+  pub fence_is : began.fence ≡ max fence_found tenure
+  pub new_is : new ≡ record { standing = standing.Open; tenure = Some tenure; begun = tenure; fence = began.fence; content = content_of began.points; disk = new.disk }
+
+-- of an open machine: with the tenure, and a fence not below it
+pub record BeganAgain {D : Type 0} (tenure : ℕ) (old new : MachineState D) (began : Began) : Type 0 where
+  pub no_points : began.points ≡ []
+  pub fence_is : began.fence ≡ max old.fence tenure
+  pub new_is : new ≡ record old { tenure = Some tenure; begun = tenure; fence = began.fence; disk = new.disk }
+
+-- the files hold a higher tenure
+pub record HoldsHigher (tenure : ℕ) (files : Files) : Type 0 where
+  pub points : List Point
+  pub held_tenure : ℕ
+  pub fence : ℕ
+  pub held : Held points held_tenure fence files
+  pub higher : tenure < held_tenure
+
+-- a higher tenure was begun, or the files hold one
+abbrev pub MayBeUnowned : {D : Type 0} → (D → DiskState) → ℕ → MachineState D → Type 0
+MayBeUnowned state tenure m = (tenure < m.begun) ⊎ Told (state m.disk) (HoldsHigher tenure)
+
+-- the refusal of files that couldn't be read: a fault, want of memory, or damage, of which memory may be wanted to tell
+abbrev pub MayNotLoad : LoadErr → Reason → Type 0
+MayNotLoad failures.Disk why = why ≡ reason.Disk
+MayNotLoad failures.Memory why = why ≡ reason.Memory
+MayNotLoad (failures.Form number at) why = (why ≡ reason.Memory) ⊎ (why ≡ reason.Corrupt (damage_of number at))
+
+-- a fault or damage closes the machine, and each other refusal leaves it
+abbrev pub IsRefused : {D : Type 0} → MachineState D → MachineState D → Reason → Type 0
+IsRefused old new reason.Disk = new ≡ shut_machine standing.Down old new.disk
+IsRefused old new (reason.Corrupt damage) = new ≡ shut_machine standing.Down old new.disk
+IsRefused old new _ = new ≡ record old { disk = new.disk }

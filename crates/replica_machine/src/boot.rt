@@ -1,0 +1,158 @@
+ghost use Rattle.std.specs.Prelude.{◌≡◌, ◌≢◌, ◌⊎◌, ◌<◌, ◌≤◌, ◌↔◌, ℕ, [], max, true, Some, OnOk, IfOk, IfErr, IsErrOf};
+ghost use Rattle.m3_model.specs.Contents.{content_of};
+ghost use Rattle.m3_model.specs.declared.reason.Reason.TheVariants as reason;
+ghost use Rattle.m3_model.specs.declared.replica.Standing.TheVariants.{Down as IsDown, Boot as IsBoot, Open as IsOpen};
+ghost use Rattle.m3_outside.specs.DiskState.{DiskState, Told, EachImage};
+ghost use Rattle.commit_log.specs.LogEnd.{NoneFrom};
+ghost use Rattle.m3_model.specs.declared.reason.Damage.{Damage};
+ghost use Rattle.shard_store.specs.Held.{Held, IsSound};
+ghost use Rattle.shard_store.specs.Gains.{a_tenure};
+ghost use Rattle.cluster_core.specs.declared.event.StepCall.TheVariants as call;
+ghost use Rattle.cluster_core.specs.declared.event.StepReply.TheVariants as reply;
+ghost use Rattle.replica_machine.specs.Machines.{IsOwn};
+ghost use Rattle.replica_machine.specs.Damages.{damage_of, IsDamageOf};
+ghost use Rattle.replica_machine.specs.Boots.{BeganFrom, BeganAgain, HoldsHigher, MayBeUnowned, MayNotLoad, IsRefused};
+ghost use Rattle.replica_machine.specs.Steps.{reply_by, IsStep, BringsTo};
+
+use crate::damage::damaged_segment;
+use crate::machine::{Began, Machine};
+use crate::opening::open_store;
+use m3_model::reason::Reason;
+use m3_model::replica::Standing;
+use m3_model::seq::Seq;
+use m3_outside::disk::Disk;
+use m3_outside::disk_err::DiskErr;
+use shard_store::load::{LoadErr, Loaded};
+
+impl<D: Disk> Machine<D> {
+    /// Begins a tenure. From Boot it syncs and loads the files, begins a fresh segment of the log, has the tenure in it where
+    /// the files have a lower one, and is open, with a fence of at least the tenure. An open machine takes the tenure, has it in
+    /// the log where it is above all that it began with before, and gives no points.
+    ///
+    /// # Errors
+    ///
+    /// `Down`. `NotOwned`, exactly where a higher tenure was begun, or the files were read and hold one. Want of memory. Each
+    /// of these leaves the machine as it was. `Disk`, by a fault, and `Corrupt`, where a file is damaged: it names the file and
+    /// the first place in it at which no log goes on. Then the machine is closed.
+    pub fn boot(&mut self, tenure: u64) -> Result<Began, Reason>
+        ensures began { self.old.standing ≡ IsBoot → IfOk result (BeganFrom D.state tenure self.old self.new) }
+        ensures again { self.old.standing ≡ IsOpen → IfOk result (BeganAgain tenure self.old self.new) }
+        ensures down { IsErrOf result reason.Down ↔ (self.old.standing ≡ IsDown) }
+        ensures unowned { IsErrOf result reason.NotOwned → MayBeUnowned D.state tenure self.old }
+        ensures unowned_always { self.old.standing ≢ IsDown → tenure < self.old.begun → IsErrOf result reason.NotOwned }
+        ensures sound { (damage : Damage) → IsErrOf result (reason.Corrupt damage) → Told (D.state self.old.disk) (λ files. ¬ IsSound files) }
+        ensures damage { (damage : Damage) → IsErrOf result (reason.Corrupt damage) → Told (D.state self.old.disk) (IsDamageOf damage) }
+        ensures err { IfErr result (IsRefused self.old self.new) }
+        ensures disk { BringsTo (a_tenure tenure) result (D.state self.old.disk) (D.state self.new.disk) }
+        ensures step { IsStep D.state self.old (call.Begin tenure) (reply_by (λ began. reply.Began began.fence began.points) result) self.new }
+    {
+        if let Standing::Down = self.standing {
+            return Err(Reason::Down);
+        }
+        if tenure < self.begun {
+            return Err(Reason::NotOwned);
+        }
+        match self.standing {
+            Standing::Boot => self.begin(tenure),
+            _ => self.begin_again(tenure),
+        }
+    }
+
+    // From Boot, where no higher tenure was begun.
+    fn begin(&mut self, tenure: u64) -> Result<Began, Reason>
+        requires boot { self.old.standing ≡ IsBoot }
+        requires high { self.old.begun ≤ tenure }
+        ensures began { IfOk result (BeganFrom D.state tenure self.old self.new) }
+        ensures not_down { ¬ (IsErrOf result reason.Down) }
+        ensures unowned { IsErrOf result reason.NotOwned → Told (D.state self.old.disk) (HoldsHigher tenure) }
+        ensures damage { (damage : Damage) → IsErrOf result (reason.Corrupt damage) → Told (D.state self.old.disk) (IsDamageOf damage) }
+        ensures err { IfErr result (IsRefused self.old self.new) }
+        ensures disk { BringsTo (a_tenure tenure) result (D.state self.old.disk) (D.state self.new.disk) }
+        ensures step { IsStep D.state self.old (call.Begin tenure) (reply_by (λ began. reply.Began began.fence began.points) result) self.new }
+    {
+        let loaded = match self.store.load() {
+            Ok(loaded) => loaded,
+            Err(why) => return Err(self.not_loaded(why)),
+        };
+        if tenure < loaded.tenure {
+            return Err(Reason::NotOwned);
+        }
+        self.open(tenure, loaded)
+    }
+
+    // Of an open machine, where no higher tenure was begun.
+    fn begin_again(&mut self, tenure: u64) -> Result<Began, Reason>
+        requires open_ { self.old.standing ≡ IsOpen }
+        requires high { self.old.begun ≤ tenure }
+        ensures again { IfOk result (BeganAgain tenure self.old self.new) }
+        ensures err { IfErr result (IsRefused self.old self.new) }
+        ensures own { IfErr result IsOwn }
+        ensures disk { BringsTo (a_tenure tenure) result (D.state self.old.disk) (D.state self.new.disk) }
+        ensures step { IsStep D.state self.old (call.Begin tenure) (reply_by (λ began. reply.Began began.fence began.points) result) self.new }
+    {
+        if let Err(why) = self.store.begin(tenure) {
+            return Err(self.refused(why));
+        }
+        self.tenure = Some(tenure);
+        self.begun = tenure;
+        Ok(Began {
+            fence: self.store.present_fence(),
+            points: Seq::new(self.alloc),
+        })
+    }
+
+    // With what was loaded, of which the tenure isn't higher.
+    fn open(&mut self, tenure: u64, loaded: Loaded) -> Result<Began, Reason>
+        requires boot { self.old.standing ≡ IsBoot }
+        requires high { self.old.begun ≤ tenure }
+        requires not_higher { loaded.tenure ≤ tenure }
+        requires held { Told (D.state self.old.disk) (Held loaded.points loaded.tenure loaded.fence) }
+        requires only { EachImage (D.state self.old.disk) (λ c. c ≡ (D.state self.old.disk).files) }
+        requires fresh { Told (D.state self.old.disk) (NoneFrom loaded.next_segment) }
+        requires order { loaded.tenure ≤ loaded.fence }
+        ensures began { IfOk result (BeganFrom D.state tenure self.old self.new) }
+        ensures err { IfErr result (IsRefused self.old self.new) }
+        ensures own { IfErr result IsOwn }
+        ensures disk { BringsTo (a_tenure tenure) result (D.state self.old.disk) (D.state self.new.disk) }
+        ensures step { IsStep D.state self.old (call.Begin tenure) (reply_by (λ began. reply.Began began.fence began.points) result) self.new }
+    {
+        if let Err(why) = open_store(&mut self.store, &loaded, tenure) {
+            return Err(self.refused(why));
+        }
+        self.standing = Standing::Open;
+        self.tenure = Some(tenure);
+        self.begun = tenure;
+        let fence = self.store.present_fence();
+        Ok(Began {
+            fence,
+            points: loaded.points,
+        })
+    }
+
+    // What the machine answers where its files couldn't be read: a fault closes it, and so does damage.
+    fn not_loaded(&mut self, why: LoadErr) -> Reason
+        ensures why { MayNotLoad why result }
+        ensures left { IsRefused self.old self.new result }
+        ensures disk { self.new.disk ≡ self.old.disk }
+    {
+        match why {
+            LoadErr::Disk => self.refused(DiskErr::Failed),
+            LoadErr::Memory => self.refused(DiskErr::Memory),
+            LoadErr::Form { number, at } => self.damaged(number, at),
+        }
+    }
+
+    fn damaged(&mut self, number: u64, at: u64) -> Reason
+        ensures why { (result ≡ reason.Memory) ⊎ (result ≡ reason.Corrupt (damage_of number at)) }
+        ensures left { IsRefused self.old self.new result }
+        ensures disk { self.new.disk ≡ self.old.disk }
+    {
+        match damaged_segment(self.alloc, number, at) {
+            Ok(damage) => {
+                self.stop();
+                Reason::Corrupt(damage)
+            }
+            Err(_) => Reason::Memory,
+        }
+    }
+}

@@ -1,0 +1,39 @@
+ghost use Rattle.std.specs.Prelude.{◌≡◌, ◌≤◌, true, max, OnOk, OnErr};
+ghost use Rattle.m3_model.specs.Contents.{content_of};
+ghost use Rattle.m3_outside.specs.DiskState.{DiskState, Told, EachImage};
+ghost use Rattle.commit_log.specs.LogEnd.{NoneFrom};
+ghost use Rattle.shard_store.specs.Gains.{Brings, a_tenure};
+ghost use Rattle.shard_store.specs.Held.{Held};
+ghost use Rattle.shard_store.specs.Stores.{closed_over};
+
+use m3_outside::disk::Disk;
+use m3_outside::disk_err::DiskErr;
+use shard_store::load::Loaded;
+use shard_store::store::Store;
+
+/// Opens a store with what was loaded, and has the tenure in its log.
+///
+/// # Errors
+///
+/// A fault or want of memory. The store is closed then.
+pub(crate) fn open_store<D: Disk>(
+    store: &mut Store<D>,
+    loaded: &Loaded,
+    tenure: u64,
+) -> Result<(), DiskErr>
+    requires closed { store.old ≡ closed_over store.old.disk }
+    requires held { Told (D.state store.old.disk) (Held loaded.now.points loaded.now.tenure loaded.now.fence) }
+    requires only { EachImage (D.state store.old.disk) (λ c. c ≡ (D.state store.old.disk).files) }
+    requires fresh { Told (D.state store.old.disk) (NoneFrom loaded.now.next_segment) }
+    requires order { loaded.now.tenure ≤ loaded.now.fence }
+    ensures ok { OnOk result (store.new ≡ record { disk = store.new.disk; open_ = true; content = content_of loaded.now.points; tenure = max loaded.now.tenure tenure; fence = max loaded.now.fence tenure }) }
+    ensures err { OnErr result (store.new ≡ closed_over store.new.disk) }
+    ensures disk { Brings (a_tenure tenure) result (D.state store.old.disk) (D.state store.new.disk) }
+{
+    store.open(loaded)?;
+    if let Err(why) = store.begin(tenure) {
+        store.close();
+        return Err(why);
+    }
+    Ok(())
+}
