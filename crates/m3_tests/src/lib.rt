@@ -4,8 +4,6 @@
 #[cfg(test)]
 mod buffers;
 #[cfg(test)]
-mod disks;
-#[cfg(test)]
 mod lines;
 #[cfg(test)]
 mod logs;
