@@ -1,8 +1,7 @@
 -- Steps at slots, one after the other, as loops take them.
-use Rattle.std.proofs.Common.{◌≡◌, ◌<◌, ◌+◌, ℕ, suc, List, [], ◌∷◌, ◌++◌, length, take, drop, get_or, map, refl, sym, ap, subst, ◌∙◌, arith, Bool, true, false, cond}
+use Rattle.std.proofs.Common.{◌≡◌, ◌<◌, ◌+◌, ℕ, suc, List, [], ◌∷◌, ◌++◌, length, take, drop, get_or, map, refl, sym, ap, subst, ◌∙◌, arith, Bool, true, false}
 use Rattle.std.specs.Prelude.{filter, Some, ⊤, Result, Ok, Err, OnOk, IfErr}
 use Rattle.std.specs.FinMap.{get}
-use Rattle.std.specs.List.{All}
 use Rattle.std.proofs.lemmas.List.{map-append}
 use Rattle.std.proofs.lemmas.List.Elements.{All-append}
 use Rattle.m3_model.specs.declared.reason.Damage.{Damage}
@@ -14,7 +13,6 @@ use Rattle.cluster_core.specs.declared.event.StepCall.TheVariants as call
 use Rattle.cluster_core.specs.declared.event.StepReply.{StepReply}
 use Rattle.cluster_core.specs.declared.event.StepReply.TheVariants as reply
 use Rattle.replica_machine.specs.Machines.{MachineState}
-use Rattle.replica_machine.specs.Steps.{reply_by}
 use Rattle.session.specs.Changes.{IsSteppedAt, IsBegunBy}
 use Rattle.session.specs.Slots.{MachineMap}
 use Rattle.session.specs.declared.slot.Slot.{Slot}

@@ -6,7 +6,6 @@ use Rattle.std.specs.Result.{IsErrOf}
 use Rattle.std.proofs.lemmas.List.{map-append}
 use Rattle.m3_model.specs.Members.{IsIn}
 use Rattle.m3_model.proofs.MemberLemmas.{IsIn-append_cases, IsIn-append_left, IsIn-append_right}
-use Rattle.m3_model.specs.declared.point.Point.{Point}
 use Rattle.m3_model.specs.declared.reason.Damage.{Damage}
 use Rattle.m3_model.specs.declared.reason.Reason.{Reason}
 use Rattle.m3_model.specs.declared.reason.Reason.TheVariants as reason
@@ -23,7 +22,7 @@ use Rattle.session.specs.declared.slot.Slot.{Slot}
 use Rattle.session.proofs.ChangeLemmas.{stepped_not}
 use Rattle.m3_cluster.specs.Chains.{first_tenure}
 use Rattle.m3_cluster.specs.Depots.{Depot}
-use Rattle.m3_cluster.specs.First.{AreApart, HasOpened, IsUntouched, IsLent, IsGivenBack, IsFirstBooted, first_boot}
+use Rattle.m3_cluster.specs.First.{AreApart, IsUntouched, IsLent, IsGivenBack, first_boot}
 use Rattle.m3_cluster.specs.Lending.{HasTaken, MayHaveTaken, AreFirstBooted, IsBootedOnce, AreBootedOnce, AreOpened}
 use Rattle.m3_cluster.specs.declared.first.Unopened.TheVariants as unopened
 use Rattle.m3_cluster.proofs.ListLemmas.{not_before, parted, take_at}

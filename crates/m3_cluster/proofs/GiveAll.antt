@@ -5,7 +5,7 @@ use Rattle.std.specs.FinMap.{get, remove, empty, get-empty}
 use Rattle.m3_model.specs.Members.{IsIn}
 use Rattle.m3_model.proofs.MemberLemmas.{IsIn-append_cases}
 use Rattle.m3_outside.specs.DiskState.{DiskState}
-use Rattle.m3_outside.specs.Slots.{Held, Here, Out, OthersStay}
+use Rattle.m3_outside.specs.Slots.{Here, Out, OthersStay}
 use Rattle.m3_outside.specs.declared.slot.Slot.{Slot as Place}
 use Rattle.replica_machine.specs.Machines.{MachineState}
 use Rattle.session.specs.Slots.{MachineMap, slot_cmp, slot_at}

@@ -1,10 +1,10 @@
 -- Lists as loops go over them: what was passed, the element, and what is left.
-use Rattle.std.proofs.Common.{◌≡◌, ◌<◌, ◌≤◌, ◌+◌, ℕ, zero, suc, List, [], ◌∷◌, ◌++◌, length, take, drop, get_or, map, replicate, refl, sym, ap, subst, ◌∙◌, inl, inr, arith, Bool, true, false, cond}
+use Rattle.std.proofs.Common.{◌≡◌, ◌<◌, ◌≤◌, ◌+◌, ℕ, zero, suc, List, [], ◌∷◌, ◌++◌, length, take, drop, get_or, replicate, refl, sym, ap, subst, ◌∙◌, inl, inr, arith, Bool, true, false, cond}
 use Rattle.std.specs.Prelude.{filter}
 use Rattle.std.proofs.lemmas.List.{get_or_default}
 use Rattle.m3_model.specs.Ascends.{Ascends}
 use Rattle.m3_model.specs.Members.{IsIn}
-use Rattle.m3_model.proofs.MemberLemmas.{IsIn-append_cases, IsIn-append_left, IsIn-append_right}
+use Rattle.m3_model.proofs.MemberLemmas.{IsIn-append_right}
 
 pub replicate_push : {X : Type 0} (n : ℕ) (x : X) → replicate (n + 1) x ≡ replicate n x ++ x ∷ []
 replicate_push zero x = refl

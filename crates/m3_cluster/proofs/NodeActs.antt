@@ -1,5 +1,5 @@
 -- What befalls a node, as its members answer it.
-use Rattle.std.proofs.Common.{◌≡◌, ◌<◌, ◌≤◌, ℕ, List, [], length, get_or, refl, sym, ap, subst, ◌∙◌, inl, inr, arith, Bool}
+use Rattle.std.proofs.Common.{◌≡◌, ◌<◌, ◌≤◌, ℕ, List, length, get_or, refl, sym, ap, subst, ◌∙◌, inl, inr, arith, Bool}
 use Rattle.std.specs.Prelude.{Option, Some, None, IfSome, slice_get}
 use Rattle.m3_model.specs.declared.answer.Answer.{Answer}
 use Rattle.m3_model.specs.declared.answer.Answer.TheVariants as answer

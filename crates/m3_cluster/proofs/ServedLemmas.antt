@@ -1,5 +1,5 @@
 -- What one act does to a cluster and its disks, whichever it is.
-use Rattle.std.proofs.Common.{◌≡◌, List, [], ◌∷◌, sym, ap, subst}
+use Rattle.std.proofs.Common.{◌≡◌, List, [], ◌∷◌, sym, subst}
 use Rattle.m3_model.specs.Limits.{MeetsLimits}
 use Rattle.m3_model.specs.NotYet.{IsServedAct}
 use Rattle.m3_model.specs.Placements.{placement_after}

@@ -1,14 +1,11 @@
 -- Slots that differ, and what a map of machines has without one of them.
-use Rattle.std.proofs.Common.{◌≡◌, ◌⊎◌, List, [], ◌∷◌, refl, sym, ap, ◌∙◌, inl, inr, Bool, true, false, cond}
-use Rattle.std.specs.Prelude.{Some, None}
-use Rattle.std.specs.Cmp.{tied_itself}
+use Rattle.std.proofs.Common.{◌≡◌, refl, ap, ◌∙◌, Bool, true, false, cond}
+use Rattle.std.specs.Prelude.{None}
 use Rattle.std.specs.FinMap.{get, remove, get-remove}
-use Rattle.std.specs.Ordering.{eq_by_cmp, is_eq}
-use Rattle.m3_model.specs.Members.{IsIn}
+use Rattle.std.specs.Ordering.{eq_by_cmp}
 use Rattle.m3_outside.specs.declared.slot.Slot.{Slot as Place}
-use Rattle.replica_machine.specs.Machines.{MachineState}
 use Rattle.session.proofs.SlotLemmas.{slot_cmp_total, same_slot}
-use Rattle.session.specs.Slots.{MachineMap, slot_cmp, slot_at}
+use Rattle.session.specs.Slots.{MachineMap, slot_cmp}
 use Rattle.session.specs.declared.slot.Slot.{Slot}
 use Rattle.m3_cluster.specs.Depots.{place_of_slot}
 use Rattle.m3_cluster.proofs.SlotLists.{own_slot}

@@ -1,5 +1,5 @@
 -- One disk taken, and a machine put over it.
-use Rattle.std.proofs.Common.{◌≡◌, ◌≢◌, ◌≤◌, ℕ, [], refl, sym, ap, subst, ◌∙◌, inr}
+use Rattle.std.proofs.Common.{◌≡◌, ◌≤◌, [], refl, ap, subst, ◌∙◌, inr}
 use Rattle.std.specs.Prelude.{◌⊎◌, Some, None}
 use Rattle.std.specs.FinMap.{get, insert}
 use Rattle.m3_outside.specs.DiskState.{DiskState, IsEmpty}

@@ -4,9 +4,9 @@
 #[cfg(test)]
 mod buffers;
 #[cfg(test)]
-mod lines;
+mod disks;
 #[cfg(test)]
-mod logs;
+mod lines;
 #[cfg(test)]
 mod messages;
 #[cfg(test)]

@@ -1,7 +1,6 @@
 -- A begin from its parts: what was read, what was opened, and what was refused.
-use Rattle.std.proofs.Common.{◌≡◌, ◌<◌, ◌≤◌, inl, inr, ⊎_elim, ℕ, List, [], arith, refl, sym, ap, subst, ◌∙◌, true, None, Result, Ok, Err}
-use Rattle.std.specs.Prelude.{⊤, ◌≢◌, ◌⊎◌, ◌↔◌, IfOk, IfErr, IsErrOf}
-use Rattle.m3_model.specs.declared.point.Point.{Point}
+use Rattle.std.proofs.Common.{◌≡◌, ◌<◌, ◌≤◌, inl, inr, ⊎_elim, ℕ, arith, refl, sym, ap, subst, ◌∙◌, true, None, Result, Ok, Err}
+use Rattle.std.specs.Prelude.{◌≢◌, ◌⊎◌, ◌↔◌, IfOk, IfErr, IsErrOf}
 use Rattle.m3_model.specs.declared.reason.Damage.{Damage}
 use Rattle.m3_model.specs.declared.reason.Reason.{Reason}
 use Rattle.m3_model.specs.declared.reason.Reason.TheVariants as reason
@@ -26,8 +25,7 @@ use Rattle.replica_machine.specs.Steps.{IsStep, BringsTo, reply_by}
 use Rattle.replica_machine.specs.Damages.{damage_of, IsDamageOf}
 use Rattle.replica_machine.specs.Boots.{BeganFrom, BeganAgain, HoldsHigher, MayBeUnowned, MayNotLoad, IsRefused}
 use Rattle.replica_machine.specs.declared.machine.Began.{Began}
-use Rattle.replica_machine.proofs.DiskLemmas.{brings_none_to, brings_stays, after_stays}
-use Rattle.replica_machine.proofs.OtherLemmas.{stays_nothing}
+use Rattle.replica_machine.proofs.DiskLemmas.{brings_none_to, stays_nothing, brings_stays, after_stays}
 use Rattle.replica_machine.proofs.BootLemmas.{begin_down, begin_unowned, begin_memory, begin_fault, begin_damage, begin_higher, step_after_stays}
 
 -- what a begin from Boot answers and leaves

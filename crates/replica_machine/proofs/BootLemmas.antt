@@ -1,6 +1,6 @@
 -- A begin is a step of the core.
 use Rattle.std.proofs.Common.{◌≡◌, ◌<◌, ◌≤◌, inl, inr, ⊎_elim, ℕ, max, List, [], ◌∷◌, ◌++◌, refl, sym, ap, subst, ◌∙◌, arith, true, Some, None, Result, Ok, Err, All}
-use Rattle.std.specs.Prelude.{⊤, ◌≢◌, ◌⊎◌, Option, IsErrOf}
+use Rattle.std.specs.Prelude.{⊤, ◌≢◌, ◌⊎◌, Option}
 use Rattle.std.proofs.lemmas.Bool.{OnTrue_from}
 use Rattle.m3_model.specs.Contents.{content_of, point_at}
 use Rattle.m3_model.specs.Members.{IsIn}
@@ -26,7 +26,7 @@ use Rattle.shard_store.proofs.HeldLemmas.{held_is_one}
 use Rattle.shard_store.proofs.LogStepLemmas.{counts_both, counts_for, counts_same}
 use Rattle.shard_store.proofs.ContentLemmas.{content_holds, content_source}
 use Rattle.cluster_core.specs.Refusals.{closed, first_refusal}
-use Rattle.cluster_core.specs.Replicas.{IsGone, Shows}
+use Rattle.cluster_core.specs.Replicas.{IsGone}
 use Rattle.cluster_core.specs.Rows.{NoneHigher, MayBeHigher, IsBegan, LawfulStep}
 use Rattle.cluster_core.specs.declared.event.StepCall.TheVariants as call
 use Rattle.cluster_core.specs.declared.event.StepReply.{StepReply}

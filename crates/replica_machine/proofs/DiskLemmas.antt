@@ -1,8 +1,6 @@
 -- What calls do to a disk, one after another, as a machine answers them.
-use Rattle.std.proofs.Common.{◌≡◌, ◌≢◌, inl, inr, ⊎_elim, ℕ, max, true, List, refl, sym, ap, subst, ◌∙◌, arith, Result, Ok, Err}
-use Rattle.std.specs.Prelude.{⊤, OnOk, IfErr, IsErrOf}
-use Rattle.m3_model.specs.Members.{IsIn}
-use Rattle.m3_model.specs.declared.point.Point.{Point}
+use Rattle.std.proofs.Common.{◌≡◌, ◌≢◌, ⊎_elim, ℕ, max, true, refl, sym, ap, subst, ◌∙◌, arith, Result, Ok, Err}
+use Rattle.std.specs.Prelude.{⊤, IfErr, IsErrOf}
 use Rattle.m3_model.specs.declared.reason.Reason.{Reason}
 use Rattle.m3_model.specs.declared.reason.Reason.TheVariants as reason
 use Rattle.m3_outside.specs.Causes.{CountsFaults}
@@ -132,7 +130,7 @@ if_err_as : {X E : Type 0} {P Q : E → Type 0} (r : Result X E) → ((e : E) �
 if_err_as (Ok x) to p = tt
 if_err_as (Err e) to p = to e p
 
-stays_nothing : (x y : Files) → Stays x y → Gains nothing x y
+pub stays_nothing : (x y : Files) → Stays x y → Gains nothing x y
 stays_nothing x y same = subst (Gains nothing x) (sym same) (gains_nothing x)
 
 -- a call that changed no file, whatever it was refused for

@@ -1,5 +1,5 @@
 -- A fence is a step of the core.
-use Rattle.std.proofs.Common.{◌≡◌, inl, inr, ℕ, max, List, [], ◌∷◌, ◌++◌, refl, sym, ap, subst, ◌∙◌, Some, None, Result, Ok, Err, ◌≤◌, Bool, true, false, cond}
+use Rattle.std.proofs.Common.{◌≡◌, ℕ, max, [], ◌∷◌, ◌++◌, refl, sym, ap, subst, ◌∙◌, Some, None, Result, Ok, Err, ◌≤◌, Bool, true, false, cond}
 use Rattle.std.specs.Prelude.{⊤, ◌≢◌, Option, nat_le, OnOk, OnErr, IfErr, IsErrOf}
 use Rattle.std.specs.Option.{option_or}
 use Rattle.std.proofs.lemmas.Bool.{leb-true}

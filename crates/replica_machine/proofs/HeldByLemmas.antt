@@ -1,5 +1,5 @@
 -- Files that a replica may begin with, a step on.
-use Rattle.std.proofs.Common.{◌≡◌, ◌≤◌, inl, inr, ⊎_elim, ℕ, max, List, [], ◌∷◌, ◌++◌, refl, sym, subst, ◌∙◌, arith, All, Any, Bool, true, false, cond}
+use Rattle.std.proofs.Common.{◌≡◌, ◌≤◌, inl, inr, ⊎_elim, ℕ, max, List, [], ◌∷◌, ◌++◌, refl, sym, subst, arith, All, Any, Bool, true, false, cond}
 use Rattle.std.specs.Prelude.{◌⊎◌, nat_le}
 use Rattle.std.proofs.lemmas.Bool.{leb-true, leb-false}
 use Rattle.m3_model.specs.Members.{IsIn}
@@ -10,7 +10,7 @@ use Rattle.m3_model.proofs.MemberLemmas.{IsIn-append_left, IsIn-append_cases, Is
 use Rattle.m3_outside.specs.Files.{Files}
 use Rattle.placement_core.proofs.ListLemmas.{All-from_each, each-from_All, Any-from_IsIn, IsIn-from_Any}
 use Rattle.shard_store.specs.Held.{Held}
-use Rattle.shard_store.specs.Gains.{Gain, nothing, a_point, a_fence, a_tenure, Grows, Gains, MayGain}
+use Rattle.shard_store.specs.Gains.{Gain, nothing, a_point, a_fence, Grows, Gains, MayGain}
 use Rattle.shard_store.proofs.GainLemmas.{covers_then}
 use Rattle.cluster_core.specs.Replicas.{greater, IsGone}
 use Rattle.cluster_core.specs.declared.replica_state.ReplicaState.{ReplicaState}

@@ -1,6 +1,6 @@
 -- Stops, restarts, reports and reads are steps of the core.
-use Rattle.std.proofs.Common.{◌≡◌, inl, inr, ℕ, List, [], refl, sym, ap, subst, ◌∙◌, true, Some, None, Result, Ok, Err, arith}
-use Rattle.std.specs.Prelude.{⊤, ◌≢◌, Option, slice_get, OnOk, IfErr, IsErrOf}
+use Rattle.std.proofs.Common.{◌≡◌, inl, inr, ℕ, List, refl, sym, ap, subst, ◌∙◌, true, Some, None, Result, Ok, Err, arith}
+use Rattle.std.specs.Prelude.{⊤, Option, slice_get, OnOk, IfErr, IsErrOf}
 use Rattle.std.proofs.lemmas.Bool.{OnTrue_from}
 use Rattle.m3_model.specs.Reads.{space_picked}
 use Rattle.m3_model.specs.declared.point.Pick.{Pick}
@@ -12,7 +12,7 @@ use Rattle.m3_model.specs.declared.replica.Standing.{Standing}
 use Rattle.m3_model.specs.declared.replica.Standing.TheVariants as standing
 use Rattle.m3_model.specs.declared.rules.Rules.{Rules}
 use Rattle.m3_model.specs.declared.rules.Space.{Space}
-use Rattle.m3_outside.specs.Files.{Files, Stays}
+use Rattle.m3_outside.specs.Files.{Files}
 use Rattle.m3_outside.specs.DiskState.{DiskState, StepOf}
 use Rattle.m3_outside.specs.DiskCalls.{Restarts}
 use Rattle.m3_outside.specs.declared.disk_err.DiskErr.{DiskErr}
@@ -23,20 +23,16 @@ use Rattle.shard_store.specs.Stores.{StoreState, closed_over}
 use Rattle.shard_store.proofs.GainLemmas.{gains_nothing}
 use Rattle.shard_store.proofs.LogStepLemmas.{counts_for, counts_same}
 use Rattle.cluster_core.specs.Replicas.{fresh}
-use Rattle.cluster_core.specs.Rows.{IsReport, open_fence}
+use Rattle.cluster_core.specs.Rows.{open_fence}
 use Rattle.cluster_core.specs.declared.event.StepCall.TheVariants as call
 use Rattle.cluster_core.specs.declared.event.StepReply.TheVariants as reply
 use Rattle.cluster_core.specs.declared.replica_state.ReplicaState.{ReplicaState}
 use Rattle.replica_machine.specs.Machines.{MachineState, IsStoreOf, IsMachineOf, IsHeldBy, IsLiveAnswer, IsOwn, first_machine, shut_machine, unserved, reason_of, left_by, settled_answer}
 use Rattle.replica_machine.specs.Steps.{reply_by, IsStep, RestartsTo}
 use Rattle.replica_machine.proofs.LiveLemmas.{live_found}
-use Rattle.replica_machine.proofs.ReasonLemmas.{own_reason}
-use Rattle.replica_machine.proofs.DiskLemmas.{each_step}
+use Rattle.replica_machine.proofs.DiskLemmas.{stays_nothing, each_step}
 use Rattle.replica_machine.proofs.HeldByLemmas.{held_nothing}
 use Rattle.replica_machine.proofs.StepLemmas.{machine_of, stands_at, kept_machine, shut_follows, serving, shown}
-
-pub stays_nothing : (x y : Files) → Stays x y → Gains nothing x y
-stays_nothing x y same = subst (Gains nothing x) (sym same) (gains_nothing x)
 
 -- a store of which only the disk changed is still its machine's
 pub store_moved : {D : Type 0} (s : Standing) (store after : StoreState D) → after ≡ record store { disk = after.disk } → IsStoreOf s store → IsStoreOf s after

@@ -20,7 +20,7 @@ use Rattle.cluster_core.specs.declared.event.StepCall.TheVariants as call
 use Rattle.cluster_core.specs.declared.event.StepReply.TheVariants as reply
 use Rattle.replica_machine.specs.Machines.{MachineState, IsStoreOf, IsOwn}
 use Rattle.replica_machine.specs.Steps.{IsStep, BringsTo, reply_by}
-use Rattle.replica_machine.specs.Boots.{BeganFrom, HoldsHigher, MayNotLoad, IsRefused}
+use Rattle.replica_machine.specs.Boots.{BeganFrom, MayNotLoad, IsRefused}
 use Rattle.replica_machine.specs.declared.machine.Began.{Began}
 use Rattle.replica_machine.proofs.StepLemmas.{machine_of}
 use Rattle.replica_machine.proofs.BeginLemmas.{BeginDone, not_loaded_done, higher_done, opened_done}

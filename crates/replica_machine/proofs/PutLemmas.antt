@@ -1,5 +1,5 @@
 -- A put is a step of the core.
-use Rattle.std.proofs.Common.{◌≡◌, ◌<◌, inl, inr, ℕ, List, [], ◌∷◌, ◌++◌, length, refl, sym, ap, subst, ◌∙◌, Option, Some, None, Result, Ok, Err}
+use Rattle.std.proofs.Common.{◌≡◌, ℕ, [], ◌∷◌, ◌++◌, refl, sym, ap, subst, ◌∙◌, Option, Some, None, Result, Ok, Err}
 use Rattle.std.specs.Prelude.{⊤, ◌≢◌, OnOk, IfErr, IsErrOf}
 use Rattle.std.specs.Option.{option_or}
 use Rattle.m3_model.specs.Contents.{raised}
@@ -11,7 +11,6 @@ use Rattle.m3_model.specs.declared.replica.Standing.{Standing}
 use Rattle.m3_model.specs.declared.replica.Standing.TheVariants as standing
 use Rattle.m3_model.specs.declared.rules.Rules.{Rules}
 use Rattle.m3_outside.specs.Causes.{CountsFaults}
-use Rattle.m3_outside.specs.Files.{Files}
 use Rattle.m3_outside.specs.DiskState.{DiskState}
 use Rattle.m3_outside.specs.declared.disk_err.DiskErr.{DiskErr}
 use Rattle.m3_outside.specs.declared.disk_err.DiskErr.TheVariants as refused
@@ -20,7 +19,6 @@ use Rattle.shard_store.specs.Stores.{StoreState}
 use Rattle.shard_store.proofs.LogStepLemmas.{on_ok_as, counts_same}
 use Rattle.cluster_core.specs.Refusals.{shut, unowned, outdated, outside, first_refusal}
 use Rattle.cluster_core.specs.Replicas.{after}
-use Rattle.cluster_core.specs.declared.event.StepCall.{StepCall}
 use Rattle.cluster_core.specs.declared.event.StepCall.TheVariants as call
 use Rattle.cluster_core.specs.declared.event.StepReply.TheVariants as reply
 use Rattle.cluster_core.specs.declared.replica_state.ReplicaState.{ReplicaState}

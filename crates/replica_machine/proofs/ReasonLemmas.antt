@@ -12,7 +12,7 @@ use Rattle.m3_model.specs.declared.rules.Space.{Space}
 use Rattle.m3_outside.specs.DiskState.{DiskState}
 use Rattle.m3_outside.specs.declared.disk_err.DiskErr.{DiskErr}
 use Rattle.m3_outside.specs.declared.disk_err.DiskErr.TheVariants as refused
-use Rattle.cluster_core.specs.Refusals.{reason_if, shut, closed, unowned, outdated, outside_of, outside, first_refusal}
+use Rattle.cluster_core.specs.Refusals.{reason_if, shut, unowned, outdated, outside_of, outside, first_refusal}
 use Rattle.cluster_core.specs.Rows.{MayRefuse, MayBeUnowned}
 use Rattle.cluster_core.specs.declared.event.Event.{Event}
 use Rattle.cluster_core.specs.declared.event.StepCall.{StepCall}

@@ -1,10 +1,9 @@
 -- What calls leave of a machine is what they leave of its replica.
-use Rattle.std.proofs.Common.{◌≡◌, inl, inr, ⊎_elim, ℕ, ◌≤◌, max, true, List, [], ◌∷◌, ◌++◌, refl, sym, ap, subst, ◌∙◌, Option, Some, None, Result, Ok, Err}
-use Rattle.std.specs.Prelude.{⊤, ◌≢◌, OnOk}
+use Rattle.std.proofs.Common.{◌≡◌, inl, inr, ℕ, ◌≤◌, max, true, [], ◌∷◌, ◌++◌, refl, sym, ap, subst, ◌∙◌, Option, None}
+use Rattle.std.specs.Prelude.{◌≢◌}
 use Rattle.m3_model.specs.Contents.{Contents, Holds, raised, point_at}
 use Rattle.m3_model.specs.Members.{IsIn}
 use Rattle.m3_model.specs.declared.point.Point.{Point}
-use Rattle.m3_model.specs.declared.reason.Reason.{Reason}
 use Rattle.m3_model.specs.declared.replica.Standing.{Standing}
 use Rattle.m3_model.specs.declared.replica.Standing.TheVariants as standing
 use Rattle.m3_model.proofs.JoinLemmas.{raised_holds, raised_keeps, raised_source}
@@ -13,7 +12,7 @@ use Rattle.m3_outside.specs.Files.{Files}
 use Rattle.m3_outside.specs.DiskState.{DiskState, EachImage, StepOf}
 use Rattle.shard_store.specs.Gains.{nothing, a_point, a_fence, Gains}
 use Rattle.cluster_core.specs.Replicas.{Shows, greater}
-use Rattle.cluster_core.specs.Rows.{IsServing, IsOwner}
+use Rattle.cluster_core.specs.Rows.{IsServing}
 use Rattle.cluster_core.specs.declared.replica_state.ReplicaState.{ReplicaState}
 use Rattle.shard_store.specs.Stores.{StoreState}
 use Rattle.replica_machine.specs.Machines.{MachineState, IsStoreOf, IsMachineOf, IsHeldBy, IsGreatest, shut_machine, unserved}

@@ -1,5 +1,5 @@
 -- A machine as its contracts see it, what it refuses, and the replica of the core that it is.
-use Rattle.std.specs.Prelude.{◌≡◌, ◌≢◌, ◌⊎◌, ⊤, ℕ, ◌≤◌, max, List, [], ◌++◌, Option, Some, None, Result, Ok, Err, Bool, true, false, refl, IsErrOf}
+use Rattle.std.specs.Prelude.{◌≡◌, ◌≢◌, ◌⊎◌, ⊤, ℕ, ◌≤◌, max, List, [], Option, Some, None, Result, Ok, Err, Bool, true, false, refl, IsErrOf}
 use Rattle.std.specs.Coded.{Coded, code_by, coded×, coded_ℕ, coded_bool, coded_option}
 use Rattle.std.specs.FinMap as finite
 use Rattle.std.specs.List.{All, Any}

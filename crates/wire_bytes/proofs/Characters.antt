@@ -1,7 +1,6 @@
 -- The bytes of a character, from the first on.
-use Rattle.std.proofs.Common.{◌≡◌, ◌⊎◌, inl, inr, ℕ, zero, suc, ◌+◌, ◌-◌, ◌*◌, ◌/◌, ◌%◌, ◌<◌, ◌≤◌, Bool, true, false, cond, ◌&&◌, List, [], ◌∷◌, ◌++◌, length, drop, get_or, refl, sym, ap, subst, ◌∙◌, arith, IsUtf8}
+use Rattle.std.proofs.Common.{◌≡◌, ◌⊎◌, inl, inr, ℕ, ◌+◌, ◌-◌, ◌*◌, ◌/◌, ◌<◌, ◌≤◌, Bool, true, false, cond, ◌&&◌, List, [], ◌∷◌, ◌++◌, drop, get_or, refl, sym, ap, subst, ◌∙◌, arith, IsUtf8}
 use Rattle.std.proofs.lemmas.Bool.{cases_lt, and_parts}
-use Rattle.std.proofs.lemmas.Str.{IsUtf8-nil}
 use Rattle.std.proofs.lemmas.Str.{IsUtf8-append, IsUtf8-encode}
 use lib.Utf8.{scalar, scalars, encode, encodes, next, scalar_cases, low_scalar}
 use lib.Dec.{T, leb, ltb, le→leb, lt→ltb, ltb→lt}

@@ -1,25 +1,24 @@
 -- An entry's fields, one after another.
-use Rattle.std.proofs.Common.{◌≡◌, ℕ, suc, zero, ◌+◌, ◌-◌, ◌<◌, ◌≤◌, ◌^◌, List, [], ◌∷◌, ◌++◌, get_or, length, take, drop, refl, sym, ap, subst, ◌∙◌, arith, append_assoc, append-nil, length-append, Result, Ok, Err, IfOk, IfErr}
-use Rattle.std.proofs.lemmas.List.{append_cancel_left}
+use Rattle.std.proofs.Common.{◌≡◌, ℕ, suc, zero, ◌+◌, ◌-◌, ◌<◌, ◌≤◌, ◌^◌, List, [], ◌∷◌, ◌++◌, get_or, length, refl, sym, ap, subst, ◌∙◌, arith, append_assoc, append-nil, Result, Ok, Err, IfOk, IfErr}
 use Rattle.byteorder.specs.Endian.{big_bytes}
 use Rattle.m3_model.specs.declared.point.Point.{Point}
-use Rattle.wire_bytes.specs.Fields.{Stands, IsFault, GoesOn}
+use Rattle.wire_bytes.specs.Fields.{Stands, IsFault}
 use Rattle.wire_bytes.specs.Numbers.{ANumber}
 use Rattle.std.specs.Int.{cast_signed}
 use Rattle.std.proofs.Common.{w64}
 use Rattle.std.proofs.Math.Facts.{sfits_to_z}
-use Rattle.wire_bytes.specs.Points.{IsPoint, APoint, PointStands, point_bytes}
+use Rattle.wire_bytes.specs.Points.{APoint, PointStands, point_bytes}
 use Rattle.wire_bytes.specs.Bodies.{PointThen, SomePoints, SomeCounted}
-use Rattle.wire_bytes.specs.Entries.{IsBounded, bytes_of_point, points_bytes, AllBounded, points_entry, fence_entry, tenure_entry, ArePoints, AnEntry, OfPoints, OfFence, OfTenure, PointsStand, PointsEntryStands, EntryStands}
+use Rattle.wire_bytes.specs.Entries.{IsBounded, bytes_of_point, points_bytes, AllBounded, points_entry, fence_entry, tenure_entry, AnEntry, OfPoints, OfFence, OfTenure, PointsStand, PointsEntryStands, EntryStands}
 use Rattle.wire_bytes.specs.declared.wire_err.WireErr.{WireErr}
 use Rattle.wire_bytes.specs.declared.points.PointAt.{PointAt}
 use Rattle.wire_bytes.specs.declared.entry_read.EntryAt.{EntryAt}
 use Rattle.wire_bytes.specs.declared.entry_read.EntryAt.TheVariants as found
-use Rattle.wire_bytes.proofs.FieldLemmas.{EndsItself, Then, Some_of, first_fault, second_fault, then_ends, fault_as, fault_one, no_fault, one_front, one_stands, stands_both}
+use Rattle.wire_bytes.proofs.FieldLemmas.{EndsItself, Then, Some_of, first_fault, second_fault, then_ends, fault_as, fault_one, no_fault, one_stands, stands_both}
 use Rattle.std.proofs.lemmas.Str.{IsUtf8-nil}
 use Rattle.wire_bytes.proofs.Characters.{with_first1}
-use Rattle.wire_bytes.proofs.NumberLemmas.{length_number, number_ends, bytes_one}
-use Rattle.wire_bytes.proofs.PointLemmas.{Counted, counted_ends, counted_one, counted_fault, point_ends, same_bytes, number_parts, fits_word}
+use Rattle.wire_bytes.proofs.NumberLemmas.{number_ends, bytes_one}
+use Rattle.wire_bytes.proofs.PointLemmas.{Counted, counted_ends, counted_one, counted_fault, point_ends, number_parts, fits_word}
 
 -- a point, as a field without a value
 pub record Pointed (x : ℕ) (bytes : List ℕ) : Type 0 where

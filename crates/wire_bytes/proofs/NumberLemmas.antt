@@ -1,15 +1,15 @@
 -- The bytes of numbers: their parts, and which numbers begin with which bytes.
-use Rattle.std.proofs.Common.{◌≡◌, ◌⊎◌, inl, inr, ℕ, zero, suc, ◌+◌, ◌-◌, ◌*◌, ◌/◌, ◌%◌, ◌^◌, ◌<◌, ◌≤◌, List, [], ◌∷◌, ◌++◌, length, take, drop, get_or, slice_index, refl, sym, ap, subst, ◌∙◌, arith, append_assoc, length-append, length-take, length-drop}
-use Rattle.std.proofs.Math.Nat.{div-div-eq-div-mul, div-one, mod-eq_of_lt, mod-lt, one-le-pow, pow-suc, pow-succ', pow-zero, div-lt_iff_lt-mul, le-div_iff_mul-le, mul-div_cancel, mul-le-mul_right, div-mul-le_self, mul_assoc, mul_comm, mul-add-mod_self_right, mul-add-div_right, pow-le-pow_right}
-use Rattle.std.proofs.lemmas.List.{take_at, drop_at, take-append-drop, append_cancel_left, take_all, drop-drop, take_more}
+use Rattle.std.proofs.Common.{◌≡◌, ◌⊎◌, inl, inr, ℕ, zero, suc, ◌+◌, ◌-◌, ◌*◌, ◌/◌, ◌%◌, ◌^◌, ◌<◌, ◌≤◌, List, [], ◌∷◌, ◌++◌, length, take, drop, get_or, refl, sym, ap, subst, ◌∙◌, arith, length-append, length-drop}
+use Rattle.std.proofs.Math.Nat.{div-div-eq-div-mul, div-one, mod-eq_of_lt, one-le-pow, pow-suc, div-lt_iff_lt-mul, le-div_iff_mul-le, mul-div_cancel, mul-le-mul_right, div-mul-le_self, mul_assoc, mul_comm, mul-add-mod_self_right, mul-add-div_right, pow-le-pow_right}
+use Rattle.std.proofs.lemmas.List.{take_at, take-append-drop, take_all, drop-drop, take_more}
 use Rattle.std.proofs.lemmas.Bool.{cases_eq}
 use Rattle.std.proofs.lemmas.Nat.{pow-add, div-mul-add}
-use Rattle.std.specs.Int.{byte_at, bytes_high_first}
+use Rattle.std.specs.Int.{byte_at}
 use Rattle.byteorder.specs.Endian.{big_bytes, big_from}
 use Rattle.byteorder.specs.Numbers.{length-bytes_high_first, big_number-reads_back, big_from-cons, big_from-lt}
-use Rattle.wire_bytes.specs.Fields.{Stands, Begins, GoesOn, Misfits, IsFault}
+use Rattle.wire_bytes.specs.Fields.{Stands, Begins, GoesOn, Misfits}
 use Rattle.wire_bytes.specs.Numbers.{ANumber}
-use Rattle.wire_bytes.proofs.FieldLemmas.{EndsItself, front_of}
+use Rattle.wire_bytes.proofs.FieldLemmas.{EndsItself}
 
 pub length_number : (w n : ℕ) → length (big_bytes w n) ≡ w
 length_number w n = length-bytes_high_first w n

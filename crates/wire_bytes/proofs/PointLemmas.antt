@@ -1,13 +1,13 @@
 -- A point's fields, one after another.
-use Rattle.std.proofs.Common.{◌≡◌, ℕ, ℤ, suc, zero, ◌+◌, ◌-◌, ◌<◌, ◌≤◌, ◌^◌, List, [], ◌∷◌, ◌++◌, length, take, drop, refl, sym, ap, subst, ◌∙◌, arith, append_assoc, length-append, IsUtf8, FitsSigned, Fits, w64}
+use Rattle.std.proofs.Common.{◌≡◌, ℕ, ℤ, ◌+◌, ◌-◌, ◌<◌, ◌≤◌, ◌^◌, List, ◌++◌, length, take, drop, refl, sym, ap, subst, ◌∙◌, arith, append_assoc, FitsSigned, Fits, w64}
 use Rattle.std.proofs.Math.Facts.{sfits_to_z, Fits-of_z}
-use Rattle.std.proofs.lemmas.List.{append_cancel_left, take_at, drop_at}
+use Rattle.std.proofs.lemmas.List.{take_at, drop_at}
 use Rattle.std.proofs.Common.{Result, Ok, Err, IfOk, IfErr, IsErrAnd}
 use Rattle.std.proofs.lemmas.Result.{err_from_is_err_and}
 use Rattle.std.proofs.lemmas.Int.{to_z-of_z, of_z-to_z}
 use Rattle.std.specs.Int.{cast_unsigned, cast_signed}
 use Rattle.byteorder.specs.Endian.{big_bytes}
-use Rattle.wire_bytes.specs.Fields.{Stands, Begins, GoesOn, Misfits, IsFault}
+use Rattle.wire_bytes.specs.Fields.{Stands, IsFault}
 use Rattle.wire_bytes.specs.Numbers.{ANumber}
 use Rattle.wire_bytes.specs.Texts.{AText}
 use Rattle.wire_bytes.specs.Points.{IsPoint, point_bytes, APoint, PointStands}

@@ -1,11 +1,10 @@
 -- What may follow within a text.
-use Rattle.std.proofs.Common.{◌≡◌, ◌⊎◌, inl, inr, ℕ, zero, suc, ◌+◌, ◌-◌, ◌<◌, ◌≤◌, List, [], ◌∷◌, ◌++◌, length, take, drop, get_or, refl, sym, ap, subst, ◌∙◌, arith, IsUtf8, append_assoc, length-append, length-take, length-drop, ◌↔◌}
+use Rattle.std.proofs.Common.{◌≡◌, ◌⊎◌, inl, inr, ℕ, zero, suc, ◌+◌, ◌-◌, ◌<◌, ◌≤◌, List, [], ◌∷◌, ◌++◌, length, take, drop, get_or, refl, sym, ap, subst, ◌∙◌, arith, IsUtf8, append_assoc, length-append, length-drop, ◌↔◌}
 use Rattle.std.proofs.lemmas.Str.{IsUtf8-nil}
-use Rattle.std.proofs.lemmas.List.{take_all, take_more, append-nil, take-append-drop, drop-drop, length-take-le}
-use Rattle.std.proofs.lemmas.Bool.{cases_lt}
+use Rattle.std.proofs.lemmas.List.{take_more, append-nil, take-append-drop, drop-drop, length-take-le}
 use Rattle.wire_bytes.specs.declared.due.Due.{Due}
 use Rattle.wire_bytes.specs.declared.due.Due.TheVariants.{Start, Later}
-use Rattle.wire_bytes.specs.Fields.{Stands, Begins, GoesOn, Misfits}
+use Rattle.wire_bytes.specs.Fields.{Stands, GoesOn, Misfits}
 use Rattle.wire_bytes.specs.Texts.{AText, LaterBytes, MayFollow, IsFair, needed}
 use Rattle.wire_bytes.proofs.Characters.{First, first1, first2, first3, first4, first_of_text, with_first1, with_first2, with_first3, with_first4}
 

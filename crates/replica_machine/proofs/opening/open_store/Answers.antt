@@ -1,4 +1,4 @@
-use Rattle.std.proofs.Common.{◌≡◌, sym, subst, Result, Ok, Err}
+use Rattle.std.proofs.Common.{sym, subst, Result, Ok, Err}
 use Rattle.std.specs.Prelude.{⊤}
 use Rattle.m3_outside.specs.declared.disk_err.DiskErr.{DiskErr}
 use Rattle.shard_store.specs.Gains.{Brings, nothing, a_tenure}

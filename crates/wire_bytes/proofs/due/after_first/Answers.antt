@@ -1,4 +1,4 @@
-use Rattle.std.proofs.Common.{◌≡◌, ◌⊎◌, inl, inr, ℕ, ◌<◌, ◌≤◌, arith}
+use Rattle.std.proofs.Common.{inl, inr, arith}
 use Rattle.std.proofs.lemmas.Bool.{cases_lt}
 use Rattle.wire_bytes.proofs.TextLemmas.{ascii, second_of_two, second_of_three, second_of_four, no_first}
 use Rattle.wire_bytes.proofs.due.after_first.Goals as goal

@@ -1,9 +1,8 @@
-use Rattle.std.proofs.Common.{◌≡◌, ℕ, suc, ◌+◌, ◌-◌, List, [], ◌∷◌, ◌++◌, refl, subst, sym, ◌∙◌, arith}
+use Rattle.std.proofs.Common.{◌≡◌, ℕ, suc, ◌+◌, ◌-◌, [], ◌∷◌, ◌++◌, refl, subst, ◌∙◌, arith}
 use Rattle.std.proofs.lemmas.List.{length_push}
 use Rattle.m3_model.specs.declared.point.Point.{Point}
 use Rattle.wire_bytes.specs.Fields.{IsFault}
 use Rattle.wire_bytes.specs.Bodies.{SomePoints}
-use Rattle.wire_bytes.specs.declared.wire_err.WireErr.{WireErr}
 use Rattle.wire_bytes.proofs.PointLemmas.{exit_err}
 use Rattle.wire_bytes.proofs.EntryLemmas.{first_point_fault, later_point_fault, stands_more, stands_none}
 use Rattle.wire_bytes.proofs.entry_read.behind_points.Goals as goal

@@ -1,4 +1,4 @@
-use Rattle.std.proofs.Common.{◌≡◌, ◌⊎◌, inl, inr, ℕ, zero, ◌+◌, ◌-◌, ◌*◌, ◌/◌, ◌^◌, ◌<◌, ◌≤◌, List, length, drop, take, get_or, subst, sym, ap, ◌∙◌, refl, arith, rules}
+use Rattle.std.proofs.Common.{◌≡◌, ◌⊎◌, inl, inr, ℕ, ◌+◌, ◌-◌, ◌*◌, ◌/◌, ◌^◌, ◌<◌, List, length, drop, take, get_or, subst, sym, ap, ◌∙◌, refl, arith}
 use Rattle.std.proofs.Common.{Ok as Right}
 use Rattle.std.proofs.Common.{Err as Wrong}
 use Rattle.std.proofs.lemmas.List.{take_all, get_or-drop}

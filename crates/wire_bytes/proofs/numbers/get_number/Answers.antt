@@ -1,4 +1,4 @@
-use Rattle.std.proofs.Common.{◌≡◌, ℕ, ◌+◌, ◌-◌, ◌<◌, ◌^◌, length, drop, take, get_or, subst, sym, ap, ◌∙◌, refl, arith}
+use Rattle.std.proofs.Common.{◌≡◌, ℕ, ◌+◌, ◌-◌, ◌<◌, ◌^◌, length, drop, get_or, subst, sym, ap, ◌∙◌, refl, arith}
 use Rattle.std.proofs.Common.{Ok as Right}
 use Rattle.std.proofs.Common.{Err as Wrong}
 use Rattle.std.proofs.lemmas.List.{get_or-drop}

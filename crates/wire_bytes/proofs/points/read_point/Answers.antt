@@ -1,9 +1,6 @@
-use Rattle.std.proofs.Common.{◌≡◌, ℕ, ◌+◌, ◌-◌, ◌<◌, ◌≤◌, ◌^◌, List, ◌++◌, length, take, drop, subst, sym, ap, ◌∙◌, arith, to_z, of_z, w64}
+use Rattle.std.proofs.Common.{◌+◌, ◌-◌, take, drop, ap, ◌∙◌, to_z, of_z, w64}
 use Rattle.std.proofs.lemmas.Int.{of_z-to_z}
-use Rattle.byteorder.specs.Endian.{big_bytes}
-use Rattle.wire_bytes.specs.Fields.{Stands, IsFault}
-use Rattle.wire_bytes.specs.Numbers.{ANumber}
-use Rattle.wire_bytes.specs.Texts.{AText}
+use Rattle.wire_bytes.specs.Fields.{IsFault}
 use Rattle.wire_bytes.specs.Points.{APoint}
 use Rattle.wire_bytes.proofs.PointLemmas.{fault_ns, fault_len, fault_id, fault_time, fault_value, point_stands, exit_err}
 use Rattle.wire_bytes.proofs.points.read_point.Goals as goal

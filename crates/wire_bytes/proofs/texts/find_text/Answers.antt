@@ -1,9 +1,8 @@
-use Rattle.std.proofs.Common.{◌≡◌, ℕ, ◌+◌, ◌-◌, ◌<◌, ◌≤◌, List, [], ◌++◌, length, take, drop, subst, sym, ap, ◌∙◌, arith, IsUtf8, length-take, length-drop}
-use Rattle.std.proofs.lemmas.List.{take_all, append-nil, length-take-le, take-append-drop, drop-drop}
-use Rattle.wire_bytes.specs.declared.due.Due.TheVariants as due
+use Rattle.std.proofs.Common.{◌≡◌, ℕ, ◌+◌, ◌-◌, List, length, take, drop, subst, ap, ◌∙◌, arith}
+use Rattle.std.proofs.lemmas.List.{take_all}
 use Rattle.wire_bytes.specs.Fields.{GoesOn, Misfits}
 use Rattle.wire_bytes.specs.Texts.{AText}
-use Rattle.wire_bytes.proofs.TextLemmas.{text_goes, text_misfits, follow_more, follow_end, stands_text}
+use Rattle.wire_bytes.proofs.TextLemmas.{text_goes, text_misfits, follow_end, stands_text}
 use Rattle.wire_bytes.proofs.texts.find_text.Goals as goal
 
 pub returns-then-i-rest-clause-err : goal.returns-then-i-rest-clause-err

@@ -1,13 +1,12 @@
-use Rattle.std.proofs.Common.{◌≡◌, None, ap, sym, ◌∙◌, true}
+use Rattle.std.proofs.Common.{◌≡◌, None, ap, ◌∙◌, true}
 use Rattle.std.specs.Prelude.{is_some}
 use Rattle.std.specs.FinMap as finite
 use Rattle.std.specs.FinMap.{from_sorted, is_sorted}
 use Rattle.block_buffer.specs.SeriesKeys.{series_cmp, series_cmp_total, key_at}
 use Rattle.block_buffer.specs.Slots.{Slots, value_at}
 use Rattle.block_buffer.specs.Points.{AllSlots, slot_at, value_of}
-use Rattle.block_buffer.proofs.MapLemmas.{sorted_of, get_of, inserted}
+use Rattle.block_buffer.proofs.MapLemmas.{sorted_of, inserted}
 use Rattle.block_buffer.proofs.PointLemmas.{series_cmp-IsAntisymmetric}
-use Rattle.block_buffer.proofs.SlotLemmas.{none_of}
 use Rattle.block_buffer.proofs.SeriesLemmas.{came_of, slot-insert, empty-value}
 use Rattle.block_buffer.proofs.all_series.AllSeries.hold_new.Goals as goal
 

@@ -1,4 +1,4 @@
-use Rattle.std.proofs.Common.{◌≡◌, ℕ, ◌+◌, ◌<◌, ℤ, pos, List, length, get_or, None, ap, ap₂, sym, ◌∙◌, subst, rules, take, drop, map, w64}
+use Rattle.std.proofs.Common.{ℕ, ◌<◌, ℤ, pos, List, length, get_or, None, ap, ap₂, sym, ◌∙◌, subst, rules, take, drop, map, w64}
 use Rattle.std.specs.Prelude.{FitsSigned}
 use Rattle.std.proofs.lemmas.Int.{to_z-of_z}
 use Rattle.m3_model.specs.Contents.{Contents, raised, raised_at}

@@ -1,9 +1,7 @@
-use Rattle.std.proofs.Common.{◌≡◌, ap, ◌∙◌, sym, subst, Err, false, rules}
-use Rattle.m3_model.specs.declared.reason.Reason.TheVariants as reason
+use Rattle.std.proofs.Common.{◌≡◌, ap, ◌∙◌, Err, false, rules}
 use Rattle.replica_machine.proofs.OtherLemmas.{store_moved}
 use Rattle.replica_machine.proofs.BeginLemmas.{BeginDone}
 use Rattle.replica_machine.proofs.PartLemmas.{store_closed, not_loaded_of, higher_of, opened_of}
-use Rattle.replica_machine.proofs.StepLemmas.{machine_of}
 use Rattle.replica_machine.proofs.machine.Machine.begin.Given.{Over}
 use Rattle.replica_machine.proofs.machine.Machine.begin.Goals as goal
 

@@ -1,8 +1,8 @@
-use Rattle.std.proofs.Common.{◌≡◌, ap, ◌∙◌, sym, Ok, refl}
+use Rattle.std.proofs.Common.{ap, ◌∙◌}
 use Rattle.cluster_core.specs.Refusals.{closed}
 use Rattle.replica_machine.specs.declared.machine.Began.{Began}
-use Rattle.replica_machine.proofs.BootLemmas.{BeginLeft, AgainDone, begin_left_of, again_done}
-use Rattle.replica_machine.proofs.StepLemmas.{machine_of, store_open, store_stays}
+use Rattle.replica_machine.proofs.BootLemmas.{BeginLeft, begin_left_of, again_done}
+use Rattle.replica_machine.proofs.StepLemmas.{store_open, store_stays}
 use Rattle.replica_machine.proofs.machine.Machine.begin_again.Given.{Over}
 use Rattle.replica_machine.proofs.machine.Machine.begin_again.Goals as goal
 

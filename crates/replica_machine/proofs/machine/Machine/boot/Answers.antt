@@ -1,7 +1,7 @@
 use Rattle.std.proofs.Common.{◌≡◌, ◌≢◌, ◌<◌, ◌≤◌, ℕ, ap, ◌∙◌, sym, subst, refl, rules}
 use Rattle.m3_model.specs.declared.replica.Standing.{Standing}
 use Rattle.m3_model.specs.declared.replica.Standing.TheVariants as standing
-use Rattle.replica_machine.proofs.BeginLemmas.{BootDone, boot_down, boot_unowned, boot_from, boot_again}
+use Rattle.replica_machine.proofs.BeginLemmas.{boot_down, boot_unowned, boot_from, boot_again}
 use Rattle.replica_machine.proofs.machine.Machine.boot.Goals as goal
 
 -- neither closed nor at Boot

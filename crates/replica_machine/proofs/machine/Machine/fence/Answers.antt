@@ -1,10 +1,10 @@
-use Rattle.std.proofs.Common.{◌≡◌, Some, None, sym, subst, ap, ◌∙◌, Result, Err}
+use Rattle.std.proofs.Common.{◌≡◌, Some, None, sym, subst, ap, Result}
 use Rattle.std.specs.Prelude.{⊤}
 use Rattle.m3_model.specs.declared.reason.Reason.{Reason}
 use Rattle.cluster_core.specs.Refusals.{shut, unowned}
 use Rattle.shard_store.proofs.LogStepLemmas.{err_is}
 use Rattle.replica_machine.proofs.ReasonLemmas.{first_of_two, after_two}
-use Rattle.replica_machine.proofs.StepLemmas.{machine_of, store_open, store_stays}
+use Rattle.replica_machine.proofs.StepLemmas.{machine_of, store_open}
 use Rattle.replica_machine.proofs.FenceLemmas.{FenceDone, fence_refused, fence_by, fence_done, fence_open, fence_kept}
 use Rattle.replica_machine.proofs.machine.Machine.fence.Given.{Over}
 use Rattle.replica_machine.proofs.machine.Machine.fence.Goals as goal

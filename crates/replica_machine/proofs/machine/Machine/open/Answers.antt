@@ -6,7 +6,6 @@ use Rattle.commit_log.specs.LogEnd.{NoneFrom}
 use Rattle.replica_machine.specs.declared.machine.Began.{Began}
 use Rattle.replica_machine.proofs.BootLemmas.{BeginLeft, begin_left_of, open_done}
 use Rattle.replica_machine.proofs.PartLemmas.{store_closed, store_shut, closed_moved}
-use Rattle.replica_machine.proofs.StepLemmas.{machine_of}
 use Rattle.replica_machine.proofs.machine.Machine.open.Given.{Over}
 use Rattle.replica_machine.proofs.machine.Machine.open.Goals as goal
 

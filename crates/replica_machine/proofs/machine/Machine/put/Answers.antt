@@ -1,4 +1,4 @@
-use Rattle.std.proofs.Common.{◌≡◌, Some, None, sym, subst, ap, ◌∙◌, Result, Err}
+use Rattle.std.proofs.Common.{Some, sym, subst, ap, ◌∙◌, Result}
 use Rattle.std.specs.Prelude.{⊤}
 use Rattle.m3_model.specs.declared.reason.Reason.{Reason}
 use Rattle.cluster_core.specs.Refusals.{shut, unowned, outdated, outside}

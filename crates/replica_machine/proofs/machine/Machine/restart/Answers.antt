@@ -1,6 +1,5 @@
-use Rattle.std.proofs.Common.{◌≡◌, ap, ◌∙◌, sym, Err, Ok}
+use Rattle.std.proofs.Common.{Err}
 use Rattle.replica_machine.proofs.OtherLemmas.{RestartDone, store_moved, restart_refused_of, restart_ok_of}
-use Rattle.replica_machine.proofs.StepLemmas.{machine_of}
 use Rattle.replica_machine.proofs.machine.Machine.restart.Given.{Over}
 use Rattle.replica_machine.proofs.machine.Machine.restart.Goals as goal
 

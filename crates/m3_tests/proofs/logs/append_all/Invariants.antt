@@ -1,5 +1,0 @@
-use Rattle.commit_log.specs.LogEnd.{Stands}
-use Rattle.m3_tests.proofs.logs.append_all.Given as goal
-
-abbrev pub invariant-loop-i : goal.invariant-loop-i
-invariant-loop-i g l = Stands l.log (g.D.Disk.state l.disk)

@@ -1,0 +1,14 @@
+use Rattle.std.proofs.Common.{◌≡◌, ℕ, Option, length, unwrap_or, sym, ap, subst, ◌∙◌, arith}
+use Rattle.m3_outside.specs.Files.{IsInside}
+use Rattle.commit_log.specs.Segment.{segment}
+use Rattle.commit_log.proofs.Segments.{file_inside}
+use Rattle.storage_tests.proofs.logs.first_segment.Goals as goal
+
+pub read-requires : goal.read-requires
+read-requires g c = λ h.
+    let t = sym c.in_ok-size.ensures.leaves.proceeds.tells ∙ h in
+    let size : c.unwrap_or-size.result ≡ 65536 = c.if-size-ne-SEGMENT_BYTES.false in
+    let wide : length c.deref_mut.result.now ≡ 65536 = omega (arith, c.deref_mut.ensures.len, c.in_ok-bytes.ensures.len) in
+    subst (IsInside (segment 1) 0 (length c.deref_mut.result.now)) (sym (c.in_ok-size.ensures.leaves.files t))
+    (subst (λ (n : ℕ). IsInside (segment 1) 0 n (g.D.Disk.state c.args.disk.now).files) (size ∙ sym wide)
+    (file_inside (g.D.Disk.state c.args.disk.now).files (segment 1) c.unwrap_or-size.result (c.unwrap_or-size.ensures ∙ ap (λ (o : Option ℕ). unwrap_or o 0) (c.in_ok-size.ensures.size t)) (λ e. omega (arith, e, size))))
