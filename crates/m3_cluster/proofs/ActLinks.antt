@@ -2,7 +2,7 @@
 use Rattle.std.proofs.Common.{◌≡◌, ◌⊎◌, ℕ, List, [], ◌∷◌, ◌++◌, map, refl, ap, subst, length, inl, inr, true, false}
 use Rattle.std.specs.Prelude.{Option, Some, None}
 use Rattle.m3_outside.specs.declared.disk.Disk.{Ghosts}
-use Rattle.m3_model.specs.Faults.{Fault}
+use Rattle.transcripts.specs.Faults.{Fault}
 use Rattle.m3_model.specs.Members.{IsIn}
 use Rattle.m3_model.specs.declared.act.Act.{Act}
 use Rattle.m3_model.specs.declared.act.Act.TheVariants as act

@@ -6,7 +6,7 @@ use Rattle.std.specs.FinMap as finite
 use Rattle.std.specs.Option.{option_map_or}
 use Rattle.m3_outside.specs.declared.disk.Disk.{Ghosts}
 use Rattle.m3_outside.specs.DiskState.{DiskState}
-use Rattle.m3_model.specs.Faults.{Fault, HasFailed}
+use Rattle.transcripts.specs.Faults.{Fault, HasFailed}
 use Rattle.m3_model.specs.declared.reason.Reason.TheVariants as reason
 use Rattle.m3_model.specs.declared.replica.Standing.TheVariants as standing
 use Rattle.replica_machine.specs.Machines.{MachineState}
@@ -15,15 +15,18 @@ use Rattle.session.specs.declared.slot.Slot.{Slot}
 use Rattle.std.proofs.lemmas.Bool.{cases_lt}
 use Rattle.std.proofs.lemmas.List.Sums.{length-filter}
 use Rattle.m3_model.specs.Ascends.{Ascends}
-use Rattle.m3_model.specs.Caused.{Call as Asking, call_of, IsAsked as AsksShard, IsAcked, IsUnmet, IsFoundFor, IsNamedBelow, MayRefuse, MayServe, MayUse, TakesPoint, IsOutside, reached_of}
-use Rattle.m3_model.specs.Fates.{is_cut, reaches}
+use Rattle.transcripts.specs.Caused.{Call as Asking, call_of, IsAsked as AsksShard, IsAcked, IsUnmet, IsFoundFor, MayRefuse, MayServe, MayUse, TakesPoint, IsOutside, reached_of}
+use Rattle.placement_core.specs.NodeNames.{IsNamedBelow}
+use Rattle.m3_model.specs.Delivery.{is_cut}
+use Rattle.transcripts.specs.Fates.{reaches}
 use Rattle.m3_model.specs.Hash.{shard_of}
 use Rattle.m3_model.specs.Levels.{majority, needed_write, needed_read}
 use Rattle.m3_model.specs.Members.{IsIn}
-use Rattle.m3_model.specs.Placements.{IsCounted, counted_node, counted_nodes, is_available as counts_state, seed_after}
-use Rattle.m3_model.specs.Points.{point_of}
-use Rattle.m3_model.specs.Record.{TurnPlace, inner_turns}
-use Rattle.m3_model.specs.Rules.{rules_at, namespace_place, IsPast, IsFuture}
+use Rattle.transcripts.specs.Placements.{IsCounted, counted_node, counted_nodes, is_available as counts_state, seed_after}
+use Rattle.transcripts.specs.Points.{point_of}
+use Rattle.transcripts.specs.Record.{TurnPlace, inner_turns}
+use Rattle.transcripts.specs.Rules.{rules_at}
+use Rattle.m3_model.specs.Rules.{namespace_place, IsPast, IsFuture}
 use Rattle.m3_model.specs.declared.act.Act.{Act}
 use Rattle.m3_model.specs.declared.act.Act.TheVariants as act
 use Rattle.m3_model.specs.declared.act.ReadLevel.{ReadLevel}

@@ -7,13 +7,13 @@ use Rattle.std.proofs.lemmas.Bool.{cases_lt}
 use Rattle.std.proofs.lemmas.Bool.Decides.{nat_tests}
 use Rattle.std.proofs.Math.Nat.{min-eq_left, le-min}
 use Rattle.m3_outside.specs.declared.disk.Disk.{Ghosts}
-use Rattle.m3_model.specs.Caused.{placement_at}
-use Rattle.m3_model.specs.Faults.{Fault}
-use Rattle.m3_model.specs.Fates.{numbering_after, fate_in, fate_at, is_fate_of}
+use Rattle.transcripts.specs.Caused.{placement_at}
+use Rattle.transcripts.specs.Faults.{Fault}
+use Rattle.transcripts.specs.Fates.{numbering_after, fate_in, fate_at, is_fate_of}
 use Rattle.m3_model.specs.Members.{IsIn}
-use Rattle.m3_model.specs.Placements.{seed_after}
-use Rattle.m3_model.specs.Record.{TurnPlace, inner_turns}
-use Rattle.m3_model.specs.Rules.{rules_at}
+use Rattle.transcripts.specs.Placements.{seed_after}
+use Rattle.transcripts.specs.Record.{TurnPlace, inner_turns}
+use Rattle.transcripts.specs.Rules.{rules_at}
 use Rattle.m3_model.specs.declared.act.Act.{Act}
 use Rattle.m3_model.specs.declared.act.Fate.{Fate}
 use Rattle.m3_model.specs.declared.act.Fate.TheVariants as fate

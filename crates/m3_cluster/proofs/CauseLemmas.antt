@@ -6,16 +6,17 @@ use Rattle.std.proofs.lemmas.Bool.{lt-ltb, le-leb, lt-leb, le-ltb}
 use Rattle.std.proofs.lemmas.Option.{slice_get_within}
 use Rattle.m3_outside.specs.declared.disk.Disk.{Ghosts}
 use Rattle.m3_outside.specs.DiskState.{DiskState, IsLawful}
-use Rattle.m3_model.specs.Caused.{CausedAt, OnDisk}
-use Rattle.m3_model.specs.Faults.{Fault}
-use Rattle.m3_model.specs.Fates.{is_stopped}
+use Rattle.transcripts.specs.Caused.{CausedAt, OnDisk}
+use Rattle.transcripts.specs.Faults.{Fault}
+use Rattle.transcripts.specs.Fates.{is_stopped}
 use Rattle.m3_model.specs.Hash.{shard_of}
 use Rattle.m3_model.specs.Levels.{needed_read}
 use Rattle.m3_model.specs.Limits.{MeetsLimits}
 use Rattle.m3_model.specs.NotYet.{IsServedAct}
-use Rattle.m3_model.specs.Placements.{seed_after, is_listed}
-use Rattle.m3_model.specs.Record.{inner_turns}
-use Rattle.m3_model.specs.Refusals.{refusal_by, namespace_limit}
+use Rattle.transcripts.specs.Placements.{seed_after}
+use Rattle.placement_core.specs.NodeNames.{is_listed}
+use Rattle.transcripts.specs.Record.{inner_turns}
+use Rattle.transcripts.specs.Refusals.{refusal_by, namespace_limit}
 use Rattle.m3_model.specs.Rules.{namespace_place}
 use Rattle.m3_model.specs.declared.act.Act.{Act}
 use Rattle.m3_model.specs.declared.act.Act.TheVariants as act

@@ -9,14 +9,15 @@ use Rattle.std.proofs.lemmas.List.Elements.{All-cons, All-nil}
 use Rattle.std.proofs.lemmas.Option.{slice_get_within}
 use Rattle.m3_outside.specs.declared.disk.Disk.{Ghosts}
 use Rattle.m3_outside.specs.DiskState.{DiskState}
-use Rattle.m3_model.specs.Caused.{LateMessage, IsDelivered, AreOutcomes, MayComeOf}
-use Rattle.m3_model.specs.Faults.{Fault, HasFailed, IsClosedByFault, WaitsForBoot, is_restart}
-use Rattle.m3_model.specs.Fates.{IsStoppedAt}
+use Rattle.transcripts.specs.Caused.{LateMessage, IsDelivered, AreOutcomes, MayComeOf}
+use Rattle.transcripts.specs.Faults.{Fault, HasFailed, IsClosedByFault, WaitsForBoot, is_restart}
+use Rattle.transcripts.specs.Fates.{IsStoppedAt}
 use Rattle.m3_model.specs.Hash.{shard_of}
 use Rattle.m3_model.specs.Members.{IsIn}
-use Rattle.m3_model.specs.Points.{point_of}
-use Rattle.m3_model.specs.Record.{TurnPlace, inner_turns}
-use Rattle.m3_model.specs.Rules.{InWindow, IsPast, IsFuture, namespace_place, rules_at}
+use Rattle.transcripts.specs.Points.{point_of}
+use Rattle.transcripts.specs.Record.{TurnPlace, inner_turns}
+use Rattle.m3_model.specs.Rules.{InWindow, IsPast, IsFuture, namespace_place}
+use Rattle.transcripts.specs.Rules.{rules_at}
 use Rattle.m3_model.specs.declared.act.Act.{Act}
 use Rattle.m3_model.specs.declared.act.Act.TheVariants as act
 use Rattle.m3_model.specs.declared.act.Fate.TheVariants as fate

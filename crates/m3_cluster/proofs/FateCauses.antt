@@ -7,11 +7,11 @@ use Rattle.std.specs.Option.{option_or}
 use Rattle.std.proofs.lemmas.Iterator.Adapters.{position_from-zero}
 use Rattle.m3_outside.specs.declared.disk.Disk.{Ghosts}
 use Rattle.m3_outside.specs.DiskState.{DiskState}
-use Rattle.m3_model.specs.Faults.{Fault}
-use Rattle.m3_model.specs.Fates.{is_stopped}
-use Rattle.m3_model.specs.Placements.{is_listed}
-use Rattle.m3_model.specs.Record.{inner_turns}
-use Rattle.m3_model.specs.Refusals.{missing_in}
+use Rattle.transcripts.specs.Faults.{Fault}
+use Rattle.transcripts.specs.Fates.{is_stopped}
+use Rattle.placement_core.specs.NodeNames.{is_listed}
+use Rattle.transcripts.specs.Record.{inner_turns}
+use Rattle.transcripts.specs.Refusals.{missing_in}
 use Rattle.m3_model.specs.declared.act.Fate.{Fate}
 use Rattle.m3_model.specs.declared.placement.Instance.{Instance}
 use Rattle.m3_model.specs.declared.placement.Placement.{Placement}

@@ -10,8 +10,8 @@ use Rattle.std.proofs.lemmas.Slice.Eq.{bytes_eq-Decides}
 use Rattle.m3_outside.specs.declared.disk.Disk.{Ghosts}
 use Rattle.m3_outside.specs.DiskState.{DiskState}
 use Rattle.m3_model.specs.Ascends.{Ascends}
-use Rattle.m3_model.specs.Fates.{Numbering, fate_in, is_fate_of}
-use Rattle.m3_model.specs.Faults.{Fault}
+use Rattle.transcripts.specs.Fates.{Numbering, fate_in, is_fate_of}
+use Rattle.transcripts.specs.Faults.{Fault}
 use Rattle.m3_model.specs.Limits.{MeetsLimits}
 use Rattle.m3_model.specs.Members.{IsIn}
 use Rattle.m3_model.specs.declared.act.Act.TheVariants as act

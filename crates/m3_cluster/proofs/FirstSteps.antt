@@ -8,10 +8,10 @@ use Rattle.std.proofs.lemmas.List.{get_or_past}
 use Rattle.m3_outside.specs.declared.disk.Disk.{Ghosts}
 use Rattle.m3_outside.specs.DiskState.{DiskState, IsLawful, Told}
 use Rattle.m3_outside.specs.declared.slot.Slot.{Slot as Place}
-use Rattle.m3_model.specs.Faults.{Fault}
-use Rattle.m3_model.specs.Fates.{Numbering, fate_in}
+use Rattle.transcripts.specs.Faults.{Fault}
+use Rattle.transcripts.specs.Fates.{Numbering, fate_in}
 use Rattle.m3_model.specs.Members.{IsIn}
-use Rattle.m3_model.specs.Record.{InnerTurn, inner_turns}
+use Rattle.transcripts.specs.Record.{InnerTurn, inner_turns}
 use Rattle.m3_model.specs.declared.act.Act.TheVariants as act
 use Rattle.m3_model.specs.declared.answer.Answer.{Answer}
 use Rattle.m3_model.specs.declared.answer.Answer.TheVariants as answer

@@ -3,15 +3,15 @@ use Rattle.std.proofs.Common.{◌≡◌, ◌<◌, ℕ, zero, suc, List, [], ◌�
 use Rattle.std.specs.Prelude.{Option, Some, None, IsSome, option_map, slice_get}
 use Rattle.m3_outside.specs.declared.disk.Disk.{Ghosts}
 use Rattle.m3_outside.specs.DiskState.{DiskState}
-use Rattle.m3_model.specs.Caused.{CausedAt, IsDue, NamesNode}
-use Rattle.m3_model.specs.Faults.{Fault}
-use Rattle.m3_model.specs.Fates.{is_stopped}
-use Rattle.m3_model.specs.Kept.{KeptAt}
-use Rattle.m3_model.specs.Placements.{IsFirstPlacement}
+use Rattle.transcripts.specs.Caused.{CausedAt, IsDue, NamesNode}
+use Rattle.transcripts.specs.Faults.{Fault}
+use Rattle.transcripts.specs.Fates.{is_stopped}
+use Rattle.transcripts.specs.Kept.{KeptAt}
+use Rattle.placement_plan.specs.First.{IsFirstPlacement}
 use Rattle.m3_model.specs.Reads.{found_of}
-use Rattle.m3_model.specs.Record.{inner_turns}
-use Rattle.m3_model.specs.Refusals.{refusal_by}
-use Rattle.m3_model.specs.Rules.{rules_at}
+use Rattle.transcripts.specs.Record.{inner_turns}
+use Rattle.transcripts.specs.Refusals.{refusal_by}
+use Rattle.transcripts.specs.Rules.{rules_at}
 use Rattle.m3_model.specs.declared.act.Act.TheVariants as act
 use Rattle.m3_model.specs.declared.answer.Answer.{Answer}
 use Rattle.m3_model.specs.declared.answer.Answer.TheVariants as answer

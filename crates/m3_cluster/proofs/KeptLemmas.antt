@@ -4,14 +4,15 @@ use Rattle.std.specs.Prelude.{Option, Some, None, option_map}
 use Rattle.std.specs.List.{filter_map}
 use Rattle.m3_outside.specs.declared.disk.Disk.{Ghosts}
 use Rattle.m3_outside.specs.DiskState.{DiskState}
-use Rattle.m3_model.specs.Faults.{Fault}
-use Rattle.m3_model.specs.Kept.{KeepsPoints, KeepsRead, KeptAt}
+use Rattle.transcripts.specs.Faults.{Fault}
+use Rattle.transcripts.specs.Kept.{KeepsPoints, KeepsRead, KeptAt}
 use Rattle.m3_model.specs.NotYet.{IsServedAct}
-use Rattle.m3_model.specs.Placements.{replicas_of}
-use Rattle.m3_model.specs.Points.{acked_point, sent_point, acked_at, rf_at}
+use Rattle.transcripts.specs.Placements.{replicas_of}
+use Rattle.transcripts.specs.Points.{acked_point, sent_point, acked_at, rf_at}
 use Rattle.m3_model.specs.Reads.{Read, Found, read_of, found_of, Matches}
-use Rattle.m3_model.specs.Record.{InnerTurn, TurnPlace, inner_turns}
-use Rattle.m3_model.specs.Rules.{rules_at, namespace_place}
+use Rattle.transcripts.specs.Record.{InnerTurn, TurnPlace, inner_turns}
+use Rattle.transcripts.specs.Rules.{rules_at}
+use Rattle.m3_model.specs.Rules.{namespace_place}
 use Rattle.m3_model.specs.declared.act.Act.{Act}
 use Rattle.m3_model.specs.declared.act.Act.TheVariants as act
 use Rattle.m3_model.specs.declared.act.Fate.{Fate}

@@ -5,11 +5,12 @@ use Rattle.std.specs.FinMap as finite
 use Rattle.std.specs.Option.{option_or, option_map_or}
 use Rattle.m3_outside.specs.declared.disk.Disk.{Ghosts}
 use Rattle.m3_outside.specs.DiskState.{DiskState}
-use Rattle.m3_model.specs.Caused.{MayRefuse}
-use Rattle.m3_model.specs.Faults.{Fault, HasFailed, IsClosedByFault, WaitsForBoot}
-use Rattle.m3_model.specs.Fates.{IsStoppedAt, fate_at, is_cut, is_stopped, is_reached, reaches}
+use Rattle.transcripts.specs.Caused.{MayRefuse}
+use Rattle.transcripts.specs.Faults.{Fault, HasFailed, IsClosedByFault, WaitsForBoot}
+use Rattle.transcripts.specs.Fates.{IsStoppedAt, fate_at, is_stopped, is_reached, reaches}
+use Rattle.m3_model.specs.Delivery.{is_cut}
 use Rattle.m3_model.specs.Members.{IsIn}
-use Rattle.m3_model.specs.Record.{inner_turns}
+use Rattle.transcripts.specs.Record.{inner_turns}
 use Rattle.m3_model.specs.declared.act.Act.{Act}
 use Rattle.m3_model.specs.declared.answer.Answer.{Answer}
 use Rattle.m3_model.specs.declared.placement.Assignment.{Assignment}

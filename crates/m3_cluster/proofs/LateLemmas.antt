@@ -5,13 +5,15 @@ use Rattle.std.proofs.lemmas.List.{append_assoc, take-map}
 use Rattle.m3_outside.specs.declared.disk.Disk.{Ghosts}
 use Rattle.m3_outside.specs.DiskState.{DiskState}
 use Rattle.m3_model.specs.Ascends.{Ascends}
-use Rattle.m3_model.specs.Faults.{Fault}
-use Rattle.m3_model.specs.Caused.{LateMessage, IsLateMessage, IsLateBefore, IsNamedBelow, delivers_nothing}
+use Rattle.transcripts.specs.Faults.{Fault}
+use Rattle.transcripts.specs.Caused.{LateMessage, IsLateMessage, IsLateBefore, delivers_nothing}
+use Rattle.placement_core.specs.NodeNames.{IsNamedBelow}
 use Rattle.m3_model.specs.Hash.{shard_of}
 use Rattle.m3_model.specs.Members.{IsIn}
-use Rattle.m3_model.specs.Points.{point_of, sent_point, was_sent}
-use Rattle.m3_model.specs.Record.{InnerTurn, TurnPlace, IsTurnPlace, inner_turns}
-use Rattle.m3_model.specs.Rules.{rules_after, start_rules, namespace_place}
+use Rattle.transcripts.specs.Points.{point_of, sent_point, was_sent}
+use Rattle.transcripts.specs.Record.{InnerTurn, TurnPlace, IsTurnPlace, inner_turns}
+use Rattle.transcripts.specs.Rules.{rules_after, start_rules}
+use Rattle.m3_model.specs.Rules.{namespace_place}
 use Rattle.m3_model.specs.declared.act.Act.{Act}
 use Rattle.m3_model.specs.declared.act.Act.TheVariants as act
 use Rattle.m3_model.specs.declared.act.Fate.{Fate}

@@ -7,7 +7,7 @@ use Rattle.m3_outside.specs.Causes.{RoseBy, last_count}
 use Rattle.m3_outside.specs.declared.disk.Disk.{Ghosts}
 use Rattle.m3_outside.specs.DiskState.{DiskState, IsLawful}
 use Rattle.m3_outside.specs.declared.slot.Slot.{Slot as Place}
-use Rattle.m3_model.specs.Faults.{AreDifferent, Fault}
+use Rattle.transcripts.specs.Faults.{AreDifferent, Fault}
 use Rattle.m3_model.specs.Members.{IsIn}
 use Rattle.m3_model.specs.declared.act.Act.TheVariants as act
 use Rattle.m3_model.specs.declared.answer.Answer.{Answer}

@@ -1,11 +1,11 @@
 -- What is caused over some faults is caused over more of them.
 use Rattle.std.proofs.Common.{ℕ, List, [], ◌∷◌, inl, inr}
 use Rattle.std.specs.Prelude.{◌⊎◌, Option, Some, None}
-use Rattle.m3_model.specs.Caused.{CausedAt, IsDue, IsOwn, IsUnmet, AreOutcomes, LateMessage, MayComeOf, MayRefuse}
-use Rattle.m3_model.specs.Faults.{Fault, IsClosedByFault}
-use Rattle.m3_model.specs.Fates.{IsStoppedAt}
+use Rattle.transcripts.specs.Caused.{CausedAt, IsDue, IsOwn, IsUnmet, AreOutcomes, LateMessage, MayComeOf, MayRefuse}
+use Rattle.transcripts.specs.Faults.{Fault, IsClosedByFault}
+use Rattle.transcripts.specs.Fates.{IsStoppedAt}
 use Rattle.m3_model.specs.Members.{IsIn}
-use Rattle.m3_model.specs.Record.{TurnPlace}
+use Rattle.transcripts.specs.Record.{TurnPlace}
 use Rattle.m3_model.specs.declared.act.Act.{Act}
 use Rattle.m3_model.specs.declared.act.Act.TheVariants as act
 use Rattle.m3_model.specs.declared.answer.Answer.{Answer}

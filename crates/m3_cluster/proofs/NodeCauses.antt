@@ -9,12 +9,12 @@ use Rattle.std.proofs.lemmas.Bool.{lt-ltb, le-ltb, eqb-true}
 use Rattle.std.proofs.lemmas.List.Elements.{All-cons, All-nil}
 use Rattle.m3_outside.specs.declared.disk.Disk.{Ghosts}
 use Rattle.m3_outside.specs.DiskState.{DiskState, IsLawful}
-use Rattle.m3_model.specs.Caused.{OnDisk}
-use Rattle.m3_model.specs.Faults.{Fault, is_covering}
+use Rattle.transcripts.specs.Caused.{OnDisk}
+use Rattle.transcripts.specs.Faults.{Fault, is_covering}
 use Rattle.m3_model.specs.Members.{IsIn}
-use Rattle.m3_model.specs.Placements.{is_listed}
-use Rattle.m3_model.specs.Record.{inner_turns}
-use Rattle.m3_model.specs.Refusals.{missing_shard, refusal_by}
+use Rattle.placement_core.specs.NodeNames.{is_listed}
+use Rattle.transcripts.specs.Record.{inner_turns}
+use Rattle.transcripts.specs.Refusals.{missing_shard, refusal_by}
 use Rattle.m3_model.specs.declared.act.Act.{Act}
 use Rattle.m3_model.specs.declared.act.Act.TheVariants as act
 use Rattle.m3_model.specs.declared.answer.Answer.{Answer}

@@ -6,8 +6,8 @@ use Rattle.std.proofs.lemmas.Bool.{cases_lt}
 use Rattle.std.proofs.lemmas.List.{get_or-set_same}
 use Rattle.std.proofs.lemmas.List.Concat.{flat_map-append}
 use Rattle.std.proofs.lemmas.List.Sums.{fold_push}
-use Rattle.m3_model.specs.Fates.{calls_in, fates_set, numbering_by, numbering_after}
-use Rattle.m3_model.specs.Record.{InnerTurn, inner_turns}
+use Rattle.transcripts.specs.Fates.{calls_in, fates_set, numbering_by, numbering_after}
+use Rattle.transcripts.specs.Record.{InnerTurn, inner_turns}
 use Rattle.m3_model.specs.declared.act.Act.{Act}
 use Rattle.m3_model.specs.declared.answer.Answer.{Answer}
 use Rattle.m3_model.specs.declared.turn.Reply.TheVariants as reply

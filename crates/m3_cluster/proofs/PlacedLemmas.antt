@@ -1,8 +1,8 @@
 -- The placement of a cluster is the one that was printed last.
 use Rattle.std.proofs.Common.{◌≡◌, ℕ, List, [], ◌∷◌, refl, sym, ap, ◌∙◌, inl, inr}
 use Rattle.std.specs.Prelude.{Option, Some, None, option_map}
-use Rattle.m3_model.specs.Placements.{later_placement, placement_after, printed}
-use Rattle.m3_model.specs.Record.{inner_turns}
+use Rattle.transcripts.specs.Placements.{later_placement, placement_after, printed}
+use Rattle.transcripts.specs.Record.{inner_turns}
 use Rattle.m3_model.specs.declared.act.Act.{Act}
 use Rattle.m3_model.specs.declared.act.Act.TheVariants as act
 use Rattle.m3_model.specs.declared.act.Fate.{Fate}

@@ -3,7 +3,7 @@ use Rattle.std.proofs.Common.{◌≡◌, ◌<◌, ◌≤◌, ◌+◌, ℕ, zero,
 use Rattle.std.proofs.lemmas.List.{map-append}
 use Rattle.m3_model.specs.Members.{IsIn}
 use Rattle.m3_model.proofs.MemberLemmas.{IsIn-append_cases, IsIn-map}
-use Rattle.m3_model.specs.Placements.{IsFirstPlacement}
+use Rattle.placement_plan.specs.First.{IsFirstPlacement}
 use Rattle.m3_model.specs.declared.placement.Assignment.{Assignment}
 use Rattle.m3_model.specs.declared.placement.Placement.{Placement}
 use Rattle.placement_core.specs.Shards.{Shard, nodes_of}

@@ -4,10 +4,10 @@ use Rattle.std.specs.Prelude.{Option, Some, None, slice_get}
 use Rattle.std.specs.FinMap as finite
 use Rattle.m3_outside.specs.declared.disk.Disk.{Ghosts}
 use Rattle.m3_outside.specs.DiskState.{DiskState}
-use Rattle.m3_model.specs.Faults.{Fault}
-use Rattle.m3_model.specs.Fates.{is_cut}
+use Rattle.transcripts.specs.Faults.{Fault}
+use Rattle.m3_model.specs.Delivery.{is_cut}
 use Rattle.m3_model.specs.Members.{IsIn}
-use Rattle.m3_model.specs.Record.{inner_turns}
+use Rattle.transcripts.specs.Record.{inner_turns}
 use Rattle.m3_model.specs.declared.act.Act.{Act}
 use Rattle.m3_model.specs.declared.act.Fate.{Fate}
 use Rattle.m3_model.specs.declared.act.Fate.TheVariants as fate

@@ -4,12 +4,13 @@ use Rattle.std.specs.Prelude.{Option, Some, None, IsTrue, slice_get}
 use Rattle.std.specs.Option.{option_map, option_map_or}
 use Rattle.m3_outside.specs.declared.disk.Disk.{Ghosts}
 use Rattle.m3_outside.specs.DiskState.{DiskState}
-use Rattle.m3_model.specs.Caused.{delivers_nothing}
-use Rattle.m3_model.specs.Faults.{Fault, is_restart, waits_by}
-use Rattle.m3_model.specs.Fates.{Numbering, fate_in, fates_set, is_call, is_stopped, numbering_after, stopped_by}
-use Rattle.m3_model.specs.Placements.{printed, later_placement, seed_by}
-use Rattle.m3_model.specs.Record.{inner_turns}
-use Rattle.m3_model.specs.Rules.{rules_by}
+use Rattle.transcripts.specs.Caused.{delivers_nothing}
+use Rattle.transcripts.specs.Faults.{Fault, is_restart, waits_by}
+use Rattle.m3_model.specs.Calls.{is_call}
+use Rattle.transcripts.specs.Fates.{Numbering, fate_in, fates_set, is_stopped, numbering_after, stopped_by}
+use Rattle.transcripts.specs.Placements.{printed, later_placement, seed_by}
+use Rattle.transcripts.specs.Record.{inner_turns}
+use Rattle.transcripts.specs.Rules.{rules_by}
 use Rattle.m3_model.specs.declared.act.Act.{Act}
 use Rattle.m3_model.specs.declared.act.Act.TheVariants as act
 use Rattle.m3_model.specs.declared.answer.Answer.{Answer}

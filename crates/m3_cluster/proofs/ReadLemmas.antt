@@ -8,15 +8,15 @@ use Rattle.std.proofs.lemmas.Bool.{cases_lt, leb-true}
 use Rattle.m3_outside.specs.declared.disk.Disk.{Ghosts}
 use Rattle.m3_outside.specs.DiskState.{DiskState}
 use Rattle.m3_model.specs.Contents.{Holds}
-use Rattle.m3_model.specs.Faults.{Fault}
-use Rattle.m3_model.specs.Kept.{KeepsPoints}
+use Rattle.transcripts.specs.Faults.{Fault}
+use Rattle.transcripts.specs.Kept.{KeepsPoints}
 use Rattle.m3_model.specs.Levels.{majority, needed_read, is_strong}
 use Rattle.m3_model.specs.Ascends.{Ascends}
-use Rattle.m3_model.specs.Caused.{IsNamedBelow}
+use Rattle.placement_core.specs.NodeNames.{IsNamedBelow}
 use Rattle.m3_model.specs.Members.{IsIn}
-use Rattle.m3_model.specs.Points.{point_of, was_acked, acked_point, sent_point}
+use Rattle.transcripts.specs.Points.{point_of, was_acked, acked_point, sent_point}
 use Rattle.m3_model.specs.Reads.{points_in, space_picked, Matches, Covers}
-use Rattle.m3_model.specs.Record.{InnerTurn, inner_turns}
+use Rattle.transcripts.specs.Record.{InnerTurn, inner_turns}
 use Rattle.m3_model.specs.declared.act.Act.TheVariants as act
 use Rattle.m3_model.specs.declared.act.ReadLevel.{ReadLevel}
 use Rattle.m3_model.specs.declared.act.ReadLevel.TheVariants as read

@@ -4,10 +4,10 @@ use Rattle.std.specs.Prelude.{Some, None, IsSome, IsTrue}
 use Rattle.std.specs.FinMap.{get}
 use Rattle.m3_outside.specs.declared.disk.Disk.{Ghosts}
 use Rattle.m3_outside.specs.DiskState.{DiskState}
-use Rattle.m3_model.specs.Caused.{delivers_nothing}
-use Rattle.m3_model.specs.Faults.{Fault}
-use Rattle.m3_model.specs.Fates.{fates_set, stopped_by}
-use Rattle.m3_model.specs.Rules.{rules_by}
+use Rattle.transcripts.specs.Caused.{delivers_nothing}
+use Rattle.transcripts.specs.Faults.{Fault}
+use Rattle.transcripts.specs.Fates.{fates_set, stopped_by}
+use Rattle.transcripts.specs.Rules.{rules_by}
 use Rattle.m3_model.specs.declared.act.Act.{Act}
 use Rattle.m3_model.specs.declared.act.Act.TheVariants as act
 use Rattle.m3_model.specs.declared.answer.Answer.{Answer}

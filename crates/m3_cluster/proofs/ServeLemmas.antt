@@ -12,7 +12,7 @@ use Rattle.m3_model.specs.declared.act.Act.{Act}
 use Rattle.m3_model.specs.declared.act.Act.TheVariants as act
 use Rattle.m3_model.specs.declared.answer.Answer.{Answer}
 use Rattle.m3_model.specs.declared.turn.Turn.{Turn}
-use Rattle.m3_model.proofs.PlaceLemmas.{not_empty}
+use Rattle.m3_model.proofs.SplitLemmas.{not_empty}
 use Rattle.placement_core.proofs.ListLemmas.{All-from_each}
 use Rattle.session.specs.declared.slot.Slot.{Slot}
 use Rattle.m3_cluster.specs.Acts.{Answers, IsMade}

@@ -2,8 +2,8 @@
 use Rattle.std.proofs.Common.{◌≡◌, List, [], ◌∷◌, sym, subst}
 use Rattle.m3_model.specs.Limits.{MeetsLimits}
 use Rattle.m3_model.specs.NotYet.{IsServedAct}
-use Rattle.m3_model.specs.Placements.{placement_after}
-use Rattle.m3_model.specs.Record.{inner_turns}
+use Rattle.transcripts.specs.Placements.{placement_after}
+use Rattle.transcripts.specs.Record.{inner_turns}
 use Rattle.m3_model.specs.declared.act.Act.{Act}
 use Rattle.m3_model.specs.declared.act.Act.TheVariants as act
 use Rattle.m3_model.specs.declared.answer.Answer.{Answer}

@@ -6,11 +6,11 @@ use Rattle.std.specs.List.{list_any}
 use Rattle.std.proofs.lemmas.List.Sums.{fold_push}
 use Rattle.m3_outside.specs.declared.disk.Disk.{Ghosts}
 use Rattle.m3_outside.specs.DiskState.{DiskState}
-use Rattle.m3_model.specs.Faults.{Fault, IsClosedByFault, is_restart, waits_after, waits_by}
-use Rattle.m3_model.specs.Fates.{is_stopped, stopped_by}
+use Rattle.transcripts.specs.Faults.{Fault, IsClosedByFault, is_restart, waits_after, waits_by}
+use Rattle.transcripts.specs.Fates.{is_stopped, stopped_by}
 use Rattle.m3_model.specs.Members.{IsIn}
-use Rattle.m3_model.specs.Points.{point_of, sent_point}
-use Rattle.m3_model.specs.Record.{InnerTurn, inner_turns}
+use Rattle.transcripts.specs.Points.{point_of, sent_point}
+use Rattle.transcripts.specs.Record.{InnerTurn, inner_turns}
 use Rattle.m3_model.specs.declared.act.Act.{Act}
 use Rattle.m3_model.specs.declared.answer.Answer.{Answer}
 use Rattle.m3_model.specs.declared.answer.Answer.TheVariants as answer

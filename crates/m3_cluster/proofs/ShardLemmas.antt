@@ -7,11 +7,11 @@ use Rattle.std.specs.declared.cmp.Ordering.TheVariants.{Less, Equal}
 use Rattle.m3_outside.specs.declared.disk.Disk.{Ghosts}
 use Rattle.m3_outside.specs.DiskState.{DiskState}
 use Rattle.m3_model.specs.Ascends.{Ascends}
-use Rattle.m3_model.specs.Caused.{IsNamedBelow}
-use Rattle.m3_model.specs.Faults.{Fault}
+use Rattle.placement_core.specs.NodeNames.{IsNamedBelow}
+use Rattle.transcripts.specs.Faults.{Fault}
 use Rattle.m3_model.specs.Hash.{murmur3}
 use Rattle.m3_model.specs.Members.{IsIn}
-use Rattle.m3_model.specs.Points.{point_of}
+use Rattle.transcripts.specs.Points.{point_of}
 use Rattle.m3_model.specs.Rules.{namespace_place}
 use Rattle.m3_model.specs.Tags.{IsBelow}
 use Rattle.m3_model.specs.declared.act.Act.TheVariants as act

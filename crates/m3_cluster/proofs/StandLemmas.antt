@@ -6,14 +6,15 @@ use Rattle.std.proofs.lemmas.List.Sums.{fold_push}
 use Rattle.m3_outside.specs.declared.disk.Disk.{Ghosts}
 use Rattle.m3_outside.specs.DiskState.{DiskState}
 use Rattle.m3_model.specs.Ascends.{Ascends}
-use Rattle.m3_model.specs.Caused.{IsNamedBelow}
-use Rattle.m3_model.specs.Fates.{Numbering, calls_in, fate_in, fates_set, is_call, is_stopped, numbering_after, stopped_by}
-use Rattle.m3_model.specs.Faults.{Fault}
+use Rattle.placement_core.specs.NodeNames.{IsNamedBelow}
+use Rattle.m3_model.specs.Calls.{is_call}
+use Rattle.transcripts.specs.Fates.{Numbering, calls_in, fate_in, fates_set, is_stopped, numbering_after, stopped_by}
+use Rattle.transcripts.specs.Faults.{Fault}
 use Rattle.m3_model.specs.Members.{IsIn}
-use Rattle.m3_model.specs.Placements.{printed, later_placement, placement_after, seed_after, seed_by}
-use Rattle.m3_model.specs.Points.{point_of}
-use Rattle.m3_model.specs.Record.{InnerTurn, inner_turns}
-use Rattle.m3_model.specs.Rules.{rules_by, rules_after, start_rules}
+use Rattle.transcripts.specs.Placements.{printed, later_placement, placement_after, seed_after, seed_by}
+use Rattle.transcripts.specs.Points.{point_of}
+use Rattle.transcripts.specs.Record.{InnerTurn, inner_turns}
+use Rattle.transcripts.specs.Rules.{rules_by, rules_after, start_rules}
 use Rattle.m3_model.specs.declared.act.Act.{Act}
 use Rattle.m3_model.specs.declared.act.Fate.{Fate}
 use Rattle.m3_model.specs.declared.answer.Answer.{Answer}

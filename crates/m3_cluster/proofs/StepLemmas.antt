@@ -3,8 +3,8 @@ use Rattle.std.proofs.Common.{◌≡◌, ◌⊎◌, ℕ, List, [], ◌++◌, len
 use Rattle.std.specs.Prelude.{Some, None}
 use Rattle.m3_outside.specs.declared.disk.Disk.{Ghosts}
 use Rattle.m3_outside.specs.DiskState.{DiskState, IsLawful}
-use Rattle.m3_model.specs.Faults.{Fault}
-use Rattle.m3_model.specs.Fates.{is_call}
+use Rattle.transcripts.specs.Faults.{Fault}
+use Rattle.m3_model.specs.Calls.{is_call}
 use Rattle.m3_model.specs.Limits.{MeetsLimits}
 use Rattle.m3_model.specs.Members.{IsIn}
 use Rattle.m3_model.specs.NotYet.{IsServedAct}

@@ -6,12 +6,13 @@ use Rattle.std.specs.List.{flat_map}
 use Rattle.m3_outside.specs.declared.disk.Disk.{Ghosts}
 use Rattle.m3_outside.specs.DiskState.{DiskState}
 use Rattle.m3_model.specs.Ascends.{Ascends}
-use Rattle.m3_model.specs.Caused.{LateMessage, IsNamedBelow, delivers_nothing}
-use Rattle.m3_model.specs.Faults.{Fault}
+use Rattle.transcripts.specs.Caused.{LateMessage, delivers_nothing}
+use Rattle.placement_core.specs.NodeNames.{IsNamedBelow}
+use Rattle.transcripts.specs.Faults.{Fault}
 use Rattle.m3_model.specs.Members.{IsIn}
-use Rattle.m3_model.specs.Placements.{printed}
-use Rattle.m3_model.specs.Points.{point_of, was_sent}
-use Rattle.m3_model.specs.Record.{InnerTurn, IsTurnPlace, TurnPlace, inner_turns, joined, lists_of}
+use Rattle.transcripts.specs.Placements.{printed}
+use Rattle.transcripts.specs.Points.{point_of, was_sent}
+use Rattle.transcripts.specs.Record.{InnerTurn, IsTurnPlace, TurnPlace, inner_turns, joined, lists_of}
 use Rattle.m3_model.specs.declared.act.Act.{Act}
 use Rattle.m3_model.specs.declared.act.Act.TheVariants as act
 use Rattle.m3_model.specs.declared.act.WriteLevel.{WriteLevel}

@@ -3,17 +3,17 @@ use Rattle.std.proofs.Common.{◌≡◌, ◌⊎◌, List, [], ◌∷◌, ◌++�
 use Rattle.std.specs.Prelude.{None}
 use Rattle.m3_outside.specs.declared.disk.Disk.{Ghosts}
 use Rattle.m3_outside.specs.DiskState.{DiskState}
-use Rattle.m3_model.specs.Caused.{Caused, CausedAt}
-use Rattle.m3_model.specs.Faults.{AreDifferent, Fault}
-use Rattle.m3_model.specs.Kept.{Kept, KeptAt}
-use Rattle.m3_model.specs.Record.{TurnPlace}
+use Rattle.transcripts.specs.Caused.{Caused, CausedAt}
+use Rattle.transcripts.specs.Faults.{AreDifferent, Fault}
+use Rattle.transcripts.specs.Kept.{Kept, KeptAt}
+use Rattle.transcripts.specs.Record.{TurnPlace}
 use Rattle.m3_model.specs.declared.act.Act.{Act}
 use Rattle.m3_model.specs.declared.answer.Answer.{Answer}
 use Rattle.m3_model.specs.declared.turn.Request.TheVariants as request
 use Rattle.m3_model.specs.declared.turn.Reply.TheVariants as reply
 use Rattle.m3_model.specs.declared.turn.Turn.{Turn}
 use Rattle.m3_model.proofs.MemberLemmas.{IsIn-append_right}
-use Rattle.m3_model.proofs.PlaceLemmas.{IsOnly, at_push, only_place}
+use Rattle.transcripts.proofs.PlaceLemmas.{IsOnly, at_push, only_place}
 use Rattle.m3_cluster.specs.Serves.{life_of}
 use Rattle.m3_cluster.specs.declared.cluster.Cluster.{Cluster}
 use Rattle.m3_cluster.proofs.ActLinks.{TurnLists, TurnsOff, TurnsOn, turn_links}

@@ -1,7 +1,7 @@
 -- What `init` plans before it takes any disk, and what it answers where it makes no cluster.
 use Rattle.std.specs.Prelude.{◌≡◌, ℕ, List, [], length, Some, false, replicate, slice_get, ⊤}
 use Rattle.std.specs.FinMap.{empty}
-use Rattle.m3_model.specs.Placements.{IsFirstPlacement}
+use Rattle.placement_plan.specs.First.{IsFirstPlacement}
 use Rattle.m3_model.specs.declared.answer.Answer.{Answer}
 use Rattle.m3_model.specs.declared.answer.Answer.TheVariants as answer
 use Rattle.m3_model.specs.declared.placement.Instance.{Instance}

@@ -1,10 +1,10 @@
 -- The replicas that a cluster's machines are: what each of them knows, and why one isn't open.
 use Rattle.std.specs.Prelude.{◌≡◌, ◌≢◌, ◌⊎◌, ◌≤◌, ℕ, ⊤, List, [], ◌∷◌, Some, count_by, nat_eq, false, ◌&&◌}
 use Rattle.std.specs.List.{All}
-use Rattle.m3_model.specs.Faults.{Fault, IsClosedByFault, WaitsForBoot}
-use Rattle.m3_model.specs.Fates.{IsStoppedAt}
+use Rattle.transcripts.specs.Faults.{Fault, IsClosedByFault, WaitsForBoot}
+use Rattle.transcripts.specs.Fates.{IsStoppedAt}
 use Rattle.m3_model.specs.Members.{IsIn}
-use Rattle.m3_model.specs.Record.{TurnPlace}
+use Rattle.transcripts.specs.Record.{TurnPlace}
 use Rattle.m3_model.specs.declared.placement.Placement.{Placement}
 use Rattle.m3_model.specs.declared.point.Point.{Point}
 use Rattle.m3_model.specs.declared.replica.Standing.{Standing}

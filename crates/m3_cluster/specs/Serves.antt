@@ -5,16 +5,17 @@ use Rattle.std.specs.Option.{option_map_or}
 use Rattle.std.specs.FinMap.{get}
 use Rattle.m3_outside.specs.declared.disk.Disk.{Ghosts}
 use Rattle.m3_model.specs.Ascends.{Ascends}
-use Rattle.m3_model.specs.Caused.{Caused, IsNamedBelow, LateMessage, IsLateMessage, IsLateBefore}
-use Rattle.m3_model.specs.Fates.{numbering_after, fate_in, is_stopped}
-use Rattle.m3_model.specs.Faults.{Fault, AreDifferent}
+use Rattle.transcripts.specs.Caused.{Caused, LateMessage, IsLateMessage, IsLateBefore}
+use Rattle.placement_core.specs.NodeNames.{IsNamedBelow}
+use Rattle.transcripts.specs.Fates.{numbering_after, fate_in, is_stopped}
+use Rattle.transcripts.specs.Faults.{Fault, AreDifferent}
 use Rattle.m3_model.specs.Hash.{shard_of}
-use Rattle.m3_model.specs.Kept.{Kept}
+use Rattle.transcripts.specs.Kept.{Kept}
 use Rattle.m3_model.specs.Members.{IsIn}
-use Rattle.m3_model.specs.Placements.{placement_after, seed_after}
-use Rattle.m3_model.specs.Points.{point_of, sent_point}
-use Rattle.m3_model.specs.Record.{InnerTurn, Life, TurnPlace, inner_turns}
-use Rattle.m3_model.specs.Rules.{rules_after, start_rules}
+use Rattle.transcripts.specs.Placements.{placement_after, seed_after}
+use Rattle.transcripts.specs.Points.{point_of, sent_point}
+use Rattle.transcripts.specs.Record.{InnerTurn, Life, TurnPlace, inner_turns}
+use Rattle.transcripts.specs.Rules.{rules_after, start_rules}
 use Rattle.m3_model.specs.declared.act.Act.TheVariants as act
 use Rattle.m3_model.specs.declared.act.Fate.{Fate}
 use Rattle.m3_model.specs.declared.answer.Answer.TheVariants as answer

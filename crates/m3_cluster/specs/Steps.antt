@@ -2,8 +2,8 @@
 use Rattle.std.specs.Prelude.{◌≡◌, ℕ, ℤ, ◌≤◌, ◌<◌, List, [], ◌∷◌, ◌++◌, length, Some, None, false, IsSome, replicate, ◌⊎◌, ⊤}
 use Rattle.m3_outside.specs.declared.disk.Disk.{Ghosts}
 use Rattle.m3_model.specs.Members.{IsIn}
-use Rattle.m3_model.specs.Placements.{IsFirstPlacement}
-use Rattle.m3_model.specs.Refusals.{namespace_limit}
+use Rattle.placement_plan.specs.First.{IsFirstPlacement}
+use Rattle.transcripts.specs.Refusals.{namespace_limit}
 use Rattle.m3_model.specs.Rules.{namespace_place}
 use Rattle.m3_model.specs.declared.act.ReadLevel.{ReadLevel}
 use Rattle.m3_model.specs.declared.act.WriteLevel.{WriteLevel}

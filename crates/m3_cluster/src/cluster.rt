@@ -2,11 +2,11 @@ ghost use Rattle.std.specs.Prelude.{◌≡◌, ◌≢◌, ◌≤◌, [], ◌∷�
 ghost use Rattle.std.specs.Option.{option_copied};
 ghost use Rattle.m3_model.specs.declared.turn.Turn.{Turn};
 ghost use Rattle.m3_model.specs.declared.act.Act.TheVariants as act;
-ghost use Rattle.m3_model.specs.Fates.{is_call};
+ghost use Rattle.m3_model.specs.Calls.{is_call};
 ghost use Rattle.m3_model.specs.Limits.{IsInit, MeetsLimits, KeepsLimits};
 ghost use Rattle.m3_model.specs.NotYet.{fills_its_nodes, IsServedAct, IsServed};
-ghost use Rattle.m3_model.specs.Placements.{placement_after};
-ghost use Rattle.m3_model.specs.Record.{inner_turns};
+ghost use Rattle.transcripts.specs.Placements.{placement_after};
+ghost use Rattle.transcripts.specs.Record.{inner_turns};
 ghost use Rattle.m3_outside.specs.DiskState.{DiskState};
 ghost use Rattle.m3_outside.specs.Slots.{Out};
 ghost use Rattle.m3_outside.specs.declared.slot.Slot.{Slot as Place};

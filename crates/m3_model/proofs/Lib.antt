@@ -4,4 +4,4 @@ pub mod FindLemmas
 pub mod RaiseLemmas
 pub mod RangeLemmas
 pub mod JoinLemmas
-pub mod PlaceLemmas
+pub mod SplitLemmas

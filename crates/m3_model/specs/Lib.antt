@@ -8,15 +8,9 @@ pub mod Contents
 pub mod Levels
 pub mod Hash
 pub mod Tags
-pub mod Record
 pub mod Rules
-pub mod Fates
-pub mod Placements
-pub mod Points
+pub mod Delivery
+pub mod Calls
 pub mod Reads
 pub mod Answers
-pub mod Kept
 pub mod NotYet
-pub mod Refusals
-pub mod Faults
-pub mod Caused

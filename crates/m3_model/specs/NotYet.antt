@@ -35,18 +35,3 @@ IsServedAct _ = ⊥
 abbrev pub IsServed : Request → Type 0
 IsServed (request.One one) = IsServedAct one
 IsServed (request.Par clients workers) = ⊥
-
--- the act is of another kind than these eleven
-abbrev pub is_put_off : Act → Bool
-is_put_off (act.Init rf shards seed nodes) = false
-is_put_off (act.Namespace name block past future retention) = false
-is_put_off (act.Now now) = false
-is_put_off (act.Write ns id t v level version) = false
-is_put_off (act.Fetch ns id from to level version) = false
-is_put_off (act.Match ns wanted from to level version) = false
-is_put_off (act.Fates list) = false
-is_put_off act.Deliver = false
-is_put_off (act.Stop node) = false
-is_put_off (act.Restart node pick) = false
-is_put_off (act.Bootstrap node shard) = false
-is_put_off _ = true

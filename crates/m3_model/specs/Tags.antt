@@ -8,6 +8,7 @@ use Rattle.m3_model.specs.Ascends.{Ascends}
 use Rattle.m3_model.specs.Members.{IsIn}
 use Rattle.m3_model.specs.Names.{is_letter, is_digit}
 use Rattle.m3_model.specs.declared.point.Matcher.{Matcher}
+use Rattle.m3_model.specs.declared.limits.TheConstants.{MOST_ID_BYTES, MOST_TAGS}
 
 -- one text is below another by its bytes
 abbrev pub IsBelow : List ℕ → List ℕ → Type 0
@@ -35,9 +36,9 @@ tags_text tags = codes "{" ++ join_with_byte 44 (map tag_text tags) ++ codes "}"
 pub record IsSpelledBy (id : List ℕ) (tags : List (List ℕ × List ℕ)) : Type 0 where
   pub spelled : id ≡ tags_text tags
   pub is_text : IsUtf8 id
-  pub not_long : length id ≤ 512
+  pub not_long : length id ≤ MOST_ID_BYTES
   pub some : 0 < length tags
-  pub few : length tags ≤ 32
+  pub few : length tags ≤ MOST_TAGS
   pub named : (tag : List ℕ × List ℕ) → IsIn tags tag → IsTrue (is_tag_name tag.0)
   pub ascend : Ascends (λ a b. IsBelow a.0 b.0) tags
 

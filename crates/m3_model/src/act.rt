@@ -1,3 +1,6 @@
+ghost use Rattle.std.specs.Prelude.{◌≡◌, IfOk};
+ghost use Rattle.m3_model.specs.declared.act.Act.TheVariants as act;
+
 use crate::duplicate::Duplicate;
 use crate::memory::Memory;
 use crate::point::Matcher;
@@ -138,6 +141,92 @@ impl Duplicate for Fate {
     }
 }
 
+fn copied_write(
+    alloc: Global,
+    ns: &Text,
+    id: &Text,
+    t: u64,
+    v: i64,
+    level: WriteLevel,
+    version: Option<u64>,
+) -> Result<Act, Memory>
+    ensures { IfOk result (λ copy. copy ≡ act.Write ns.now id.now t v level version) }
+{
+    let ns = ns.copy(alloc)?;
+    let id = id.copy(alloc)?;
+    Ok(Act::Write {
+        ns,
+        id,
+        t,
+        v,
+        level,
+        version,
+    })
+}
+
+fn copied_fetch(
+    alloc: Global,
+    ns: &Text,
+    id: &Text,
+    from: u64,
+    to: u64,
+    level: ReadLevel,
+    version: Option<u64>,
+) -> Result<Act, Memory>
+    ensures { IfOk result (λ copy. copy ≡ act.Fetch ns.now id.now from to level version) }
+{
+    let ns = ns.copy(alloc)?;
+    let id = id.copy(alloc)?;
+    Ok(Act::Fetch {
+        ns,
+        id,
+        from,
+        to,
+        level,
+        version,
+    })
+}
+
+fn copied_match(
+    alloc: Global,
+    ns: &Text,
+    wanted: &Seq<Matcher>,
+    from: u64,
+    to: u64,
+    level: ReadLevel,
+    version: Option<u64>,
+) -> Result<Act, Memory>
+    ensures { IfOk result (λ copy. copy ≡ act.Match ns.now wanted.now from to level version) }
+{
+    let ns = ns.copy(alloc)?;
+    let wanted = wanted.copy(alloc)?;
+    Ok(Act::Match {
+        ns,
+        wanted,
+        from,
+        to,
+        level,
+        version,
+    })
+}
+
+fn copied_add(alloc: Global, node: &Text, group: &Text) -> Result<Act, Memory>
+    ensures { IfOk result (λ copy. copy ≡ act.Add node.now group.now) }
+{
+    let node = node.copy(alloc)?;
+    let group = group.copy(alloc)?;
+    Ok(Act::Add { node, group })
+}
+
+fn copied_replace(alloc: Global, node: &Text, by: &Text, group: &Text) -> Result<Act, Memory>
+    ensures { IfOk result (λ copy. copy ≡ act.Replace node.now by.now group.now) }
+{
+    let node = node.copy(alloc)?;
+    let by = by.copy(alloc)?;
+    let group = group.copy(alloc)?;
+    Ok(Act::Replace { node, by, group })
+}
+
 impl Duplicate for Act {
     fn copy(&self, alloc: Global) -> Result<Act, Memory> {
         match self {
@@ -173,14 +262,7 @@ impl Duplicate for Act {
                 v,
                 level,
                 version,
-            } => Ok(Act::Write {
-                ns: ns.copy(alloc)?,
-                id: id.copy(alloc)?,
-                t: *t,
-                v: *v,
-                level: *level,
-                version: *version,
-            }),
+            } => copied_write(alloc, ns, id, *t, *v, *level, *version),
             Act::Fetch {
                 ns,
                 id,
@@ -188,14 +270,7 @@ impl Duplicate for Act {
                 to,
                 level,
                 version,
-            } => Ok(Act::Fetch {
-                ns: ns.copy(alloc)?,
-                id: id.copy(alloc)?,
-                from: *from,
-                to: *to,
-                level: *level,
-                version: *version,
-            }),
+            } => copied_fetch(alloc, ns, id, *from, *to, *level, *version),
             Act::Match {
                 ns,
                 wanted,
@@ -203,14 +278,7 @@ impl Duplicate for Act {
                 to,
                 level,
                 version,
-            } => Ok(Act::Match {
-                ns: ns.copy(alloc)?,
-                wanted: wanted.copy(alloc)?,
-                from: *from,
-                to: *to,
-                level: *level,
-                version: *version,
-            }),
+            } => copied_match(alloc, ns, wanted, *from, *to, *level, *version),
             Act::Fates { list } => Ok(Act::Fates {
                 list: list.copy(alloc)?,
             }),
@@ -226,10 +294,7 @@ impl Duplicate for Act {
                 node: node.copy(alloc)?,
                 shard: *shard,
             }),
-            Act::Add { node, group } => Ok(Act::Add {
-                node: node.copy(alloc)?,
-                group: group.copy(alloc)?,
-            }),
+            Act::Add { node, group } => copied_add(alloc, node, group),
             Act::Drain { node } => Ok(Act::Drain {
                 node: node.copy(alloc)?,
             }),
@@ -239,11 +304,7 @@ impl Duplicate for Act {
             Act::Remove { node } => Ok(Act::Remove {
                 node: node.copy(alloc)?,
             }),
-            Act::Replace { node, by, group } => Ok(Act::Replace {
-                node: node.copy(alloc)?,
-                by: by.copy(alloc)?,
-                group: group.copy(alloc)?,
-            }),
+            Act::Replace { node, by, group } => copied_replace(alloc, node, by, group),
             Act::Tick => Ok(Act::Tick),
             Act::Flush => Ok(Act::Flush),
             Act::Snapshot => Ok(Act::Snapshot),

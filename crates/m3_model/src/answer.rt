@@ -1,3 +1,6 @@
+ghost use Rattle.std.specs.Prelude.{◌≡◌, IfOk};
+ghost use Rattle.m3_model.specs.declared.answer.Answer.TheVariants as answer;
+
 use crate::duplicate::Duplicate;
 use crate::memory::Memory;
 use crate::placement::{Placement, ShardState};
@@ -147,6 +150,47 @@ impl Duplicate for StatusLine {
     }
 }
 
+fn copied_available(
+    alloc: Global,
+    available: &Seq<(u32, Seq<u8>)>,
+    placement: &Placement,
+    version: u64,
+) -> Result<Answer, Memory>
+    ensures { IfOk result (λ copy. copy ≡ answer.Available available.now placement.now version) }
+{
+    let available = available.copy(alloc)?;
+    let placement = placement.copy(alloc)?;
+    Ok(Answer::Available {
+        available,
+        placement,
+        version,
+    })
+}
+
+fn copied_swept(
+    alloc: Global,
+    done: &Seq<(u8, u32, u64)>,
+    failed: &Seq<(u8, u32, Reason)>,
+) -> Result<Answer, Memory>
+    ensures { IfOk result (λ copy. copy ≡ answer.Swept done.now failed.now) }
+{
+    let done = done.copy(alloc)?;
+    let failed = failed.copy(alloc)?;
+    Ok(Answer::Swept { done, failed })
+}
+
+fn copied_corrupt(alloc: Global, node: &Text, shard: u32, damage: &Damage) -> Result<Answer, Memory>
+    ensures { IfOk result (λ copy. copy ≡ answer.Corrupt node.now shard damage.now) }
+{
+    let node = node.copy(alloc)?;
+    let damage = damage.copy(alloc)?;
+    Ok(Answer::Corrupt {
+        node,
+        shard,
+        damage,
+    })
+}
+
 impl Duplicate for Answer {
     fn copy(&self, alloc: Global) -> Result<Answer, Memory> {
         match self {
@@ -169,15 +213,8 @@ impl Duplicate for Answer {
                 available,
                 placement,
                 version,
-            } => Ok(Answer::Available {
-                available: available.copy(alloc)?,
-                placement: placement.copy(alloc)?,
-                version: *version,
-            }),
-            Answer::Swept { done, failed } => Ok(Answer::Swept {
-                done: done.copy(alloc)?,
-                failed: failed.copy(alloc)?,
-            }),
+            } => copied_available(alloc, available, placement, *version),
+            Answer::Swept { done, failed } => copied_swept(alloc, done, failed),
             Answer::Repaired { shards } => Ok(Answer::Repaired {
                 shards: shards.copy(alloc)?,
             }),
@@ -238,11 +275,7 @@ impl Duplicate for Answer {
                 node,
                 shard,
                 damage,
-            } => Ok(Answer::Corrupt {
-                node: node.copy(alloc)?,
-                shard: *shard,
-                damage: damage.copy(alloc)?,
-            }),
+            } => copied_corrupt(alloc, node, *shard, damage),
             Answer::Later => Ok(Answer::Later),
         }
     }

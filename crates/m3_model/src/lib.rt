@@ -5,6 +5,7 @@ pub mod act;
 pub mod answer;
 pub mod content;
 pub mod duplicate;
+pub mod limits;
 pub mod memory;
 pub mod placement;
 pub mod point;

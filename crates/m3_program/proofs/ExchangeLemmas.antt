@@ -3,14 +3,14 @@ use Rattle.std.proofs.Common.{◌≡◌, ℕ, List, [], ◌∷◌, ◌++◌, ref
 use Rattle.std.specs.Prelude.{Some, None, Ok}
 use Rattle.std.proofs.lemmas.List.Concat.{flat_map-append}
 use Rattle.std.proofs.lemmas.List.Sums.{fold-append}
-use Rattle.m3_model.specs.Placements.{later_placement, placement_after, printed}
-use Rattle.m3_model.specs.Record.{InnerTurn, inner_turns, joined, lists_of}
+use Rattle.transcripts.specs.Placements.{later_placement, placement_after, printed}
+use Rattle.transcripts.specs.Record.{InnerTurn, inner_turns, joined, lists_of}
 use Rattle.m3_model.specs.declared.answer.Answer.{Answer}
 use Rattle.m3_model.specs.declared.turn.Request.{Request}
 use Rattle.m3_model.specs.declared.turn.Reply.{Reply}
 use Rattle.m3_model.specs.declared.turn.Reply.TheVariants as reply
 use Rattle.m3_model.specs.declared.turn.Turn.{Turn}
-use Rattle.m3_model.proofs.PlaceLemmas.{split_push}
+use Rattle.m3_model.proofs.SplitLemmas.{split_push}
 use Rattle.m3_outside.specs.DiskState.{DiskState}
 use Rattle.m3_outside.specs.declared.disk.Disk.{Ghosts}
 use Rattle.m3_json.specs.Requests.{LineMeans}

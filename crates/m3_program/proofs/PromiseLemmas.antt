@@ -2,10 +2,10 @@
 use Rattle.std.proofs.Common.{◌≡◌, ℕ, ◌+◌, ◌-◌, ◌≤◌, List, [], ◌∷◌, ◌++◌, length, length-append, sym, ap, ◌∙◌, subst, append_assoc, append-nil, arith}
 use Rattle.std.specs.Prelude.{Option, Some, None}
 use Rattle.std.proofs.lemmas.List.Elements.{All-weaker, All-nil}
-use Rattle.m3_model.specs.Record.{TurnPlace, IsTurnPlace}
+use Rattle.transcripts.specs.Record.{TurnPlace, IsTurnPlace}
 use Rattle.m3_model.specs.declared.turn.Request.{Request}
 use Rattle.m3_model.specs.declared.turn.Turn.{Turn}
-use Rattle.m3_model.proofs.PlaceLemmas.{not_empty}
+use Rattle.m3_model.proofs.SplitLemmas.{not_empty}
 use Rattle.m3_outside.specs.Causes.{RoseBy}
 use Rattle.m3_outside.specs.DiskState.{DiskState}
 use Rattle.m3_outside.specs.declared.disk.Disk.{Ghosts}

@@ -8,8 +8,8 @@ use Rattle.m3_model.specs.declared.answer.Answer.TheVariants as answer
 use Rattle.m3_model.specs.declared.turn.Reply.{Reply}
 use Rattle.m3_model.specs.declared.turn.Reply.TheVariants as reply
 use Rattle.m3_model.specs.declared.turn.Turn.{Turn}
-use Rattle.m3_model.specs.Record.{inner_turns}
-use Rattle.m3_model.specs.Placements.{placement_after, start_placement}
+use Rattle.transcripts.specs.Record.{inner_turns}
+use Rattle.transcripts.specs.Placements.{placement_after, start_placement}
 use Rattle.m3_json.specs.declared.fault.LineErr.TheVariants as fault
 use Rattle.m3_json.specs.Requests.{LineMeans}
 use Rattle.m3_replies.specs.Replies.{reply_text}

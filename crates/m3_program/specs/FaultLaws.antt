@@ -1,7 +1,7 @@
 -- What counts that stay constant tell of a run.
 use Rattle.std.specs.Prelude.{◌≡◌, List, [], ◌++◌}
-use Rattle.m3_model.specs.Faults.{Fault}
-use Rattle.m3_model.specs.Record.{Record}
+use Rattle.transcripts.specs.Faults.{Fault}
+use Rattle.transcripts.specs.Record.{Record}
 use Rattle.m3_outside.specs.Laws.{IsConstant}
 use Rattle.m3_outside.specs.declared.slot.Slot.{Slot}
 use Rattle.m3_program.specs.Faults.{AreCauses, Counts}

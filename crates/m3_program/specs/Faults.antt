@@ -1,8 +1,8 @@
 -- The faults that are causes in a run, and the counts of the disks that show them.
 use Rattle.std.specs.Prelude.{◌≡◌, ℕ, ◌+◌, ◌<◌, ⊤, List, ◌++◌, length, Option, Some, None, false, ◌&&◌, nat_eq, count_by}
 use Rattle.std.specs.List.{All}
-use Rattle.m3_model.specs.Faults.{Fault}
-use Rattle.m3_model.specs.Record.{Record}
+use Rattle.transcripts.specs.Faults.{Fault}
+use Rattle.transcripts.specs.Record.{Record}
 use Rattle.m3_model.specs.declared.turn.Request.{Request}
 use Rattle.m3_outside.specs.Causes.{RoseBy}
 use Rattle.m3_outside.specs.DiskState.{DiskState, IsEmpty}

@@ -2,10 +2,10 @@
 use Rattle.std.specs.Prelude.{◌≡◌, ℕ, ◌<◌, ◌^◌, List, [], ◌∷◌, ◌++◌, map, length, Option, Some, None, Ok, if◌then◌else◌, ◌==◌}
 use Rattle.m3_model.specs.declared.rules.MetaState.{MetaState}
 use Rattle.m3_model.specs.declared.turn.Request.{Request}
-use Rattle.m3_model.specs.Faults.{Fault}
-use Rattle.m3_model.specs.Record.{Record}
-use Rattle.m3_model.specs.Kept.{Kept}
-use Rattle.m3_model.specs.Caused.{Caused}
+use Rattle.transcripts.specs.Faults.{Fault}
+use Rattle.transcripts.specs.Record.{Record}
+use Rattle.transcripts.specs.Kept.{Kept}
+use Rattle.transcripts.specs.Caused.{Caused}
 use Rattle.m3_outside.specs.DiskState.{DiskState}
 use Rattle.m3_json.specs.Requests.{LineMeans}
 use Rattle.m3_cluster.specs.Depots.{Depot}

@@ -2,7 +2,7 @@
 use Rattle.std.proofs.Common.{[], ◌∷◌, refl, inl, inr, arith}
 use Rattle.std.specs.Prelude.{pos}
 use Rattle.std.proofs.lemmas.Int.{ints}
-use Rattle.m3_model.specs.Kept.{Kept}
+use Rattle.transcripts.specs.Kept.{Kept}
 use Rattle.model_laws.specs.Building.{life_of}
 use Rattle.model_laws.specs.Accepted.{write_then_read, three_values, two_ranges, until_expiry, after_cut, write_beside, edge_writes, unmet_then_read}
 use Rattle.model_laws.proofs.EachLemmas.{◌also◌}

@@ -2,11 +2,11 @@
 use Rattle.std.proofs.Common.{◌≡◌, ◌<◌, ◌∙◌, length, ℕ, suc, true, false, List, [], ◌∷◌, refl, sym, subst, ap, inl, inr, arith}
 use Rattle.std.specs.Prelude.{Some, None, pos, codes, slice_get, drop, decimal, IsTrue}
 use Rattle.std.specs.List.{list_any}
-use Rattle.m3_model.specs.Caused.{Caused, IsUnmet, MayRefuse, MayUse, OnDisk, InFiles, IsShown, placement_at}
-use Rattle.m3_model.specs.Faults.{Fault, is_restart, waits_after}
-use Rattle.m3_model.specs.Fates.{OfNode, is_stopped}
+use Rattle.transcripts.specs.Caused.{Caused, IsUnmet, MayRefuse, MayUse, OnDisk, InFiles, IsShown, placement_at}
+use Rattle.transcripts.specs.Faults.{Fault, is_restart, waits_after}
+use Rattle.transcripts.specs.Fates.{OfNode, is_stopped}
 use Rattle.m3_model.specs.Levels.{needed_write}
-use Rattle.m3_model.specs.Record.{Life, inner_turns}
+use Rattle.transcripts.specs.Record.{Life, inner_turns}
 use Rattle.m3_model.specs.declared.act.Act.TheVariants as act
 use Rattle.m3_model.specs.declared.act.WriteLevel.TheVariants as write_level
 use Rattle.m3_model.specs.declared.answer.Answer.TheVariants as answer

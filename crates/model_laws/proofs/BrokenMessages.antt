@@ -2,14 +2,15 @@
 use Rattle.std.proofs.Common.{◌≡◌, ◌≤◌, ◌∙◌, ℕ, true, false, List, [], ◌∷◌, length, refl, sym, subst, inl, inr, arith}
 use Rattle.std.specs.Prelude.{Option, Some, None, pos, codes}
 use Rattle.std.specs.declared.cmp.Ordering.TheVariants.{Less, Equal}
-use Rattle.m3_model.specs.Caused.{Caused, MayUse, IsAcked, IsUnmet, IsFoundFor, IsDelivered, LateMessage, IsLateMessage, IsLateBefore, IsNamedBelow, AreOutcomes, placement_at, reached_of}
-use Rattle.m3_model.specs.Fates.{reaches}
+use Rattle.transcripts.specs.Caused.{Caused, MayUse, IsAcked, IsUnmet, IsFoundFor, IsDelivered, LateMessage, IsLateMessage, IsLateBefore, AreOutcomes, placement_at, reached_of}
+use Rattle.placement_core.specs.NodeNames.{IsNamedBelow}
+use Rattle.transcripts.specs.Fates.{reaches}
 use Rattle.m3_model.specs.Hash.{murmur3, shard_of}
 use Rattle.m3_model.specs.Levels.{majority}
-use Rattle.m3_model.specs.Points.{point_of}
+use Rattle.transcripts.specs.Points.{point_of}
 use Rattle.m3_model.specs.Ascends.{Ascends}
-use Rattle.m3_model.specs.Record.{TurnPlace, IsTurnPlace}
-use Rattle.m3_model.specs.Rules.{rules_at}
+use Rattle.transcripts.specs.Record.{TurnPlace, IsTurnPlace}
+use Rattle.transcripts.specs.Rules.{rules_at}
 use Rattle.m3_model.specs.declared.act.Act.{Act}
 use Rattle.m3_model.specs.declared.act.Act.TheVariants as act
 use Rattle.m3_model.specs.declared.act.Fate.TheVariants.{Lose}

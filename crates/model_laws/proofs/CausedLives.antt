@@ -3,14 +3,17 @@ use Rattle.std.proofs.Common.{◌≡◌, ◌≢◌, ◌+◌, ◌<◌, ◌≤◌,
 use Rattle.std.proofs.lemmas.Bool.Decides.{nat_tests}
 use Rattle.std.specs.Prelude.{Some, None, pos, slice_get, codes, option_map, count_by}
 use Rattle.std.specs.Option.{option_or}
-use Rattle.m3_model.specs.Caused.{Caused, CausedAt, IsDue, call_of, IsAcked, IsNamedBelow, IsUnmet, MayRefuse, MayServe, TakesPoint, IsOutside, IsFoundFor}
-use Rattle.m3_model.specs.Fates.{reaches}
-use Rattle.m3_model.specs.Faults.{Fault, AreDifferent}
-use Rattle.m3_model.specs.Rules.{IsPast, IsFuture}
+use Rattle.transcripts.specs.Caused.{Caused, CausedAt, IsDue, call_of, IsAcked, IsUnmet, MayRefuse, MayServe, TakesPoint, IsOutside, IsFoundFor}
+use Rattle.placement_core.specs.NodeNames.{IsNamedBelow}
+use Rattle.transcripts.specs.Fates.{reaches}
+use Rattle.transcripts.specs.Faults.{Fault, AreDifferent}
+use Rattle.m3_model.specs.Rules.{IsPast, IsFuture, namespace_place}
 use Rattle.m3_model.specs.declared.act.ReadLevel.TheVariants as read_level
 use Rattle.m3_model.specs.Hash.{murmur3, shard_of}
 use Rattle.m3_model.specs.Members.{IsIn}
-use Rattle.m3_model.specs.Placements.{counted_nodes, IsCounted, IsFirstShard, IsFirstPlacement, IsApart, first_instances}
+use Rattle.transcripts.specs.Placements.{counted_nodes, IsCounted}
+use Rattle.placement_plan.specs.First.{IsFirstShard, IsFirstPlacement, first_instances}
+use Rattle.placement_core.specs.Lawful.{IsApart}
 use Rattle.m3_model.specs.Tags.{IsBelow}
 use Rattle.m3_model.specs.declared.act.Act.{Act}
 use Rattle.m3_model.specs.declared.act.Act.TheVariants as act
@@ -25,8 +28,7 @@ use Rattle.m3_model.specs.declared.reason.Reason.TheVariants as reason
 use Rattle.m3_model.specs.declared.point.Point.{Point}
 use Rattle.m3_model.specs.declared.rules.Rules.{Rules}
 use Rattle.m3_model.specs.declared.rules.Space.{Space}
-use Rattle.m3_model.specs.Rules.{namespace_place}
-use Rattle.m3_model.specs.Points.{point_of}
+use Rattle.transcripts.specs.Points.{point_of}
 use Rattle.m3_model.specs.declared.turn.Turn.{Turn}
 use Rattle.model_laws.specs.Building.{life_of, made, named, begun, at_moment, eight_made, with_eight, two_made, with_two_shards, place, place_of_two, nodes, two_nodes, assigned, write, write_in, fetch, acks, unmet, by_each, space, narrow}
 use Rattle.model_laws.specs.Accepted.{write_then_read, edge_writes, narrow_writes, unmet_then_read}

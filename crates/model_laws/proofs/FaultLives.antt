@@ -2,13 +2,13 @@
 use Rattle.std.proofs.Common.{ℕ, ◌≡◌, ◌∙◌, true, false, List, [], ◌∷◌, refl, sym, ap, inl, inr, arith}
 use Rattle.std.proofs.lemmas.Fmt.{decimal_digit}
 use Rattle.std.specs.Prelude.{Some, None, pos, codes}
-use Rattle.m3_model.specs.Caused.{Caused, call_of, IsAcked, IsUnmet, MayRefuse, MayServe, TakesPoint, placement_at}
-use Rattle.m3_model.specs.Faults.{Fault}
-use Rattle.m3_model.specs.Fates.{reaches}
+use Rattle.transcripts.specs.Caused.{Caused, call_of, IsAcked, IsUnmet, MayRefuse, MayServe, TakesPoint, placement_at}
+use Rattle.transcripts.specs.Faults.{Fault}
+use Rattle.transcripts.specs.Fates.{reaches}
 use Rattle.m3_model.specs.Levels.{needed_write}
-use Rattle.m3_model.specs.Placements.{seed_after}
-use Rattle.m3_model.specs.Record.{TurnPlace, inner_turns}
-use Rattle.m3_model.specs.Rules.{rules_at}
+use Rattle.transcripts.specs.Placements.{seed_after}
+use Rattle.transcripts.specs.Record.{TurnPlace, inner_turns}
+use Rattle.transcripts.specs.Rules.{rules_at}
 use Rattle.m3_model.specs.declared.act.ReadLevel.TheVariants as read_level
 use Rattle.m3_model.specs.declared.act.WriteLevel.TheVariants as write_level
 use Rattle.m3_model.specs.declared.answer.Answer.TheVariants as answer

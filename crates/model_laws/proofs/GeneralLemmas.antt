@@ -5,10 +5,11 @@ use Rattle.std.specs.List.{flat_map, filter_map}
 use Rattle.std.proofs.lemmas.Bool.Decides.{nat_tests}
 use Rattle.m3_model.specs.Members.{IsIn}
 use Rattle.m3_model.specs.Levels.{majority}
-use Rattle.m3_model.specs.Record.{Life, TurnPlace, acts_of, turns_before}
-use Rattle.m3_model.specs.Rules.{namespace_place, rules_at}
-use Rattle.m3_model.specs.Points.{point_of, was_sent, sent_point, sent_at, acked_point, acked_at, rf_at}
-use Rattle.m3_model.specs.Kept.{Kept, KeepsPoints}
+use Rattle.transcripts.specs.Record.{Life, TurnPlace, acts_of, turns_before}
+use Rattle.m3_model.specs.Rules.{namespace_place}
+use Rattle.transcripts.specs.Rules.{rules_at}
+use Rattle.transcripts.specs.Points.{point_of, was_sent, sent_point, sent_at, acked_point, acked_at, rf_at}
+use Rattle.transcripts.specs.Kept.{Kept, KeepsPoints}
 use Rattle.m3_model.specs.declared.point.Point.{Point}
 use Rattle.m3_model.specs.declared.rules.Space.{Space}
 use Rattle.m3_model.specs.declared.act.Act.{Act}

@@ -1,15 +1,17 @@
 -- Why each answer has its cause where messages are lost or late and nodes are stopped.
 use Rattle.std.proofs.Common.{◌≡◌, ◌<◌, ◌≤◌, ◌+◌, ℕ, ℤ, Bool, true, false, List, [], ◌∷◌, length, refl, sym, subst, inl, inr, arith}
 use Rattle.std.specs.Prelude.{Some, None, map, pos, codes, slice_get, IsTrue}
-use Rattle.m3_model.specs.Caused.{Caused, call_of, IsAcked, IsUnmet, IsFoundFor, MayRefuse, MayServe, TakesPoint, LateMessage, IsLateMessage, IsLateBefore, IsDelivered, IsNamedBelow, delivers_nothing, placement_at, reached_of}
-use Rattle.m3_model.specs.Fates.{reaches, OfNode}
+use Rattle.transcripts.specs.Caused.{Caused, call_of, IsAcked, IsUnmet, IsFoundFor, MayRefuse, MayServe, TakesPoint, LateMessage, IsLateMessage, IsLateBefore, IsDelivered, delivers_nothing, placement_at, reached_of}
+use Rattle.placement_core.specs.NodeNames.{IsNamedBelow}
+use Rattle.transcripts.specs.Fates.{reaches, OfNode}
 use Rattle.m3_model.specs.Hash.{murmur3, shard_of}
-use Rattle.m3_model.specs.Faults.{Fault}
+use Rattle.transcripts.specs.Faults.{Fault}
 use Rattle.m3_model.specs.Levels.{needed_write, needed_read}
 use Rattle.m3_model.specs.Members.{IsIn}
-use Rattle.m3_model.specs.Placements.{IsCounted, seed_after}
-use Rattle.m3_model.specs.Record.{TurnPlace, inner_turns}
-use Rattle.m3_model.specs.Rules.{rules_at, InWindow}
+use Rattle.transcripts.specs.Placements.{IsCounted, seed_after}
+use Rattle.transcripts.specs.Record.{TurnPlace, inner_turns}
+use Rattle.transcripts.specs.Rules.{rules_at}
+use Rattle.m3_model.specs.Rules.{InWindow}
 use Rattle.m3_model.specs.declared.act.Act.TheVariants as act
 use Rattle.m3_model.specs.declared.act.ReadLevel.{ReadLevel}
 use Rattle.m3_model.specs.declared.act.ReadLevel.TheVariants as read_level

@@ -1,18 +1,18 @@
 -- All places of a run, one after the other, in place of a claim about any place.
 use Rattle.std.proofs.Common.{◌≡◌, List, [], ◌∷◌, ◌++◌, length, refl, sym, ap, ◌∙◌, subst, append_assoc}
 use Rattle.std.specs.Prelude.{Option, Some, None}
-use Rattle.m3_model.specs.Record.{Record, Life, TurnPlace, IsTurnPlace, client_at, lists_of, joined}
-use Rattle.m3_model.specs.Rules.{rules_at}
-use Rattle.m3_model.specs.Points.{sent_at, acked_at}
+use Rattle.transcripts.specs.Record.{Record, Life, TurnPlace, IsTurnPlace, client_at, lists_of, joined}
+use Rattle.transcripts.specs.Rules.{rules_at}
+use Rattle.transcripts.specs.Points.{sent_at, acked_at}
 use Rattle.m3_model.specs.Reads.{Read, Found, read_of, found_of}
-use Rattle.m3_model.specs.Kept.{Kept, KeptAt, KeepsRead, KeepsPoints}
-use Rattle.m3_model.specs.Caused.{Caused, CausedAt}
-use Rattle.m3_model.specs.Faults.{Fault, AreDifferent}
+use Rattle.transcripts.specs.Kept.{Kept, KeptAt, KeepsRead, KeepsPoints}
+use Rattle.transcripts.specs.Caused.{Caused, CausedAt}
+use Rattle.transcripts.specs.Faults.{Fault, AreDifferent}
 use Rattle.m3_model.specs.declared.rules.MetaState.{MetaState}
 use Rattle.m3_model.specs.declared.turn.Turn.{Turn}
 use Rattle.m3_model.specs.declared.act.Act.{Act}
 use Rattle.m3_model.specs.declared.answer.Answer.{Answer}
-use Rattle.m3_model.proofs.PlaceLemmas.{not_empty}
+use Rattle.m3_model.proofs.SplitLemmas.{not_empty}
 use Rattle.model_laws.proofs.EachLemmas.{same_of_some}
 use Rattle.model_laws.specs.Building.{line}
 

@@ -3,10 +3,10 @@ use Rattle.std.proofs.Common.{Option, Some, ◌≡◌, ◌<◌, ℕ, ℤ, ◌≤
 use Rattle.m3_model.specs.Ascends.{Ascends}
 use Rattle.m3_model.specs.Members.{IsIn}
 use Rattle.m3_model.specs.Reads.{Read, Found, read_of, found_of, space_picked, points_in, IsSought, Covers, IsOrdered}
-use Rattle.m3_model.specs.Kept.{KeptAt}
-use Rattle.m3_model.specs.Record.{Record, TurnPlace}
-use Rattle.m3_model.specs.Rules.{rules_at}
-use Rattle.m3_model.specs.Points.{sent_at, acked_at}
+use Rattle.transcripts.specs.Kept.{KeptAt}
+use Rattle.transcripts.specs.Record.{Record, TurnPlace}
+use Rattle.transcripts.specs.Rules.{rules_at}
+use Rattle.transcripts.specs.Points.{sent_at, acked_at}
 use Rattle.m3_model.specs.declared.rules.MetaState.{MetaState}
 use Rattle.model_laws.proofs.EachLemmas.{Each, each_in, ascends_by}
 use Rattle.model_laws.proofs.PlaceLemmas.{kept_read}

@@ -2,10 +2,10 @@
 use Rattle.std.proofs.Common.{◌≡◌, ◌≢◌, ◌<◌, ◌+◌, ◌≤ℤ◌, ℕ, ℤ, [], ◌∷◌, refl, ap, subst, inl, inr, arith}
 use Rattle.std.specs.Prelude.{Some, None, true, false, pos, codes, ◌<ℤ◌}
 use Rattle.std.proofs.lemmas.Int.{ints}
-use Rattle.m3_model.specs.Kept.{Kept}
+use Rattle.transcripts.specs.Kept.{Kept}
 use Rattle.m3_model.specs.Members.{IsIn}
-use Rattle.m3_model.specs.Rules.{rules_at}
-use Rattle.m3_model.specs.Points.{sent_at}
+use Rattle.transcripts.specs.Rules.{rules_at}
+use Rattle.transcripts.specs.Points.{sent_at}
 use Rattle.m3_model.specs.Reads.{Covers, Matches, read_of}
 use Rattle.m3_model.specs.declared.answer.Answer.{Answer}
 use Rattle.m3_model.specs.declared.point.Series.{Series}

@@ -1,17 +1,19 @@
 -- The rules, points and reads of the worked transcripts.
 use Rattle.std.proofs.Common.{arith, ◌≡◌, ◌<◌, ◌+◌, ◌≤◌, ℕ, ℤ, List, [], ◌∷◌, ◌++◌, refl, sym, ap, ap₂, ◌∙◌, subst, Bool, true, not, ◌&&◌}
 use Rattle.std.specs.Prelude.{Some, None, false, codes, slice_get, ⊤}
-use Rattle.m3_model.specs.Caused.{Call, IsOutside}
+use Rattle.transcripts.specs.Caused.{Call, IsOutside}
 use Rattle.m3_model.specs.declared.reason.Reason.{Reason}
 use Rattle.m3_model.specs.declared.reason.Reason.TheVariants as reason
-use Rattle.m3_model.specs.Record.{inner_turns}
-use Rattle.m3_model.specs.Rules.{rules_at, rules_after, start_rules, IsPast, IsFuture}
-use Rattle.m3_model.specs.Placements.{placement_after, seed_after}
-use Rattle.m3_model.specs.Points.{sent_at, acked_at}
+use Rattle.transcripts.specs.Record.{inner_turns}
+use Rattle.transcripts.specs.Rules.{rules_at, rules_after, start_rules}
+use Rattle.m3_model.specs.Rules.{IsPast, IsFuture}
+use Rattle.transcripts.specs.Placements.{placement_after, seed_after}
+use Rattle.transcripts.specs.Points.{sent_at, acked_at}
 use Rattle.m3_model.specs.Reads.{Read, Found, read_of, IsSought}
-use Rattle.m3_model.specs.Kept.{Kept, KeepsPoints}
-use Rattle.m3_model.specs.Faults.{waits_after}
-use Rattle.m3_model.specs.Fates.{numbering_after, call_number, fate_in, fate_at, is_cut, is_stopped, is_reached, reaches}
+use Rattle.transcripts.specs.Kept.{Kept, KeepsPoints}
+use Rattle.transcripts.specs.Faults.{waits_after}
+use Rattle.transcripts.specs.Fates.{numbering_after, call_number, fate_in, fate_at, is_stopped, is_reached, reaches}
+use Rattle.m3_model.specs.Delivery.{is_cut}
 use Rattle.std.specs.Option.{option_map_or}
 use Rattle.m3_model.specs.declared.act.Act.{Act}
 use Rattle.m3_model.specs.declared.answer.Answer.{Answer}

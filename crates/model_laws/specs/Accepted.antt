@@ -1,6 +1,6 @@
 -- Transcripts that are kept, or whose answers have their causes.
 use Rattle.std.specs.Prelude.{ℕ, ℤ, List, [], ◌∷◌, Some, None, pos, codes}
-use Rattle.m3_model.specs.Record.{Life}
+use Rattle.transcripts.specs.Record.{Life}
 use Rattle.m3_model.specs.declared.turn.Request.TheVariants as request
 use Rattle.m3_model.specs.declared.turn.Reply.TheVariants as reply
 use Rattle.m3_model.specs.declared.turn.Turn.{Turn}

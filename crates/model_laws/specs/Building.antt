@@ -1,7 +1,7 @@
 -- The turns of which the worked transcripts are made: mostly one cluster of three nodes, one namespace, one series.
 use Rattle.std.specs.Prelude.{ℕ, ℤ, List, [], ◌∷◌, ◌++◌, map, None, Bool, false, codes}
-use Rattle.m3_model.specs.Record.{Life}
-use Rattle.m3_model.specs.Placements.{first_instances}
+use Rattle.transcripts.specs.Record.{Life}
+use Rattle.placement_plan.specs.First.{first_instances}
 use Rattle.m3_model.specs.declared.placement.Assignment.{Assignment}
 use Rattle.m3_model.specs.declared.placement.Placement.{Placement}
 use Rattle.m3_model.specs.declared.placement.ShardState.TheVariants.{Available}

@@ -1,6 +1,6 @@
 -- Transcripts with disks that fail, nodes that are restarted and replicas that bootstrap: some whose answers have their causes, and some that are broken in one way.
 use Rattle.std.specs.Prelude.{ℕ, ℤ, List, [], ◌∷◌, Some, None, true, false, pos, codes}
-use Rattle.m3_model.specs.Faults.{Fault}
+use Rattle.transcripts.specs.Faults.{Fault}
 use Rattle.m3_model.specs.declared.act.Act.{Act}
 use Rattle.m3_model.specs.declared.act.Act.TheVariants as act
 use Rattle.m3_model.specs.declared.act.WriteLevel.TheVariants as write_level

@@ -3,9 +3,10 @@ use Rattle.std.specs.Prelude.{◌≡◌, ℕ, ◌≤◌, List, length, Option, S
 use Rattle.std.specs.List.{flat_map}
 use Rattle.m3_model.specs.Members.{IsIn}
 use Rattle.m3_model.specs.Levels.{majority, is_strong}
-use Rattle.m3_model.specs.Record.{InnerTurn, Life, TurnPlace, IsTurnPlace, IsBefore, acts_of}
-use Rattle.m3_model.specs.Rules.{namespace_place, rules_at}
-use Rattle.m3_model.specs.Points.{sent_at, acked_at, rf_at}
+use Rattle.transcripts.specs.Record.{InnerTurn, Life, TurnPlace, IsTurnPlace, IsBefore, acts_of}
+use Rattle.m3_model.specs.Rules.{namespace_place}
+use Rattle.transcripts.specs.Rules.{rules_at}
+use Rattle.transcripts.specs.Points.{sent_at, acked_at, rf_at}
 use Rattle.m3_model.specs.Reads.{Read, Found, read_of, found_of, space_picked, points_in, IsSought, Covers}
 use Rattle.m3_model.specs.declared.point.Point.{Point}
 use Rattle.m3_model.specs.declared.rules.Space.{Space}

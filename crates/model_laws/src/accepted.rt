@@ -1,7 +1,7 @@
 //! Transcripts that are kept, or whose answers have their causes.
 ghost use Rattle.std.specs.Prelude.{ℕ, ℤ, List, [], ◌∷◌, pos, codes};
-ghost use Rattle.m3_model.specs.Kept.{Kept};
-ghost use Rattle.m3_model.specs.Caused.{Caused};
+ghost use Rattle.transcripts.specs.Kept.{Kept};
+ghost use Rattle.transcripts.specs.Caused.{Caused};
 ghost use Rattle.m3_model.specs.declared.act.Act.{Act};
 ghost use Rattle.m3_model.specs.declared.act.Act.TheVariants as act;
 ghost use Rattle.m3_model.specs.declared.answer.Answer.TheVariants as answer;

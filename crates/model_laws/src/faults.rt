@@ -1,8 +1,8 @@
 //! Transcripts with disks that fail, nodes that are restarted and replicas that bootstrap.
 ghost use Rattle.std.specs.Prelude.{ℕ, List, [], ◌∷◌};
-ghost use Rattle.m3_model.specs.Record.{Life};
-ghost use Rattle.m3_model.specs.Faults.{Fault};
-ghost use Rattle.m3_model.specs.Caused.{Caused};
+ghost use Rattle.transcripts.specs.Record.{Life};
+ghost use Rattle.transcripts.specs.Faults.{Fault};
+ghost use Rattle.transcripts.specs.Caused.{Caused};
 ghost use Rattle.m3_model.specs.declared.reason.Damage.{Damage};
 ghost use Rattle.m3_model.specs.declared.reason.Damage.TheVariants as damaged;
 ghost use Rattle.model_laws.specs.Building.{life_of};

@@ -1,6 +1,6 @@
 //! What is so of each life that is kept.
-ghost use Rattle.m3_model.specs.Record.{Life};
-ghost use Rattle.m3_model.specs.Kept.{Kept};
+ghost use Rattle.transcripts.specs.Record.{Life};
+ghost use Rattle.transcripts.specs.Kept.{Kept};
 ghost use Rattle.model_laws.specs.General.{FindsAcknowledged, FindsEarlierWrites, FindsOnlySent, FindsOnlyWritten};
 
 /// A read that at least a majority answered finds each acknowledged point that it asks for.

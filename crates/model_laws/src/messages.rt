@@ -1,6 +1,6 @@
 //! Transcripts with fates of messages and stopped nodes.
 ghost use Rattle.std.specs.Prelude.{[]};
-ghost use Rattle.m3_model.specs.Caused.{Caused};
+ghost use Rattle.transcripts.specs.Caused.{Caused};
 ghost use Rattle.model_laws.specs.Building.{life_of};
 ghost use Rattle.model_laws.specs.Messages.{lost_messages, stopped_nodes, late_messages, lost_and_acked, stopped_and_acked, down_unstopped, cut_by_other_fate, not_short_enough, stopped_again, delivered_twice, fate_of_nobody};
 

@@ -1,6 +1,6 @@
 //! Transcripts that are not kept.
 ghost use Rattle.std.specs.Prelude.{codes};
-ghost use Rattle.m3_model.specs.Kept.{Kept};
+ghost use Rattle.transcripts.specs.Kept.{Kept};
 ghost use Rattle.m3_model.specs.declared.answer.Answer.TheVariants as answer;
 ghost use Rattle.model_laws.specs.Building.{life_of};
 ghost use Rattle.model_laws.specs.Refused.{without_the_point, with_lower_value, with_other_point, with_higher_value, with_later_first, with_point_twice, with_empty_series, without_kept_point, with_expired_point, with_point_at_end, with_other_series, without_untagged, with_other_tags, with_unknown_namespace, with_point_answered};

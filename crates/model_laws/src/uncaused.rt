@@ -1,6 +1,6 @@
 //! Transcripts with an answer that has no cause.
 ghost use Rattle.std.specs.Prelude.{[], ◌∷◌, pos, codes};
-ghost use Rattle.m3_model.specs.Caused.{Caused};
+ghost use Rattle.transcripts.specs.Caused.{Caused};
 ghost use Rattle.m3_model.specs.declared.act.Act.TheVariants as act;
 ghost use Rattle.m3_model.specs.declared.answer.Answer.TheVariants as answer;
 ghost use Rattle.m3_model.specs.declared.reason.Reason.TheVariants as reason;

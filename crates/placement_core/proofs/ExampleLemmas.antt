@@ -3,11 +3,10 @@ use Rattle.std.proofs.Common.{◌≡◌, ◌≢◌, ◌≤◌, ℕ, List, [], �
 use Rattle.m3_model.specs.Ascends.{Ascends}
 use Rattle.m3_model.specs.Members.{IsIn}
 use Rattle.m3_model.specs.Names.{is_name}
-use Rattle.m3_model.specs.Placements.{IsApart}
+use Rattle.placement_core.specs.Lawful.{IsApart, IsServing, IsShard, IsSpread, IsWithinLimits, IsLawful}
 use Rattle.m3_model.specs.declared.placement.ShardState.TheVariants.{Initializing, Leaving}
 use Rattle.m3_model.specs.declared.placement.Assignment.{Assignment}
 use Rattle.m3_model.specs.declared.placement.Instance.{Instance}
-use Rattle.placement_core.specs.Lawful.{IsServing, IsShard, IsSpread, IsWithinLimits, IsLawful}
 use Rattle.placement_core.specs.Example.{example_node, available_at, steady_example, moving_example, example}
 
 -- what holds of each element of a short list

@@ -6,7 +6,7 @@ use Rattle.m3_model.specs.declared.placement.Placement.{Placement}
 use Rattle.placement_core.specs.Shards.{Shard, shard_at, counts, is_available}
 use Rattle.placement_core.specs.Lawful.{IsShard, IsLawful}
 use Rattle.placement_core.specs.Steps.{IsStep, IsShardStep, done_at}
-use Rattle.placement_core.specs.Changes.{CountedAsInTranscripts, MovesOneReplica, CountedHoldAfter, KeepsShards, KeepsLawful, HasOneDoneList}
+use Rattle.placement_core.specs.Changes.{CountedAreAvailable, MovesOneReplica, CountedHoldAfter, KeepsShards, KeepsLawful, HasOneDoneList}
 use Rattle.placement_core.proofs.ListLemmas.{index-from_IsIn, at_index, same_at}
 use Rattle.placement_core.proofs.OrderLemmas.{at_in}
 use Rattle.placement_core.proofs.DoneLemmas.{one_done_list, from_start}
@@ -16,13 +16,10 @@ use Rattle.placement_core.proofs.ChangeLemmas.{step_shard, step_holders, step_co
 pub shard_stands : (place : Placement) (shard : ℕ) → shard < length place.shards → slice_get place.shards shard ≡ Some (shard_at place shard)
 shard_stands place shard lt = at_index place.shards shard (shard_at place shard) lt (get_or_default place.shards shard [] (shard_at place shard) lt)
 
-pub counted_as_in_transcripts : CountedAsInTranscripts
-counted_as_in_transcripts place shard node lt = (
-  λ h. let c = chosen_node is_available (shard_at place shard) node h in
-      record { assignments = shard_at place shard; stands = shard_stands place shard lt; assignment = c.0; assigned = c.1; to_node = c.2; available = available_of (c.0).state c.3 },
-  λ h.
-      let same : h.assignments ≡ shard_at place shard = same_at place.shards shard h.assignments (shard_at place shard) h.stands (shard_stands place shard lt) in
-      node_chosen is_available (shard_at place shard) node h.assignment (subst (λ s. IsIn s h.assignment) same h.assigned) h.to_node (ap counts h.available),
+pub counted_are_available : CountedAreAvailable
+counted_are_available shard node = (
+  λ h. let c = chosen_node is_available shard node h in (c.0, c.1, c.2, available_of (c.0).state c.3),
+  λ h. node_chosen is_available shard node h.0 h.1 h.2 (ap counts h.3),
 )
 
 shard_lawful : (place : Placement) (s : ℕ) (a : Shard) → IsLawful place → slice_get place.shards s ≡ Some a → IsShard place.rf place.version a

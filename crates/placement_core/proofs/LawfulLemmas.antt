@@ -2,13 +2,12 @@
 use Rattle.std.proofs.Common.{◌≡◌, ◌≢◌, ◌⊎◌, ◌↔◌, ℕ, suc, ◌≤◌, List, [], ◌∷◌, filter, length, Bool, true, false, cond, refl, sym, ap, ◌∙◌, inl, inr, All, Any}
 use Rattle.m3_model.specs.Ascends.{Ascends}
 use Rattle.m3_model.specs.Members.{IsIn}
-use Rattle.m3_model.specs.Placements.{IsApart}
+use Rattle.placement_core.specs.Lawful.{IsApart, IsServing, IsMoving, IsShard, IsSpread, IsWithinLimits, IsLawful}
 use Rattle.m3_model.specs.declared.placement.Assignment.{Assignment}
 use Rattle.m3_model.specs.declared.placement.Instance.{Instance}
 use Rattle.m3_model.specs.declared.placement.Placement.{Placement}
 use Rattle.m3_model.specs.declared.placement.ShardState.{ShardState}
 use Rattle.m3_model.specs.declared.placement.ShardState.TheVariants.{Initializing, Available, Leaving}
-use Rattle.placement_core.specs.Lawful.{IsServing, IsMoving, IsShard, IsSpread, IsWithinLimits, IsLawful}
 use Rattle.placement_core.specs.Shards.{Shard, stays, is_holder, is_staying}
 use Rattle.placement_core.proofs.HolderLemmas.{holds_of, not_joining}
 use Rattle.placement_core.proofs.ListLemmas.{IsIn-filter, chosen, filter-IsIn, IsIn-from_Any, Any-from_IsIn, each-from_All, All-from_each}

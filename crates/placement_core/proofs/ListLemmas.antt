@@ -1,7 +1,7 @@
 -- Members of lists, by cases and by place.
 use Rattle.std.proofs.Common.{◌≡◌, ◌<◌, ℕ, zero, suc, List, [], ◌∷◌, ◌++◌, length, take, get_or, slice_get, Some, ap, ◌∙◌, refl, sym, subst, inl, inr, arith, All, Any, Bool, true, false, cond, filter, ◌⊎◌}
 use Rattle.m3_model.specs.Members.{IsIn}
-use Rattle.m3_model.proofs.PlaceLemmas.{not_empty}
+use Rattle.m3_model.proofs.SplitLemmas.{not_empty}
 
 pub IsIn-from_index : {X : Type 0} (xs : List X) (k : ℕ) (d : X) → k < length xs → IsIn xs (get_or xs k d)
 IsIn-from_index [] k d h = absurd (omega arith)

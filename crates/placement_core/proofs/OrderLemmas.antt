@@ -13,14 +13,13 @@ use Rattle.std.proofs.lemmas.List.Sorted.{IsPermutation-keeps, sorted_far, ranks
 use Rattle.m3_model.specs.Ascends.{Ascends}
 use Rattle.m3_model.specs.Members.{IsIn}
 use Rattle.m3_model.proofs.MemberLemmas.{IsIn-map}
-use Rattle.m3_model.specs.Caused.{IsNamedBelow}
+use Rattle.placement_core.specs.NodeNames.{IsNamedBelow, name_of}
 use Rattle.m3_model.specs.Tags.{IsBelow}
 use Rattle.m3_model.specs.declared.placement.Assignment.{Assignment}
 use Rattle.m3_model.specs.declared.placement.Instance.{Instance}
 use Rattle.m3_model.specs.declared.placement.Placement.{Placement}
 use Rattle.placement_core.specs.Shards.{Shard, shard_at, nodes_of}
 use Rattle.placement_core.specs.Lawful.{IsLawful}
-use Rattle.placement_core.specs.NodeNames.{name_of}
 use Rattle.placement_core.proofs.ListLemmas.{IsIn-from_index, index-from_IsIn, IsIn-filter}
 
 -- ---- lists in strict order

@@ -2,15 +2,16 @@
 use Rattle.std.specs.Prelude.{◌≡◌, ◌≢◌, ◌⊎◌, ◌↔◌, ◌<◌, ℕ, List, length, Option, Some, None, false, slice_get}
 use Rattle.m3_model.specs.Ascends.{Ascends}
 use Rattle.m3_model.specs.Members.{IsIn}
-use Rattle.m3_model.specs.Placements.{IsCounted}
+use Rattle.m3_model.specs.declared.placement.Assignment.{Assignment}
 use Rattle.m3_model.specs.declared.placement.Placement.{Placement}
-use Rattle.placement_core.specs.Shards.{Shard, shard_at, is_steady, counted, holders, former}
+use Rattle.m3_model.specs.declared.placement.ShardState.TheVariants.{Available}
+use Rattle.placement_core.specs.Shards.{Shard, is_steady, counted, holders, former}
 use Rattle.placement_core.specs.Lawful.{IsWithinLimits, IsShard, IsSpread, IsLawful}
 use Rattle.placement_core.specs.Steps.{IsStep, done_at}
 
--- the counted nodes of a shard are those that count in the sense of the transcripts
-abbrev pub CountedAsInTranscripts : Type 0
-CountedAsInTranscripts = (place : Placement) (shard node : ℕ) → shard < length place.shards → IsIn (counted (shard_at place shard)) node ↔ IsCounted place shard node
+-- a node counts exactly where it has an Available assignment
+abbrev pub CountedAreAvailable : Type 0
+CountedAreAvailable = (shard : Shard) (node : ℕ) → IsIn (counted shard) node ↔ ((a : Assignment) × IsIn shard a × (a.node ≡ node) × (a.state ≡ Available))
 
 -- a shard has `rf` holders
 abbrev pub AsManyHolders : Type 0

@@ -3,12 +3,20 @@ use Rattle.std.specs.Prelude.{◌≡◌, ◌≢◌, ◌⊎◌, ℕ, suc, ◌^◌
 use Rattle.m3_model.specs.Ascends.{Ascends}
 use Rattle.m3_model.specs.Members.{IsIn}
 use Rattle.m3_model.specs.Names.{is_name}
-use Rattle.m3_model.specs.Placements.{IsApart}
 use Rattle.m3_model.specs.declared.placement.ShardState.TheVariants.{Initializing, Available, Leaving}
 use Rattle.m3_model.specs.declared.placement.Assignment.{Assignment}
 use Rattle.m3_model.specs.declared.placement.Instance.{Instance}
 use Rattle.m3_model.specs.declared.placement.Placement.{Placement}
 use Rattle.placement_core.specs.Shards.{Shard, is_holder, is_staying}
+
+-- the two assignments are to different nodes in different isolation groups
+pub record IsApart (instances : List Instance) (a b : Assignment) : Type 0 where
+  pub one : Instance
+  pub other : Instance
+  pub of_one : slice_get instances a.node ≡ Some one
+  pub of_other : slice_get instances b.node ≡ Some other
+  pub names : one.name ≢ other.name
+  pub groups : one.group ≢ other.group
 
 -- a replica that serves and isn't moving
 abbrev pub IsServing : Assignment → Type 0

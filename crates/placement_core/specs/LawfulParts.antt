@@ -3,12 +3,11 @@ use Rattle.std.specs.Prelude.{◌≡◌, ◌≢◌, ◌⊎◌, ℕ, suc, ◌^◌
 use Rattle.std.specs.List.{All, Any}
 use Rattle.m3_model.specs.Ascends.{Ascends}
 use Rattle.m3_model.specs.Names.{is_name}
-use Rattle.m3_model.specs.Placements.{IsApart}
+use Rattle.placement_core.specs.Lawful.{IsApart, IsServing, IsJoiningFrom, IsMoving, IsShard, IsSpread}
 use Rattle.m3_model.specs.declared.placement.Assignment.{Assignment}
 use Rattle.m3_model.specs.declared.placement.Instance.{Instance}
 use Rattle.m3_model.specs.declared.placement.Placement.{Placement}
 use Rattle.m3_model.specs.declared.placement.ShardState.TheVariants.{Initializing, Leaving}
-use Rattle.placement_core.specs.Lawful.{IsServing, IsJoiningFrom, IsMoving, IsShard, IsSpread}
 use Rattle.placement_core.specs.Shards.{Shard}
 
 -- the node and its group have names

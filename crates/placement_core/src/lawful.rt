@@ -3,8 +3,7 @@ ghost use Rattle.std.specs.Prelude.{◌≡◌, ◌≢◌, ◌↔◌, IsTrue};
 ghost use Rattle.std.specs.List.{All, list_all};
 ghost use Rattle.m3_model.specs.Ascends.{Ascends};
 ghost use Rattle.m3_model.specs.Names.{is_name_byte, is_name};
-ghost use Rattle.m3_model.specs.Placements.{IsApart};
-ghost use Rattle.placement_core.specs.Lawful.{IsServing, IsMoving, IsShard, IsSpread, IsWithinLimits, IsLawful};
+ghost use Rattle.placement_core.specs.Lawful.{IsApart, IsServing, IsMoving, IsShard, IsSpread, IsWithinLimits, IsLawful};
 ghost use Rattle.placement_core.specs.LawfulParts.{IsNamed, IsSmall, AreNamed, IsListed, MovesTo, Moves, HasReplicas, HasNodes, ApartBefore, ApartAfter, IsGood};
 
 use crate::ascending::{Order, ascend};

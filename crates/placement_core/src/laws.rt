@@ -1,11 +1,11 @@
 //! What is so of each lawful placement and of each step.
 ghost use Rattle.placement_core.specs.Lawful.{IsLawful};
 ghost use Rattle.placement_core.specs.Example.{example};
-ghost use Rattle.placement_core.specs.Changes.{CountedAsInTranscripts, AsManyHolders, DistinctHolders, AsManyFormer, CountedHold, MovesOneReplica, CountedHoldAfter, KeepsShards, KeepsLawful, HasOneDoneList};
+ghost use Rattle.placement_core.specs.Changes.{CountedAreAvailable, AsManyHolders, DistinctHolders, AsManyFormer, CountedHold, MovesOneReplica, CountedHoldAfter, KeepsShards, KeepsLawful, HasOneDoneList};
 
-/// The counted nodes are those that count in the transcripts.
-pub fn counted_as_in_transcripts()
-    ensures { CountedAsInTranscripts }
+/// The nodes that count are those with an Available assignment.
+pub fn counted_are_available()
+    ensures { CountedAreAvailable }
 {}
 
 /// A shard's points are held by `rf` different nodes, whether it moves or not, and the nodes that count are among them.

@@ -3,10 +3,9 @@ ghost use Rattle.std.specs.Prelude.{◌≡◌, ◌<◌, length, map, filter, IfO
 ghost use Rattle.std.specs.Ordering.{nat_cmp};
 ghost use Rattle.std.specs.Cmp.Lexicographic.{slice_cmp};
 ghost use Rattle.m3_model.specs.Ascends.{Ascends};
-ghost use Rattle.m3_model.specs.Caused.{IsNamedBelow};
+ghost use Rattle.placement_core.specs.NodeNames.{IsNamedBelow, name_of};
 ghost use Rattle.placement_core.specs.Shards.{shard_at, is_available, is_holder, is_steady, nodes_of, counted, holders, former};
 ghost use Rattle.placement_core.specs.Lawful.{IsLawful};
-ghost use Rattle.placement_core.specs.NodeNames.{name_of};
 
 use crate::names::compare_names;
 use m3_model::memory::Memory;

@@ -6,16 +6,15 @@ use Rattle.m3_model.specs.Ascends.{Ascends}
 use Rattle.m3_model.specs.Members.{IsIn}
 use Rattle.m3_model.specs.Names.{is_name}
 use Rattle.m3_model.specs.Limits.{IsInit}
-use Rattle.m3_model.specs.Placements.{IsApart, IsFirstShard, IsFirstPlacement, first_instances}
+use Rattle.placement_core.specs.Lawful.{IsApart, IsShard, IsSpread, IsLawful}
+use Rattle.placement_plan.specs.First.{IsFirstShard, IsFirstPlacement, first_instances, first_at, IsPlacedShard, IsInitial}
 use Rattle.m3_model.proofs.MemberLemmas.{IsIn-map}
 use Rattle.m3_model.specs.declared.placement.Assignment.{Assignment}
 use Rattle.m3_model.specs.declared.placement.Instance.{Instance}
 use Rattle.m3_model.specs.declared.placement.Placement.{Placement}
 use Rattle.placement_core.specs.Shards.{Shard, is_holder, is_staying}
-use Rattle.placement_core.specs.Lawful.{IsShard, IsSpread, IsLawful}
 use Rattle.placement_core.proofs.OrderLemmas.{ascends-from_at, ascends-filter, ascends-map, at_in, names_at}
 use Rattle.placement_plan.specs.Choices.{group_of}
-use Rattle.placement_plan.specs.First.{first_at, IsPlacedShard, IsInitial}
 use Rattle.placement_plan.proofs.PlaceLemmas.{in_at}
 use Rattle.placement_plan.proofs.SpreadLemmas.{group_is, ListedAt}
 use Rattle.placement_plan.proofs.PlanLemmas.{AreNodes}

@@ -7,7 +7,7 @@ use Rattle.std.proofs.lemmas.Option.{slice_get_within, get_or_from_slice_get}
 use Rattle.std.proofs.lemmas.Slice.Eq.{bytes_eq-Decides}
 use Rattle.m3_model.specs.declared.placement.Instance.{Instance}
 use Rattle.m3_model.specs.declared.placement.Placement.{Placement}
-use Rattle.m3_model.specs.Placements.{is_listed}
+use Rattle.placement_core.specs.NodeNames.{is_listed}
 use Rattle.placement_plan.specs.Nodes.{Lists}
 use Rattle.placement_plan.specs.Refusals.{IsPastLimit, RefusesAdd, RefusesReplace}
 use Rattle.placement_plan.specs.declared.plan_err.PlaceErr.{PlaceErr}

@@ -2,7 +2,7 @@
 use Rattle.std.proofs.Common.{◌≡◌, ◌≢◌, ◌⊎◌, ℕ, List, [], ◌∷◌, Bool, true, filter, sym, ◌∙◌, subst, inl, inr}
 use Rattle.m3_model.specs.Ascends.{Ascends}
 use Rattle.m3_model.specs.Members.{IsIn}
-use Rattle.m3_model.specs.Placements.{IsApart}
+use Rattle.placement_core.specs.Lawful.{IsApart}
 use Rattle.m3_model.specs.declared.placement.Assignment.{Assignment}
 use Rattle.m3_model.specs.declared.placement.Instance.{Instance}
 use Rattle.placement_core.specs.Shards.{Shard, is_holder, is_staying}

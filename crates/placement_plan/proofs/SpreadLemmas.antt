@@ -6,14 +6,13 @@ use Rattle.std.proofs.lemmas.List.{append-nil}
 use Rattle.std.proofs.lemmas.List.Elements.{filter-append}
 use Rattle.m3_model.specs.Ascends.{Ascends}
 use Rattle.m3_model.specs.Members.{IsIn}
-use Rattle.m3_model.specs.Placements.{IsApart}
+use Rattle.placement_core.specs.Lawful.{IsApart, IsJoiningFrom, IsSteady, IsShard, IsSpread}
 use Rattle.m3_model.proofs.MemberLemmas.{IsIn-map, map-IsIn, IsIn-append_cases}
 use Rattle.m3_model.specs.declared.placement.ShardState.{ShardState}
 use Rattle.m3_model.specs.declared.placement.ShardState.TheVariants.{Initializing, Available, Leaving}
 use Rattle.m3_model.specs.declared.placement.Assignment.{Assignment}
 use Rattle.m3_model.specs.declared.placement.Instance.{Instance}
 use Rattle.placement_core.specs.Shards.{Shard, holds, stays, is_holder, is_staying}
-use Rattle.placement_core.specs.Lawful.{IsJoiningFrom, IsSteady, IsShard, IsSpread}
 use Rattle.placement_core.specs.Steps.{turned, without, settled}
 use Rattle.placement_core.proofs.ListLemmas.{IsIn-filter, chosen, filter-IsIn, filter_all}
 use Rattle.placement_core.proofs.OrderLemmas.{ascends-filter, ascends-map, names_at}

@@ -3,11 +3,10 @@ use Rattle.std.specs.Prelude.{◌≡◌, ◌≤◌, ◌<◌, ◌+◌, ◌^◌, �
 use Rattle.std.specs.Ordering.{nat_cmp, is_gt, on, flip_args, then_cmp}
 use Rattle.std.specs.Cmp.Lexicographic.{slice_cmp}
 use Rattle.std.specs.declared.cmp.Ordering.{Ordering}
-use Rattle.m3_model.specs.Placements.{is_listed}
+use Rattle.placement_core.specs.NodeNames.{is_listed, name_of}
 use Rattle.m3_model.specs.declared.placement.Instance.{Instance}
 use Rattle.m3_model.specs.declared.placement.Placement.{Placement}
 use Rattle.placement_core.specs.Shards.{Shard, is_steady}
-use Rattle.placement_core.specs.NodeNames.{name_of}
 use Rattle.placement_plan.specs.Nodes.{Has, load, Joins, IsFirst}
 use Rattle.placement_plan.specs.Choices.{MayTake, moved}
 use Rattle.placement_plan.specs.Plans.{HasRoom}

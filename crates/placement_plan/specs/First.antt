@@ -1,17 +1,21 @@
 -- The first placement.
-use Rattle.std.specs.Prelude.{◌≡◌, ◌≢◌, ◌<◌, ℕ, List, [], ◌∷◌, ◌++◌, length, take, Some, None, slice_get, ⊤}
+use Rattle.std.specs.Prelude.{◌≡◌, ◌≢◌, ◌<◌, ℕ, List, [], ◌∷◌, ◌++◌, map, length, take, Some, None, true, false, slice_get, ⊤}
 use Rattle.m3_model.specs.Ascends.{Ascends}
 use Rattle.m3_model.specs.Members.{IsIn}
-use Rattle.m3_model.specs.Placements.{first_instances}
 use Rattle.m3_model.specs.declared.placement.ShardState.TheVariants.{Available}
 use Rattle.m3_model.specs.declared.placement.Assignment.{Assignment}
 use Rattle.m3_model.specs.declared.placement.Instance.{Instance}
 use Rattle.m3_model.specs.declared.placement.Placement.{Placement}
+use Rattle.placement_core.specs.Lawful.{IsApart}
 use Rattle.placement_core.specs.Shards.{Shard}
 use Rattle.placement_plan.specs.Nodes.{load}
 use Rattle.placement_plan.specs.Choices.{group_of, IsLeastLoaded}
 use Rattle.placement_plan.specs.declared.plan_err.PlaceErr.{PlaceErr}
 use Rattle.placement_plan.specs.declared.plan_err.PlaceErr.TheVariants.{Group, Memory}
+
+-- the nodes of `init`, in their order
+abbrev pub first_instances : List (List ℕ × List ℕ) → List Instance
+first_instances nodes = map (λ node. record { name = node.0; group = node.1; listed = true; drained = false }) nodes
 
 -- the node may have the shard: there is a node, and its group doesn't have the shard yet
 pub record MayHold (instances : List Instance) (shard : Shard) (node : ℕ) : Type 0 where
@@ -54,3 +58,18 @@ IsShort rf instances _ = ⊥
 
 abbrev pub RefusesInitial : ℕ → List (List ℕ × List ℕ) → PlaceErr → Type 0
 RefusesInitial rf nodes = IsShort rf (first_instances nodes)
+
+-- a shard that `init` made: `rf` nodes in different groups, available from the first placement on
+pub record IsFirstShard (rf : ℕ) (instances : List Instance) (assignments : List Assignment) : Type 0 where
+  pub all : length assignments ≡ rf
+  pub available : (a : Assignment) → IsIn assignments a → (a.state ≡ Available) × (a.tenure ≡ 1) × (a.source ≡ None)
+  pub to_nodes : (a : Assignment) → IsIn assignments a → a.node < length instances
+  pub apart : Ascends (IsApart instances) assignments
+
+-- the placement that `init` made
+pub record IsFirstPlacement (rf shards : ℕ) (nodes : List (List ℕ × List ℕ)) (place : Placement) : Type 0 where
+  pub version_is : place.version ≡ 1
+  pub rf_is : place.rf ≡ rf
+  pub instances_are : place.instances ≡ first_instances nodes
+  pub shards_are : length place.shards ≡ shards
+  pub each_shard : (assignments : List Assignment) → IsIn place.shards assignments → IsFirstShard rf place.instances assignments

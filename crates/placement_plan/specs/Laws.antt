@@ -3,7 +3,7 @@ use Rattle.std.specs.Prelude.{◌≡◌, ◌≢◌, ℕ, List, [], length, Bool,
 use Rattle.m3_model.specs.Members.{IsIn}
 use Rattle.m3_model.specs.Names.{is_name}
 use Rattle.m3_model.specs.Limits.{IsInit}
-use Rattle.m3_model.specs.Placements.{IsFirstPlacement}
+use Rattle.placement_plan.specs.First.{IsFirstPlacement, IsInitial}
 use Rattle.m3_model.specs.declared.placement.Assignment.{Assignment}
 use Rattle.m3_model.specs.declared.placement.Placement.{Placement}
 use Rattle.m3_model.specs.declared.placement.ShardState.TheVariants.{Initializing}
@@ -13,7 +13,6 @@ use Rattle.placement_core.specs.Steps.{IsStep, IsDoneList}
 use Rattle.placement_plan.specs.Nodes.{load}
 use Rattle.placement_plan.specs.Choices.{group_of}
 use Rattle.placement_plan.specs.Plans.{IsAvailable, IsCancel, IsRemoval, IsDrain, IsReplacement}
-use Rattle.placement_plan.specs.First.{IsInitial}
 use Rattle.placement_plan.specs.Additions.{IsAddition, MayGive}
 
 abbrev pub InitialIsLawful : Type 0

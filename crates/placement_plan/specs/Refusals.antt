@@ -1,7 +1,7 @@
 -- When each request is refused: what holds of the placement where an error is the first in the order of refusals.
 use Rattle.std.specs.Prelude.{◌≡◌, ◌≤◌, ℕ, List, length, true, false, ⊤}
 use Rattle.m3_model.specs.Members.{IsIn}
-use Rattle.m3_model.specs.Placements.{is_listed}
+use Rattle.placement_core.specs.NodeNames.{is_listed}
 use Rattle.m3_model.specs.declared.placement.Assignment.{Assignment}
 use Rattle.m3_model.specs.declared.placement.Instance.{Instance}
 use Rattle.m3_model.specs.declared.placement.Placement.{Placement}

@@ -1,12 +1,11 @@
 //! First placements.
 ghost use Rattle.std.specs.Prelude.{◌≡◌, ◌≢◌, ◌<◌, ◌≤◌, ◌↔◌, ℕ, List, [], ◌∷◌, ◌++◌, All, IfOk, IfErr, IfSome, IfNone, IsTrue, Some, length, slice_get, slice_index, take};
 ghost use Rattle.m3_model.specs.Limits.{IsInit};
-ghost use Rattle.m3_model.specs.Placements.{first_instances, IsFirstPlacement};
+ghost use Rattle.placement_plan.specs.First.{first_instances, IsFirstPlacement, MayHold, IsPlacedShard, IsInitial, HasGroups, IsShort, RefusesInitial};
 ghost use Rattle.placement_core.specs.Shards.{Shard};
 ghost use Rattle.placement_core.specs.Lawful.{IsLawful};
 ghost use Rattle.placement_plan.specs.Choices.{group_of, IsLeastLoaded};
 ghost use Rattle.placement_plan.specs.Loads.{AreLoads};
-ghost use Rattle.placement_plan.specs.First.{MayHold, IsPlacedShard, IsInitial, HasGroups, IsShort, RefusesInitial};
 
 use crate::choice::better;
 use crate::loads::{loads_of, raise};

@@ -5,7 +5,7 @@ use Rattle.m3_outside.specs.DiskState.{DiskState}
 use Rattle.cluster_core.specs.declared.event.StepCall.{StepCall}
 use Rattle.cluster_core.specs.declared.event.StepReply.{StepReply}
 use Rattle.cluster_core.specs.declared.event.StepReply.TheVariants as reply
-use Rattle.m3_model.specs.Fates.{is_cut}
+use Rattle.m3_model.specs.Delivery.{is_cut}
 use Rattle.m3_model.specs.declared.act.Fate.{Fate}
 use Rattle.m3_model.specs.declared.act.Fate.TheVariants as fate
 use Rattle.m3_model.specs.declared.point.Point.{Point}

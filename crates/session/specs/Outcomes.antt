@@ -4,8 +4,8 @@ use Rattle.std.specs.FinMap as finite
 use Rattle.std.specs.List.{filter_map}
 use Rattle.std.specs.Option.{option_map}
 use Rattle.m3_model.specs.Ascends.{Ascends}
-use Rattle.m3_model.specs.Caused.{IsNamedBelow}
-use Rattle.m3_model.specs.Fates.{is_cut}
+use Rattle.placement_core.specs.NodeNames.{IsNamedBelow}
+use Rattle.m3_model.specs.Delivery.{is_cut}
 use Rattle.m3_model.specs.Members.{IsIn}
 use Rattle.m3_model.specs.declared.act.Fate.{Fate}
 use Rattle.m3_model.specs.declared.placement.Placement.{Placement}

@@ -1,6 +1,6 @@
 ghost use Rattle.std.specs.Prelude.{◌≡◌, ◌<◌, ◌≤◌, ◌^◌, ℕ, suc, List, None, Some, length, true, false, IfOk, IfErr, OnOk};
 ghost use Rattle.std.specs.FinMap as finite;
-ghost use Rattle.m3_model.specs.Fates.{is_cut};
+ghost use Rattle.m3_model.specs.Delivery.{is_cut};
 ghost use Rattle.m3_model.specs.Reads.{points_in, space_picked};
 ghost use Rattle.m3_model.specs.declared.act.ReadLevel.TheVariants as read;
 ghost use Rattle.m3_model.specs.declared.reason.Reason.TheVariants as reason;

@@ -1,5 +1,5 @@
 use Rattle.std.proofs.Common.{◌≡◌}
-use Rattle.m3_model.specs.Placements.{first_instances}
+use Rattle.placement_plan.specs.First.{first_instances}
 use Rattle.placement_plan.proofs.initial.instances_of.Given as goal
 
 abbrev pub invariant-loop-name : goal.invariant-loop-name

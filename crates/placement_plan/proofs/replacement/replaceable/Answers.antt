@@ -3,7 +3,7 @@ use Rattle.std.proofs.Common.{List, ◌≡◌, false, subst, ◌&&◌, nat_eq}
 use Rattle.std.specs.Cmp.Lexicographic.{pointwise}
 use Rattle.std.specs.List.{list_any}
 use Rattle.m3_model.specs.Members.{IsIn}
-use Rattle.m3_model.specs.Placements.{is_listed}
+use Rattle.placement_core.specs.NodeNames.{is_listed}
 use Rattle.placement_core.specs.Shards.{Shard}
 use Rattle.placement_plan.specs.Nodes.{Lists, IsFirst, Has, CanHave}
 use Rattle.placement_plan.specs.Choices.{IsFree}

@@ -1,7 +1,7 @@
 use Rattle.std.proofs.Common.{◌≡◌, ℕ, suc, length, [], ◌∷◌, ◌++◌, List, take, sym, ap, ◌∙◌, subst, arith, get_or}
 use Rattle.std.specs.FinMap as finite
 use Rattle.std.proofs.lemmas.List.{take_all}
-use Rattle.m3_model.specs.Fates.{is_cut}
+use Rattle.m3_model.specs.Delivery.{is_cut}
 use Rattle.session.specs.Gathering.{wish_of}
 use Rattle.session.specs.Outcomes.{AreAsked, IsOutcome}
 use Rattle.session.specs.Reads.{read_step, IsGivenBy}

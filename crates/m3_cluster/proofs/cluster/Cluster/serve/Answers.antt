@@ -1,8 +1,8 @@
 use Rattle.std.proofs.Common.{◌≡◌, [], ◌∷◌, ◌++◌, sym, subst}
 use Rattle.m3_model.specs.Limits.{KeepsLimits}
 use Rattle.m3_model.specs.NotYet.{IsServed}
-use Rattle.m3_model.specs.Placements.{placement_after}
-use Rattle.m3_model.specs.Record.{inner_turns}
+use Rattle.transcripts.specs.Placements.{placement_after}
+use Rattle.transcripts.specs.Record.{inner_turns}
 use Rattle.m3_model.specs.declared.turn.Reply.TheVariants as reply
 use Rattle.m3_model.specs.declared.turn.Request.{Request}
 use Rattle.m3_cluster.specs.Lending.{depot_by}

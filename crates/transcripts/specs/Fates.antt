@@ -1,8 +1,10 @@
 -- What becomes of the messages of calls, and which nodes are stopped.
-use Rattle.std.specs.Prelude.{◌≡◌, ℕ, ◌+◌, List, [], ◌∷◌, Option, Some, None, Bool, true, false, not, ◌&&◌, if◌then◌else◌, nat_eq, slice_get, slice_index_or, count_by, fold}
+use Rattle.std.specs.Prelude.{◌≡◌, ℕ, ◌+◌, List, [], ◌∷◌, Option, Some, None, Bool, true, false, not, ◌&&◌, if◌then◌else◌, nat_eq, slice_get, slice_index_or, count_by, map, fold, IsTrue}
 use Rattle.std.specs.Option.{option_map_or}
 use Rattle.std.specs.Cmp.Lexicographic.{pointwise}
-use Rattle.m3_model.specs.Record.{InnerTurn, TurnPlace, answered_lists, inner_turns}
+use Rattle.transcripts.specs.Record.{InnerTurn, TurnPlace, inner_turns}
+use Rattle.m3_model.specs.Calls.{is_call}
+use Rattle.m3_model.specs.Delivery.{is_cut}
 use Rattle.m3_model.specs.declared.act.Act.{Act}
 use Rattle.m3_model.specs.declared.act.Act.TheVariants as act
 use Rattle.m3_model.specs.declared.act.Fate.{Fate}
@@ -19,26 +21,18 @@ use Rattle.m3_model.specs.declared.turn.Turn.{Turn}
 
 -- ---- calls and their numbers
 
--- a client's call: a write, a fetch or a match
-abbrev pub is_call : Act → Bool
-is_call (act.Write ns id t v level version) = true
-is_call (act.Fetch ns id from to level version) = true
-is_call (act.Match ns wanted from to level version) = true
-is_call _ = false
+-- how many of these acts are calls, refused ones included
+abbrev pub calls_in : List Act → ℕ
+calls_in acts = count_by is_call acts
 
--- how many of these turns are calls, refused ones included
-abbrev pub calls_in : List InnerTurn → ℕ
-calls_in turns = count_by (λ turn. is_call turn.act) turns
+-- what each client asks for in a line, whatever is answered: client 0 in a line outside `par`, and in such a line the others
+abbrev pub client_lists : Request → List (List Act)
+client_lists (request.One one) = (one ∷ []) ∷ []
+client_lists (request.Par clients workers) = [] ∷ clients
 
--- what each client did in a line: client 0 in a line outside `par`, and in such a line the others
-abbrev pub client_lists : Request → Reply → List (List InnerTurn)
-client_lists (request.One a) (reply.One b) = (record { act = a; answer = b } ∷ []) ∷ []
-client_lists (request.Par clients workers) (reply.Par for_clients for_workers) = [] ∷ answered_lists clients for_clients
-client_lists _ _ = []
-
--- what this client did in a line
-abbrev pub client_turns : ℕ → Turn → List InnerTurn
-client_turns client line = slice_index_or (client_lists line.request line.reply) client []
+-- what this client asks for in a line
+abbrev pub client_acts : ℕ → Request → List Act
+client_acts client asked = slice_index_or (client_lists asked) client []
 
 -- The fates that stand, and how many calls a client has made since they stand.
 pub record Numbering : Type 0 where
@@ -56,11 +50,11 @@ numbering_by (Some list) calls before = record { fates = list; calls = 0 }
 numbering_by None calls before = record before { calls = before.calls + calls }
 
 abbrev pub numbering_after : ℕ → List Turn → Numbering
-numbering_after client lines = fold (λ before line. numbering_by (fates_set line.request line.reply) (calls_in (client_turns client line)) before) (record { fates = []; calls = 0 }) lines
+numbering_after client lines = fold (λ before line. numbering_by (fates_set line.request line.reply) (calls_in (client_acts client line.request)) before) (record { fates = []; calls = 0 }) lines
 
 -- the number of a call among its client's
 abbrev pub call_number : TurnPlace → ℕ
-call_number p = (numbering_after p.client p.lines).calls + calls_in p.earlier
+call_number p = (numbering_after p.client p.lines).calls + calls_in (map (λ turn. turn.act) p.earlier)
 
 -- ---- fates
 
@@ -76,12 +70,6 @@ fate_in (item ∷ list) client call name = if is_fate_of client call name item t
 -- the fate of the messages of the call at this place to the node of this name
 abbrev pub fate_at : TurnPlace → List ℕ → Fate
 fate_at p name = fate_in (numbering_after p.client p.lines).fates p.client (call_number p) name
-
--- a message of this fate isn't delivered while its call is made
-abbrev pub is_cut : Fate → Bool
-is_cut fate.Lose = true
-is_cut fate.Late = true
-is_cut _ = false
 
 -- ---- stops
 
@@ -103,9 +91,9 @@ pub record OfNode (place : Placement) (node : ℕ) (Holds : List ℕ → Type 0)
   pub stands : slice_get place.instances node ≡ Some instance_
   pub holds : Holds instance_.name
 
--- the messages of the call to the node are lost or late
+-- the turn is a call, and its messages to the node are lost or late
 abbrev pub IsCutAt : TurnPlace → Placement → ℕ → Type 0
-IsCutAt p place node = OfNode place node (λ name. is_cut (fate_at p name) ≡ true)
+IsCutAt p place node = IsTrue (is_call p.turn.act) × OfNode place node (λ name. is_cut (fate_at p name) ≡ true)
 
 -- the node is stopped
 abbrev pub IsStoppedAt : TurnPlace → Placement → ℕ → Type 0

@@ -2,9 +2,10 @@
 use Rattle.std.specs.Prelude.{ℕ, List, ◌++◌, length, Option, None, option_map, Bool, true, false, if◌then◌else◌, nat_le}
 use Rattle.std.specs.List.{flat_map, filter_map}
 use Rattle.m3_model.specs.Levels.{majority}
-use Rattle.m3_model.specs.Record.{InnerTurn, Record, TurnPlace, acts_of, inner_turns, turns_before}
-use Rattle.m3_model.specs.Rules.{namespace_place, rules_at}
-use Rattle.m3_model.specs.Placements.{placement_after, replicas_of, start_placement}
+use Rattle.transcripts.specs.Record.{InnerTurn, Record, TurnPlace, acts_of, inner_turns, turns_before}
+use Rattle.m3_model.specs.Rules.{namespace_place}
+use Rattle.transcripts.specs.Rules.{rules_at}
+use Rattle.transcripts.specs.Placements.{placement_after, replicas_of, start_placement}
 use Rattle.m3_model.specs.declared.point.Point.{Point}
 use Rattle.m3_model.specs.declared.rules.Space.{Space}
 use Rattle.m3_model.specs.declared.rules.MetaState.{MetaState}
@@ -18,11 +19,10 @@ abbrev pub point_of : List Space → Act → Option Point
 point_of spaces (act.Write ns id t v level version) = option_map (λ k. record { ns = k; id = id; t = t; v = v }) (namespace_place ns spaces)
 point_of spaces _ = None
 
--- a write that was refused for its place among the lines or for a name, or put off, wasn't sent
+-- a write that was refused for its place among the lines or for a name wasn't sent
 abbrev pub was_sent : Answer → Bool
 was_sent answer.Order = false
 was_sent (answer.Unknown name) = false
-was_sent answer.Later = false
 was_sent _ = true
 
 -- the point that a turn sent

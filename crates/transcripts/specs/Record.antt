@@ -1,15 +1,18 @@
 -- What runs did: their turns, and what stands before and beside one of them.
-use Rattle.std.specs.Prelude.{◌≡◌, ℕ, suc, List, [], ◌∷◌, ◌++◌, length, Option, Some, None}
+use Rattle.std.specs.Prelude.{◌≡◌, ℕ, suc, List, [], ◌∷◌, ◌++◌, length, map, Option, Some, None, ⊤, ◌⊎◌}
 use Rattle.std.specs.List.{flat_map}
 use Rattle.m3_model.specs.Members.{IsIn}
 use Rattle.m3_model.specs.declared.rules.MetaState.{MetaState}
 use Rattle.m3_model.specs.declared.act.Act.{Act}
 use Rattle.m3_model.specs.declared.answer.Answer.{Answer}
+use Rattle.m3_model.specs.declared.answer.Answer.TheVariants as answer
 use Rattle.m3_model.specs.declared.turn.Request.{Request}
 use Rattle.m3_model.specs.declared.turn.Request.TheVariants as request
 use Rattle.m3_model.specs.declared.turn.Reply.{Reply}
 use Rattle.m3_model.specs.declared.turn.Reply.TheVariants as reply
 use Rattle.m3_model.specs.declared.turn.Turn.{Turn}
+
+-- ---- turns
 
 -- An act with its answer: the one of a line, or one of the many of a `par` line.
 pub record InnerTurn : Type 0 where
@@ -35,6 +38,19 @@ lists_by (request.One act) (reply.Par clients workers) = []
 lists_by (request.Par clients workers) (reply.One answer) = []
 lists_by (request.Par clients workers) (reply.Par for_clients for_workers) = answered_lists clients for_clients ++ answered_lists workers for_workers
 
+-- a `par` line as a whole may be refused where no `init` stands, or for want of memory
+abbrev pub RefusesLists : Answer → Type 0
+RefusesLists answer.Order = ⊤
+RefusesLists answer.Memory = ⊤
+RefusesLists _ = ⊥
+
+-- a reply has the shape of its request: one answer to one act; to lists of acts as many lists of as many answers, or one refusal of them all
+abbrev pub IsAnsweredBy : Request → Reply → Type 0
+IsAnsweredBy (request.One act) (reply.One answer) = ⊤
+IsAnsweredBy (request.One act) (reply.Par for_clients for_workers) = ⊥
+IsAnsweredBy (request.Par clients workers) (reply.One answer) = RefusesLists answer
+IsAnsweredBy (request.Par clients workers) (reply.Par for_clients for_workers) = (map length for_clients ≡ map length clients) × (map length for_workers ≡ map length workers)
+
 -- the lists of a line
 abbrev pub lists_of : Turn → List (List InnerTurn)
 lists_of turn = lists_by turn.request turn.reply
@@ -53,6 +69,8 @@ acts_of None = []
 acts_of (Some (request.One act)) = act ∷ []
 acts_of (Some (request.Par clients workers)) = joined clients ++ joined workers
 
+-- ---- runs
+
 -- A run: what the meta disk held at its start, its turns in order, and a request that was taken and got no reply.
 pub record Record : Type 0 where
   pub start : Option MetaState
@@ -64,11 +82,14 @@ pub record Life : Type 0 where
   pub past : List Record
   pub present : Record
 
+-- ---- places of turns
+
 -- An inner turn of the present run, with what stands before and beside it.
 pub record TurnPlace : Type 0 where
   pub lines : List Turn  -- the earlier lines of the run
+  pub line : Turn  -- its own line
   pub client : ℕ  -- whose list it is in: 0 outside `par`, and in it one more than the list's place
-  pub earlier : List InnerTurn  -- earlier in its own list of its own line
+  pub earlier : List InnerTurn  -- earlier in its own list
   pub beside : List InnerTurn  -- in the other lists of its own line
   pub turn : InnerTurn
 
@@ -77,17 +98,28 @@ abbrev pub client_at : Request → ℕ → ℕ
 client_at (request.One a) place = 0
 client_at (request.Par clients workers) place = suc place
 
--- a place of an inner turn in the turns of a run
-pub record IsTurnPlace (turns : List Turn) (p : TurnPlace) : Type 0 where
-  pub line : Turn
-  pub after : List Turn
+-- the turn stands so in its own line
+pub record IsInLine (p : TurnPlace) : Type 0 where
   pub front : List (List InnerTurn)
   pub later : List InnerTurn
   pub back : List (List InnerTurn)
-  pub in_run : turns ≡ p.lines ++ line ∷ after
-  pub in_line : lists_of line ≡ front ++ (p.earlier ++ p.turn ∷ later) ∷ back
+  pub in_line : lists_of p.line ≡ front ++ (p.earlier ++ p.turn ∷ later) ∷ back
   pub others : p.beside ≡ joined front ++ joined back
-  pub client_is : p.client ≡ client_at line.request (length front)
+  pub client_is : p.client ≡ client_at p.line.request (length front)
+
+-- a place of an inner turn in the turns of a run
+pub record IsTurnPlace (turns : List Turn) (p : TurnPlace) : Type 0 where
+  pub after : List Turn
+  pub in_run : turns ≡ p.lines ++ p.line ∷ after
+  pub stands : IsInLine p
+
+-- a place of an inner turn in the line that comes after these
+pub record IsLastTurnPlace (turns : List Turn) (line : Turn) (p : TurnPlace) : Type 0 where
+  pub lines_are : p.lines ≡ turns
+  pub line_is : p.line ≡ line
+  pub stands : IsInLine p
+
+-- ---- before
 
 -- all that earlier runs, earlier lines and its own list did before an inner turn
 abbrev pub turns_before : List Record → TurnPlace → List InnerTurn
@@ -96,3 +128,15 @@ turns_before past p = flat_map (λ run. inner_turns run.turns) past ++ (inner_tu
 -- one inner turn is before another
 abbrev pub IsBefore : List Record → InnerTurn → TurnPlace → Type 0
 IsBefore past turn p = IsIn (turns_before past p) turn
+
+-- the first are some of the others, in their order
+abbrev pub AreSomeOf : {X : Type 0} → List X → List X → Type 0
+AreSomeOf [] ys = ⊤
+AreSomeOf (x ∷ xs) [] = ⊥
+AreSomeOf (x ∷ xs) (y ∷ ys) = ((x ≡ y) × AreSomeOf xs ys) ⊎ AreSomeOf (x ∷ xs) ys
+
+-- the turns of its run after which a turn may have been answered: all that are before it, and some of those in the other lists of its line
+pub record IsAfter (p : TurnPlace) (turns : List InnerTurn) : Type 0 where
+  pub others : List InnerTurn
+  pub some_of : AreSomeOf others p.beside
+  pub are : turns ≡ inner_turns p.lines ++ (p.earlier ++ others)

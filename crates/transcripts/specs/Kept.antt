@@ -2,9 +2,9 @@
 use Rattle.std.specs.Prelude.{◌≡◌, List, Option, Some, IsTrue}
 use Rattle.m3_model.specs.Members.{IsIn}
 use Rattle.m3_model.specs.Levels.{is_strong}
-use Rattle.m3_model.specs.Record.{Record, Life, TurnPlace, IsTurnPlace}
-use Rattle.m3_model.specs.Rules.{rules_at}
-use Rattle.m3_model.specs.Points.{sent_at, acked_at}
+use Rattle.transcripts.specs.Record.{Record, Life, TurnPlace, IsTurnPlace}
+use Rattle.transcripts.specs.Rules.{rules_at}
+use Rattle.transcripts.specs.Points.{sent_at, acked_at}
 use Rattle.m3_model.specs.Reads.{Read, Found, read_of, found_of, space_picked, points_in, IsSought, Covers, IsOrdered}
 use Rattle.m3_model.specs.declared.point.Point.{Point}
 use Rattle.m3_model.specs.declared.rules.Rules.{Rules}

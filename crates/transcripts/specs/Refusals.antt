@@ -1,12 +1,13 @@
 -- What the turns before an act refuse it for: its place among the lines, a name, a limit, a moment.
-use Rattle.std.specs.Prelude.{ℕ, List, length, Option, Some, None, option_map, Bool, true, false, if◌then◌else◌, not, is_some, nat_le, nat_lt, ◌∷◌, [], decimal}
+use Rattle.std.specs.Prelude.{ℕ, List, length, Option, Some, None, option_map, Bool, true, false, if◌then◌else◌, not, is_some, nat_eq, nat_le, nat_lt, ◌∷◌, [], decimal}
+use Rattle.std.specs.List.{list_any}
 use Rattle.std.specs.Option.{option_map_or, option_or}
 use Rattle.m3_model.specs.Rules.{namespace_place}
-use Rattle.m3_model.specs.Placements.{is_listed}
-use Rattle.m3_model.specs.NotYet.{is_put_off}
+use Rattle.placement_core.specs.NodeNames.{is_listed}
 use Rattle.m3_model.specs.declared.placement.Placement.{Placement}
 use Rattle.m3_model.specs.declared.rules.Space.{Space}
 use Rattle.m3_model.specs.declared.rules.Rules.{Rules}
+use Rattle.m3_model.specs.declared.limits.TheConstants.{MOST_NAMESPACES}
 use Rattle.m3_model.specs.declared.act.Act.{Act}
 use Rattle.m3_model.specs.declared.act.Act.TheVariants as act
 use Rattle.m3_model.specs.declared.act.Fate.{Fate}
@@ -42,33 +43,38 @@ abbrev pub missing_shard : Option Placement → Option ℕ → Option (List ℕ)
 missing_shard (Some place) (Some shard) = if nat_lt shard (length place.shards) then None else Some (decimal shard)
 missing_shard _ _ = None
 
+-- the version as a text, where no placement of it is kept
+abbrev pub missing_version : List ℕ → Option ℕ → Option (List ℕ)
+missing_version versions None = None
+missing_version versions (Some version) = if list_any (nat_eq version) versions then None else Some (decimal version)
+
+-- the namespace or else the version of a call, where it isn't there
+abbrev pub missing_of_call : List ℕ → List Space → List ℕ → Option ℕ → Option (List ℕ)
+missing_of_call versions spaces ns version = option_or (missing_space spaces ns) (missing_version versions version)
+
 -- the first name in a list of fates that no listed node has
 abbrev pub missing_in : Option Placement → List (ℕ × ℕ × List ℕ × Fate) → Option (List ℕ)
 missing_in place [] = None
 missing_in place (item ∷ list) = option_or (missing_node place item.2) (missing_in place list)
 
 -- the name in an act that should be there and isn't
-abbrev pub missing_name : Option Placement → List Space → Act → Option (List ℕ)
-missing_name place spaces (act.Write ns id t v level version) = missing_space spaces ns
-missing_name place spaces (act.Fetch ns id from to level version) = missing_space spaces ns
-missing_name place spaces (act.Match ns wanted from to level version) = missing_space spaces ns
-missing_name place spaces (act.Fates list) = missing_in place list
-missing_name place spaces (act.Stop node) = missing_node place node
-missing_name place spaces (act.Restart node pick) = missing_node place node
-missing_name place spaces (act.Bootstrap node shard) = option_or (missing_node place node) (missing_shard place shard)
-missing_name place spaces (act.Drain node) = missing_node place node
-missing_name place spaces (act.Cancel node) = missing_node place node
-missing_name place spaces (act.Remove node) = missing_node place node
-missing_name place spaces (act.Replace node by group) = missing_node place node
-missing_name place spaces _ = None
-
--- how many namespaces there may be
-abbrev pub namespace_limit : ℕ
-namespace_limit = 8
+abbrev pub missing_name : Option Placement → List ℕ → List Space → Act → Option (List ℕ)
+missing_name place versions spaces (act.Write ns id t v level version) = missing_of_call versions spaces ns version
+missing_name place versions spaces (act.Fetch ns id from to level version) = missing_of_call versions spaces ns version
+missing_name place versions spaces (act.Match ns wanted from to level version) = missing_of_call versions spaces ns version
+missing_name place versions spaces (act.Fates list) = missing_in place list
+missing_name place versions spaces (act.Stop node) = missing_node place node
+missing_name place versions spaces (act.Restart node pick) = missing_node place node
+missing_name place versions spaces (act.Bootstrap node shard) = option_or (missing_node place node) (missing_shard place shard)
+missing_name place versions spaces (act.Drain node) = missing_node place node
+missing_name place versions spaces (act.Cancel node) = missing_node place node
+missing_name place versions spaces (act.Remove node) = missing_node place node
+missing_name place versions spaces (act.Replace node by group) = missing_node place node
+missing_name place versions spaces _ = None
 
 -- the limit that an act would pass
 abbrev pub limit_reached : List Space → Act → Option Answer
-limit_reached spaces (act.Namespace name block past future retention) = answer_if (nat_le namespace_limit (length spaces)) (answer.Limit namespace_limit)
+limit_reached spaces (act.Namespace name block past future retention) = answer_if (nat_le MOST_NAMESPACES (length spaces)) (answer.Limit MOST_NAMESPACES)
 limit_reached spaces _ = None
 
 -- the moment, where an act would lower it
@@ -83,10 +89,9 @@ wrong_state stopped (act.Bootstrap node shard) = answer_if (stopped node) (answe
 wrong_state stopped (act.Restart node pick) = answer_if (not (stopped node)) (answer.State node)
 wrong_state stopped _ = None
 
--- the first refusal that the turns before decide: put off, out of order, unknown, limit, clock, state
-abbrev pub refusal_by : Option Placement → Rules → (List ℕ → Bool) → Act → Option Answer
-refusal_by place rules stopped a =
-    option_or (answer_if (is_put_off a) answer.Later)
-    (option_or (answer_if (is_out_of_order place rules.spaces a) answer.Order)
-    (option_or (option_map (λ name. answer.Unknown name) (missing_name place rules.spaces a))
-    (option_or (limit_reached rules.spaces a) (option_or (lowered_moment rules.now a) (wrong_state stopped a)))))
+-- the first refusal that the turns before decide, by the placement that stands, the versions that are kept, the rules and the stopped nodes: out of order, unknown, limit, clock, state
+abbrev pub refusal_by : Option Placement → List ℕ → Rules → (List ℕ → Bool) → Act → Option Answer
+refusal_by place versions rules stopped a =
+    option_or (answer_if (is_out_of_order place rules.spaces a) answer.Order)
+    (option_or (option_map (λ name. answer.Unknown name) (missing_name place versions rules.spaces a))
+    (option_or (limit_reached rules.spaces a) (option_or (lowered_moment rules.now a) (wrong_state stopped a))))

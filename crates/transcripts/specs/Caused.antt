@@ -1,0 +1,139 @@
+-- Why an answer is what it is: a refusal has its cause, and what has none is answered in its own way.
+use Rattle.std.specs.Prelude.{◌≡◌, ℕ, ◌+◌, ◌*◌, ◌≤◌, ◌<◌, List, [], ◌∷◌, ◌++◌, length, map, count_by, Option, Some, None, Bool, true, false, slice_get, IsTrue, ◌⊎◌, ⊤}
+use Rattle.std.specs.List.{flat_map}
+use Rattle.m3_model.specs.Members.{IsIn}
+use Rattle.m3_model.specs.declared.limits.TheConstants.{MOST_EVENTS, MOST_REQUEST_EVENTS}
+use Rattle.m3_model.specs.declared.placement.Placement.{Placement}
+use Rattle.m3_model.specs.declared.reason.Reason.{Reason}
+use Rattle.m3_model.specs.declared.rules.MetaState.{MetaState}
+use Rattle.m3_model.specs.declared.act.Act.{Act}
+use Rattle.m3_model.specs.declared.act.Act.TheVariants as act
+use Rattle.m3_model.specs.declared.answer.Answer.{Answer}
+use Rattle.m3_model.specs.declared.answer.Answer.TheVariants as answer
+use Rattle.m3_model.specs.declared.turn.Request.{Request}
+use Rattle.m3_model.specs.declared.turn.Request.TheVariants as request
+use Rattle.m3_model.specs.declared.turn.Reply.{Reply}
+use Rattle.m3_model.specs.declared.turn.Reply.TheVariants as reply
+use Rattle.m3_model.specs.declared.turn.Turn.{Turn}
+use Rattle.placement_plan.specs.First.{IsInitial}
+use Rattle.transcripts.specs.Deliveries.{LateMessage, IsDelivered, IsSameMessage, IsSamePlace}
+use Rattle.transcripts.specs.Fates.{is_stopped, OfNode}
+use Rattle.transcripts.specs.Faults.{Fault, AreDifferent, IsUntaken, HasFailed, IsDamaged}
+use Rattle.transcripts.specs.Levels.{IsAcked, MissesLevel, IsFoundFor}
+use Rattle.transcripts.specs.Placements.{placement_after, placement_at, placements, start_placement, MayStand, has_replica}
+use Rattle.transcripts.specs.Reasons.{IsShown}
+use Rattle.transcripts.specs.Record.{Record, Life, InnerTurn, TurnPlace, IsTurnPlace, IsAfter, acts_of, inner_turns}
+use Rattle.transcripts.specs.Refusals.{refusal_by}
+use Rattle.transcripts.specs.Rules.{rules_at}
+use Rattle.transcripts.specs.Waiting.{is_covering}
+
+-- ---- answers that are the act's own
+
+-- the node of this name in the present placement has a replica of the shard
+pub record IsReplicaOf (start : Option MetaState) (p : TurnPlace) (name : List ℕ) (node shard : ℕ) : Type 0 where
+  pub place : Placement
+  pub stands : MayStand start p place
+  pub named : OfNode place node (λ own. own ≡ name)
+  pub member : IsTrue (has_replica (Some place) shard node)
+
+-- the disk of the node's replica of the shard failed in this line
+abbrev pub OnDisk : List Fault → Option MetaState → TurnPlace → List ℕ → ℕ → Type 0
+OnDisk faults start p name shard = (node : ℕ) × IsReplicaOf start p name node shard × HasFailed faults p shard node
+
+-- its files were found damaged in this line
+abbrev pub InFiles : List Fault → Option MetaState → TurnPlace → List ℕ → ℕ → Type 0
+InFiles faults start p name shard = (node : ℕ) × IsReplicaOf start p name node shard × IsDamaged faults p shard node
+
+-- the name is that of this one of the nodes
+abbrev pub NamesNode : List (List ℕ × List ℕ) → List ℕ → ℕ → Type 0
+NamesNode nodes name node = (group : List ℕ) × (slice_get nodes node ≡ Some (name, group))
+
+-- the disk of one of the shards that `init` asks for couldn't be taken, on the node of this name
+abbrev pub IsUnmade : List Fault → TurnPlace → List (List ℕ × List ℕ) → ℕ → List ℕ → ℕ → Type 0
+IsUnmade faults p nodes shards name shard = (node : ℕ) × NamesNode nodes name node × (shard < shards) × IsUntaken faults p shard node
+
+-- no replica turns available by a bootstrap yet, and a placement that stands is printed
+abbrev pub IsBootstrapped : Option MetaState → TurnPlace → List (ℕ × List ℕ) → Placement → ℕ → Type 0
+IsBootstrapped start p available place version = (available ≡ []) × MayStand start p place × (version ≡ place.version)
+
+-- the answer is the act's own: ok, or too few replicas answered; what a read finds is said by what it keeps
+abbrev pub IsOwn : Bool → List Fault → Option MetaState → List LateMessage → TurnPlace → Act → Answer → Type 0
+IsOwn tells faults start messages p (act.Init rf shards seed nodes) (answer.Placed place version) = IsInitial rf shards nodes place × (version ≡ place.version)
+IsOwn tells faults start messages p (act.Init rf shards seed nodes) (answer.Disk name shard) = IsUnmade faults p nodes shards name shard
+IsOwn tells faults start messages p (act.Namespace name block past future retention) answer.Done = ⊤
+IsOwn tells faults start messages p (act.Now now) answer.Done = ⊤
+IsOwn tells faults start messages p (act.Fates list) answer.Done = ⊤
+IsOwn tells faults start messages p act.Deliver (answer.Outcomes outcomes) = IsDelivered tells faults start p messages outcomes
+IsOwn tells faults start messages p (act.Stop node) answer.Done = ⊤
+IsOwn tells faults start messages p (act.Restart node pick) answer.Done = ⊤
+IsOwn tells faults start messages p (act.Restart node pick) (answer.Disk name shard) = (name ≡ node) × OnDisk faults start p name shard
+IsOwn tells faults start messages p (act.Bootstrap node asked) (answer.Available available place version) = IsBootstrapped start p available place version
+IsOwn tells faults start messages p (act.Bootstrap node asked) (answer.Disk name shard) = (name ≡ node) × IsTrue (is_covering shard asked) × OnDisk faults start p name shard
+IsOwn tells faults start messages p (act.Bootstrap node asked) (answer.Corrupt name shard damage) = (name ≡ node) × IsTrue (is_covering shard asked) × InFiles faults start p name shard × IsShown damage
+IsOwn tells faults start messages p (act.Write ns id t v level version) (answer.Acks acks) = IsAcked start p id level version acks
+IsOwn tells faults start messages p (act.Write ns id t v level version) (answer.Consistency got needed reasons shard) = MissesLevel tells faults start p got needed reasons shard
+IsOwn tells faults start messages p (act.Fetch ns id from to level version) (answer.Found series short) = IsFoundFor tells faults start p (Some id) level version short
+IsOwn tells faults start messages p (act.Fetch ns id from to level version) (answer.Consistency got needed reasons shard) = MissesLevel tells faults start p got needed reasons shard
+IsOwn tells faults start messages p (act.Match ns wanted from to level version) (answer.Found series short) = IsFoundFor tells faults start p None level version short
+IsOwn tells faults start messages p (act.Match ns wanted from to level version) (answer.Consistency got needed reasons shard) = MissesLevel tells faults start p got needed reasons shard
+IsOwn tells faults start messages p _ _ = ⊥
+
+-- ---- answers that are due
+
+-- the refusal that is due, or the act's own answer where none is due
+abbrev pub IsDueBy : Bool → List Fault → Option MetaState → List LateMessage → TurnPlace → Option Answer → Type 0
+IsDueBy tells faults start messages p (Some refusal) = p.turn.answer ≡ refusal
+IsDueBy tells faults start messages p None = IsOwn tells faults start messages p p.turn.act p.turn.answer
+
+-- the refusal that is due after these turns, if one is
+abbrev pub refusal_after : Option MetaState → TurnPlace → List InnerTurn → Option Answer
+refusal_after start p turns =
+    refusal_by (placement_after (start_placement start) turns) (map (λ place. place.version) (placements start turns)) (rules_at start p) (is_stopped (inner_turns p.lines)) p.turn.act
+
+-- the answer is the one that is due after some turns after which it may have been given
+abbrev pub IsDue : Bool → List Fault → Option MetaState → List LateMessage → TurnPlace → Type 0
+IsDue tells faults start messages p = (turns : List InnerTurn) × IsAfter p turns × IsDueBy tells faults start messages p (refusal_after start p turns)
+
+-- ---- answers that may come at any place
+
+-- the acts that a run took with these lines
+abbrev pub acts_in : List Turn → List Act
+acts_in turns = flat_map (λ turn. acts_of (Some turn.request)) turns
+
+-- a write
+abbrev pub is_write : Act → Bool
+is_write (act.Write ns id t v level version) = true
+is_write _ = false
+
+-- the acts of an earlier run, with the request that got no reply
+abbrev pub acts_taken : Record → List Act
+acts_taken run = acts_in run.turns ++ acts_of run.unanswered
+
+-- so many requests and writes were taken that the list of events may be full
+pub record MayBeFull (past : List Record) (p : TurnPlace) : Type 0 where
+  pub requests : ℕ  -- of this run, with those of the turn's own line
+  pub requests_are : requests ≡ length (acts_in (p.lines ++ p.line ∷ []))
+  pub writes : ℕ  -- of all runs
+  pub writes_are : writes ≡ count_by is_write (flat_map acts_taken past ++ acts_in (p.lines ++ p.line ∷ []))
+  pub many : MOST_EVENTS ≤ (MOST_REQUEST_EVENTS * (requests + 1)) * (writes + 1)
+
+-- an answer is the one that is due, or says that the list of events is full; want of memory may come at any place
+abbrev pub CausedAt : Bool → List Fault → List Record → Option MetaState → List LateMessage → TurnPlace → Type 0
+CausedAt tells faults past start messages p = (p.turn.answer ≡ answer.Memory) ⊎ (((p.turn.answer ≡ answer.Full) × MayBeFull past p) ⊎ IsDue tells faults start messages p)
+
+-- a `par` line is refused as a whole with `order` only where no placement stands
+abbrev pub IsRefusedWhole : Option MetaState → List Turn → Request → Reply → Type 0
+IsRefusedWhole start before (request.Par clients workers) (reply.One answer.Order) = placement_after (start_placement start) (inner_turns before) ≡ None
+IsRefusedWhole start before _ _ = ⊤
+
+-- ---- the run
+
+-- Each answer of the present run is caused, over these faults and damages, and no late message is delivered twice. Where the disks tell what they hold, so that
+-- a replica's files can be known, more is said of reasons.
+pub record Caused (tells : Bool) (life : Life) (faults : List Fault) : Type 0 where
+  pub different : AreDifferent faults
+  pub delivered : TurnPlace → List LateMessage  -- which late messages a `deliver` delivered
+  pub each : (p : TurnPlace) → IsTurnPlace life.present.turns p → CausedAt tells faults life.past life.present.start (delivered p) p
+  pub once : (p q : TurnPlace) → IsTurnPlace life.present.turns p → IsTurnPlace life.present.turns q
+      → (a b : LateMessage) → IsIn (delivered p) a → IsIn (delivered q) b → IsSameMessage a b → IsSamePlace p q
+  pub whole : (before : List Turn) (line : Turn) (after : List Turn) → life.present.turns ≡ before ++ line ∷ after → IsRefusedWhole life.present.start before line.request line.reply

@@ -1,0 +1,14 @@
+pub mod Record
+pub mod Rules
+pub mod Placements
+pub mod Points
+pub mod Calls
+pub mod Fates
+pub mod Faults
+pub mod Waiting
+pub mod Refusals
+pub mod Reasons
+pub mod Levels
+pub mod Deliveries
+pub mod Kept
+pub mod Caused
