@@ -32,7 +32,7 @@ use Rattle.session.specs.declared.net.Net.{Net}
 use Rattle.session.specs.declared.slot.Slot.{Slot}
 use Rattle.m3_cluster.specs.Acts.{Answers, IsMade, OnMembers, after_call, after_fates, next_call}
 use Rattle.m3_cluster.specs.Chains.{Link, IsUnbooted, TakesLinks, boot_link, covered_slots, first_tenure, restart_at, refused_restart_at, slots_of_node, stop_at}
-use Rattle.m3_cluster.specs.Depots.{Depot}
+use Rattle.m3_outside.specs.Depots.{Depot}
 use Rattle.m3_cluster.specs.Nodes.{IsBootstrapped, IsDelivered, IsFated, IsRestarted, IsStopped, IsUnstarted}
 use Rattle.m3_cluster.specs.Steps.{IsFetched, IsMoved, IsNamed, IsWriteAnswer, IsWritten, NamedPoint, placed}
 use Rattle.m3_cluster.specs.declared.cluster.Cluster.{Cluster}

@@ -15,14 +15,16 @@ use Rattle.session.specs.declared.slot.Slot.{Slot}
 use Rattle.std.proofs.lemmas.Bool.{cases_lt}
 use Rattle.std.proofs.lemmas.List.Sums.{length-filter}
 use Rattle.m3_model.specs.Ascends.{Ascends}
-use Rattle.transcripts.specs.Caused.{Call as Asking, call_of, IsAsked as AsksShard, IsAcked, IsUnmet, IsFoundFor, MayRefuse, MayServe, MayUse, TakesPoint, IsOutside, reached_of}
+use Rattle.transcripts.specs.Calls.{Call as Asking, call_of, IsAskedOf as AsksShard}
+use Rattle.transcripts.specs.Levels.{IsAcked, MissesLevel, IsFoundFor, reached_of}
+use Rattle.transcripts.specs.Reasons.{MayRefuse, MayServe, TakesPoint, IsOutside}
+use Rattle.transcripts.specs.Placements.{MayUse, IsCounted, counted_node, counted_nodes, is_available as counts_state, seed_after}
 use Rattle.placement_core.specs.NodeNames.{IsNamedBelow}
 use Rattle.m3_model.specs.Delivery.{is_cut}
 use Rattle.transcripts.specs.Fates.{reaches}
 use Rattle.m3_model.specs.Hash.{shard_of}
 use Rattle.m3_model.specs.Levels.{majority, needed_write, needed_read}
 use Rattle.m3_model.specs.Members.{IsIn}
-use Rattle.transcripts.specs.Placements.{IsCounted, counted_node, counted_nodes, is_available as counts_state, seed_after}
 use Rattle.transcripts.specs.Points.{point_of}
 use Rattle.transcripts.specs.Record.{TurnPlace, inner_turns}
 use Rattle.transcripts.specs.Rules.{rules_at}

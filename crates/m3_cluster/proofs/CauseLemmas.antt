@@ -32,7 +32,7 @@ use Rattle.m3_model.specs.declared.rules.Rules.{Rules}
 use Rattle.m3_model.specs.declared.rules.Space.{Space}
 use Rattle.m3_model.specs.declared.turn.Turn.{Turn}
 use Rattle.m3_cluster.specs.Acts.{Answers, next_call}
-use Rattle.m3_cluster.specs.Depots.{TellAll}
+use Rattle.m3_outside.specs.Depots.{TellAll}
 use Rattle.m3_cluster.specs.Nodes.{HasShard, IsBootstrapped, IsDelivered, IsFated, IsNoShard, IsNode, IsNowhere, IsRestarted, IsStopped, node_named}
 use Rattle.m3_cluster.specs.Serves.{Stands, shard_in}
 use Rattle.m3_cluster.specs.Steps.{NamedPoint, spaces_in, wish, placed, IsNamed, IsMoved, IsWritten, IsWriteAnswer, IsFetched, IsRead}

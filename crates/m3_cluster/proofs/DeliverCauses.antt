@@ -9,8 +9,9 @@ use Rattle.std.proofs.lemmas.List.Elements.{All-cons, All-nil}
 use Rattle.std.proofs.lemmas.Option.{slice_get_within}
 use Rattle.m3_outside.specs.declared.disk.Disk.{Ghosts}
 use Rattle.m3_outside.specs.DiskState.{DiskState}
-use Rattle.transcripts.specs.Caused.{LateMessage, IsDelivered, AreOutcomes, MayComeOf}
-use Rattle.transcripts.specs.Faults.{Fault, HasFailed, IsClosedByFault, WaitsForBoot, is_restart}
+use Rattle.transcripts.specs.Deliveries.{LateMessage, IsDelivered, AreOutcomes, MayComeOf}
+use Rattle.transcripts.specs.Faults.{Fault, HasFailed, IsClosedByFault, is_restart}
+use Rattle.transcripts.specs.Waiting.{WaitsForBoot}
 use Rattle.transcripts.specs.Fates.{IsStoppedAt}
 use Rattle.m3_model.specs.Hash.{shard_of}
 use Rattle.m3_model.specs.Members.{IsIn}
@@ -44,7 +45,7 @@ use Rattle.session.specs.Outcomes.{IsOutcome as IsTold}
 use Rattle.session.specs.Slots.{MachineMap, refusal_of, slot_at, slot_cmp}
 use Rattle.session.specs.declared.slot.Slot.{Slot}
 use Rattle.session.proofs.SlotLemmas.{same_slot}
-use Rattle.m3_cluster.specs.Depots.{TellAll}
+use Rattle.m3_outside.specs.Depots.{TellAll}
 use Rattle.m3_cluster.specs.Replicas.{HasReplica, IsShutFor}
 use Rattle.m3_cluster.specs.Serves.{IsHeldBack, AreHeldBack, WasAcked, WasSent, counted_in}
 use Rattle.m3_cluster.specs.Steps.{spaces_in}

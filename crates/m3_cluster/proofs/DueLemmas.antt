@@ -3,7 +3,8 @@ use Rattle.std.proofs.Common.{◌≡◌, ℕ, List, sym, ap, ◌∙◌, subst, i
 use Rattle.std.specs.Prelude.{Option, Some, None, option_map}
 use Rattle.m3_outside.specs.declared.disk.Disk.{Ghosts}
 use Rattle.m3_outside.specs.DiskState.{DiskState}
-use Rattle.transcripts.specs.Caused.{CausedAt, IsDue, placement_at}
+use Rattle.transcripts.specs.Caused.{CausedAt, IsDue}
+use Rattle.transcripts.specs.Placements.{placement_at}
 use Rattle.transcripts.specs.Faults.{Fault}
 use Rattle.transcripts.specs.Fates.{is_stopped}
 use Rattle.transcripts.specs.Record.{inner_turns}

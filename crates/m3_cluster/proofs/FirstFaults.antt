@@ -20,7 +20,8 @@ use Rattle.session.specs.Changes.{Step}
 use Rattle.session.specs.Slots.{MachineMap}
 use Rattle.session.specs.declared.slot.Slot.{Slot}
 use Rattle.m3_cluster.specs.Chains.{Link}
-use Rattle.m3_cluster.specs.Depots.{Depot, place_of_slot}
+use Rattle.m3_outside.specs.Depots.{Depot}
+use Rattle.m3_cluster.specs.Depots.{place_of_slot}
 use Rattle.m3_cluster.specs.First.{AreApart, HasOpened, HasReturned, IsFirstBooted, IsGivenBack, first_boot}
 use Rattle.m3_cluster.specs.Replicas.{faults_at}
 use Rattle.m3_cluster.specs.Serves.{AreCounted, IsEarlier, count_at, machine_at}
@@ -117,10 +118,10 @@ pub made_counted : {D : Type 0} {G : Ghosts D} (state : D → DiskState) (first 
     → HasOpened state g.slots.items now g.net.machines after → (each : AreFirstBooted state g.slots.items now g.net.machines) → AreCounted state first now lines old taking failing
     → AreCounted state first after (lines ++ turn ∷ []) new taking (failing ++ line_faults (length lines) (map (first_link (answer_at g.slots.items each)) g.slots.items) g.slots.items)
 made_counted {D} {G} state first now after lines turn old new g taking failing none is apart opened each counted = record {
-  different = subst AreDifferent all (different_both (taking ++ failing) added counted.different (line_different (length lines) links slots apart) (not_before lines links slots (taking ++ failing) counted.earlier));
-  earlier =
-      subst (λ (l : List Fault). All (IsEarlier (lines ++ turn ∷ [])) l) all
-      (All-append (IsEarlier (lines ++ turn ∷ [])) (taking ++ failing) added (earlier_more lines turn (taking ++ failing) counted.earlier) (line_earlier lines turn links slots));
+  different = subst AreDifferent all (different_both (taking ++ failing) added counted.different (line_different (length lines) links slots apart) (not_before lines links slots (taking ++ failing) (came_before lines taking failing counted.taking_earlier counted.failing_earlier)));
+  taking_earlier = earlier_more Taking lines turn taking counted.taking_earlier;
+  failing_earlier = All-append (IsEarlier Failing (lines ++ turn ∷ [])) failing added (earlier_more Failing lines turn failing counted.failing_earlier) (line_earlier lines turn links slots);
+  later = λ s. le_trans (counted.later s) (kept_count s);
   of_taking = rose_still last_count (length taking) first.faults now.faults after.faults opened.later counted.of_taking;
   of_disks = λ s.
       let summed : faults_at s (failing ++ added) ≡ faults_at s failing + faults_at s added = sum_by-append _ failing added in

@@ -10,7 +10,8 @@ use Rattle.m3_outside.specs.declared.slot.Slot.{Slot as Place}
 use Rattle.replica_machine.specs.Machines.{MachineState}
 use Rattle.session.specs.Slots.{MachineMap, slot_cmp, slot_at}
 use Rattle.session.specs.declared.slot.Slot.{Slot}
-use Rattle.m3_cluster.specs.Depots.{Depot, place_of_slot, AreOut}
+use Rattle.m3_outside.specs.Depots.{Depot}
+use Rattle.m3_cluster.specs.Depots.{place_of_slot, AreOut}
 use Rattle.m3_cluster.specs.First.{IsUntouched, IsLent, IsGivenBack, HasReturned, MayNotOpen}
 use Rattle.m3_cluster.specs.Lending.{IsKept, IsBack, HasGivenBack, MayHaveTaken, IsUnopened}
 use Rattle.m3_cluster.specs.Serves.{count_at}

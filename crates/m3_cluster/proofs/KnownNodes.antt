@@ -5,8 +5,9 @@ use Rattle.std.specs.FinMap as finite
 use Rattle.std.specs.Option.{option_or, option_map_or}
 use Rattle.m3_outside.specs.declared.disk.Disk.{Ghosts}
 use Rattle.m3_outside.specs.DiskState.{DiskState}
-use Rattle.transcripts.specs.Caused.{MayRefuse}
-use Rattle.transcripts.specs.Faults.{Fault, HasFailed, IsClosedByFault, WaitsForBoot}
+use Rattle.transcripts.specs.Reasons.{MayRefuse}
+use Rattle.transcripts.specs.Faults.{Fault, HasFailed, IsClosedByFault}
+use Rattle.transcripts.specs.Waiting.{WaitsForBoot}
 use Rattle.transcripts.specs.Fates.{IsStoppedAt, fate_at, is_stopped, is_reached, reaches}
 use Rattle.m3_model.specs.Delivery.{is_cut}
 use Rattle.m3_model.specs.Members.{IsIn}

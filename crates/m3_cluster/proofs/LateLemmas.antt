@@ -6,12 +6,12 @@ use Rattle.m3_outside.specs.declared.disk.Disk.{Ghosts}
 use Rattle.m3_outside.specs.DiskState.{DiskState}
 use Rattle.m3_model.specs.Ascends.{Ascends}
 use Rattle.transcripts.specs.Faults.{Fault}
-use Rattle.transcripts.specs.Caused.{LateMessage, IsLateMessage, IsLateBefore, delivers_nothing}
+use Rattle.transcripts.specs.Deliveries.{LateMessage, IsLateMessage, IsLateBefore, delivers_nothing}
 use Rattle.placement_core.specs.NodeNames.{IsNamedBelow}
 use Rattle.m3_model.specs.Hash.{shard_of}
 use Rattle.m3_model.specs.Members.{IsIn}
 use Rattle.transcripts.specs.Points.{point_of, sent_point, was_sent}
-use Rattle.transcripts.specs.Record.{InnerTurn, TurnPlace, IsTurnPlace, inner_turns}
+use Rattle.transcripts.specs.Record.{InnerTurn, TurnPlace, IsTurnPlace, inner_turns, line_of}
 use Rattle.transcripts.specs.Rules.{rules_after, start_rules}
 use Rattle.m3_model.specs.Rules.{namespace_place}
 use Rattle.m3_model.specs.declared.act.Act.{Act}
@@ -38,7 +38,7 @@ use Rattle.m3_cluster.specs.declared.cluster.Cluster.{Cluster}
 use Rattle.m3_cluster.specs.declared.members.Members.{Members}
 use Rattle.m3_cluster.proofs.CallLemmas.{At, on, place_after, fate_is}
 use Rattle.m3_cluster.proofs.KnownNodes.{known_node}
-use Rattle.m3_cluster.proofs.NumberLemmas.{line_of, and_then}
+use Rattle.m3_cluster.proofs.NumberLemmas.{and_then}
 use Rattle.m3_cluster.proofs.OptionLemmas.{mapped_from}
 use Rattle.m3_cluster.proofs.ShardLemmas.{ascends_on}
 use Rattle.m3_cluster.proofs.SpaceLemmas.{namespace_place-append}

@@ -17,7 +17,7 @@ use Rattle.m3_model.proofs.MemberLemmas.{IsIn-append_cases, IsIn-append_left, Is
 use Rattle.placement_core.proofs.ListLemmas.{All-from_each}
 use Rattle.session.specs.declared.slot.Slot.{Slot}
 use Rattle.m3_cluster.specs.Acts.{IsMade}
-use Rattle.m3_cluster.specs.Depots.{Depot, TellAll}
+use Rattle.m3_outside.specs.Depots.{Depot, TellAll}
 use Rattle.m3_cluster.specs.First.{AreApart, HasReturned}
 use Rattle.m3_cluster.specs.Replicas.{IsBare}
 use Rattle.m3_cluster.specs.Serves.{AreCounted, IsUnmade, Stands}
@@ -27,7 +27,8 @@ use Rattle.m3_cluster.proofs.ActLinks.{ListsFaults, ListsTaken}
 use Rattle.m3_cluster.proofs.FirstFaults.{made_counted, returned_counted}
 use Rattle.m3_cluster.proofs.FirstSteps.{init_goes, made_links}
 use Rattle.m3_cluster.proofs.MoreFaults.{AreAmong}
-use Rattle.m3_cluster.proofs.NumberLemmas.{and_then, line_of}
+use Rattle.m3_cluster.proofs.NumberLemmas.{and_then}
+use Rattle.transcripts.specs.Record.{line_of}
 use Rattle.m3_cluster.proofs.QuietLemmas.{Tells, quiet_change, tells_disk, tells_memory, tells_order}
 use Rattle.m3_cluster.proofs.ReplicaLemmas.{bare_back, counted_quiet, fault_listed, fault_of, line_faults}
 use Rattle.m3_cluster.proofs.SlotLists.{slots_apart}

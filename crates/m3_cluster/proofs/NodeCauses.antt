@@ -10,7 +10,8 @@ use Rattle.std.proofs.lemmas.List.Elements.{All-cons, All-nil}
 use Rattle.m3_outside.specs.declared.disk.Disk.{Ghosts}
 use Rattle.m3_outside.specs.DiskState.{DiskState, IsLawful}
 use Rattle.transcripts.specs.Caused.{OnDisk}
-use Rattle.transcripts.specs.Faults.{Fault, is_covering}
+use Rattle.transcripts.specs.Faults.{Fault}
+use Rattle.transcripts.specs.Waiting.{is_covering}
 use Rattle.m3_model.specs.Members.{IsIn}
 use Rattle.placement_core.specs.NodeNames.{is_listed}
 use Rattle.transcripts.specs.Record.{inner_turns}
@@ -33,7 +34,7 @@ use Rattle.session.specs.Changes.{IsStepped, Step}
 use Rattle.session.specs.Slots.{MachineMap, slot_cmp}
 use Rattle.session.specs.declared.slot.Slot.{Slot}
 use Rattle.m3_cluster.specs.Chains.{Boot, TakesLinks, boot_link, covered_slots, first_tenure, refused_restart_at, restart_at, slots_of_node, stop_at}
-use Rattle.m3_cluster.specs.Depots.{TellAll}
+use Rattle.m3_outside.specs.Depots.{TellAll}
 use Rattle.m3_cluster.specs.Replicas.{HasReplica}
 use Rattle.m3_cluster.specs.Nodes.{HasShard, IsHeldUp, IsNoShard, IsNode, IsUnstarted}
 use Rattle.m3_cluster.specs.Serves.{WasAcked, WasSent}

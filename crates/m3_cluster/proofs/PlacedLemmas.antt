@@ -20,7 +20,7 @@ use Rattle.m3_outside.specs.DiskState.{DiskState}
 use Rattle.m3_outside.specs.declared.disk.Disk.{Ghosts}
 use Rattle.session.specs.declared.call.Call.{Call}
 use Rattle.m3_cluster.specs.Acts.{Answers, IsMade, OnMembers}
-use Rattle.m3_cluster.specs.Depots.{Depot}
+use Rattle.m3_outside.specs.Depots.{Depot}
 use Rattle.m3_cluster.specs.Nodes.{IsFated, IsDelivered, IsStopped, IsRestarted, IsBootstrapped}
 use Rattle.m3_cluster.specs.Serves.{place_of}
 use Rattle.m3_cluster.specs.Steps.{NamedPoint, placed, IsNamed, IsMoved, IsWriteAnswer, IsWritten, IsRead, IsFetched}

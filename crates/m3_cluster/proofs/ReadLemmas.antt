@@ -40,7 +40,7 @@ use Rattle.session.specs.Reads.{Wish, IsGiven, IsFound, first_asked, end_asked}
 use Rattle.session.specs.Slots.{slot_at}
 use Rattle.session.proofs.AskedLemmas.{answering-asked, answering-told, answering_ascend}
 use Rattle.m3_cluster.specs.Acts.{next_call}
-use Rattle.m3_cluster.specs.Depots.{TellAll}
+use Rattle.m3_outside.specs.Depots.{TellAll}
 use Rattle.m3_cluster.specs.Serves.{IsKept, WasAcked, WasSent, counted_in, shard_in}
 use Rattle.m3_cluster.specs.Steps.{spaces_in}
 use Rattle.m3_cluster.specs.declared.cluster.Cluster.{Cluster}

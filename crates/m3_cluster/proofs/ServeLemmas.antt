@@ -16,7 +16,8 @@ use Rattle.m3_model.proofs.SplitLemmas.{not_empty}
 use Rattle.placement_core.proofs.ListLemmas.{All-from_each}
 use Rattle.session.specs.declared.slot.Slot.{Slot}
 use Rattle.m3_cluster.specs.Acts.{Answers, IsMade}
-use Rattle.m3_cluster.specs.Depots.{Depot, TellAll, place_of_slot}
+use Rattle.m3_outside.specs.Depots.{Depot, TellAll}
+use Rattle.m3_cluster.specs.Depots.{place_of_slot}
 use Rattle.m3_cluster.specs.Replicas.{IsBare}
 use Rattle.m3_cluster.specs.Serves.{IsEarlier, Serves, count_at, machine_at}
 use Rattle.m3_cluster.specs.declared.cluster.Cluster.{Cluster}

@@ -6,13 +6,13 @@ use Rattle.std.specs.List.{flat_map}
 use Rattle.m3_outside.specs.declared.disk.Disk.{Ghosts}
 use Rattle.m3_outside.specs.DiskState.{DiskState}
 use Rattle.m3_model.specs.Ascends.{Ascends}
-use Rattle.transcripts.specs.Caused.{LateMessage, delivers_nothing}
+use Rattle.transcripts.specs.Deliveries.{LateMessage, delivers_nothing}
 use Rattle.placement_core.specs.NodeNames.{IsNamedBelow}
 use Rattle.transcripts.specs.Faults.{Fault}
 use Rattle.m3_model.specs.Members.{IsIn}
 use Rattle.transcripts.specs.Placements.{printed}
 use Rattle.transcripts.specs.Points.{point_of, was_sent}
-use Rattle.transcripts.specs.Record.{InnerTurn, IsTurnPlace, TurnPlace, inner_turns, joined, lists_of}
+use Rattle.transcripts.specs.Record.{InnerTurn, IsTurnPlace, TurnPlace, inner_turns, joined, lists_of, line_of}
 use Rattle.m3_model.specs.declared.act.Act.{Act}
 use Rattle.m3_model.specs.declared.act.Act.TheVariants as act
 use Rattle.m3_model.specs.declared.act.WriteLevel.{WriteLevel}
@@ -38,7 +38,7 @@ use Rattle.session.specs.declared.slot.Slot.{Slot}
 use Rattle.session.proofs.AskedLemmas.{answering-asked, answering_ascend, permuted-IsIn}
 use Rattle.m3_cluster.specs.Acts.{after_call, next_call}
 use Rattle.m3_cluster.specs.Chains.{Link}
-use Rattle.m3_cluster.specs.Depots.{TellAll}
+use Rattle.m3_outside.specs.Depots.{TellAll}
 use Rattle.m3_cluster.specs.Nodes.{IsDelivered, KeepsButMachines}
 use Rattle.m3_cluster.specs.Serves.{AreHeldBack, HoldsLate, IsHeldBack, IsKept, WasAcked, WasSent, counted_in, shard_in}
 use Rattle.m3_cluster.specs.Steps.{NamedPoint, IsPut, IsWritten, placed, spaces_in}
@@ -49,7 +49,7 @@ use Rattle.m3_cluster.proofs.CallLemmas.{At, on, rules_there, version_is}
 use Rattle.m3_cluster.proofs.LateLemmas.{Delays, Extends, ascends_take, late_more, late_none, late_stays, shard_same, take-IsIn}
 use Rattle.m3_cluster.proofs.LinkLemmas.{IsPutOf, links_none, links_some, steps_among, steps_in}
 use Rattle.m3_cluster.proofs.MoreFaults.{AreAmong}
-use Rattle.m3_cluster.proofs.NumberLemmas.{turn_of, line_of, and_then}
+use Rattle.m3_cluster.proofs.NumberLemmas.{turn_of, and_then}
 use Rattle.m3_cluster.proofs.OptionLemmas.{same_some}
 use Rattle.m3_cluster.proofs.PutSteps.{late_calls, put_calls, put_done, put_nodes, serving_puts}
 use Rattle.m3_cluster.proofs.QuietLemmas.{extends_same, fates_kept, grown_goes, quiet_call, stops_kept, tells_unknown}
@@ -170,7 +170,7 @@ unsent_grows {D} {G} {state} {faults} {lines} {c} {m} {g} more among tell h poin
       slots = put.slots;
       manned = λ s some. subst (λ ms. IsSome (get ms s)) (sym unsent.machines) some;
       none = λ s none. ap (λ ms. get ms s) unsent.machines ∙ none;
-      serving = serving_stays h more among tell extends unsent.machines put.stopped (λ acks e. cc) (λ s. record { restarts = λ one there. refl; stops = λ one there. refl; waits = λ one there. refl });
+      serving = serving_stays h more among tell extends unsent.machines put.stopped (λ acks e. cc) (λ s. record { restarts = λ one there. refl; stops = λ one there. refl; waits = λ one there. refl; prints = refl });
       fates = fates_kept g _ _ h refl (ap (λ (s : MetaState). s.place) put.state_stays) put.fates;
       stops = stops_kept g _ _ h (λ name x. refl) (ap (λ (s : MetaState). s.place) put.state_stays) put.stopped;
       late = elim unsent.bag as (λ _. HoldsLate g (and_then lines a answer.Memory)) [
@@ -216,12 +216,12 @@ put_goes : {D : Type 0} {G : Ghosts D} {state : D → DiskState} {faults : List 
 put_goes {D} {G} {state} {faults} {lines} {old} {new} {m} {g} more among tell h is calls point level (answer.Acks acks) put listed =
     let done = put.answers in
     written_goes more h is calls point level (answer.Acks acks)
-    (sent_grows more among tell h point level (answer.Acks acks) put done.told done.sent refl refl listed (λ xs e. sym (same_acks acks xs e) ∙ done.acks_are) (λ s. record { restarts = λ one there. refl; stops = λ one there. refl; waits = λ one there. refl })) refl
+    (sent_grows more among tell h point level (answer.Acks acks) put done.told done.sent refl refl listed (λ xs e. sym (same_acks acks xs e) ∙ done.acks_are) (λ s. record { restarts = λ one there. refl; stops = λ one there. refl; waits = λ one there. refl; prints = refl })) refl
     (λ xs e. subst (IsKept new (turn_of (write_of point level) (answer.Acks acks))) (same_acks acks xs e) (acked_kept h is point level (answer.Acks acks) put acks done)) put
 put_goes {D} {G} {state} {faults} {lines} {old} {new} {m} {g} more among tell h is calls point level (answer.Consistency got needed reasons shard) put listed =
     let done = put.answers in
     written_goes more h is calls point level (answer.Consistency got needed reasons shard)
-    (sent_grows more among tell h point level (answer.Consistency got needed reasons shard) put done.0 done.1 refl refl listed (λ xs e. cc) (λ s. record { restarts = λ one there. refl; stops = λ one there. refl; waits = λ one there. refl })) refl (λ xs e. cc) put
+    (sent_grows more among tell h point level (answer.Consistency got needed reasons shard) put done.0 done.1 refl refl listed (λ xs e. cc) (λ s. record { restarts = λ one there. refl; stops = λ one there. refl; waits = λ one there. refl; prints = refl })) refl (λ xs e. cc) put
 put_goes {D} {G} {state} {faults} {lines} {old} {new} {m} {g} more among tell h is calls point level answer.Memory put listed =
     written_goes more h is calls point level answer.Memory (unsent_grows more among tell h point level put put.answers) refl (λ xs e. cc) put
 put_goes {D} {G} {state} {faults} {lines} {old} {new} {m} {g} more among tell h is calls point level _ put listed = absurd put.answers
@@ -283,7 +283,7 @@ delivered_grows {D} {G} {state} {faults} {lines} {c} {m} {g} more among tell h o
       slots = d.1.slots;
       manned = links_some state links m.net.machines g.net.machines taken;
       none = links_none state links m.net.machines g.net.machines taken;
-      serving = serving_puts more among tell h extends links taken listed puts (λ s p w. acked_none h extends (λ acks e. cc) (steps_at s links) s p w) d.1.stopped (λ s. record { restarts = λ one there. refl; stops = λ one there. refl; waits = λ one there. refl });
+      serving = serving_puts more among tell h extends links taken listed puts (λ s p w. acked_none h extends (λ acks e. cc) (steps_at s links) s p w) d.1.stopped (λ s. record { restarts = λ one there. refl; stops = λ one there. refl; waits = λ one there. refl; prints = refl });
       fates = fates_kept g _ _ h refl same_place d.1.fates;
       stops = stops_kept g _ _ h (λ name x. refl) same_place d.1.stopped;
       late = late_none g (and_then lines act.Deliver b) d.0.emptied;
@@ -319,7 +319,7 @@ undelivered_grows {D} {G} {state} {faults} {lines} {c} {m} {g} more among tell h
       slots = keeps.slots;
       manned = λ s some. subst (λ ms. IsSome (get ms s)) (sym undelivered.machines) some;
       none = λ s none. ap (λ ms. get ms s) undelivered.machines ∙ none;
-      serving = serving_stays h more among tell extends undelivered.machines keeps.stopped (λ acks e. cc) (λ s. record { restarts = λ one there. refl; stops = λ one there. refl; waits = λ one there. refl });
+      serving = serving_stays h more among tell extends undelivered.machines keeps.stopped (λ acks e. cc) (λ s. record { restarts = λ one there. refl; stops = λ one there. refl; waits = λ one there. refl; prints = refl });
       fates = fates_kept g _ _ h refl same_place keeps.fates;
       stops = stops_kept g _ _ h (λ name x. refl) same_place keeps.stopped;
       late = elim undelivered.bag as (λ _. HoldsLate g (and_then lines act.Deliver answer.Memory)) [ inl same ↦ late_stays extends refl same (on h).late | inr none ↦ late_none g (and_then lines act.Deliver answer.Memory) none ];

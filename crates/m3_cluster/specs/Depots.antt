@@ -1,9 +1,8 @@
--- The disks of a run, and which of them the machines of a cluster have.
-use Rattle.std.specs.Prelude.{◌≡◌, ◌≢◌, ℕ, true, List, Option, Some, None}
+-- Which disks of a run the machines of a cluster have.
+use Rattle.std.specs.Prelude.{◌≡◌, ◌≢◌, List, Option, Some, None}
 use Rattle.std.specs.FinMap.{get}
 use Rattle.m3_outside.specs.declared.disk.Disk.{Ghosts}
 use Rattle.m3_model.specs.Members.{IsIn}
-use Rattle.m3_outside.specs.DiskState.{DiskState}
 use Rattle.m3_outside.specs.Slots.{Held, Out}
 use Rattle.m3_outside.specs.declared.slot.Slot.{Slot as Place}
 use Rattle.replica_machine.specs.Machines.{MachineState}
@@ -12,19 +11,9 @@ use Rattle.session.specs.declared.slot.Slot.{Slot}
 use Rattle.m3_cluster.specs.declared.cluster.Cluster.{Cluster}
 use Rattle.m3_cluster.specs.declared.members.Members.{Members}
 
--- What the disks of a run show: what lies in each slot, how many faults of its disk are counted in it, and how many in all.
-pub record Depot (D : Type 0) : Type 0 where
-  pub held : Place → Held D
-  pub counted : Place → ℕ
-  pub faults : ℕ
-
 -- the place of a slot's disk
 abbrev pub place_of_slot : Slot → Place
 place_of_slot s = record { node = s.node; shard = s.shard }
-
--- each disk of this kind tells what it holds
-abbrev pub TellAll : {D : Type 0} → (D → DiskState) → Type 0
-TellAll {D} state = (d : D) → (state d).tells ≡ true
 
 -- machines stand at these slots alone; their disks are out, and those of all other slots are not
 pub record AreOut {D : Type 0} (slots : List Slot) (machines : MachineMap D) (held : Place → Held D) : Type 0 where

@@ -14,7 +14,8 @@ use Rattle.replica_machine.specs.Machines.{MachineState, first_machine}
 use Rattle.session.specs.Changes.{IsStepped}
 use Rattle.session.specs.Slots.{MachineMap}
 use Rattle.session.specs.declared.slot.Slot.{Slot}
-use Rattle.m3_cluster.specs.Depots.{Depot, place_of_slot}
+use Rattle.m3_outside.specs.Depots.{Depot}
+use Rattle.m3_cluster.specs.Depots.{place_of_slot}
 use Rattle.m3_cluster.specs.First.{IsUntouched, IsLent, IsGivenBack, IsFirstBooted, HasOpened, HasReturned, MayNotOpen, first_boot}
 use Rattle.m3_cluster.specs.declared.first.Unopened.{Unopened}
 

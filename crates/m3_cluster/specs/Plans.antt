@@ -10,7 +10,7 @@ use Rattle.m3_outside.specs.DiskState.{DiskState}
 use Rattle.placement_core.specs.Lawful.{IsLawful}
 use Rattle.session.specs.declared.slot.Slot.{Slot}
 use Rattle.m3_cluster.specs.Acts.{IsUntaken}
-use Rattle.m3_cluster.specs.Depots.{Depot}
+use Rattle.m3_outside.specs.Depots.{Depot}
 use Rattle.m3_cluster.specs.First.{HasReturned, slots_of}
 use Rattle.m3_cluster.specs.declared.first.Plan.{Plan}
 

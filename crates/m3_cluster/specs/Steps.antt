@@ -23,7 +23,7 @@ use Rattle.session.specs.declared.session_err.SessionErr.{SessionErr}
 use Rattle.session.specs.declared.session_err.SessionErr.TheVariants as err
 use Rattle.session.specs.declared.slot.Slot.{Slot}
 use Rattle.m3_outside.specs.DiskState.{DiskState}
-use Rattle.m3_cluster.specs.Depots.{Depot}
+use Rattle.m3_outside.specs.Depots.{Depot}
 use Rattle.m3_cluster.specs.First.{HasOpened, IsFirstBooted, slots_of}
 use Rattle.m3_cluster.specs.declared.calls.Range.{Range}
 use Rattle.m3_cluster.specs.declared.members.Members.{Members}
