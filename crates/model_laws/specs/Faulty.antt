@@ -1,6 +1,7 @@
 -- Transcripts with disks that fail, nodes that are restarted and replicas that bootstrap: some whose answers have their causes, and some that are broken in one way.
 use Rattle.std.specs.Prelude.{ℕ, ℤ, List, [], ◌∷◌, Some, None, true, false, pos, codes}
-use Rattle.transcripts.specs.Faults.{Fault}
+use Rattle.transcripts.specs.Faults.{Fault, Taking, Failing}
+use Rattle.transcripts.specs.Faults as faults
 use Rattle.m3_model.specs.declared.act.Act.{Act}
 use Rattle.m3_model.specs.declared.act.Act.TheVariants as act
 use Rattle.m3_model.specs.declared.act.WriteLevel.TheVariants as write_level
@@ -15,11 +16,15 @@ use Rattle.model_laws.specs.Messages.{stopped}
 
 -- the disk of this node's replica of the only shard fails in the line that so many stand before
 abbrev pub fails : ℕ → ℕ → Fault
-fails lines node = record { line = lines; node = node; shard = 0; is_damage = false }
+fails lines node = record { line = lines; node = node; shard = 0; kind = Failing }
+
+-- it can't be taken then
+abbrev pub untaken : ℕ → ℕ → Fault
+untaken lines node = record { line = lines; node = node; shard = 0; kind = Taking }
 
 -- its files are found damaged then
 abbrev pub damages : ℕ → ℕ → Fault
-damages lines node = record { line = lines; node = node; shard = 0; is_damage = true }
+damages lines node = record { line = lines; node = node; shard = 0; kind = faults.Damage }
 
 -- a write of `hello` into `m` that all three nodes have to take
 abbrev pub write_all : ℕ → ℤ → Act

@@ -1,5 +1,6 @@
 //! Transcripts that are not kept.
-ghost use Rattle.std.specs.Prelude.{codes};
+ghost use Rattle.std.specs.Prelude.{[], codes, true};
+ghost use Rattle.transcripts.specs.Caused.{Caused};
 ghost use Rattle.transcripts.specs.Kept.{Kept};
 ghost use Rattle.m3_model.specs.declared.answer.Answer.TheVariants as answer;
 ghost use Rattle.model_laws.specs.Building.{life_of};
@@ -77,7 +78,7 @@ pub fn unknown_namespace_read()
 
 /// A point is read whose only write was put off, or was refused for its place among the lines or for a name.
 pub fn later_write_read()
-    ensures later { ¬ Kept (life_of (with_point_answered answer.Later)) }
+    ensures later { ¬ Caused true (life_of (with_point_answered answer.Later)) [] }
     ensures order { ¬ Kept (life_of (with_point_answered answer.Order)) }
     ensures unknown { ¬ Kept (life_of (with_point_answered (answer.Unknown (codes "m")))) }
 {}
