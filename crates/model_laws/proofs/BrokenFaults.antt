@@ -29,11 +29,11 @@ use Rattle.model_laws.proofs.PlaceLemmas.{place_after, due_after, only_used}
 use Rattle.model_laws.proofs.SampleLemmas.{call_with, of_shard}
 
 -- what is so of the name of a node that is known
-holds_of : (Holds : List ℕ → Type 0) (node : ℕ) (one : Instance) → slice_get place.instances node ≡ Some one → OfNode place node Holds → Holds one.name
+pub holds_of : (Holds : List ℕ → Type 0) (node : ℕ) (one : Instance) → slice_get place.instances node ≡ Some one → OfNode place node Holds → Holds one.name
 holds_of Holds node one stood fact = subst (λ (i : Instance). Holds i.name) (same_of_some fact.instance_ one (sym fact.stands ∙ stood)) fact.holds
 
 -- why c may have refused the write that all have to take
-c_may : {faults : List Fault} (lines : List Turn) (why : Reason) → placement_after None (inner_turns lines) ≡ Some place → MissesLevel true faults None (place_after lines (write_all 100 (pos 5)) (all_but_c why)) 2 3 ((2, why) ∷ []) 0
+pub c_may : {faults : List Fault} (lines : List Turn) (why : Reason) → placement_after None (inner_turns lines) ≡ Some place → MissesLevel true faults None (place_after lines (write_all 100 (pos 5)) (all_but_c why)) 2 3 ((2, why) ∷ []) 0
     → MayRefuse true faults None (place_after lines (write_all 100 (pos 5)) (all_but_c why)) place 0 2 why
 c_may {faults = faults} lines why stood due =
     let p = place_after lines (write_all 100 (pos 5)) (all_but_c why) in
@@ -63,7 +63,7 @@ boot_bootstrapped-refused faults caused =
     cc
 
 -- the fault of c in line 3 is the one that is listed
-is_listed : (fault : Fault) → Caused true (life_of disk_at_once) (fault ∷ []) → fault ≡ fails 3 2
+pub is_listed : (fault : Fault) → Caused true (life_of disk_at_once) (fault ∷ []) → fault ≡ fails 3 2
 is_listed fault caused =
     let lines = begun 100 [] in
     elim (c_may lines reason.Disk refl (due_after lines (write_all 100 (pos 5)) (all_but_c reason.Disk) [] (λ e. cc) (λ e. cc) caused)) as (λ _. fault ≡ fails 3 2) [ inl e ↦ e | inr none ↦ absurd none ]

@@ -6,13 +6,13 @@ use Rattle.std.specs.Prelude.{Some, None, pos, slice_get, codes, option_map, cou
 use Rattle.std.specs.List.{list_all}
 use Rattle.std.specs.Ordering.{is_gt}
 use Rattle.std.specs.Option.{option_or}
-use Rattle.transcripts.specs.Caused.{Caused, CausedAt, IsDueBy}
+use Rattle.transcripts.specs.Caused.{Caused, CausedAt, IsDueBy, refusal_after}
 use Rattle.transcripts.specs.Calls.{call_of}
 use Rattle.transcripts.specs.Levels.{IsAcked, MissesLevel, IsFoundFor}
 use Rattle.transcripts.specs.Reasons.{MayRefuse, MayServe, TakesPoint, IsOutside}
 use Rattle.placement_core.specs.NodeNames.{IsNamedBelow}
 use Rattle.transcripts.specs.Fates.{reaches}
-use Rattle.transcripts.specs.Record.{TurnPlace}
+use Rattle.transcripts.specs.Record.{TurnPlace, inner_turns}
 use Rattle.transcripts.specs.Faults.{Fault, AreDifferent}
 use Rattle.m3_model.specs.Rules.{IsPast, IsFuture, namespace_place}
 use Rattle.m3_model.specs.declared.act.ReadLevel.TheVariants as read_level
@@ -224,10 +224,15 @@ all_refuse lines rules ns t v why stood may =
     (λ some. absurd (omega (arith, some)))
 
 -- a first moment is never a lowered one
-first_moment : (faults : List Fault) (messages : List LateMessage) (now : ℕ) → CausedAt true faults [] None messages (place_after (made ∷ named ∷ []) (act.Now now) answer.Done)
-first_moment faults messages now =
+pub first_moment_after : (faults : List Fault) (messages : List LateMessage) (lines : List Turn) (now : ℕ) → refusal_after None (place_after lines (act.Now now) answer.Done) (inner_turns lines) ≡ option_or (cond (nat_lt now 0) (Some (answer.Clock 0)) None) None
+    → CausedAt true faults [] None messages (place_after lines (act.Now now) answer.Done)
+first_moment_after faults messages lines now first =
+    let p = place_after lines (act.Now now) answer.Done in
     let test : nat_lt now 0 ≡ false = grind (arith, nat_tests) in
-    due true faults messages (made ∷ named ∷ []) (act.Now now) answer.Done (subst (λ b. IsDueBy true faults None messages (place_after (made ∷ named ∷ []) (act.Now now) answer.Done) (option_or (cond b (Some (answer.Clock 0)) None) None)) (sym test) tt)
+    due true faults messages lines (act.Now now) answer.Done (subst (λ refusal. IsDueBy true faults None messages p refusal) (sym first) (subst (λ b. IsDueBy true faults None messages p (option_or (cond b (Some (answer.Clock 0)) None) None)) (sym test) tt))
+
+first_moment : (faults : List Fault) (messages : List LateMessage) (now : ℕ) → CausedAt true faults [] None messages (place_after (made ∷ named ∷ []) (act.Now now) answer.Done)
+first_moment faults messages now = first_moment_after faults messages (made ∷ named ∷ []) now refl
 
 -- the first three lines have their causes, over any faults
 pub begun_caused_over : (faults : List Fault) (now : ℕ) (turns : List Turn) → AreDifferent faults → list_all is_not_whole turns ≡ true → EachSplit (λ lines line after. EachInLine (CausedAt true faults [] None []) lines line) (begun now []) turns → Caused true (life_of (begun now turns)) faults

@@ -1,6 +1,5 @@
 -- Facts of each element of a list that is written out.
 use Rattle.std.proofs.Common.{◌≡◌, ◌≢◌, ◌∙◌, sym, Bool, true, false, nat_eq, ℕ, List, [], ◌∷◌, ◌++◌, refl, subst, ap, inl, inr, ◌&&◌}
-use Rattle.std.specs.List.{list_all}
 use Rattle.std.specs.Prelude.{Some}
 use Rattle.std.specs.Cmp.Lexicographic.{pointwise}
 use Rattle.m3_model.specs.Ascends.{Ascends}
@@ -42,17 +41,6 @@ texts_differ a b same other e =
     let clash : true ≡ false = sym same ∙ ap (pointwise nat_eq a) e ∙ other in
     cc
 
-pub in_middle : {X : Type 0} (front : List X) (x : X) (back : List X) → IsIn (front ++ x ∷ back) x
-in_middle [] x back = inl refl
-in_middle (y ∷ front) x back = inr (in_middle front x back)
-
--- a test that all elements pass
-pub list_all-IsIn : {X : Type 0} (test : X → Bool) (xs : List X) → list_all test xs ≡ true → (x : X) → IsIn xs x → test x ≡ true
-list_all-IsIn test [] all x h = absurd h
-list_all-IsIn test (y ∷ ys) all x h =
-    let both = and_parts (test y) (list_all test ys) all in
-    elim h as (λ _. test x ≡ true) [ inl e ↦ subst (λ z. test z ≡ true) e both.0 | inr r ↦ list_all-IsIn test ys both.1 x r ]
-  where
-    and_parts : (a b : Bool) → a && b ≡ true → (a ≡ true) × (b ≡ true)
-    and_parts true b e = (refl, e)
-    and_parts false b e = cc
+pub and_parts : (a b : Bool) → a && b ≡ true → (a ≡ true) × (b ≡ true)
+and_parts true b e = (refl, e)
+and_parts false b e = cc

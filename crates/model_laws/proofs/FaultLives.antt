@@ -25,11 +25,11 @@ use Rattle.model_laws.proofs.SampleLemmas.{rules_when, call_with}
 use Rattle.model_laws.proofs.CausedLives.{begun_caused_over, first_placement, counted_0, counted_1, counted_2, below_0_1, below_0_2, below_1_2}
 use Rattle.model_laws.proofs.MessageLives.{of_node, found_when, unmet_when, taken_when, takes_near}
 
-takes_all : TakesPoint (rules_when 100) (write_all 100 (pos 5))
+pub takes_all : TakesPoint (rules_when 100) (write_all 100 (pos 5))
 takes_all = let near = takes_near 100 (pos 5) (omega arith) (omega arith) in record { point = near.point; of_act = near.of_act; in_window = near.in_window }
 
 -- c alone didn't take a write that all have to take, and has its reason
-c_missed : {faults : List Fault} (p : TurnPlace) (why : Reason) → placement_after None (inner_turns p.lines ++ (p.earlier ++ [])) ≡ Some place → seed_at None p ≡ 0 → call_of p.turn.act ≡ Some (call_with (needed_write write_level.All))
+pub c_missed : {faults : List Fault} (p : TurnPlace) (why : Reason) → placement_after None (inner_turns p.lines ++ (p.earlier ++ [])) ≡ Some place → seed_at None p ≡ 0 → call_of p.turn.act ≡ Some (call_with (needed_write write_level.All))
     → reaches p place 0 ≡ true → reaches p place 1 ≡ true → MayServe (rules_at None p) p.turn.act → MayRefuse true faults None p place 0 2 why → MissesLevel true faults None p 2 3 ((2, why) ∷ []) 0
 c_missed p why place_is seed_is is of_a of_b serves may =
     unmet_when p (needed_write write_level.All) 2 ((2, why) ∷ []) place_is seed_is is refl (omega arith) refl (counted_2 also tt) (tt also tt)

@@ -12,3 +12,5 @@ pub mod MessageLives
 pub mod BrokenMessages
 pub mod FaultLives
 pub mod BrokenFaults
+pub mod ShapeLemmas
+pub mod FaultKindLives

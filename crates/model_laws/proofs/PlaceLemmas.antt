@@ -23,7 +23,7 @@ use Rattle.m3_model.specs.declared.act.Act.{Act}
 use Rattle.m3_model.specs.declared.answer.Answer.{Answer}
 use Rattle.m3_model.specs.declared.answer.Answer.TheVariants as answer
 use Rattle.m3_model.proofs.SplitLemmas.{not_empty}
-use Rattle.model_laws.proofs.EachLemmas.{same_of_some, in_middle, list_all-IsIn}
+use Rattle.model_laws.proofs.EachLemmas.{same_of_some, and_parts}
 use Rattle.model_laws.specs.Building.{line, life_of}
 
 -- a fact of each element with what stands before and behind it
@@ -84,24 +84,31 @@ not_whole start before (request.Par clients workers) (reply.One _) e = tt
 not_whole start before (request.Par clients workers) (reply.Par for_clients for_workers) e = tt
 not_whole start before (request.One a) replied e = tt
 
--- where no line is refused as a whole
-none_whole : (start : Option MetaState) (front turns before : List Turn) (line : Turn) (after : List Turn) → list_all is_not_whole turns ≡ true → turns ≡ before ++ line ∷ after → IsRefusedWhole start (front ++ before) line.request line.reply
-none_whole start front turns before line after each e =
-    not_whole start (front ++ before) line.request line.reply (list_all-IsIn is_not_whole turns each line (subst (λ ts. IsIn ts line) (sym e) (in_middle before line after)))
+-- none of these lines is
+none_whole : (start : Option MetaState) (front turns : List Turn) → list_all is_not_whole turns ≡ true → EachSplit (λ before line after. IsRefusedWhole start before line.request line.reply) front turns
+none_whole start front [] each = tt
+none_whole start front (line ∷ turns) each =
+    let both = and_parts (is_not_whole line) (list_all is_not_whole turns) each in
+    (not_whole start front line.request line.reply both.0, none_whole start (front ++ line ∷ []) turns both.1)
 
 -- which late messages are delivered where, and where they are
 abbrev pub DeliversOnce : List Turn → (TurnPlace → List LateMessage) → Type 0
 DeliversOnce turns delivered = (p q : TurnPlace) → IsTurnPlace turns p → IsTurnPlace turns q → (a b : LateMessage) → IsIn (delivered p) a → IsIn (delivered q) b → IsSameMessage a b → IsSamePlace p q
 
-pub caused_with : (tells : Bool) (faults : List Fault) (life : Life) (delivered : TurnPlace → List LateMessage) → AreDifferent faults → list_all is_not_whole life.present.turns ≡ true → DeliversOnce life.present.turns delivered
-    → EachInRun (λ p. CausedAt tells faults life.past life.present.start (delivered p) p) life.present.turns → Caused tells life faults
-caused_with tells faults life delivered different single once each = record {
+pub caused_over : (tells : Bool) (faults : List Fault) (life : Life) (delivered : TurnPlace → List LateMessage) → AreDifferent faults → EachSplit (λ before line after. IsRefusedWhole life.present.start before line.request line.reply) [] life.present.turns
+    → DeliversOnce life.present.turns delivered → EachInRun (λ p. CausedAt tells faults life.past life.present.start (delivered p) p) life.present.turns → Caused tells life faults
+caused_over tells faults life delivered different whole once each = record {
   different = different;
   delivered = delivered;
   each = each_place (λ p. CausedAt tells faults life.past life.present.start (delivered p) p) life.present.turns each;
   once = once;
-  whole = λ before line after e. none_whole life.present.start [] life.present.turns before line after single e;
+  whole = λ before line after e. each_split (λ front x back. IsRefusedWhole life.present.start front x.request x.reply) [] life.present.turns before line after whole e;
 }
+
+-- where no line is refused as a whole with `order`
+pub caused_with : (tells : Bool) (faults : List Fault) (life : Life) (delivered : TurnPlace → List LateMessage) → AreDifferent faults → list_all is_not_whole life.present.turns ≡ true → DeliversOnce life.present.turns delivered
+    → EachInRun (λ p. CausedAt tells faults life.past life.present.start (delivered p) p) life.present.turns → Caused tells life faults
+caused_with tells faults life delivered different single once each = caused_over tells faults life delivered different (none_whole life.present.start [] life.present.turns single) once each
 
 -- where no late messages are delivered
 pub caused_by_places : (tells : Bool) (faults : List Fault) (life : Life) → AreDifferent faults → list_all is_not_whole life.present.turns ≡ true → EachInRun (CausedAt tells faults life.past life.present.start []) life.present.turns → Caused tells life faults

@@ -11,7 +11,7 @@ use Rattle.m3_model.specs.declared.reason.Damage.{Damage}
 use Rattle.m3_model.specs.declared.reason.Reason.{Reason}
 use Rattle.m3_model.specs.declared.reason.Reason.TheVariants as reason
 use Rattle.m3_model.specs.declared.turn.Turn.{Turn}
-use Rattle.model_laws.specs.Building.{begun, line, init, made, read, acks, place}
+use Rattle.model_laws.specs.Building.{begun, line, init, made, named, moved, write, unmet, read, acks, place}
 use Rattle.model_laws.specs.Messages.{stopped}
 
 -- the disk of this node's replica of the only shard fails in the line that so many stand before
@@ -154,3 +154,17 @@ bootstrapped_missing = begun 100 (line (act.Bootstrap (codes "c") (Some 1)) (ans
 -- a node that was restarted, though it wasn't stopped
 abbrev pub restarted_running : List Turn
 restarted_running = begun 100 (c_restarted ∷ [])
+
+-- ---- kinds of faults
+
+-- a write that the disks of a and c failed at
+abbrev pub two_failed : List Turn
+two_failed = begun 100 (line (write 100 (pos 5)) (unmet 1 ((0, reason.Disk) ∷ (2, reason.Disk) ∷ [])) ∷ [])
+
+-- a write (line 3) that c alone didn't take, since it is down
+abbrev pub c_down : List Turn
+c_down = begun 100 (without_c reason.Down ∷ [])
+
+-- an `init` (line 0) that couldn't take the disk of c, one (line 1) that made the cluster, and a write that c didn't take, since it is down
+abbrev pub made_then_down : List Turn
+made_then_down = init (answer.Disk (codes "c") 0) ∷ made ∷ named ∷ moved 100 ∷ without_c reason.Down ∷ []

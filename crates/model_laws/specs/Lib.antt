@@ -5,3 +5,4 @@ pub mod Uncaused
 pub mod General
 pub mod Messages
 pub mod Faulty
+pub mod Shapes

@@ -2,10 +2,12 @@
 #![tactic(auto)]
 
 pub mod accepted;
+pub mod fault_kinds;
 pub mod faults;
 pub mod general;
 pub mod messages;
 pub mod numbers;
 pub mod refused;
+pub mod shapes;
 pub mod tags;
 pub mod uncaused;
