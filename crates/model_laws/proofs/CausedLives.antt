@@ -2,7 +2,7 @@
 use Rattle.std.proofs.Common.{◌≡◌, ◌≢◌, ◌+◌, ◌<◌, ◌≤◌, ◌∙◌, ℕ, zero, suc, ℤ, Bool, true, false, cond, List, [], ◌∷◌, length, nat_lt, take, get_or, refl, sym, subst, ap, inl, inr, arith}
 use Rattle.std.proofs.lemmas.Bool.Decides.{nat_tests}
 use Rattle.std.proofs.lemmas.Option.{slice_get-get_or}
-use Rattle.std.specs.Prelude.{Some, None, pos, slice_get, codes, option_map, count_by, ◌⊎◌, nat_eq, if◌then◌else◌}
+use Rattle.std.specs.Prelude.{Some, None, pos, slice_get, codes, option_map, count_by, ◌⊎◌, nat_eq, if◌then◌else◌, ◌&&◌}
 use Rattle.std.specs.List.{list_all}
 use Rattle.std.specs.Ordering.{is_gt}
 use Rattle.std.specs.Option.{option_or}
@@ -42,8 +42,8 @@ use Rattle.transcripts.specs.Points.{point_of}
 use Rattle.m3_model.specs.declared.turn.Turn.{Turn}
 use Rattle.model_laws.specs.Building.{life_of, made, named, begun, at_moment, eight_made, with_eight, two_made, with_two_shards, place, place_of_two, nodes, two_nodes, assigned, write, write_in, fetch, acks, unmet, by_each, space, narrow}
 use Rattle.model_laws.specs.Accepted.{write_then_read, edge_writes, narrow_writes, unmet_then_read}
-use Rattle.model_laws.proofs.EachLemmas.{Each, EachPair, same_of_some, each_in, ascends_by, texts_differ, ◌also◌}
-use Rattle.model_laws.proofs.PlaceLemmas.{EachSplit, EachInLine, EachInRun, each_place, is_not_whole, caused_with, caused_by_places, place_after, only, due, stands_then}
+use Rattle.model_laws.proofs.EachLemmas.{and_parts, Each, EachPair, same_of_some, each_in, ascends_by, texts_differ, ◌also◌}
+use Rattle.model_laws.proofs.PlaceLemmas.{EachSplit, EachInLine, DeliversOnce, is_not_whole, caused_with, caused_by_places, place_after, only, due, stands_then}
 use Rattle.model_laws.proofs.SampleLemmas.{rules_when, StandsAt, stands, reached_by, WindowRefuses, call_with}
 
 -- a fact of each element with its number
@@ -243,30 +243,40 @@ begun_caused_over faults now turns different single each =
 pub begun_caused : (now : ℕ) (turns : List Turn) → list_all is_not_whole turns ≡ true → EachSplit (λ lines line after. EachInLine (CausedAt true [] [] None []) lines line) (begun now []) turns → Caused true (life_of (begun now turns)) []
 begun_caused now turns single each = begun_caused_over [] now turns tt single each
 
--- all of these messages are delivered by the line that so many stand before
-abbrev pub delivered_in : ℕ → List LateMessage → TurnPlace → List LateMessage
-delivered_in number messages p = if nat_eq (length p.lines) number then messages else []
+-- the place is in the line that so many stand before, in the list of this client, with so many earlier in it
+abbrev pub is_there : ℕ → ℕ → ℕ → TurnPlace → Bool
+is_there number client before p = (nat_eq (length p.lines) number && nat_eq p.client client) && nat_eq (length p.earlier) before
+
+-- all of these messages are delivered there
+abbrev pub delivered_at : ℕ → ℕ → ℕ → List LateMessage → TurnPlace → List LateMessage
+delivered_at number client before messages p = if is_there number client before p then messages else []
 
 -- what is delivered is delivered there
-delivered_there : (number : ℕ) (messages : List LateMessage) (p : TurnPlace) (m : LateMessage) → IsIn (delivered_in number messages p) m → length p.lines ≡ number
-delivered_there number messages p m h = cases (nat_eq (length p.lines) number) refl h
+delivered_there : (number client before : ℕ) (messages : List LateMessage) (p : TurnPlace) (m : LateMessage) → IsIn (delivered_at number client before messages p) m → (length p.lines ≡ number) × (p.client ≡ client) × (length p.earlier ≡ before)
+delivered_there number client before messages p m h =
+    let test = tested (is_there number client before p) refl h in
+    let outer = and_parts (nat_eq (length p.lines) number && nat_eq p.client client) (nat_eq (length p.earlier) before) test in
+    let inner = and_parts (nat_eq (length p.lines) number) (nat_eq p.client client) outer.0 in
+    (equal (length p.lines) number inner.0, equal p.client client inner.1, equal (length p.earlier) before outer.1)
   where
-    cases : (test : Bool) → nat_eq (length p.lines) number ≡ test → IsIn (if test then messages else []) m → length p.lines ≡ number
-    cases true e in_them = grind (arith, nat_tests, e)
-    cases false e in_them = absurd in_them
+    equal : (m n : ℕ) → nat_eq m n ≡ true → m ≡ n
+    equal m n e = grind (arith, nat_tests, e)
+    tested : (test : Bool) → is_there number client before p ≡ test → IsIn (if test then messages else []) m → is_there number client before p ≡ true
+    tested true e in_them = e
+    tested false e in_them = absurd in_them
 
--- the same where one line outside `par` delivers late messages
-pub begun_delivering : (faults : List Fault) (now : ℕ) (turns : List Turn) (number : ℕ) (messages : List LateMessage) → 3 ≤ number → AreDifferent faults → list_all is_not_whole turns ≡ true
-    → EachInRun (λ p. (p.client ≡ 0) × (p.earlier ≡ [])) (begun now turns)
-    → EachSplit (λ lines line after. EachInLine (λ p. CausedAt true faults [] None (delivered_in number messages p) p) lines line) (begun now []) turns → Caused true (life_of (begun now turns)) faults
-begun_delivering faults now turns number messages late different single alone each =
-    caused_with true faults (life_of (begun now turns)) (delivered_in number messages) different single
-    (λ p q of_p of_q a b in_p in_q same.
-    let p_at = delivered_there number messages p a in_p in
-    let q_at = delivered_there number messages q b in_q in
-    let p_alone = each_place (λ r. (r.client ≡ 0) × (r.earlier ≡ [])) (begun now turns) alone p of_p in
-    let q_alone = each_place (λ r. (r.client ≡ 0) × (r.earlier ≡ [])) (begun now turns) alone q of_q in
-    (p_at ∙ sym q_at, p_alone.0 ∙ sym q_alone.0, ap length p_alone.1 ∙ sym (ap length q_alone.1)))
+-- and so nothing is delivered twice
+pub delivered_once : (turns : List Turn) (number client before : ℕ) (messages : List LateMessage) → DeliversOnce turns (delivered_at number client before messages)
+delivered_once turns number client before messages p q of_p of_q a b in_p in_q same =
+    let p_at = delivered_there number client before messages p a in_p in
+    let q_at = delivered_there number client before messages q b in_q in
+    (p_at.0 ∙ sym q_at.0, p_at.1 ∙ sym q_at.1, p_at.2 ∙ sym q_at.2)
+
+-- the same where late messages are delivered at one place
+pub begun_delivering : (faults : List Fault) (now : ℕ) (turns : List Turn) (number client before : ℕ) (messages : List LateMessage) → AreDifferent faults → list_all is_not_whole turns ≡ true
+    → EachSplit (λ lines line after. EachInLine (λ p. CausedAt true faults [] None (delivered_at number client before messages p) p) lines line) (begun now []) turns → Caused true (life_of (begun now turns)) faults
+begun_delivering faults now turns number client before messages different single each =
+    caused_with true faults (life_of (begun now turns)) (delivered_at number client before messages) different single (delivered_once (begun now turns) number client before messages)
     (only (due true faults [] _ _ _ (first_placement, refl)) also only (due true faults [] _ _ _ tt) also only (first_moment faults [] now) also each)
 
 pub at_moment-caused : (now : ℕ) (a : Act) (b : Answer) → CausedAt true [] [] None [] (place_after (begun now []) a b) → Caused true (life_of (at_moment now a b)) []

@@ -197,7 +197,7 @@ both_delivered = record {
 
 pub late_messages-caused : Caused true (life_of late_messages) []
 late_messages-caused =
-    begun_delivering [] 100 _ 6 (to_b ∷ to_c ∷ []) (omega arith) tt refl (only (refl, refl) also only (refl, refl) also only (refl, refl) also only (refl, refl) also only (refl, refl) also only (refl, refl) also only (refl, refl) also only (refl, refl) also tt) (
+    begun_delivering [] 100 _ 6 0 0 (to_b ∷ to_c ∷ []) tt refl (
     only (due true [] [] _ _ _ tt)
     also only (due true [] [] _ _ _ (taken_when _ (0 ∷ 2 ∷ []) refl refl (counted_0 also counted_2 also tt) ((below_0_2 also tt) also tt also tt) (refl also refl also tt) (omega arith) (takes_near 100 (pos 5) (omega arith) (omega arith))))
     also only (due true [] [] _ _ _ (taken_when _ (0 ∷ 1 ∷ []) refl refl (counted_0 also counted_1 also tt) ((below_0_1 also tt) also tt also tt) (refl also refl also tt) (omega arith) (takes_near 110 (pos 6) (omega arith) (omega arith))))

@@ -5,7 +5,7 @@ use Rattle.std.specs.List.{list_all}
 use Rattle.m3_model.specs.Members.{IsIn}
 use Rattle.transcripts.specs.Record.{Record, Life, InnerTurn, TurnPlace, IsTurnPlace, IsInLine, IsAfter, AreSomeOf, client_at, lists_of, joined, inner_turns}
 use Rattle.transcripts.specs.Rules.{rules_at}
-use Rattle.transcripts.specs.Placements.{MayStand, placement_after}
+use Rattle.transcripts.specs.Placements.{MayStand, placement_after, start_placement}
 use Rattle.transcripts.specs.Points.{sent_at, acked_at}
 use Rattle.m3_model.specs.Reads.{Read, Found, read_of, found_of}
 use Rattle.transcripts.specs.Kept.{Kept, KeptAt, KeepsRead, KeepsPoints}
@@ -24,6 +24,7 @@ use Rattle.m3_model.specs.declared.answer.Answer.{Answer}
 use Rattle.m3_model.specs.declared.answer.Answer.TheVariants as answer
 use Rattle.m3_model.proofs.SplitLemmas.{not_empty}
 use Rattle.model_laws.proofs.EachLemmas.{same_of_some, and_parts}
+pub use Rattle.model_laws.specs.Building.{place_after}
 use Rattle.model_laws.specs.Building.{line, life_of}
 
 -- a fact of each element with what stands before and behind it
@@ -118,10 +119,6 @@ caused_by_places tells faults life different single each = caused_with tells fau
 pub only : {A : Type 0} → A → (A × Unit {0}) × Unit {0}
 only a = ((a, tt), tt)
 
--- the place of an act outside `par`
-abbrev pub place_after : List Turn → Act → Answer → TurnPlace
-place_after lines a b = record { lines = lines; line = line a b; client = 0; earlier = []; beside = []; turn = record { act = a; answer = b } }
-
 pub only_in_line : (lines : List Turn) (a : Act) (b : Answer) → IsInLine (place_after lines a b)
 only_in_line lines a b = record { front = []; later = []; back = []; in_line = refl; others = refl; client_is = refl }
 
@@ -139,34 +136,47 @@ only_after lines a b turns after = after.are ∙ ap (λ xs. inner_turns lines ++
 pub after_all : (lines : List Turn) (a : Act) (b : Answer) → IsAfter (place_after lines a b) (inner_turns lines)
 after_all lines a b = record { others = []; some_of = tt; are = sym (append_nil (inner_turns lines)) }
 
+-- an answer that is due after all that is before it has its cause
+pub due_beside : (tells : Bool) (faults : List Fault) (messages : List LateMessage) (p : TurnPlace) → IsDueBy tells faults None messages p (refusal_after None p (inner_turns p.lines ++ (p.earlier ++ []))) → CausedAt tells faults [] None messages p
+due_beside tells faults messages p here = inr (inr (inner_turns p.lines ++ (p.earlier ++ []), record { others = []; some_of = tt; are = refl }, here))
+
 -- an answer that is due outside `par` has its cause
+pub due_from : (tells : Bool) (faults : List Fault) (past : List Record) (start : Option MetaState) (messages : List LateMessage) (lines : List Turn) (a : Act) (b : Answer)
+    → IsDueBy tells faults start messages (place_after lines a b) (refusal_after start (place_after lines a b) (inner_turns lines)) → CausedAt tells faults past start messages (place_after lines a b)
+due_from tells faults past start messages lines a b here = inr (inr (inner_turns lines, after_all lines a b, here))
+
 pub due : (tells : Bool) (faults : List Fault) (messages : List LateMessage) (lines : List Turn) (a : Act) (b : Answer)
     → IsDueBy tells faults None messages (place_after lines a b) (refusal_after None (place_after lines a b) (inner_turns lines)) → CausedAt tells faults [] None messages (place_after lines a b)
-due tells faults messages lines a b here = inr (inr (inner_turns lines, after_all lines a b, here))
+due tells faults messages lines a b here = due_from tells faults [] None messages lines a b here
 
 -- an answer that isn't want of memory, and doesn't say that the list of events is full, is the one that is due
+pub due_here : (tells : Bool) (faults : List Fault) (past : List Record) (start : Option MetaState) (messages : List LateMessage) (lines : List Turn) (a : Act) (b : Answer) → b ≢ answer.Memory → b ≢ answer.Full
+    → CausedAt tells faults past start messages (place_after lines a b) → IsDueBy tells faults start messages (place_after lines a b) (refusal_after start (place_after lines a b) (inner_turns lines))
+due_here tells faults past start messages lines a b not_memory not_full here =
+    let p = place_after lines a b in
+    elim here as (λ _. IsDueBy tells faults start messages p (refusal_after start p (inner_turns lines))) [
+      | inl e ↦ absurd (not_memory e)
+      | inr told ↦ elim told as (λ _. IsDueBy tells faults start messages p (refusal_after start p (inner_turns lines))) [
+        | inl full ↦ absurd (not_full full.0)
+        | inr is_due ↦ subst (λ turns. IsDueBy tells faults start messages p (refusal_after start p turns)) (only_after lines a b is_due.0 is_due.1) is_due.2
+      ]
+    ]
+
 pub due_after : {tells : Bool} {faults : List Fault} (lines : List Turn) (a : Act) (b : Answer) (after : List Turn) → b ≢ answer.Memory → b ≢ answer.Full → (caused : Caused tells (life_of (lines ++ line a b ∷ after)) faults)
     → IsDueBy tells faults None (caused.delivered (place_after lines a b)) (place_after lines a b) (refusal_after None (place_after lines a b) (inner_turns lines))
 due_after {tells} {faults} lines a b after not_memory not_full caused =
-    let p = place_after lines a b in
-    elim (caused.each p (place_after-stands lines a b after)) as (λ _. IsDueBy tells faults None (caused.delivered p) p (refusal_after None p (inner_turns lines))) [
-      | inl e ↦ absurd (not_memory e)
-      | inr told ↦ elim told as (λ _. IsDueBy tells faults None (caused.delivered p) p (refusal_after None p (inner_turns lines))) [
-        | inl full ↦ absurd (not_full full.0)
-        | inr is_due ↦ subst (λ turns. IsDueBy tells faults None (caused.delivered p) p (refusal_after None p turns)) (only_after lines a b is_due.0 is_due.1) is_due.2
-      ]
-    ]
+    due_here tells faults [] None (caused.delivered (place_after lines a b)) lines a b not_memory not_full (caused.each (place_after lines a b) (place_after-stands lines a b after))
 
 -- the placement that stands after the lines before is the one that a request outside `par` meets
 pub stands_then : (lines : List Turn) (a : Act) (b : Answer) (x : Placement) → placement_after None (inner_turns lines) ≡ Some x → MayStand None (place_after lines a b) x
 stands_then lines a b x stood = (inner_turns lines, after_all lines a b, stood)
 
-pub stood_then : (lines : List Turn) (a : Act) (b : Answer) (used : Placement) → MayStand None (place_after lines a b) used → placement_after None (inner_turns lines) ≡ Some used
-stood_then lines a b used may = subst (λ turns. placement_after None turns ≡ Some used) (only_after lines a b may.0 may.1) may.2
-
 -- and no other one
+pub used_from : (start : Option MetaState) (lines : List Turn) (a : Act) (b : Answer) (x used : Placement) → placement_after (start_placement start) (inner_turns lines) ≡ Some x → MayStand start (place_after lines a b) used → x ≡ used
+used_from start lines a b x used stood may = same_of_some x used (sym stood ∙ subst (λ turns. placement_after (start_placement start) turns ≡ Some used) (only_after lines a b may.0 may.1) may.2)
+
 pub only_used : (lines : List Turn) (a : Act) (b : Answer) (x used : Placement) → placement_after None (inner_turns lines) ≡ Some x → MayStand None (place_after lines a b) used → x ≡ used
-only_used lines a b x used stood may = same_of_some x used (sym stood ∙ stood_then lines a b used may)
+only_used lines a b x used stood may = used_from None lines a b x used stood may
 
 -- what finds nothing keeps all
 pub no_read : (past : List Record) (start : Option MetaState) (p : TurnPlace) → found_of p.turn.answer ≡ None → KeptAt past start p
