@@ -261,6 +261,7 @@ delivered_there number client before messages p m h =
   where
     equal : (m n : ℕ) → nat_eq m n ≡ true → m ≡ n
     equal m n e = grind (arith, nat_tests, e)
+
     tested : (test : Bool) → is_there number client before p ≡ test → IsIn (if test then messages else []) m → is_there number client before p ≡ true
     tested true e in_them = e
     tested false e in_them = absurd in_them

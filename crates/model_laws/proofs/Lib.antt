@@ -14,3 +14,4 @@ pub mod FaultLives
 pub mod BrokenFaults
 pub mod ShapeLemmas
 pub mod FaultKindLives
+pub mod DeliveryLives

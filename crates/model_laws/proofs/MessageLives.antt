@@ -38,7 +38,7 @@ pub of_node : (Holds : List ℕ → Type 0) (node : ℕ) (one : Instance) → sl
 of_node Holds node one stood holds = record { instance_ = one; stands = stood; holds = holds }
 
 -- a placement that stands after all that is before a turn is one that stands
-stood : (p : TurnPlace) (x : Placement) → placement_after None (inner_turns p.lines ++ (p.earlier ++ [])) ≡ Some x → MayStand None p x
+pub stood : (p : TurnPlace) (x : Placement) → placement_after None (inner_turns p.lines ++ (p.earlier ++ [])) ≡ Some x → MayStand None p x
 stood p x stands = (inner_turns p.lines ++ (p.earlier ++ []), record { others = []; some_of = tt; are = refl }, stands)
 
 -- the only shard is that of `hello`
@@ -143,7 +143,7 @@ stopped_nodes-caused =
     also tt)
 
 -- the late message to b, and the one to c
-abbrev to_b : LateMessage
+abbrev pub to_b : LateMessage
 to_b = record { place = place_after (begun 100 (b_then_c_late ∷ [])) (write 100 (pos 5)) (acks (0 ∷ 2 ∷ [])); used = place; node = 1; point = hello 100 (pos 5) }
 
 abbrev to_c : LateMessage
@@ -154,7 +154,7 @@ abbrev delivery : TurnPlace
 delivery = place_after (begun 100 (b_then_c_late ∷ without_b ∷ without_c ∷ [])) act.Deliver (answer.Outcomes ((1, 0, None) ∷ (2, 0, None) ∷ []))
 
 -- a point of `hello` near 100 is inside the window
-in_window_near : (t : ℕ) (v : ℤ) → 0 < t → t < 150 → InWindow (rules_when 100) (hello t v)
+pub in_window_near : (t : ℕ) (v : ℤ) → 0 < t → t < 150 → InWindow (rules_when 100) (hello t v)
 in_window_near t v above below = record { space = space; stands = refl; not_past = omega (arith, above); not_future = omega (arith, below) }
 
 to_b-late : IsLateMessage None delivery to_b

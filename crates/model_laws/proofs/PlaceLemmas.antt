@@ -59,14 +59,15 @@ EachInLine P lines line = EachSplit (λ front list back. EachSplit (λ earlier t
 abbrev pub EachInRun : (TurnPlace → Type 0) → List Turn → Type 0
 EachInRun P turns = EachSplit (λ lines line after. EachInLine P lines line) [] turns
 
-pub each_place : (P : TurnPlace → Type 0) (turns : List Turn) → EachInRun P turns → (p : TurnPlace) → IsTurnPlace turns p → P p
-each_place P turns each p h =
-    let s = h.stands in
-    let in_line : EachInLine P p.lines p.line = each_split (λ lines line after. EachInLine P lines line) [] turns p.lines p.line h.after each h.in_run in
-    let in_list = each_split (λ front list back. EachSplit (λ earlier turn later. P (place_in p.lines p.line front back earlier turn)) [] list) [] (lists_of p.line) s.front (p.earlier ++ p.turn ∷ s.later) s.back in_line s.in_line in
+pub each_in_line : (P : TurnPlace → Type 0) (p : TurnPlace) → EachInLine P p.lines p.line → IsInLine p → P p
+each_in_line P p each s =
+    let in_list = each_split (λ front list back. EachSplit (λ earlier turn later. P (place_in p.lines p.line front back earlier turn)) [] list) [] (lists_of p.line) s.front (p.earlier ++ p.turn ∷ s.later) s.back each s.in_line in
     let here = each_split (λ earlier turn later. P (place_in p.lines p.line s.front s.back earlier turn)) [] (p.earlier ++ p.turn ∷ s.later) p.earlier p.turn s.later in_list refl in
     subst (λ client. P (record { lines = p.lines; line = p.line; client = client; earlier = p.earlier; beside = p.beside; turn = p.turn })) (sym s.client_is)
     (subst (λ beside. P (record { lines = p.lines; line = p.line; client = client_at p.line.request (length s.front); earlier = p.earlier; beside = beside; turn = p.turn })) (sym s.others) here)
+
+pub each_place : (P : TurnPlace → Type 0) (turns : List Turn) → EachInRun P turns → (p : TurnPlace) → IsTurnPlace turns p → P p
+each_place P turns each p h = each_in_line P p (each_split (λ lines line after. EachInLine P lines line) [] turns p.lines p.line h.after each h.in_run) h.stands
 
 pub kept_by_places : (life : Life) → EachInRun (KeptAt life.past life.present.start) life.present.turns → Kept life
 kept_by_places life each = each_place (KeptAt life.past life.present.start) life.present.turns each

@@ -2,6 +2,7 @@
 #![tactic(auto)]
 
 pub mod accepted;
+pub mod deliveries;
 pub mod fault_kinds;
 pub mod faults;
 pub mod general;
