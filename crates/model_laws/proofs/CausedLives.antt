@@ -345,7 +345,7 @@ fetch_unmet-caused =
     due true [] [] _ _ _ (unmet_by _ (rules_when 100) _ _ 1 _ (stands refl refl refl refl (λ name. refl) (λ name. refl also refl also refl also tt)) refl refl (omega arith) refl
     (counted_0 also counted_2 also tt) ((below_0_2 also tt) also tt also tt) (tt also tt also tt) (λ some. tt)))
 
-first_placement_of_two : IsInitial 1 2 two_nodes place_of_two
+pub first_placement_of_two : IsInitial 1 2 two_nodes place_of_two
 first_placement_of_two = record {
   version = refl;
   rf_is = refl;

@@ -15,3 +15,5 @@ pub mod BrokenFaults
 pub mod ShapeLemmas
 pub mod FaultKindLives
 pub mod DeliveryLives
+pub mod ShortLemmas
+pub mod VersionLives

@@ -42,7 +42,7 @@ pub stood : (p : TurnPlace) (x : Placement) → placement_after None (inner_turn
 stood p x stands = (inner_turns p.lines ++ (p.earlier ++ []), record { others = []; some_of = tt; are = refl }, stands)
 
 -- the only shard is that of `hello`
-hello_shard : (p : TurnPlace) → seed_at None p ≡ 0 → (shard : ℕ) → AsksShard None p place (Some (codes "hello")) shard → shard ≡ 0
+pub hello_shard : (p : TurnPlace) → seed_at None p ≡ 0 → (shard : ℕ) → AsksShard None p place (Some (codes "hello")) shard → shard ≡ 0
 unfolding murmur3
 hello_shard p seed_is shard asked = subst (λ seed. shard ≡ shard_of (codes "hello") seed 1) seed_is asked
 

@@ -159,7 +159,7 @@ record UnmetBy (now : ℕ) (a : Act) (due_needed got needed : ℕ) (reasons : Li
   served : 0 < got → MayServe (rules_when now) a
 
 -- where nothing is lost, late or stopped, a replica refuses for its window or for want of memory alone
-window_refuses : (lines : List Turn) (rules : Rules) (a : Act) (b : Answer) (used : Placement) (node : ℕ) (why : Reason) → StandsAt lines rules → IsCounted place 0 node → MayRefuse true [] None (place_after lines a b) used 0 node why → WindowRefuses rules a why
+pub window_refuses : (lines : List Turn) (rules : Rules) (a : Act) (b : Answer) (used : Placement) (node : ℕ) (why : Reason) → StandsAt lines rules → IsCounted place 0 node → MayRefuse true [] None (place_after lines a b) used 0 node why → WindowRefuses rules a why
 window_refuses lines rules a b used node reason.Cut stood counts may = let quiet = not_cut lines rules a b may.1.instance_.name stood in let bad : false ≡ true = sym quiet ∙ may.1.holds in cc
 window_refuses lines rules a b used node reason.Down stood counts may = elim may as (λ _. ⊥) [ inl stopped ↦ let bad : false ≡ true = sym (stood.none_stopped stopped.instance_.name) ∙ stopped.holds in cc | inr closed ↦ closed.among ]
 window_refuses lines rules a b used node reason.Boot stood counts may =

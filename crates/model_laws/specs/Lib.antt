@@ -6,3 +6,4 @@ pub mod General
 pub mod Messages
 pub mod Faulty
 pub mod Shapes
+pub mod Versions

@@ -10,5 +10,7 @@ pub mod messages;
 pub mod numbers;
 pub mod refused;
 pub mod shapes;
+pub mod short_reads;
 pub mod tags;
 pub mod uncaused;
+pub mod versions;
