@@ -1,5 +1,5 @@
 -- Why answers without a cause are refused where messages are lost or late and nodes are stopped.
-use Rattle.std.proofs.Common.{◌≡◌, ◌≤◌, ◌<◌, ◌∙◌, ℕ, true, false, List, [], ◌∷◌, length, refl, sym, subst, inl, inr, arith}
+use Rattle.std.proofs.Common.{◌≡◌, ◌≤◌, ◌<◌, ◌∙◌, ℕ, Bool, true, false, List, [], ◌∷◌, length, refl, sym, subst, inl, inr, arith}
 use Rattle.std.specs.Prelude.{Option, Some, None, pos, codes}
 use Rattle.std.specs.declared.cmp.Ordering.TheVariants.{Less, Equal}
 use Rattle.transcripts.specs.Caused.{Caused}
@@ -35,7 +35,7 @@ use Rattle.model_laws.proofs.PlaceLemmas.{place_after, each_place, only, due_aft
 use Rattle.model_laws.proofs.SampleLemmas.{call_with}
 use Rattle.model_laws.proofs.UncausedLives.{due_at, names_below}
 
-pub lost_and_acked-refused : ¬ Caused true (life_of lost_and_acked) []
+pub lost_and_acked-refused : {tells : Bool} → ¬ Caused tells (life_of lost_and_acked) []
 lost_and_acked-refused caused =
     let lines = begun 100 (fated ((0, 0, codes "c", Lose) ∷ []) ∷ []) in
     let taken = acks (0 ∷ 1 ∷ 2 ∷ []) in
@@ -44,7 +44,7 @@ lost_and_acked-refused caused =
     let bad : false ≡ true = subst (λ x. reaches (place_after lines (write 100 (pos 5)) taken) x 2 ≡ true) (sym same) (due.reached 2 (inr (inr (inl refl)))) in
     cc
 
-pub stopped_and_acked-refused : ¬ Caused true (life_of stopped_and_acked) []
+pub stopped_and_acked-refused : {tells : Bool} → ¬ Caused tells (life_of stopped_and_acked) []
 stopped_and_acked-refused caused =
     let lines = begun 100 (stopped (codes "c") ∷ []) in
     let taken = acks (0 ∷ 1 ∷ 2 ∷ []) in

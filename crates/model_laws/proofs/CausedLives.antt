@@ -231,7 +231,7 @@ first_moment_after faults messages lines now first =
     let test : nat_lt now 0 ≡ false = grind (arith, nat_tests) in
     due true faults messages lines (act.Now now) answer.Done (subst (λ refusal. IsDueBy true faults None messages p refusal) (sym first) (subst (λ b. IsDueBy true faults None messages p (option_or (cond b (Some (answer.Clock 0)) None) None)) (sym test) tt))
 
-first_moment : (faults : List Fault) (messages : List LateMessage) (now : ℕ) → CausedAt true faults [] None messages (place_after (made ∷ named ∷ []) (act.Now now) answer.Done)
+pub first_moment : (faults : List Fault) (messages : List LateMessage) (now : ℕ) → CausedAt true faults [] None messages (place_after (made ∷ named ∷ []) (act.Now now) answer.Done)
 first_moment faults messages now = first_moment_after faults messages (made ∷ named ∷ []) now refl
 
 -- the first three lines have their causes, over any faults

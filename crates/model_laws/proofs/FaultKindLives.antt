@@ -1,5 +1,5 @@
 -- What each kind of fault excuses.
-use Rattle.std.proofs.Common.{◌≡◌, ◌≢◌, ◌<◌, ◌≤◌, ◌∙◌, ℕ, suc, true, false, List, [], ◌∷◌, length, take, refl, sym, subst, ap, inl, inr, arith}
+use Rattle.std.proofs.Common.{◌≡◌, ◌≢◌, ◌<◌, ◌≤◌, ◌∙◌, ℕ, suc, Bool, true, false, List, [], ◌∷◌, length, take, refl, sym, subst, ap, inl, inr, arith}
 use Rattle.std.specs.Prelude.{Some, None, pos, codes, IsTrue, ◌⊎◌}
 use Rattle.m3_model.specs.Members.{IsIn}
 use Rattle.m3_model.specs.Levels.{needed_write}
@@ -37,13 +37,13 @@ two-caused =
     ((λ quiet. inl refl) also (λ quiet. let bad : true ≡ false = quiet in cc) also (λ quiet. inr (inl refl)) also tt) (inl refl also inr (inl refl) also tt) (λ some. takes_near 100 (pos 5) (omega arith) (omega arith))))
     also tt)
 
-pub two-both : (faults : List Fault) → Caused true (life_of two_failed) faults → IsIn faults (fails 3 0) × IsIn faults (fails 3 2)
-two-both faults caused =
+pub two-both : {tells : Bool} (faults : List Fault) → Caused tells (life_of two_failed) faults → IsIn faults (fails 3 0) × IsIn faults (fails 3 2)
+two-both {tells} faults caused =
     let b = unmet 1 ((0, reason.Disk) ∷ (2, reason.Disk) ∷ []) in
-    let missed : MissesLevel true faults None (place_after (begun 100 []) (write 100 (pos 5)) b) 1 2 ((0, reason.Disk) ∷ (2, reason.Disk) ∷ []) 0 = due_after (begun 100 []) (write 100 (pos 5)) b [] (λ e. cc) (λ e. cc) caused in
+    let missed : MissesLevel tells faults None (place_after (begun 100 []) (write 100 (pos 5)) b) 1 2 ((0, reason.Disk) ∷ (2, reason.Disk) ∷ []) 0 = due_after (begun 100 []) (write 100 (pos 5)) b [] (λ e. cc) (λ e. cc) caused in
     (missed.silent.refused (0, reason.Disk) (inl refl), missed.silent.refused (2, reason.Disk) (inr (inl refl)))
 
-pub one-refused : (fault : Fault) → ¬ Caused true (life_of two_failed) (fault ∷ [])
+pub one-refused : {tells : Bool} (fault : Fault) → ¬ Caused tells (life_of two_failed) (fault ∷ [])
 one-refused fault caused =
     let both = two-both (fault ∷ []) caused in
     elim both.0 as (λ _. ⊥) [ inr none ↦ none | inl first ↦ elim both.1 as (λ _. ⊥) [ inr none ↦ none | inl second ↦ other_nodes (sym first ∙ second) ] ]

@@ -17,3 +17,4 @@ pub mod FaultKindLives
 pub mod DeliveryLives
 pub mod ShortLemmas
 pub mod VersionLives
+pub mod UntoldLemmas

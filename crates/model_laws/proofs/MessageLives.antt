@@ -51,13 +51,13 @@ unfolding murmur3
 asks_hello p seed_is = subst (λ seed. 0 ≡ shard_of (codes "hello") seed 1) (sym seed_is) refl
 
 -- some counted replicas didn't answer, each of which has its reason
-pub silent_when : {faults : List Fault} (p : TurnPlace) (reasons : List (ℕ × Reason)) → Each (λ r. IsCounted place 0 r.0) reasons → EachPair (λ r s. IsNamedBelow place r.0 s.0) reasons
-    → Each (λ node. reaches p place node ≡ false → IsIn (map (λ r. r.0) reasons) node) (0 ∷ 1 ∷ 2 ∷ []) → Each (λ r. MayRefuse true faults None p place 0 r.0 r.1) reasons → AreSilent true faults None p place 0 reasons
-silent_when {faults = faults} p reasons counted by_name unreached refused = record {
+pub silent_when : {tells : Bool} {faults : List Fault} (p : TurnPlace) (reasons : List (ℕ × Reason)) → Each (λ r. IsCounted place 0 r.0) reasons → EachPair (λ r s. IsNamedBelow place r.0 s.0) reasons
+    → Each (λ node. reaches p place node ≡ false → IsIn (map (λ r. r.0) reasons) node) (0 ∷ 1 ∷ 2 ∷ []) → Each (λ r. MayRefuse tells faults None p place 0 r.0 r.1) reasons → AreSilent tells faults None p place 0 reasons
+silent_when {tells = tells} {faults = faults} p reasons counted by_name unreached refused = record {
   counted = each_in (λ r. IsCounted place 0 r.0) reasons counted;
   by_name = ascends_by (λ r s. IsNamedBelow place r.0 s.0) reasons by_name;
   unreached = λ node counts. each_in (λ n. reaches p place n ≡ false → IsIn (map (λ r. r.0) reasons) n) (0 ∷ 1 ∷ 2 ∷ []) unreached node counts;
-  refused = each_in (λ r. MayRefuse true faults None p place 0 r.0 r.1) reasons refused;
+  refused = each_in (λ r. MayRefuse tells faults None p place 0 r.0 r.1) reasons refused;
 }
 
 -- a read of `hello` at a place from which it reaches so many replicas
@@ -72,9 +72,9 @@ found_when {faults = faults} p level short n place_is seed_is reached enough may
 }
 
 -- a call of `hello` at a place from which fewer than the replicas that it needs did as it asked
-pub unmet_when : {faults : List Fault} {n : ℕ} (p : TurnPlace) (needed : ℕ → ℕ) (got : ℕ) (reasons : List (ℕ × Reason)) → placement_after None (inner_turns p.lines ++ (p.earlier ++ [])) ≡ Some place → seed_at None p ≡ 0 → call_of p.turn.act ≡ Some (call_with needed) → needed 3 ≡ n
+pub unmet_when : {tells : Bool} {faults : List Fault} {n : ℕ} (p : TurnPlace) (needed : ℕ → ℕ) (got : ℕ) (reasons : List (ℕ × Reason)) → placement_after None (inner_turns p.lines ++ (p.earlier ++ [])) ≡ Some place → seed_at None p ≡ 0 → call_of p.turn.act ≡ Some (call_with needed) → needed 3 ≡ n
     → got < n → got + length reasons ≡ 3 → Each (λ r. IsCounted place 0 r.0) reasons → EachPair (λ r s. IsNamedBelow place r.0 s.0) reasons → Each (λ node. reaches p place node ≡ false → IsIn (map (λ r. r.0) reasons) node) (0 ∷ 1 ∷ 2 ∷ [])
-    → Each (λ r. MayRefuse true faults None p place 0 r.0 r.1) reasons → (0 < got → MayServe (rules_at None p) p.turn.act) → MissesLevel true faults None p got n reasons 0
+    → Each (λ r. MayRefuse tells faults None p place 0 r.0 r.1) reasons → (0 < got → MayServe (rules_at None p) p.turn.act) → MissesLevel tells faults None p got n reasons 0
 unmet_when p needed got reasons place_is seed_is is needs fewer others counted by_name unreached refused served = record {
   call = call_with needed;
   of_act = is;

@@ -1,5 +1,5 @@
 -- Which replies have the shape of their request.
-use Rattle.std.proofs.Common.{◌≡◌, ◌≢◌, ◌∙◌, true, List, [], ◌∷◌, ◌++◌, length, map, refl, sym, ap, arith}
+use Rattle.std.proofs.Common.{◌≡◌, ◌≢◌, ◌∙◌, Bool, true, List, [], ◌∷◌, ◌++◌, length, map, refl, sym, ap, arith}
 use Rattle.std.specs.Prelude.{Some, None, ℕ}
 use Rattle.std.proofs.lemmas.List.{length-map}
 use Rattle.transcripts.specs.Caused.{Caused}
@@ -41,7 +41,7 @@ early-caused = caused_over true [] (life_of refused_whole_early) (λ p. []) tt (
 pub memory-caused : Caused true (life_of (refused_whole_late answer.Memory)) []
 memory-caused = begun_caused 100 _ refl (tt, tt)
 
-pub late-refused : ¬ Caused true (life_of (refused_whole_late answer.Order)) []
+pub late-refused : {tells : Bool} → ¬ Caused tells (life_of (refused_whole_late answer.Order)) []
 late-refused caused =
     let bad : Some place ≡ None = caused.whole (begun 100 []) (refused_whole answer.Order) [] refl in
     cc

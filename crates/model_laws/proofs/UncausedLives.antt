@@ -213,7 +213,7 @@ future-outside now t v may =
     subst (λ p. now + 50 ≤ p.t) known.0 (subst (λ s. now + s.future ≤ may.point.t) known.1 may.outside.too_new)
 
 -- each of the nodes may refuse the write for the one reason that all have
-each_refuses : (now t : ℕ) (v : ℤ) (why : Reason) → StandsAt (begun now []) (rules_when now) → Caused true (life_of (at_moment now (write t v) (unmet 0 (by_each why)))) [] → WindowRefuses (rules_when now) (write t v) why
+pub each_refuses : (now t : ℕ) (v : ℤ) (why : Reason) → StandsAt (begun now []) (rules_when now) → Caused true (life_of (at_moment now (write t v) (unmet 0 (by_each why)))) [] → WindowRefuses (rules_when now) (write t v) why
 each_refuses now t v why stood caused = (write_unmet now t v 0 2 (by_each why) stood caused).refused (0, why) (inl refl)
 
 pub past-refused : (t : ℕ) → 250 < t + 100 → ¬ Caused true (life_of (at_moment 250 (write t (pos 5)) (unmet 0 (by_each reason.Past)))) []

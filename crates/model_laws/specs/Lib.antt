@@ -7,3 +7,4 @@ pub mod Messages
 pub mod Faulty
 pub mod Shapes
 pub mod Versions
+pub mod Untold

@@ -13,4 +13,5 @@ pub mod shapes;
 pub mod short_reads;
 pub mod tags;
 pub mod uncaused;
+pub mod untold;
 pub mod versions;
