@@ -1,5 +1,5 @@
 -- Why the broken transcripts with faults, restarts and bootstraps are refused.
-use Rattle.std.proofs.Common.{◌≡◌, ◌≢◌, ◌<◌, ◌∙◌, length, ℕ, suc, true, false, List, [], ◌∷◌, refl, sym, subst, ap, inl, inr, arith}
+use Rattle.std.proofs.Common.{◌≡◌, ◌≢◌, ◌<◌, ◌∙◌, ℕ, suc, true, false, List, [], ◌∷◌, refl, sym, subst, ap, inl, inr, arith}
 use Rattle.std.specs.Prelude.{Some, None, pos, codes, slice_get, drop, decimal, IsTrue}
 use Rattle.std.specs.List.{list_any}
 use Rattle.transcripts.specs.Caused.{Caused, OnDisk, InFiles}
@@ -17,13 +17,12 @@ use Rattle.m3_model.specs.declared.answer.Answer.TheVariants as answer
 use Rattle.m3_model.specs.declared.placement.Instance.{Instance}
 use Rattle.m3_model.specs.declared.reason.Damage as damage_of
 use Rattle.m3_model.specs.declared.reason.Damage.TheVariants as damaged
-use Rattle.m3_model.specs.declared.placement.Placement.{Placement}
 use Rattle.m3_model.specs.declared.reason.Reason.{Reason}
 use Rattle.m3_model.specs.declared.reason.Reason.TheVariants as reason
 use Rattle.m3_model.specs.declared.turn.Turn.{Turn}
-use Rattle.model_laws.specs.Building.{begun, life_of, nodes, place}
+use Rattle.model_laws.specs.Building.{begun, life_of, line, nodes, place}
 use Rattle.model_laws.specs.Messages.{stopped}
-use Rattle.model_laws.specs.Faulty.{fails, untaken, write_all, all_but_c, without_c, c_restarted, c_bootstrapped, down_restarted, boot_bootstrapped, disk_at_once, corrupt_at_once, restart_failed, init_failed, bootstrapped_stopped, bootstrapped_missing, restarted_running, damaged_boot, back_again, no_shard_restarted, no_shard_made}
+use Rattle.model_laws.specs.Faulty.{fails, untaken, write_all, all_but_c, without_c, c_restarted, c_bootstrapped, down_restarted, boot_bootstrapped, boot_covered, disk_at_once, corrupt_at_once, restart_failed, init_failed, bootstrapped_stopped, bootstrapped_missing, restarted_running, damaged_boot, back_again, no_shard_restarted, no_shard_made}
 use Rattle.model_laws.proofs.EachLemmas.{same_of_some, texts_differ}
 use Rattle.model_laws.proofs.PlaceLemmas.{place_after, due_after, only_used}
 use Rattle.model_laws.proofs.SampleLemmas.{call_with, of_shard}
@@ -59,6 +58,12 @@ down_restarted-refused caused =
 pub boot_bootstrapped-refused : (faults : List Fault) → ¬ Caused true (life_of boot_bootstrapped) faults
 boot_bootstrapped-refused faults caused =
     let lines = begun 100 (stopped (codes "c") ∷ c_restarted ∷ c_bootstrapped ∷ []) in
+    let bad : false ≡ true = holds_of (λ name. (waiting_after (of_shard 2 name) None lines).waits ≡ true) 2 _ refl (c_may lines reason.Boot refl (due_after lines (write_all 100 (pos 5)) (all_but_c reason.Boot) [] (λ e. cc) (λ e. cc) caused) refl) in
+    cc
+
+pub boot_covered-refused : (faults : List Fault) → ¬ Caused true (life_of boot_covered) faults
+boot_covered-refused faults caused =
+    let lines = begun 100 (stopped (codes "c") ∷ c_restarted ∷ line (act.Bootstrap (codes "c") (Some 0)) (answer.Available [] place 1) ∷ []) in
     let bad : false ≡ true = holds_of (λ name. (waiting_after (of_shard 2 name) None lines).waits ≡ true) 2 _ refl (c_may lines reason.Boot refl (due_after lines (write_all 100 (pos 5)) (all_but_c reason.Boot) [] (λ e. cc) (λ e. cc) caused) refl) in
     cc
 

@@ -16,12 +16,10 @@ use Rattle.transcripts.specs.Points.{point_of}
 use Rattle.m3_model.specs.Ascends.{Ascends}
 use Rattle.transcripts.specs.Record.{TurnPlace, IsTurnPlace}
 use Rattle.transcripts.specs.Rules.{rules_at}
-use Rattle.m3_model.specs.declared.act.Act.{Act}
 use Rattle.m3_model.specs.declared.act.Act.TheVariants as act
 use Rattle.m3_model.specs.declared.act.Fate.TheVariants.{Lose}
 use Rattle.m3_model.specs.declared.act.ReadLevel.TheVariants as read_level
 use Rattle.m3_model.specs.declared.act.WriteLevel.TheVariants as write_level
-use Rattle.m3_model.specs.declared.answer.Answer.{Answer}
 use Rattle.m3_model.specs.declared.answer.Answer.TheVariants as answer
 use Rattle.m3_model.specs.declared.placement.Placement.{Placement}
 use Rattle.m3_model.specs.declared.point.Point.{Point}

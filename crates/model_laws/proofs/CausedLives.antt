@@ -32,7 +32,6 @@ use Rattle.m3_model.specs.declared.answer.Answer.{Answer}
 use Rattle.m3_model.specs.declared.answer.Answer.TheVariants as answer
 use Rattle.m3_model.specs.declared.placement.Assignment.{Assignment}
 use Rattle.m3_model.specs.declared.placement.Instance.{Instance}
-use Rattle.m3_model.specs.declared.placement.ShardState.TheVariants.{Available}
 use Rattle.m3_model.specs.declared.reason.Reason.{Reason}
 use Rattle.m3_model.specs.declared.reason.Reason.TheVariants as reason
 use Rattle.m3_model.specs.declared.point.Point.{Point}
@@ -40,7 +39,7 @@ use Rattle.m3_model.specs.declared.rules.Rules.{Rules}
 use Rattle.m3_model.specs.declared.rules.Space.{Space}
 use Rattle.transcripts.specs.Points.{point_of}
 use Rattle.m3_model.specs.declared.turn.Turn.{Turn}
-use Rattle.model_laws.specs.Building.{life_of, made, named, begun, at_moment, eight_made, with_eight, two_made, with_two_shards, place, place_of_two, nodes, two_nodes, assigned, write, write_in, fetch, acks, unmet, by_each, space, narrow}
+use Rattle.model_laws.specs.Building.{life_of, made, named, begun, at_moment, eight_made, with_eight, two_made, with_two_shards, place, place_of_two, nodes, two_nodes, write, write_in, fetch, acks, unmet, by_each, space, narrow}
 use Rattle.model_laws.specs.Accepted.{write_then_read, edge_writes, narrow_writes, unmet_then_read}
 use Rattle.model_laws.proofs.EachLemmas.{and_parts, Each, EachPair, same_of_some, each_in, ascends_by, texts_differ, ◌also◌}
 use Rattle.model_laws.proofs.PlaceLemmas.{EachSplit, EachInLine, DeliversOnce, is_not_whole, caused_with, caused_by_places, place_after, only, due, stands_then}

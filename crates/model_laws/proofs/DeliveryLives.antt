@@ -18,7 +18,6 @@ use Rattle.m3_model.specs.declared.rules.MetaState.{MetaState}
 use Rattle.m3_model.specs.Hash.{murmur3}
 use Rattle.m3_model.specs.Levels.{needed_write}
 use Rattle.m3_model.specs.Members.{IsIn}
-use Rattle.m3_model.specs.declared.act.Act.{Act}
 use Rattle.m3_model.specs.declared.act.Act.TheVariants as act
 use Rattle.m3_model.specs.declared.act.Fate.TheVariants as fate
 use Rattle.m3_model.specs.declared.act.WriteLevel.TheVariants as write_level

@@ -1,5 +1,5 @@
 -- Facts of each element of a list that is written out.
-use Rattle.std.proofs.Common.{◌≡◌, ◌≢◌, ◌∙◌, sym, Bool, true, false, nat_eq, ℕ, List, [], ◌∷◌, ◌++◌, refl, subst, ap, inl, inr, ◌&&◌}
+use Rattle.std.proofs.Common.{◌≡◌, ◌≢◌, ◌∙◌, sym, Bool, true, false, nat_eq, ℕ, List, [], ◌∷◌, refl, subst, ap, inl, inr, ◌&&◌}
 use Rattle.std.specs.Prelude.{Some}
 use Rattle.std.specs.Cmp.Lexicographic.{pointwise}
 use Rattle.m3_model.specs.Ascends.{Ascends}

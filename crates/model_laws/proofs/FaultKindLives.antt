@@ -1,6 +1,6 @@
 -- What each kind of fault excuses.
-use Rattle.std.proofs.Common.{◌≡◌, ◌≢◌, ◌<◌, ◌≤◌, ◌∙◌, ℕ, suc, Bool, true, false, List, [], ◌∷◌, length, take, refl, sym, subst, ap, inl, inr, arith}
-use Rattle.std.specs.Prelude.{Some, None, pos, codes, IsTrue, ◌⊎◌}
+use Rattle.std.proofs.Common.{◌≡◌, ◌≢◌, ◌<◌, ◌≤◌, ◌∙◌, ℕ, suc, Bool, true, false, List, [], ◌∷◌, take, refl, sym, subst, ap, inl, inr, arith}
+use Rattle.std.specs.Prelude.{None, pos, codes, IsTrue, ◌⊎◌}
 use Rattle.m3_model.specs.Members.{IsIn}
 use Rattle.m3_model.specs.Levels.{needed_write}
 use Rattle.transcripts.specs.Caused.{Caused, OnDisk}
@@ -8,7 +8,7 @@ use Rattle.transcripts.specs.Faults.{Fault, FaultKind, Taking, Failing, IsClosed
 use Rattle.transcripts.specs.Faults as faults_of
 use Rattle.transcripts.specs.Fates.{is_stopped}
 use Rattle.transcripts.specs.Levels.{MissesLevel}
-use Rattle.transcripts.specs.Placements.{has_replica, placement_after, start_placement}
+use Rattle.transcripts.specs.Placements.{has_replica, placement_after}
 use Rattle.transcripts.specs.Record.{inner_turns}
 use Rattle.m3_model.specs.declared.act.Act.TheVariants as act
 use Rattle.m3_model.specs.declared.act.WriteLevel.TheVariants as write_level

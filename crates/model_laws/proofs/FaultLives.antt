@@ -18,7 +18,7 @@ use Rattle.m3_model.specs.declared.answer.Answer.TheVariants as answer
 use Rattle.m3_model.specs.declared.reason.Damage.TheVariants as damaged
 use Rattle.m3_model.specs.declared.reason.Reason.{Reason}
 use Rattle.model_laws.specs.Building.{life_of, place}
-use Rattle.model_laws.specs.Faulty.{fails, untaken, write_all, stopped_and_back, failed_and_back, restart_failed, init_failed, shard_missing, damages, damaged_boot}
+use Rattle.model_laws.specs.Faulty.{fails, untaken, write_all, stopped_and_back, failed_and_back, restart_failed, init_failed, boot_of_another, shard_missing, damages, damaged_boot}
 use Rattle.model_laws.proofs.EachLemmas.{◌also◌}
 use Rattle.model_laws.proofs.PlaceLemmas.{caused_by_places, only, due, stands_then}
 use Rattle.model_laws.proofs.SampleLemmas.{rules_when, call_with}
@@ -97,4 +97,13 @@ shard_missing-caused =
     begun_caused_over [] 100 _ tt refl (
     only (due true [] [] _ _ _ (ap (λ name. answer.Unknown name) (sym (decimal_digit 1 (omega arith)))))
     also only (due true [] [] _ _ _ refl)
+    also tt)
+
+pub boot_of_another-caused : Caused true (life_of boot_of_another) []
+boot_of_another-caused =
+    begun_caused_over [] 100 _ tt refl (
+    only (due true [] [] _ _ _ tt)
+    also only (due true [] [] _ _ _ tt)
+    also only (due true [] [] _ _ _ (refl, stands_then _ _ _ _ refl, refl))
+    also only (due true [] [] _ _ _ (c_missed _ _ refl refl refl refl refl takes_all (λ told. of_node _ 2 _ refl refl)))
     also tt)

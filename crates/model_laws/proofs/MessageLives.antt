@@ -28,7 +28,7 @@ use Rattle.m3_model.specs.declared.reason.Reason.{Reason}
 use Rattle.m3_model.specs.declared.reason.Reason.TheVariants as reason
 use Rattle.model_laws.specs.Building.{begun, life_of, wrote, write, acks, series_of, place, space}
 use Rattle.model_laws.specs.Messages.{stopped, unstrict, b_then_c_late, without_b, without_c, lost_messages, stopped_nodes, late_messages}
-use Rattle.model_laws.proofs.EachLemmas.{Each, EachPair, each_in, ascends_by, same_of_some, ◌also◌}
+use Rattle.model_laws.proofs.EachLemmas.{Each, EachPair, each_in, ascends_by, ◌also◌}
 use Rattle.model_laws.proofs.PlaceLemmas.{place_after, place_after-stands, only, due}
 use Rattle.model_laws.proofs.SampleLemmas.{rules_when, call_with, hello}
 use Rattle.model_laws.proofs.CausedLives.{begun_caused, begun_delivering, takes_by, counted_0, counted_1, counted_2, below_0_1, below_0_2, below_1_2}

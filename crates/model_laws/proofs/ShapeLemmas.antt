@@ -1,5 +1,5 @@
 -- Which replies have the shape of their request.
-use Rattle.std.proofs.Common.{◌≡◌, ◌≢◌, ◌∙◌, Bool, true, List, [], ◌∷◌, ◌++◌, length, map, refl, sym, ap, arith}
+use Rattle.std.proofs.Common.{◌≡◌, ◌≢◌, ◌∙◌, Bool, true, List, [], ◌∷◌, length, map, refl, sym, ap, arith}
 use Rattle.std.specs.Prelude.{Some, None, ℕ}
 use Rattle.std.proofs.lemmas.List.{length-map}
 use Rattle.transcripts.specs.Caused.{Caused}

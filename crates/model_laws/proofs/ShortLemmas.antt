@@ -1,22 +1,17 @@
 -- Why a short read has its reasons.
-use Rattle.std.proofs.Common.{◌≡◌, ◌≢◌, ◌≤◌, ◌<◌, ◌+◌, ℕ, List, [], ◌∷◌, length, true, false, refl, sym, subst, ap, arith}
+use Rattle.std.proofs.Common.{◌≡◌, ◌≢◌, ◌≤◌, ◌<◌, ◌+◌, ℕ, List, [], ◌∷◌, length, true, false, refl, sym, subst, arith}
 use Rattle.std.specs.Prelude.{Some, None, pos, codes}
-use Rattle.m3_model.specs.Hash.{murmur3, shard_of}
-use Rattle.m3_model.specs.Levels.{majority}
 use Rattle.m3_model.specs.Members.{IsIn}
 use Rattle.m3_model.specs.declared.act.Act.TheVariants as act
 use Rattle.m3_model.specs.declared.act.ReadLevel.{ReadLevel}
 use Rattle.m3_model.specs.declared.act.ReadLevel.TheVariants as read_level
 use Rattle.m3_model.specs.declared.answer.Answer.TheVariants as answer
-use Rattle.m3_model.specs.declared.placement.Placement.{Placement}
 use Rattle.m3_model.specs.declared.reason.Reason.{Reason}
 use Rattle.m3_model.specs.declared.reason.Reason.TheVariants as reason
-use Rattle.m3_model.specs.declared.rules.Rules.{Rules}
-use Rattle.m3_model.specs.declared.turn.Turn.{Turn}
 use Rattle.transcripts.specs.Caused.{Caused}
 use Rattle.transcripts.specs.Calls.{AsksShard}
 use Rattle.transcripts.specs.Levels.{IsShort, IsFoundFor}
-use Rattle.model_laws.specs.Building.{begun, life_of, place, wrote, series_of}
+use Rattle.model_laws.specs.Building.{begun, life_of, place, wrote}
 use Rattle.model_laws.specs.Messages.{unstrict}
 use Rattle.model_laws.specs.Uncaused.{unstrict_found, unstrict_place, short_at}
 use Rattle.model_laws.proofs.EachLemmas.{◌also◌}

@@ -1,20 +1,18 @@
 -- Why the answers without a cause are refused.
-use Rattle.std.proofs.Common.{◌≡◌, ◌≢◌, ◌≤◌, ◌<◌, ◌+◌, ℕ, ℤ, List, [], ◌∷◌, ◌++◌, length, refl, sym, subst, ◌∙◌, inl, inr, arith, true, false}
+use Rattle.std.proofs.Common.{◌≡◌, ◌≢◌, ◌≤◌, ◌<◌, ◌+◌, ◌*◌, ℕ, ℤ, List, [], ◌∷◌, length, refl, sym, subst, ◌∙◌, inl, inr, arith, true, false}
 use Rattle.std.specs.Prelude.{Some, None, pos, slice_get, codes}
 use Rattle.transcripts.specs.Caused.{Caused, IsDueBy, refusal_after}
 use Rattle.transcripts.specs.Reasons.{IsOutside, MayRefuse, MayServe, TakesPoint}
 use Rattle.transcripts.specs.Levels.{IsAcked, MissesLevel}
 use Rattle.transcripts.specs.Calls.{IsAskedOf, call_of}
-use Rattle.transcripts.specs.Placements.{MayUse, placement_at, IsCounted, counted_nodes}
+use Rattle.transcripts.specs.Placements.{MayUse, IsCounted, counted_nodes}
 use Rattle.placement_core.specs.NodeNames.{IsNamedBelow}
 use Rattle.transcripts.specs.Waiting.{waiting_after}
 use Rattle.m3_model.specs.Hash.{murmur3, shard_of}
 use Rattle.m3_model.specs.Members.{IsIn}
-use Rattle.transcripts.specs.Rules.{rules_at}
 use Rattle.m3_model.specs.Rules.{IsPast, IsFuture}
-use Rattle.transcripts.specs.Record.{inner_turns}
-use Rattle.transcripts.specs.Fates.{is_stopped}
-use Rattle.transcripts.specs.Faults.{Fault}
+use Rattle.transcripts.specs.Record.{InnerTurn, IsAfter, inner_turns}
+use Rattle.m3_model.specs.declared.limits.TheConstants.{MOST_EVENTS, MOST_REQUEST_EVENTS}
 use Rattle.m3_model.specs.Tags.{IsBelow}
 use Rattle.m3_model.specs.Ascends.{Ascends}
 use Rattle.m3_model.specs.Levels.{needed_write, needed_read}
@@ -34,10 +32,11 @@ use Rattle.m3_model.specs.declared.reason.Reason.{Reason}
 use Rattle.m3_model.specs.declared.reason.Reason.TheVariants as reason
 use Rattle.m3_model.specs.declared.rules.Rules.{Rules}
 use Rattle.m3_model.specs.declared.rules.Space.{Space}
-use Rattle.model_laws.specs.Building.{made, begun, at_moment, eight_made, with_eight, two_made, with_two_shards, namespace_of, line, write, write_in, fetch, acks, unmet, by_each, space, place, place_of_two, placed, assigned, nodes, life_of}
+use Rattle.model_laws.specs.Building.{made, begun, at_moment, eight_made, with_eight, two_made, with_two_shards, namespace_of, write, write_in, fetch, acks, unmet, by_each, space, place, place_of_two, placed, assigned, nodes, life_of}
 use Rattle.model_laws.specs.Refused.{with_point_answered}
-use Rattle.model_laws.specs.Uncaused.{write_answered, write_first, made_twice, fetch_short, made_of_two}
-use Rattle.model_laws.proofs.PlaceLemmas.{place_after, due_after, only_used}
+use Rattle.model_laws.specs.Uncaused.{write_answered, write_first, made_twice, fetch_short, made_of_two, restart_refused}
+use Rattle.model_laws.specs.Messages.{stopped}
+use Rattle.model_laws.proofs.PlaceLemmas.{place_after, place_after-stands, only_after, due_after, only_used}
 use Rattle.model_laws.proofs.EachLemmas.{◌also◌, each_in, not_in_each, same_of_some, texts_differ}
 use Rattle.model_laws.proofs.SampleLemmas.{hello, of_shard, rules_when, StandsAt, stands, not_cut, WindowRefuses, call_with}
 
@@ -339,3 +338,49 @@ same_namespace-refused caused = let due : answer.Done ≡ answer.Order = due_at 
 
 pub later_read-refused : ¬ Caused true (life_of (with_point_answered answer.Later)) []
 later_read-refused caused = due_after (begun 100 []) (write 100 (pos 5)) answer.Later _ (λ e. cc) (λ e. cc) caused
+
+pub full-refused : ¬ Caused true (life_of (write_answered answer.Full)) []
+full-refused caused =
+    let p = place_after (begun 100 []) (write 100 (pos 5)) answer.Full in
+    elim (caused.each p (place_after-stands (begun 100 []) (write 100 (pos 5)) answer.Full [])) as (λ _. ⊥) [
+      | inl e ↦ cc
+      | inr told ↦ elim told as (λ _. ⊥) [
+        | inl full ↦ not_many full.1.requests full.1.writes full.1.requests_are full.1.writes_are full.1.many
+        | inr is_due ↦ own_of is_due.0 is_due.1 is_due.2
+      ]
+    ]
+  where
+    not_many : (requests writes : ℕ) → requests ≡ 4 → writes ≡ 1 → MOST_EVENTS ≤ (MOST_REQUEST_EVENTS * (requests + 1)) * (writes + 1) → ⊥
+    not_many requests writes four one many =
+        let few : MOST_EVENTS ≤ (MOST_REQUEST_EVENTS * 5) * 2 = subst (λ n. MOST_EVENTS ≤ (MOST_REQUEST_EVENTS * (n + 1)) * 2) four (subst (λ n. MOST_EVENTS ≤ (MOST_REQUEST_EVENTS * (requests + 1)) * (n + 1)) one many) in
+        omega (arith, few)
+
+    own_of : (turns : List InnerTurn) → IsAfter (place_after (begun 100 []) (write 100 (pos 5)) answer.Full) turns
+        → IsDueBy true [] None (caused.delivered (place_after (begun 100 []) (write 100 (pos 5)) answer.Full)) (place_after (begun 100 []) (write 100 (pos 5)) answer.Full) (refusal_after None (place_after (begun 100 []) (write 100 (pos 5)) answer.Full) turns) → ⊥
+    own_of turns after told =
+        subst (λ ts. IsDueBy true [] None (caused.delivered (place_after (begun 100 []) (write 100 (pos 5)) answer.Full)) (place_after (begun 100 []) (write 100 (pos 5)) answer.Full) (refusal_after None (place_after (begun 100 []) (write 100 (pos 5)) answer.Full) ts))
+        (only_after (begun 100 []) (write 100 (pos 5)) answer.Full turns after) told
+
+pub found-refused : ¬ Caused true (life_of (write_answered (answer.Found [] false))) []
+found-refused caused = due_at 100 (write 100 (pos 5)) (answer.Found [] false) (λ e. cc) (λ e. cc) caused
+
+pub outcomes-refused : ¬ Caused true (life_of (write_answered (answer.Outcomes []))) []
+outcomes-refused caused = due_at 100 (write 100 (pos 5)) (answer.Outcomes []) (λ e. cc) (λ e. cc) caused
+
+pub placed-refused : ¬ Caused true (life_of (write_answered (answer.Placed place 1))) []
+placed-refused caused = due_at 100 (write 100 (pos 5)) (answer.Placed place 1) (λ e. cc) (λ e. cc) caused
+
+pub available-refused : ¬ Caused true (life_of (write_answered (answer.Available [] place 1))) []
+available-refused caused = due_at 100 (write 100 (pos 5)) (answer.Available [] place 1) (λ e. cc) (λ e. cc) caused
+
+pub busy-refused : (node : List ℕ) (shard : ℕ) → ¬ Caused true (life_of (write_answered (answer.Busy node shard))) []
+busy-refused node shard caused = due_at 100 (write 100 (pos 5)) (answer.Busy node shard) (λ e. cc) (λ e. cc) caused
+
+pub put_off-refused : ¬ Caused true (life_of (write_answered answer.Later)) []
+put_off-refused caused = due_at 100 (write 100 (pos 5)) answer.Later (λ e. cc) (λ e. cc) caused
+
+pub stop-refused : ¬ Caused true (life_of (at_moment 100 (act.Stop (codes "c")) (answer.State (codes "c")))) []
+stop-refused caused = due_at 100 (act.Stop (codes "c")) (answer.State (codes "c")) (λ e. cc) (λ e. cc) caused
+
+pub restart-refused : ¬ Caused true (life_of restart_refused) []
+restart-refused caused = due_after (begun 100 (stopped (codes "c") ∷ [])) (act.Restart (codes "c") 0) (answer.State (codes "c")) [] (λ e. cc) (λ e. cc) caused

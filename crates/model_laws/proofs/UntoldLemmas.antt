@@ -1,8 +1,7 @@
 -- What is said where disks don't tell what they hold.
-use Rattle.std.proofs.Common.{◌≡◌, ◌≤◌, ◌∙◌, ℕ, Bool, true, false, List, [], ◌∷◌, length, refl, sym, subst, ap, inl, inr, arith}
+use Rattle.std.proofs.Common.{◌≡◌, ◌≤◌, ℕ, Bool, true, false, List, [], ◌∷◌, refl, sym, subst, inl, inr, arith}
 use Rattle.std.specs.Prelude.{Option, Some, None, pos, codes}
 use Rattle.m3_model.specs.Levels.{needed_write}
-use Rattle.m3_model.specs.Members.{IsIn}
 use Rattle.m3_model.specs.declared.act.Act.{Act}
 use Rattle.m3_model.specs.declared.act.Act.TheVariants as act
 use Rattle.m3_model.specs.declared.act.ReadLevel.{ReadLevel}
@@ -13,9 +12,8 @@ use Rattle.m3_model.specs.declared.placement.Placement.{Placement}
 use Rattle.m3_model.specs.declared.reason.Reason.{Reason}
 use Rattle.m3_model.specs.declared.reason.Reason.TheVariants as reason
 use Rattle.m3_model.specs.declared.rules.MetaState.{MetaState}
-use Rattle.m3_model.specs.declared.turn.Turn.{Turn}
 use Rattle.transcripts.specs.Caused.{Caused, CausedAt, IsDueBy, IsOwn, refusal_after}
-use Rattle.transcripts.specs.Deliveries.{LateMessage, MayComeOf, IsOutcomeOf, AreOutcomes, IsDelivered}
+use Rattle.transcripts.specs.Deliveries.{LateMessage, MayComeOf, AreOutcomes}
 use Rattle.transcripts.specs.Faults.{Fault}
 use Rattle.transcripts.specs.Levels.{IsAcked, AreSilent, MissesLevel, IsShort, IsFoundFor}
 use Rattle.transcripts.specs.Reasons.{MayFail, MayRefuse}

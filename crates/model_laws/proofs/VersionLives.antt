@@ -1,7 +1,7 @@
 -- Placements by their versions.
-use Rattle.std.proofs.Common.{◌≡◌, ◌≢◌, ◌<◌, ◌∙◌, ℕ, zero, suc, List, [], ◌∷◌, ◌++◌, length, true, false, refl, sym, subst, ap, inl, inr, arith}
-use Rattle.std.specs.Prelude.{Option, Some, None, pos, codes, slice_get, decimal}
-use Rattle.m3_model.specs.Hash.{murmur3, shard_of}
+use Rattle.std.proofs.Common.{◌≡◌, ◌≢◌, ◌<◌, ℕ, List, [], ◌∷◌, true, false, refl, sym, subst, ap, inl, inr, arith}
+use Rattle.std.specs.Prelude.{Some, None, pos, codes, decimal}
+use Rattle.m3_model.specs.Hash.{murmur3}
 use Rattle.m3_model.specs.Levels.{needed_write}
 use Rattle.m3_model.specs.Members.{IsIn}
 use Rattle.m3_model.specs.declared.act.Act.{Act}
@@ -11,32 +11,29 @@ use Rattle.m3_model.specs.declared.answer.Answer.{Answer}
 use Rattle.m3_model.specs.declared.answer.Answer.TheVariants as answer
 use Rattle.m3_model.specs.declared.placement.Assignment.{Assignment}
 use Rattle.m3_model.specs.declared.placement.Placement.{Placement}
-use Rattle.m3_model.specs.declared.reason.Reason.{Reason}
 use Rattle.m3_model.specs.declared.reason.Reason.TheVariants as reason
 use Rattle.m3_model.specs.declared.turn.Turn.{Turn}
 use Rattle.std.specs.Ordering.{is_gt}
 use Rattle.placement_plan.specs.Choices.{taking_cmp}
-use Rattle.placement_plan.specs.First.{IsInitial, IsPlacedShard, IsPlaced, first_at, first_instances}
+use Rattle.placement_plan.specs.First.{IsInitial, IsPlaced, first_instances}
 use Rattle.placement_plan.specs.Nodes.{load}
 use Rattle.transcripts.specs.Caused.{Caused, IsBootstrapped, IsDueBy, refusal_after}
-use Rattle.transcripts.specs.Calls.{Call}
 use Rattle.transcripts.specs.Faults.{Fault}
-use Rattle.transcripts.specs.Fates.{OfNode, reaches}
+use Rattle.transcripts.specs.Fates.{reaches}
 use Rattle.transcripts.specs.Levels.{IsAcked, MissesLevel}
-use Rattle.transcripts.specs.Placements.{MayUse, MayStand, IsCounted}
+use Rattle.transcripts.specs.Placements.{MayUse, IsCounted}
 use Rattle.transcripts.specs.Reasons.{MayRefuse}
-use Rattle.transcripts.specs.Record.{InnerTurn, TurnPlace, IsTurnPlace, inner_turns}
 use Rattle.transcripts.specs.Waiting.{waiting_after}
 use Rattle.placement_core.specs.NodeNames.{IsNamedBelow}
-use Rattle.model_laws.specs.Building.{begun, at_moment, life_of, line, acks, place, space, two_nodes, assigned}
+use Rattle.model_laws.specs.Building.{begun, at_moment, life_of, line, acks, place, two_nodes, assigned}
 use Rattle.model_laws.specs.Faulty.{write_all, all_but_c}
 use Rattle.model_laws.specs.Versions.{at_version, held_2, reopened, c_left, waits_from_start, waits_after_boot, write_at, two_on}
 use Rattle.model_laws.proofs.EachLemmas.{each_in, ascends_by, same_of_some, ◌also◌}
 use Rattle.model_laws.proofs.PlaceLemmas.{place_after, place_after-stands, after_all, only, due, due_from, due_here, due_after, used_from, caused_by_places}
-use Rattle.model_laws.proofs.SampleLemmas.{rules_when, call_with, of_shard}
-use Rattle.model_laws.proofs.CausedLives.{at_moment-caused, first_placement_of_two, counted_0, counted_1, counted_2, below_0_1, below_0_2, below_1_2, takes_by}
+use Rattle.model_laws.proofs.SampleLemmas.{call_with, of_shard}
+use Rattle.model_laws.proofs.CausedLives.{at_moment-caused, first_placement_of_two, counted_0, counted_1, counted_2, below_0_1, below_0_2, below_1_2}
 use Rattle.model_laws.proofs.FaultLives.{takes_all}
-use Rattle.model_laws.proofs.MessageLives.{of_node, hello_shard}
+use Rattle.model_laws.proofs.MessageLives.{hello_shard}
 use Rattle.model_laws.proofs.BrokenFaults.{holds_of}
 
 -- what is due of the first line of a run that begins with version 2

@@ -1,5 +1,5 @@
 -- Transcripts with disks that fail, nodes that are restarted and replicas that bootstrap: some whose answers have their causes, and some that are broken in one way.
-use Rattle.std.specs.Prelude.{ℕ, ℤ, List, [], ◌∷◌, Some, None, true, false, pos, codes}
+use Rattle.std.specs.Prelude.{ℕ, ℤ, List, [], ◌∷◌, Some, None, pos, codes}
 use Rattle.transcripts.specs.Faults.{Fault, Taking, Failing}
 use Rattle.transcripts.specs.Faults as faults
 use Rattle.m3_model.specs.declared.act.Act.{Act}
@@ -168,3 +168,11 @@ c_down = begun 100 (without_c reason.Down ∷ [])
 -- an `init` (line 0) that couldn't take the disk of c, one (line 1) that made the cluster, and a write that c didn't take, since it is down
 abbrev pub made_then_down : List Turn
 made_then_down = init (answer.Disk (codes "c") 0) ∷ made ∷ named ∷ moved 100 ∷ without_c reason.Down ∷ []
+
+-- a replica that waits for a bootstrap, though one of its shard was answered ok
+abbrev pub boot_covered : List Turn
+boot_covered = begun 100 (stopped (codes "c") ∷ c_restarted ∷ line (act.Bootstrap (codes "c") (Some 0)) (answer.Available [] place 1) ∷ without_c reason.Boot ∷ [])
+
+-- the same where a's was answered ok instead
+abbrev pub boot_of_another : List Turn
+boot_of_another = begun 100 (stopped (codes "c") ∷ c_restarted ∷ line (act.Bootstrap (codes "a") (Some 0)) (answer.Available [] place 1) ∷ without_c reason.Boot ∷ [])

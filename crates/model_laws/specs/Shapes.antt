@@ -1,5 +1,5 @@
 -- Lines of several clients and workers: with replies of their shape, and refused as a whole.
-use Rattle.std.specs.Prelude.{◌≡◌, ◌≢◌, ℕ, List, [], ◌∷◌, ◌++◌, length, pos}
+use Rattle.std.specs.Prelude.{List, [], ◌∷◌, pos}
 use Rattle.m3_model.specs.declared.act.Act.{Act}
 use Rattle.m3_model.specs.declared.answer.Answer.{Answer}
 use Rattle.m3_model.specs.declared.answer.Answer.TheVariants as answer

@@ -7,7 +7,7 @@ use Rattle.m3_model.specs.declared.answer.Answer.{Answer}
 use Rattle.m3_model.specs.declared.answer.Answer.TheVariants as answer
 use Rattle.m3_model.specs.declared.turn.Turn.{Turn}
 use Rattle.model_laws.specs.Building.{begun, line, made, at_moment, wrote, init, write, fetch, placed, assigned, series_of, place_after}
-use Rattle.model_laws.specs.Messages.{unstrict}
+use Rattle.model_laws.specs.Messages.{stopped, unstrict}
 
 -- a write that got this answer, after the cluster and the namespace were made
 abbrev pub write_answered : Answer → List Turn
@@ -40,3 +40,7 @@ short_at level = at_moment 100 (act.Fetch (codes "m") (codes "hello") 0 200 leve
 -- where the unstrict fetch stands
 abbrev pub unstrict_place : Bool → TurnPlace
 unstrict_place short = place_after (begun 100 (wrote 100 (pos 5) ∷ [])) (unstrict 0 200) (answer.Found [] short)
+
+-- a stopped node that is refused to be restarted
+abbrev pub restart_refused : List Turn
+restart_refused = begun 100 (stopped (codes "c") ∷ line (act.Restart (codes "c") 0) (answer.State (codes "c")) ∷ [])

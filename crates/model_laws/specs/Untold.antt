@@ -1,7 +1,6 @@
 -- Where disks don't tell what they hold: what may be answered then, and what may not.
-use Rattle.std.specs.Prelude.{Bool, false, List, [], ◌∷◌}
+use Rattle.std.specs.Prelude.{Bool, []}
 use Rattle.transcripts.specs.Caused.{Caused}
-use Rattle.transcripts.specs.Record.{Life}
 use Rattle.m3_model.specs.declared.answer.Answer.{Answer}
 use Rattle.model_laws.specs.Building.{life_of}
 use Rattle.model_laws.specs.Uncaused.{write_answered}

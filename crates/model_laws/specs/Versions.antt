@@ -1,10 +1,9 @@
 -- Placements by their versions: runs that begin with one, bootstraps, and calls that give a version.
-use Rattle.std.specs.Prelude.{ℕ, ℤ, List, [], ◌∷◌, ◌++◌, Option, Some, None, pos, codes}
+use Rattle.std.specs.Prelude.{ℕ, ℤ, List, [], ◌∷◌, Some, None, codes}
 use Rattle.transcripts.specs.Record.{InnerTurn, Life}
 use Rattle.m3_model.specs.declared.act.Act.{Act}
 use Rattle.m3_model.specs.declared.act.Act.TheVariants as act
 use Rattle.m3_model.specs.declared.act.WriteLevel.TheVariants as write_level
-use Rattle.m3_model.specs.declared.answer.Answer.{Answer}
 use Rattle.m3_model.specs.declared.answer.Answer.TheVariants as answer
 use Rattle.m3_model.specs.declared.placement.Placement.{Placement}
 use Rattle.m3_model.specs.declared.reason.Reason.TheVariants as reason

@@ -6,7 +6,7 @@ ghost use Rattle.transcripts.specs.Caused.{Caused};
 ghost use Rattle.m3_model.specs.declared.reason.Damage.{Damage};
 ghost use Rattle.m3_model.specs.declared.reason.Damage.TheVariants as damaged;
 ghost use Rattle.model_laws.specs.Building.{life_of};
-ghost use Rattle.model_laws.specs.Faulty.{fails, untaken, stopped_and_back, failed_and_back, restart_failed, init_failed, shard_missing, down_restarted, boot_bootstrapped, disk_at_once, corrupt_at_once, bootstrapped_stopped, bootstrapped_missing, restarted_running, damages, damaged_boot, no_shard_restarted, no_shard_made};
+ghost use Rattle.model_laws.specs.Faulty.{fails, untaken, stopped_and_back, failed_and_back, restart_failed, init_failed, shard_missing, down_restarted, boot_bootstrapped, boot_covered, boot_of_another, disk_at_once, corrupt_at_once, bootstrapped_stopped, bootstrapped_missing, restarted_running, damages, damaged_boot, no_shard_restarted, no_shard_made};
 
 /// A node that was stopped, or a replica whose disk failed, is down; once its node is restarted it waits for a
 /// bootstrap, and after one it takes writes again.
@@ -43,6 +43,12 @@ pub fn down_after_restart()
 /// A replica waits for a bootstrap, though one was answered ok and its node wasn't restarted since.
 pub fn boot_after_bootstrap()
     ensures { (faults : List Fault) → ¬ Caused true (life_of boot_bootstrapped) faults }
+{}
+
+/// A replica waits for a bootstrap, though one of its own shard was answered ok; one of another node ends nothing.
+pub fn boot_after_bootstrap_of_shard()
+    ensures other_node { Caused true (life_of boot_of_another) [] }
+    ensures covering { (faults : List Fault) → ¬ Caused true (life_of boot_covered) faults }
 {}
 
 /// A replica's disk fails in a line, though only that of another node failed in it, or its own in another line.

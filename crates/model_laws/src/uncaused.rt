@@ -1,11 +1,11 @@
 //! Transcripts with an answer that has no cause.
-ghost use Rattle.std.specs.Prelude.{[], ◌∷◌, pos, codes, true};
+ghost use Rattle.std.specs.Prelude.{ℕ, List, false, [], ◌∷◌, pos, codes, true};
 ghost use Rattle.transcripts.specs.Caused.{Caused};
 ghost use Rattle.m3_model.specs.declared.act.Act.TheVariants as act;
 ghost use Rattle.m3_model.specs.declared.answer.Answer.TheVariants as answer;
 ghost use Rattle.m3_model.specs.declared.reason.Reason.TheVariants as reason;
-ghost use Rattle.model_laws.specs.Building.{life_of, at_moment, with_eight, with_two_shards, namespace_of, write_in, write, fetch, acks, unmet, by_each};
-ghost use Rattle.model_laws.specs.Uncaused.{write_answered, write_first, made_twice, fetch_short, made_of_two};
+ghost use Rattle.model_laws.specs.Building.{life_of, at_moment, with_eight, with_two_shards, namespace_of, write_in, write, fetch, acks, unmet, by_each, place};
+ghost use Rattle.model_laws.specs.Uncaused.{write_answered, write_first, made_twice, fetch_short, made_of_two, restart_refused};
 
 /// A write is refused for its place among the lines, though a cluster and its namespace are there.
 pub fn order_without_cause()
@@ -168,4 +168,25 @@ pub fn short_majority()
 /// A shard has fewer nodes than replicas were asked for.
 pub fn placement_short_of_nodes()
     ensures { ¬ Caused true (life_of made_of_two) [] }
+{}
+
+/// The list of events is full after four requests.
+pub fn full_in_short_run()
+    ensures { ¬ Caused true (life_of (write_answered answer.Full)) [] }
+{}
+
+/// A write is answered as a read, a delivery, an `init` or a step of a placement is, or is put off.
+pub fn answer_of_another_act()
+    ensures found { ¬ Caused true (life_of (write_answered (answer.Found [] false))) [] }
+    ensures outcomes { ¬ Caused true (life_of (write_answered (answer.Outcomes []))) [] }
+    ensures placed { ¬ Caused true (life_of (write_answered (answer.Placed place 1))) [] }
+    ensures available { ¬ Caused true (life_of (write_answered (answer.Available [] place 1))) [] }
+    ensures busy { (node : List ℕ) → (shard : ℕ) → ¬ Caused true (life_of (write_answered (answer.Busy node shard))) [] }
+    ensures later { ¬ Caused true (life_of (write_answered answer.Later)) [] }
+{}
+
+/// A node that runs is refused to be stopped, or one that is stopped to be restarted.
+pub fn state_without_cause()
+    ensures stop { ¬ Caused true (life_of (at_moment 100 (act.Stop (codes "c")) (answer.State (codes "c")))) [] }
+    ensures restart { ¬ Caused true (life_of restart_refused) [] }
 {}
