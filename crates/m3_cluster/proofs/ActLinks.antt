@@ -2,7 +2,7 @@
 use Rattle.std.proofs.Common.{◌≡◌, ◌⊎◌, ℕ, List, [], ◌∷◌, ◌++◌, map, refl, ap, subst, length, inl, inr, true, false}
 use Rattle.std.specs.Prelude.{Option, Some, None}
 use Rattle.m3_outside.specs.declared.disk.Disk.{Ghosts}
-use Rattle.transcripts.specs.Faults.{Fault}
+use Rattle.transcripts.specs.Faults.{Fault, Taking}
 use Rattle.m3_model.specs.Members.{IsIn}
 use Rattle.m3_model.specs.declared.act.Act.{Act}
 use Rattle.m3_model.specs.declared.act.Act.TheVariants as act
@@ -291,5 +291,5 @@ TurnLists state lines old a b new (inr on) more = ListsFaults lines on.m (turn_l
 -- and the fault for which a disk couldn't be taken
 abbrev pub ListsTaken : {D : Type 0} {G : Ghosts D} (state : D → DiskState) (lines : List Turn) (now : Depot D) (old : Cluster D G) (rf shards seed : ℕ) (nodes : List (List ℕ × List ℕ)) (b : Answer) (after : Depot D) (new : Cluster D G)
     → IsMade state now old rf shards seed nodes b after new → List Fault → Type 0
-ListsTaken state lines now old rf shards seed nodes (answer.Disk name shard) after new h more = IsIn more (record { line = length lines; node = (h.2).node; shard = shard; is_damage = false })
+ListsTaken state lines now old rf shards seed nodes (answer.Disk name shard) after new h more = IsIn more (record { line = length lines; node = (h.2).node; shard = shard; kind = Taking })
 ListsTaken state lines now old rf shards seed nodes _ after new h more = Unit {0}

@@ -1,13 +1,13 @@
 -- The faults of a line, and how the counts of disks rise with them.
 use Rattle.std.proofs.Common.{◌≡◌, ⊎_elim, inl, inr, ℕ, ◌+◌, ◌≤◌, min, List, [], ◌∷◌, ◌++◌, length, map, filter, Bool, true, false, cond, ◌||◌, ◌&&◌, refl, sym, ap, subst, ◌∙◌, arith, append_assoc}
-use Rattle.std.specs.Prelude.{◌≢◌, Option, Some, None, IsSome, nat_eq}
+use Rattle.std.specs.Prelude.{◌≢◌, ◌<◌, Option, Some, None, IsSome, nat_eq}
 use Rattle.std.specs.FinMap.{get}
 use Rattle.std.specs.List.{All, list_any}
 use Rattle.std.proofs.lemmas.Bool.{eqb-true, and_parts}
 use Rattle.std.proofs.lemmas.List.{length_push}
 use Rattle.std.proofs.lemmas.List.Elements.{All-append}
 use Rattle.std.proofs.lemmas.List.Sums.{sum_by-append}
-use Rattle.transcripts.specs.Faults.{Fault, AreDifferent}
+use Rattle.transcripts.specs.Faults.{Fault, FaultKind, Taking, Failing, AreDifferent}
 use Rattle.m3_model.specs.Members.{IsIn}
 use Rattle.m3_model.specs.declared.reason.Reason.TheVariants as reason
 use Rattle.m3_model.specs.declared.turn.Turn.{Turn}
@@ -20,13 +20,14 @@ use Rattle.cluster_core.specs.declared.event.StepReply.{StepReply}
 use Rattle.cluster_core.specs.declared.event.StepReply.TheVariants as reply
 use Rattle.replica_machine.specs.Machines.{MachineState}
 use Rattle.session.specs.Changes.{Step, TakesSteps, IsStepped}
+use Rattle.session.specs.Slots.{slot_at}
 use Rattle.session.specs.declared.slot.Slot.{Slot}
 use Rattle.m3_cluster.specs.Chains.{Link, TakesLinks}
 use Rattle.m3_outside.specs.Depots.{Depot}
-use Rattle.m3_cluster.specs.Depots.{place_of_slot}
+use Rattle.m3_cluster.specs.Depots.{place_of_slot, count_at}
 use Rattle.m3_cluster.specs.First.{AreApart}
 use Rattle.m3_cluster.specs.Replicas.{faults_at}
-use Rattle.m3_cluster.specs.Serves.{AreCounted, IsEarlier, count_at, machine_at}
+use Rattle.m3_cluster.specs.Serves.{AreCounted, IsEarlier, machine_at}
 use Rattle.m3_cluster.specs.declared.cluster.Cluster.{Cluster}
 use Rattle.m3_cluster.specs.declared.members.Members.{Members}
 use Rattle.m3_cluster.proofs.ReplicaLinks.{steps_at, links_steps}
@@ -92,7 +93,7 @@ different_both (x ∷ xs) ys of_xs of_ys apart =
     (λ m. ⊎_elim (λ (same : IsIn xs x). of_xs.0 same) (λ (other : IsIn ys x). apart x (inl refl) other) (IsIn-append_cases xs ys x m), different_both xs ys of_xs.1 of_ys (λ fault m n. apart fault (inr m) n))
 
 -- a fault of the line is that of one of its slots
-fault_from : (line : ℕ) (links : List Link) (slots : List Slot) (fault : Fault) → IsIn (line_faults line links slots) fault → (s : Slot) × IsIn slots s × (has_fault (steps_at s links) ≡ true) × (fault_of line s ≡ fault)
+pub fault_from : (line : ℕ) (links : List Link) (slots : List Slot) (fault : Fault) → IsIn (line_faults line links slots) fault → (s : Slot) × IsIn slots s × (has_fault (steps_at s links) ≡ true) × (fault_of line s ≡ fault)
 fault_from line links slots fault m =
     let from = IsIn-map (fault_of line) (failing_slots links slots) fault m in
     (from.0, IsIn-filter (λ s. has_fault (steps_at s links)) slots from.0 from.1, chosen (λ s. has_fault (steps_at s links)) slots from.0 from.1, from.2)
@@ -189,7 +190,7 @@ stepped_some : {D : Type 0} (state : D → DiskState) (steps : List Step) (old n
 stepped_some state steps None new stepped some = cc
 stepped_some state steps (Some x) new stepped some = subst IsSome (sym stepped.1) refl
 
-machine_is : {D : Type 0} {G : Ghosts D} (c : Cluster D G) (m : Members D G) (s : Slot) → c.members ≡ Some m → machine_at c s ≡ get m.net.machines s
+pub machine_is : {D : Type 0} {G : Ghosts D} (c : Cluster D G) (m : Members D G) (s : Slot) → c.members ≡ Some m → machine_at c s ≡ get m.net.machines s
 machine_is c m s is = rw is refl
 
 -- the count at a slot rises with the faults that are listed of it

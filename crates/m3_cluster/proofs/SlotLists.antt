@@ -1,8 +1,6 @@
 -- The slots of a placement: each stands once, and its node is there.
-use Rattle.std.proofs.Common.{◌≡◌, ◌≢◌, ◌≤◌, ◌+◌, ℕ, suc, List, [], ◌∷◌, map, refl, sym, ap, subst, ◌∙◌, ◌⊎◌, inl, inr, arith, Bool, true, false, ◌||◌}
-use Rattle.std.specs.Prelude.{Some, nat_eq, slice_get, slice_index_or}
-use Rattle.std.specs.List.{list_any}
-use Rattle.std.proofs.lemmas.Bool.{eq-eqb, or_true}
+use Rattle.std.proofs.Common.{◌≡◌, ◌≢◌, ◌≤◌, ◌+◌, ℕ, suc, List, [], ◌∷◌, map, refl, sym, ap, subst, ◌∙◌, ◌⊎◌, inl, inr, arith, Bool, true, false}
+use Rattle.std.specs.Prelude.{Some, slice_get, slice_index_or}
 use Rattle.std.specs.Cmp.{tied_itself}
 use Rattle.std.specs.Ordering.{eq_by_cmp, is_eq}
 use Rattle.m3_model.specs.Ascends.{Ascends}
@@ -20,6 +18,7 @@ use Rattle.session.specs.declared.slot.Slot.{Slot}
 use Rattle.session.proofs.SlotLemmas.{same_slot, slot_cmp_total}
 use Rattle.m3_cluster.specs.First.{AreApart, slots_from, slots_of}
 use Rattle.m3_cluster.proofs.LateLemmas.{ascends_append}
+use Rattle.m3_cluster.proofs.ListLemmas.{any_of}
 use Rattle.m3_cluster.proofs.ShardLemmas.{ascends_on}
 
 -- ---- one slot or another
@@ -100,14 +99,6 @@ slot_shard (x ∷ shards) k s i =
           let shard_is : k ≡ s.shard = ap (λ (q : Slot). q.shard) from.2 in
           (0, omega (arith, shard_is), subst (IsIn (nodes_of x)) (ap (λ (q : Slot). q.node) from.2) from.1)
       | inr later ↦ let found = slot_shard shards (suc k) s later in (suc found.0, (let is = found.1 in omega (arith, is)), found.2)
-    ]
-
-any_of : (ns : List ℕ) (n : ℕ) → IsIn ns n → list_any (nat_eq n) ns ≡ true
-any_of [] n i = absurd i
-any_of (m ∷ ns) n i =
-    elim i as (λ _. (nat_eq n m || list_any (nat_eq n) ns) ≡ true) [
-      | inl same ↦ ap (λ t. t || list_any (nat_eq n) ns) (eq-eqb n m (sym same))
-      | inr later ↦ ap (λ t. nat_eq n m || t) (any_of ns n later) ∙ or_true (nat_eq n m)
     ]
 
 -- the node of a slot has a replica of its shard

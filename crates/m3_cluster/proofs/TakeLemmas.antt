@@ -6,6 +6,7 @@ use Rattle.std.specs.List.{flat_map}
 use Rattle.m3_outside.specs.declared.disk.Disk.{Ghosts}
 use Rattle.m3_outside.specs.DiskState.{DiskState}
 use Rattle.m3_model.specs.Ascends.{Ascends}
+use Rattle.m3_model.specs.Levels.{needed_write}
 use Rattle.transcripts.specs.Deliveries.{LateMessage, delivers_nothing}
 use Rattle.placement_core.specs.NodeNames.{IsNamedBelow}
 use Rattle.transcripts.specs.Faults.{Fault}
@@ -69,6 +70,9 @@ delays {D} {G} {state} {faults} {lines} {c} {m} h point level b place nodes quie
   of_act = of_act;
   was_sent = sent;
   quiet = quiet;
+  call = record { id = Some point.id; version = None; needed = needed_write level };
+  of_call = refl;
+  present = refl;
   low = shard_low h point.id;
   counted = λ n i. permuted-IsIn (counted_in m (shard_in m point.id)) nodes counts.same n i;
   by_name = counts.by_name (on h).well.lawful;
@@ -80,6 +84,9 @@ fewer {D} {G} {lines} {m} {a} {b} {point} {nodes} k d = record {
   of_act = d.of_act;
   was_sent = d.was_sent;
   quiet = d.quiet;
+  call = d.call;
+  of_call = d.of_call;
+  present = d.present;
   low = d.low;
   counted = λ n i. d.counted n (take-IsIn k nodes n i);
   by_name = ascends_take (IsNamedBelow m.net.state.place) k nodes d.by_name;
@@ -251,9 +258,9 @@ flat-IsIn f (z ∷ front) back x y i = IsIn-append_right (f z) (flat_map f (fron
 -- a turn at a place of the lines is one of them
 pub place-IsIn : {lines : List Turn} {p : TurnPlace} → IsTurnPlace lines p → IsIn (inner_turns lines) p.turn
 place-IsIn {lines} {p} at =
-    let own : IsIn (p.earlier ++ p.turn ∷ at.later) p.turn = IsIn-append_right p.earlier (p.turn ∷ at.later) p.turn (inl refl) in
-    let in_line : IsIn (joined (lists_of at.line)) p.turn = subst (λ lists. IsIn (joined lists) p.turn) (sym at.in_line) (flat-IsIn (λ list. list) at.front at.back (p.earlier ++ p.turn ∷ at.later) p.turn own) in
-    subst (λ xs. IsIn (inner_turns xs) p.turn) (sym at.in_run) (flat-IsIn (λ (t : Turn). joined (lists_of t)) p.lines at.after at.line p.turn in_line)
+    let own : IsIn (p.earlier ++ p.turn ∷ at.stands.later) p.turn = IsIn-append_right p.earlier (p.turn ∷ at.stands.later) p.turn (inl refl) in
+    let in_line : IsIn (joined (lists_of p.line)) p.turn = subst (λ lists. IsIn (joined lists) p.turn) (sym at.stands.in_line) (flat-IsIn (λ list. list) at.stands.front at.stands.back (p.earlier ++ p.turn ∷ at.stands.later) p.turn own) in
+    subst (λ xs. IsIn (inner_turns xs) p.turn) (sym at.in_run) (flat-IsIn (λ (t : Turn). joined (lists_of t)) p.lines at.after p.line p.turn in_line)
 
 -- what a late write brings was sent, at the first version
 late_sent : {D : Type 0} {G : Ghosts D} {state : D → DiskState} {faults : List Fault} {lines : List Turn} {c : Cluster D G} {m : Members D G} (h : At state faults lines c m) (one : LateWrite) → IsIn m.net.bag one
@@ -262,11 +269,12 @@ late_sent {D} {G} {state} {faults} {lines} {c} {m} h one in_bag =
     let held = (on h).late in
     let from = message_of m lines held.messages m.net.bag held.held_back one in_bag in
     let message = from.0 in
-    let was = (from.1).was_late in (
+    let held_back = from.1 in
+    let was = held_back.was_late in (
       (from.1).version,
       record {
         turn = message.place.turn;
-        served = place-IsIn was.at;
+        served = place-IsIn held_back.at;
         of_act =
             ap (λ t. cond t (point_of (spaces_in m) message.place.turn.act) None) was.was_sent
             ∙ ap (λ (r : Rules). point_of r.spaces message.place.turn.act) (sym (rules_there h act.Deliver answer.Memory)) ∙ was.of_act ∙ ap Some (sym (from.1).point);

@@ -40,7 +40,7 @@ use Rattle.replica_machine.specs.Machines.{MachineState}
 use Rattle.session.specs.Slots.{slot_at}
 use Rattle.session.specs.declared.slot.Slot.{Slot}
 use Rattle.m3_outside.specs.Depots.{Depot}
-use Rattle.m3_cluster.specs.Depots.{place_of_slot}
+use Rattle.m3_cluster.specs.Depots.{count_at, place_of_slot}
 use Rattle.m3_cluster.specs.First.{slots_of}
 use Rattle.m3_cluster.specs.Replicas.{HasReplica, IsBare, IsShutFor, faults_at}
 use Rattle.m3_cluster.specs.Steps.{spaces_in}
@@ -185,11 +185,6 @@ pub record IsHistory (turns : List Turn) (delivered : TurnPlace → List LateMes
 pub record IsEarlier (kind : FaultKind) (lines : List Turn) (fault : Fault) : Type 0 where
   pub line_low : fault.line < length lines
   pub kind_is : fault.kind ≡ kind
-
--- the count of a slot's disk: where a machine has it, that of the disk, and else the one in the slot
-abbrev pub count_at : {D : Type 0} → (D → DiskState) → Depot D → Option (MachineState D) → Slot → ℕ
-count_at state depot None s = depot.counted (place_of_slot s)
-count_at state depot (Some machine) s = (state machine.disk).faults
 
 -- the machine at a slot, before `init` none
 abbrev pub machine_at : {D : Type 0} {G : Ghosts D} → Cluster D G → Slot → Option (MachineState D)
