@@ -126,6 +126,7 @@ two_down = record {
       (inl (of_node _ 1 _ refl refl) also inl (of_node _ 2 _ refl refl) also tt);
   got = 1;
   others = refl;
+  some = omega arith;
   fewer = omega arith;
 }
 

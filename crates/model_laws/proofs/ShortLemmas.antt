@@ -1,6 +1,7 @@
 -- Why a short read has its reasons.
 use Rattle.std.proofs.Common.{◌≡◌, ◌≢◌, ◌≤◌, ◌<◌, ◌+◌, ℕ, List, [], ◌∷◌, length, true, false, refl, sym, subst, arith}
 use Rattle.std.specs.Prelude.{Some, None, pos, codes}
+use Rattle.m3_model.specs.Levels.{majority}
 use Rattle.m3_model.specs.Members.{IsIn}
 use Rattle.m3_model.specs.declared.act.Act.TheVariants as act
 use Rattle.m3_model.specs.declared.act.ReadLevel.{ReadLevel}
@@ -10,10 +11,12 @@ use Rattle.m3_model.specs.declared.reason.Reason.{Reason}
 use Rattle.m3_model.specs.declared.reason.Reason.TheVariants as reason
 use Rattle.transcripts.specs.Caused.{Caused}
 use Rattle.transcripts.specs.Calls.{AsksShard}
+use Rattle.transcripts.specs.Faults.{Fault}
+use Rattle.m3_model.specs.declared.placement.Placement.{Placement}
 use Rattle.transcripts.specs.Levels.{IsShort, IsFoundFor}
-use Rattle.model_laws.specs.Building.{begun, life_of, place, wrote}
+use Rattle.model_laws.specs.Building.{two_made, place_of_two, begun, life_of, place, wrote}
 use Rattle.model_laws.specs.Messages.{unstrict}
-use Rattle.model_laws.specs.Uncaused.{unstrict_found, unstrict_place, short_at}
+use Rattle.model_laws.specs.Uncaused.{answered_by_nobody, unstrict_found, unstrict_place, short_at}
 use Rattle.model_laws.proofs.EachLemmas.{◌also◌}
 use Rattle.model_laws.proofs.PlaceLemmas.{place_after, only, due, due_after, only_used}
 use Rattle.model_laws.proofs.SampleLemmas.{rules_when, StandsAt, stands, WindowRefuses}
@@ -67,3 +70,13 @@ other_level-refused level other caused =
     let found : IsFoundFor true [] None (place_after (begun 100 []) (act.Fetch (codes "m") (codes "hello") 0 200 level None) (answer.Found [] true)) (Some (codes "hello")) level None true =
     due_after (begun 100 []) (act.Fetch (codes "m") (codes "hello") 0 200 level None) (answer.Found [] true) [] (λ e. cc) (λ e. cc) caused in
     other (found.may_be_short refl).0
+
+pub nobody-refused : (faults : List Fault) → ¬ Caused true (life_of answered_by_nobody) faults
+nobody-refused faults caused =
+    let p = place_after two_made (unstrict 0 200) (answer.Found [] true) in
+    let found : IsFoundFor true faults None p (Some (codes "hello")) read_level.Unstrict None true = due_after two_made (unstrict 0 200) (answer.Found [] true) [] (λ e. cc) (λ e. cc) caused in
+    let same : place_of_two ≡ found.place = only_used two_made (unstrict 0 200) (answer.Found [] true) place_of_two found.place refl found.may_use in
+    let short = (found.may_be_short refl).1.2 in
+    let few : short.got < 1 = subst (λ (x : Placement). short.got < majority x.rf) (sym same) short.fewer in
+    let some : 0 < short.got = short.some in
+    omega (arith, few, some)

@@ -87,7 +87,7 @@ misses_less faults start p got needed reasons shard missed = record {
 }
 
 short_less : (faults : List Fault) (start : Option MetaState) (p : TurnPlace) (used : Placement) (shard : ℕ) → IsShort true faults start p used shard → IsShort false faults start p used shard
-short_less faults start p used shard short = record { reasons = short.reasons; silent = silent_less faults start p used shard short.reasons short.silent; got = short.got; others = short.others; fewer = short.fewer }
+short_less faults start p used shard short = record { reasons = short.reasons; silent = silent_less faults start p used shard short.reasons short.silent; got = short.got; others = short.others; some = short.some; fewer = short.fewer }
 
 found_less : (faults : List Fault) (start : Option MetaState) (p : TurnPlace) (id : Option (List ℕ)) (level : ReadLevel) (version : Option ℕ) (short : Bool) → IsFoundFor true faults start p id level version short → IsFoundFor false faults start p id level version short
 found_less faults start p id level version short found = record {

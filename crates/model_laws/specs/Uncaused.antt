@@ -6,7 +6,7 @@ use Rattle.m3_model.specs.declared.act.ReadLevel.{ReadLevel}
 use Rattle.m3_model.specs.declared.answer.Answer.{Answer}
 use Rattle.m3_model.specs.declared.answer.Answer.TheVariants as answer
 use Rattle.m3_model.specs.declared.turn.Turn.{Turn}
-use Rattle.model_laws.specs.Building.{begun, line, made, at_moment, wrote, init, write, fetch, placed, assigned, series_of, place_after}
+use Rattle.model_laws.specs.Building.{with_two_shards, begun, line, made, at_moment, wrote, init, write, fetch, placed, assigned, series_of, place_after}
 use Rattle.model_laws.specs.Messages.{stopped, unstrict}
 
 -- a write that got this answer, after the cluster and the namespace were made
@@ -44,3 +44,7 @@ unstrict_place short = place_after (begun 100 (wrote 100 (pos 5) ∷ [])) (unstr
 -- a stopped node that is refused to be restarted
 abbrev pub restart_refused : List Turn
 restart_refused = begun 100 (stopped (codes "c") ∷ line (act.Restart (codes "c") 0) (answer.State (codes "c")) ∷ [])
+
+-- an unstrict fetch of the cluster of two shards with one replica each, which is short
+abbrev pub answered_by_nobody : List Turn
+answered_by_nobody = with_two_shards (unstrict 0 200) (answer.Found [] true)

@@ -8,7 +8,8 @@ ghost use Rattle.m3_model.specs.declared.reason.Reason.TheVariants as reason;
 ghost use Rattle.transcripts.specs.Caused.{Caused};
 ghost use Rattle.transcripts.specs.Levels.{IsShort};
 ghost use Rattle.model_laws.specs.Building.{life_of, place};
-ghost use Rattle.model_laws.specs.Uncaused.{unstrict_found, unstrict_place, short_at};
+ghost use Rattle.model_laws.specs.Uncaused.{unstrict_found, unstrict_place, short_at, answered_by_nobody};
+ghost use Rattle.transcripts.specs.Faults.{Fault};
 
 /// A read whose nodes all answered isn't short. Where one is that reached each node, with no node stopped and no fault,
 /// at least two of three wanted memory.
@@ -21,4 +22,9 @@ pub fn short_for_nothing()
 /// A read at another level than unstrict is short.
 pub fn short_at_other_level()
     ensures { (level : ReadLevel) → level ≢ read_level.Unstrict → ¬ Caused true (life_of (short_at level)) [] }
+{}
+
+/// A read of a shard with one replica is short, and so was answered by nobody.
+pub fn short_of_nobody()
+    ensures { (faults : List Fault) → ¬ Caused true (life_of answered_by_nobody) faults }
 {}
