@@ -2,17 +2,17 @@ ghost use Rattle.std.specs.Prelude.{◌≡◌, ◌≤◌, [], ◌∷◌, IfOk, I
 ghost use Rattle.m3_model.specs.Names.{is_name};
 ghost use Rattle.placement_core.specs.Lawful.{IsLawful};
 
-use crate::addition::add;
-use crate::completion::cancel;
-use crate::drainage::drain;
-use crate::initial::initial;
-use crate::plan_err::PlaceErr;
-use crate::removal::remove;
-use crate::replacement::replace;
 use m3_model::memory::Memory;
 use m3_model::placement::{Assignment, Placement, ShardState};
 use m3_model::seq::Seq;
 use m3_model::text::Text;
+use placement_plan::addition::add;
+use placement_plan::completion::cancel;
+use placement_plan::drainage::drain;
+use placement_plan::initial::initial;
+use placement_plan::plan_err::PlaceErr;
+use placement_plan::removal::remove;
+use placement_plan::replacement::replace;
 use std::alloc::{AllocError, Global};
 use std::test::Fail;
 

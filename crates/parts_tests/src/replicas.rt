@@ -1,7 +1,6 @@
-use crate::event::{Event, StepCall, StepReply};
-use crate::replica_state::replica_of;
+use cluster_core::event::{Event, StepCall, StepReply};
+use cluster_core::replica_state::replica_of;
 use m3_model::memory::Memory;
-use m3_model::replica::Standing;
 use m3_model::seq::Seq;
 use std::alloc::Global;
 use std::test::Fail;
@@ -33,13 +32,15 @@ fn fenced_events(alloc: Global) -> Result<Vec<Event>, Memory> {
     Ok(events)
 }
 
-#[test]
-fn replica_is_folded_over_its_own_steps(rt: HostRuntime) -> Result<(), Fail> {
-    let alloc = rt.alloc();
+// How the first node stands after the events, its fence and its tenure.
+fn told(alloc: Global) -> Result<String, Fail> {
     let events = fenced_events(alloc)?;
     let state = replica_of(alloc, 0, 0, &events)?;
-    assert!(rt; state.standing == Standing::Open);
-    assert_eq!(rt; state.fence, 3);
-    assert_eq!(rt; state.tenure, Some(1));
+    Ok(format!(in alloc; "{:?} {} {:?}", state.standing, state.fence, state.tenure)?)
+}
+
+#[test]
+fn replica_is_folded_over_its_own_steps(rt: HostRuntime) -> Result<(), Fail> {
+    assert_eq!(rt; told(rt.alloc())?.as_str(), "Open 3 Some(1)");
     Ok(())
 }

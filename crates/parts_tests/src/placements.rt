@@ -1,10 +1,10 @@
-use crate::lawful::is_lawful;
-use crate::replicas::{counted, former, members};
-use crate::step::is_step;
 use m3_model::memory::Memory;
 use m3_model::placement::{Assignment, Instance, Placement, ShardState};
 use m3_model::seq::Seq;
 use m3_model::text::Text;
+use placement_core::lawful::is_lawful;
+use placement_core::replicas::{counted, former, members};
+use placement_core::step::is_step;
 use std::alloc::Global;
 use std::test::Fail;
 
@@ -208,16 +208,16 @@ no>23|a b c d|0L1 1A1 3I20
 no>23|a b c d|0L1 1A1 2A1
 no>13|a b c|0A1 1A1 2A1/0A1 1A1";
 
+fn is_lawful_row(alloc: Global, place: &str) -> Result<bool, Memory> {
+    Ok(is_lawful(&placement(alloc, place)?))
+}
+
 #[test]
 fn lawful_placements_are_told(rt: HostRuntime) -> Result<(), Fail> {
     let alloc = rt.alloc();
     for row in LAWFUL.lines() {
         let (want, place) = row.split_once('>').unwrap_or(("", ""));
-        assert_eq!(rt;
-            is_lawful(&placement(alloc, place)?),
-            want == "yes",
-            "{row}"
-        );
+        assert_eq!(rt; is_lawful_row(alloc, place)?, want == "yes", "{row}");
     }
     Ok(())
 }

@@ -1,14 +1,14 @@
-use crate::bag::{Bag, MOST_LATE};
-use crate::calls::Calls;
-use crate::fate_key::FateKey;
-use crate::fates::{Fates, is_fates_row};
-use crate::late_write::LateWrite;
 use m3_model::act::Fate;
 use m3_model::duplicate::Duplicate;
 use m3_model::memory::Memory;
 use m3_model::point::Point;
 use m3_model::seq::Seq;
 use m3_model::text::Text;
+use net_plan::bag::{Bag, MOST_LATE};
+use net_plan::calls::Calls;
+use net_plan::fate_key::FateKey;
+use net_plan::fates::{Fates, is_fates_row};
+use net_plan::late_write::LateWrite;
 use std::alloc::Global;
 use std::test::Fail;
 
@@ -119,29 +119,45 @@ fn late(alloc: Global, number: u64) -> Result<LateWrite, Memory> {
     })
 }
 
-fn keeps_all(alloc: Global, bag: &mut Bag, writes: u64) -> Result<bool, Memory> {
+// Keeps so many writes, with numbers from 0, and says how many the bag took before it refused one.
+fn keep_all(alloc: Global, bag: &mut Bag, writes: usize, out: &mut String) -> Result<(), Fail> {
+    let mut taken = 0;
     for number in 0..writes {
-        if bag.keep(late(alloc, number)?.copy(alloc)?).ok() != Some(true) {
-            return Ok(false);
+        if bag.keep(late(alloc, number as u64)?.copy(alloc)?).ok() != Some(true) {
+            break;
         }
+        taken = number + 1;
     }
-    Ok(true)
+    write!(out, "{taken} ")?;
+    Ok(())
+}
+
+// Empties the bag, and says how many writes came out of it, and how many of them in the place of their number.
+fn empty(bag: &mut Bag, out: &mut String) -> Result<(), Fail> {
+    let all = bag.empty()?;
+    let placed = all
+        .as_slice()
+        .iter()
+        .enumerate()
+        .filter(|(place, write)| write.number == *place as u64);
+    write!(out, "{} {}|", all.len(), placed.count())?;
+    Ok(())
+}
+
+fn kept_and_emptied(alloc: Global, out: &mut String) -> Result<(), Fail> {
+    let mut bag = Bag::new(alloc)?;
+    for writes in [MOST_LATE + 1, 0, 1] {
+        keep_all(alloc, &mut bag, writes, out)?;
+        empty(&mut bag, out)?;
+    }
+    Ok(())
 }
 
 #[test]
 fn late_writes_stay_in_order(rt: HostRuntime) -> Result<(), Fail> {
-    let alloc = rt.alloc();
-    let mut bag = Bag::new(alloc)?;
-    assert!(rt; keeps_all(alloc, &mut bag, MOST_LATE as u64)?);
-    assert_eq!(rt; bag.keep(late(alloc, 0)?).ok(), Some(false));
-    let all = bag.empty()?;
-    assert_eq!(rt; all.len(), MOST_LATE);
-    for (place, write) in all.as_slice().iter().enumerate() {
-        assert_eq!(rt; write.number, place as u64);
-    }
-    assert_eq!(rt; bag.empty()?.len(), 0);
-    assert!(rt; keeps_all(alloc, &mut bag, 1)?);
-    assert_eq!(rt; bag.empty()?.len(), 1);
+    let mut out = String::new(rt.alloc());
+    kept_and_emptied(rt.alloc(), &mut out)?;
+    assert_eq!(rt; out.as_str(), "4096 4096 4096|0 0 0|1 1 1|");
     Ok(())
 }
 

@@ -1,11 +1,11 @@
-use crate::{
-    EntryAt, WireErr, digest, get_entry, get_number, get_point, put_fence, put_number, put_point,
-    put_points, put_tenure,
-};
 use m3_model::point::Point;
 use m3_model::text::Text;
 use std::alloc::Global;
 use std::test::Fail;
+use wire_bytes::{
+    EntryAt, digest, get_entry, get_number, get_point, put_fence, put_number, put_point,
+    put_points, put_tenure,
+};
 
 // Bytes, each behind what is read there: a point, an entry or a fault.
 const ROWS: &str =
@@ -50,43 +50,80 @@ fn entry(alloc: Global, bytes: &[u8]) -> Result<String, Fail> {
     }
 }
 
+// What stands in the bytes that a row gives in base 16: an entry or a point.
+fn read(alloc: Global, hex: &str, is_entry: bool) -> Result<String, Fail> {
+    let bytes = bytes_of(alloc, hex)?;
+    if is_entry {
+        entry(alloc, &bytes)
+    } else {
+        outcome(alloc, &bytes)
+    }
+}
+
 #[test]
 fn bytes_are_those_of_the_format(rt: HostRuntime) -> Result<(), Fail> {
     for row in ROWS.lines() {
         let (want, hex) = row.split_once(" => ").expect(&rt, "two parts");
-        let bytes = bytes_of(rt.alloc(), hex)?;
         let is_entry = want.starts_with("fence") || want.starts_with("tenure");
-        let found = if is_entry {
-            entry(rt.alloc(), &bytes)?
-        } else {
-            outcome(rt.alloc(), &bytes)?
-        };
-        assert_eq!(rt; found.as_str(), want, "{row}");
+        assert_eq!(rt; read(rt.alloc(), hex, is_entry)?.as_str(), want, "{row}");
     }
     Ok(())
 }
 
-#[test]
-fn what_is_put_is_read(rt: HostRuntime) -> Result<(), Fail> {
-    let id = Text::from_string(String::from_str(rt.alloc(), "hello")?);
+// Puts an entry of a point, a fence, a tenure, a number and a point, and says whether all were put.
+fn put_all(alloc: Global, out: &mut Vec<u8>) -> Result<bool, Fail> {
+    let id = Text::from_string(String::from_str(alloc, "hello")?);
     let point = Point {
         ns: 0,
         id,
         t: 100,
         v: 5,
     };
-    let mut out = Vec::new(rt.alloc());
-    assert!(rt; put_points(&mut out, &[&point]).is_ok());
-    assert!(rt; put_fence(&mut out, 3).is_ok());
-    assert!(rt; put_tenure(&mut out, 4).is_ok());
-    assert!(rt; put_number(&mut out, 2, 258).is_ok());
-    assert!(rt; put_point(&mut out, 0, b"hello", 100, 5).is_ok());
-    assert_eq!(rt; out.len(), 27 + 9 + 9 + 2 + 24);
-    assert_eq!(rt; entry(rt.alloc(), &out)?.as_str(), "points 1");
-    assert_eq!(rt; entry(rt.alloc(), &out[27..])?.as_str(), "fence 3");
-    assert_eq!(rt; get_number(&out, 45, 2), Ok(258));
-    assert_eq!(rt; get_number(&out, 70, 2), Err(WireErr::Short));
-    assert_eq!(rt; outcome(rt.alloc(), &out[47..])?.as_str(), "0 hello 100 5");
+    Ok(
+        put_points(out, &[&point]).is_ok()
+            && put_fence(out, 3).is_ok()
+            && put_tenure(out, 4).is_ok()
+            && put_number(out, 2, 258).is_ok()
+            && put_point(out, 0, b"hello", 100, 5).is_ok(),
+    )
+}
+
+// What is read at the places where an entry, a fence, a number and a point begin, and beyond the end.
+fn read_back(alloc: Global, bytes: &[u8], out: &mut String) -> Result<(), Fail> {
+    if bytes.len() != 27 + 9 + 9 + 2 + 24 {
+        return Ok(write!(out, "{} bytes", bytes.len())?);
+    }
+    write!(
+        out,
+        "{}, {}, ",
+        entry(alloc, bytes)?,
+        entry(alloc, &bytes[27..])?
+    )?;
+    write!(
+        out,
+        "{:?}, {:?}, ",
+        get_number(bytes, 45, 2),
+        get_number(bytes, 70, 2)
+    )?;
+    Ok(write!(out, "{}", outcome(alloc, &bytes[47..])?)?)
+}
+
+fn put_and_read(alloc: Global, out: &mut String) -> Result<(), Fail> {
+    let mut bytes = Vec::new(alloc);
+    if put_all(alloc, &mut bytes)? {
+        read_back(alloc, &bytes, out)?;
+    }
+    Ok(())
+}
+
+#[test]
+fn what_is_put_is_read(rt: HostRuntime) -> Result<(), Fail> {
+    let mut out = String::new(rt.alloc());
+    put_and_read(rt.alloc(), &mut out)?;
+    assert_eq!(rt;
+        out.as_str(),
+        "points 1, fence 3, Ok(258), Err(Short), 0 hello 100 5"
+    );
     let empty = digest(&[]);
     assert_eq!(rt;
         (empty[0], empty[1], empty[30], empty[31]),

@@ -1,7 +1,6 @@
-use crate::id_err::IdErr;
-use crate::{SeriesId, has_tag, of_tags, parse, shard_of, valid};
+use crate::tags::tags_of;
 use m3_model::memory::Memory;
-use m3_model::text::Text;
+use series_id::{IdErr, SeriesId, has_tag, of_tags, parse, shard_of, valid};
 use std::alloc::Global;
 use std::test::Fail;
 
@@ -80,7 +79,7 @@ const HASHES: &str = "0 0
 4294967295 977210749 grüße
 0 519850996 the quick brown fox";
 
-fn tags_of(alloc: Global, id: &SeriesId) -> Result<String, Fail> {
+fn told_of(alloc: Global, id: &SeriesId) -> Result<String, Fail> {
     let mut text = String::new(alloc);
     match id.tags(alloc) {
         Ok(tags) => {
@@ -97,15 +96,17 @@ fn outcome(alloc: Global, text: &str) -> Result<String, Fail> {
     match parse(alloc, text) {
         Err(e) => Ok(format!(in alloc; "{e:?}")?),
         Ok(id) => {
-            let tags = tags_of(alloc, &id)?;
+            let tags = told_of(alloc, &id)?;
             let kind = if tags.is_empty() { "plain" } else { "tags" };
             Ok(format!(in alloc; "{kind}{tags}")?)
         }
     }
 }
 
-fn outcome_of(alloc: Global, tags: &[(Text, Text)]) -> Result<String, Fail> {
-    match of_tags(alloc, tags) {
+// What a list of tags spells.
+fn spelled(alloc: Global, list: &str) -> Result<String, Fail> {
+    let tags = tags_of(alloc, list)?;
+    match of_tags(alloc, tags.as_slice()) {
         Err(e) => Ok(format!(in alloc; "{e:?}")?),
         Ok(id) => Ok(String::from_str(alloc, id.text())?),
     }
@@ -127,17 +128,9 @@ fn texts_are_read(rt: HostRuntime) -> Result<(), Fail> {
 fn tags_are_spelled(rt: HostRuntime) -> Result<(), Fail> {
     for row in LISTS.lines() {
         let (want, list) = row.split_once(" => ").expect(&rt, "two parts");
-        let mut tags = Vec::new(rt.alloc());
-        for tag in list.split(';') {
-            if let Some((name, value)) = tag.split_once(':') {
-                let name = Text::from_string(String::from_str(rt.alloc(), name)?);
-                let value = Text::from_string(String::from_str(rt.alloc(), value)?);
-                tags.push((name, value))?;
-            }
-        }
-        assert_eq!(rt; outcome_of(rt.alloc(), &tags)?.as_str(), want, "{list}");
+        assert_eq!(rt; spelled(rt.alloc(), list)?.as_str(), want, "{list}");
     }
-    assert_eq!(rt; outcome_of(rt.alloc(), &[])?.as_str(), "Name { at: 1 }");
+    assert_eq!(rt; spelled(rt.alloc(), "")?.as_str(), "Name { at: 1 }");
     Ok(())
 }
 
@@ -158,19 +151,25 @@ fn many(alloc: Global, tags: usize, bytes: usize) -> Result<String, Fail> {
     Ok(text)
 }
 
+// Whether such tags are an identifier, by both readers.
+fn limit(alloc: Global, tags: usize, bytes: usize) -> Result<&'static str, Fail> {
+    let text = many(alloc, tags, bytes)?;
+    match (valid(&text), parse(alloc, &text)) {
+        (true, Ok(_)) => Ok("identifier"),
+        (false, Err(IdErr::Long)) => Ok("long"),
+        _ => Ok("other"),
+    }
+}
+
 #[test]
 fn limits_are_kept(rt: HostRuntime) -> Result<(), Fail> {
     for (tags, bytes, want) in [
-        (32, 0, true),
-        (33, 0, false),
-        (1, 506, true),
-        (1, 507, false),
+        (32, 0, "identifier"),
+        (33, 0, "long"),
+        (1, 506, "identifier"),
+        (1, 507, "long"),
     ] {
-        let text = many(rt.alloc(), tags, bytes)?;
-        assert_eq!(rt; valid(&text), want, "{tags} {bytes}");
-        if let Err(e) = parse(rt.alloc(), &text) {
-            assert_eq!(rt; e, IdErr::Long, "{tags} {bytes}");
-        }
+        assert_eq!(rt; limit(rt.alloc(), tags, bytes)?, want, "{tags} {bytes}");
     }
     Ok(())
 }
