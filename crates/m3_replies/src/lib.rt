@@ -16,6 +16,3 @@ mod status;
 mod success;
 
 pub use reply::print_reply;
-
-#[cfg(test)]
-mod tests;

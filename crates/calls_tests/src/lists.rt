@@ -1,5 +1,5 @@
-use crate::legal::any_legal;
 use crate::stories::story;
+use legal_events::legal::any_legal;
 use m3_model::memory::Memory;
 use std::alloc::Global;
 use std::process::Abort;
@@ -202,12 +202,15 @@ const WORKED: &str = "by those that took it>S1p W01p W11p A01>S1p W01p W11p A02
 once it was sent>S1p W01p W11p A01>W01p W11p A01
 when they were asked>S1p W01p W11p A01>S1p W01p ~W11p A01";
 
+fn is_legal(alloc: Global, before: &str, words: &str) -> Result<bool, Memory> {
+    let events = story(alloc, before, words)?;
+    any_legal(alloc, &events)
+}
+
 fn is_told(alloc: Global, row: &str, before: &str) -> Result<bool, Memory> {
     let (_, stories) = row.split_once('>').unwrap_or(("", ""));
     let (legal, other) = stories.split_once('>').unwrap_or(("", ""));
-    let legal = story(alloc, &format!(in alloc; "{before} {legal}")?)?;
-    let other = story(alloc, &format!(in alloc; "{before} {other}")?)?;
-    Ok(any_legal(alloc, &legal)? && !any_legal(alloc, &other)?)
+    Ok(is_legal(alloc, before, legal)? && !is_legal(alloc, before, other)?)
 }
 
 fn are_told<R: Abort>(rt: &R, alloc: Global, rows: &str, before: &str) -> Result<(), Fail> {

@@ -276,28 +276,41 @@ fn add_numbered(alloc: Global, events: &mut Vec<Event>) -> Result<(), Memory> {
     Ok(())
 }
 
+// What the word means for those behind it, and the event of it.
+fn tell_word(
+    alloc: Global,
+    events: &mut Vec<Event>,
+    scene: &mut Scene,
+    word: &str,
+) -> Result<(), Memory> {
+    let asks = word.starts_with('?') || events.len() >= 2 && !word.starts_with('~');
+    let happens = !word.starts_with('?');
+    let word = word.trim_start_matches(['?', '~']);
+    let (word, shard) = word.split_once('/').unwrap_or((word, ""));
+    scene.shard = digit(letter_at(shard.as_bytes(), 0, b'0')) as u32;
+    match word.as_bytes() {
+        [b'N'] => add_numbered(alloc, events)?,
+        [b'C', new, ..] => scene.moment = digit(*new),
+        [b'S' | b'K', ..] => scene.at = events.len() as u64,
+        _ => {}
+    }
+    add_word(alloc, events, word, scene, asks, happens)
+}
+
 /// The events of a story: words with spaces between, each of them asked for where that is due, but after `~`; after `?` it
-/// is asked for alone. A word is of the shard behind its `/`, or of shard 0. The word `N` is of the numbered points.
-pub fn story(alloc: Global, words: &str) -> Result<Seq<Event>, Memory> {
+/// is asked for alone. A word is of the shard behind its `/`, or of shard 0. The word `N` is of the numbered points. The
+/// words before come first.
+pub fn story(alloc: Global, before: &str, words: &str) -> Result<Seq<Event>, Memory> {
     let mut events = Vec::new(alloc);
     let mut scene = Scene {
         moment: 1,
         shard: 0,
         at: 0,
     };
-    for word in words.split(' ') {
-        let asks = word.starts_with('?') || events.len() >= 2 && !word.starts_with('~');
-        let happens = !word.starts_with('?');
-        let word = word.trim_start_matches(['?', '~']);
-        let (word, shard) = word.split_once('/').unwrap_or((word, ""));
-        scene.shard = digit(letter_at(shard.as_bytes(), 0, b'0')) as u32;
-        match word.as_bytes() {
-            [b'N'] => add_numbered(alloc, &mut events)?,
-            [b'C', new, ..] => scene.moment = digit(*new),
-            [b'S' | b'K', ..] => scene.at = events.len() as u64,
-            _ => {}
+    for part in [before, words] {
+        for word in part.split(' ') {
+            tell_word(alloc, &mut events, &mut scene, word)?;
         }
-        add_word(alloc, &mut events, word, &scene, asks, happens)?;
     }
     Ok(Seq::from_vec(events))
 }

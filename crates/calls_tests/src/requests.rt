@@ -1,6 +1,6 @@
-use crate::fault::LineErr;
-use crate::lines::read_line;
-use m3_model::act::{Act, ReadLevel, WriteLevel};
+use m3_json::fault::LineErr;
+use m3_json::lines::read_line;
+use m3_model::act::Act;
 use m3_model::point::Matcher;
 use m3_model::turn::Request;
 use std::alloc::Global;
@@ -233,126 +233,117 @@ fn bytes(rt: HostRuntime) {
     }
 }
 
+// The outcome of a line whose middle is so many times the piece.
+fn long_outcome(
+    alloc: Global,
+    front: &str,
+    piece: &str,
+    count: usize,
+    back: &str,
+) -> Result<&'static str, Fail> {
+    let mut line = String::from_str(alloc, front)?;
+    for _ in 0..count {
+        line.push_str(piece)?;
+    }
+    line.push_str(back)?;
+    Ok(outcome(alloc, line.as_bytes()))
+}
+
 #[test]
 fn long_lines(rt: HostRuntime) -> Result<(), Fail> {
-    let table = [
+    let id = r#"{"op":"write","ns":"m","id":""#;
+    let id_end = r#"","t":1,"v":1}"#;
+    let ns = r#"{"op":"write","ns":""#;
+    let ns_end = r#"","id":"a","t":1,"v":1}"#;
+    for (front, piece, count, back, want) in [
         ("", "[", 10_000, "", "form"),
         (r#"{"op":"tick","x":"#, "9", 400, "}", "form"),
-        (
-            r#"{"op":"write","ns":"m","id":""#,
-            "x",
-            512,
-            r#"","t":1,"v":1}"#,
-            "ok",
-        ),
-        (
-            r#"{"op":"write","ns":"m","id":""#,
-            "x",
-            513,
-            r#"","t":1,"v":1}"#,
-            "form",
-        ),
-        (
-            r#"{"op":"write","ns":""#,
-            "m",
-            32,
-            r#"","id":"a","t":1,"v":1}"#,
-            "ok",
-        ),
-        (
-            r#"{"op":"write","ns":""#,
-            "m",
-            33,
-            r#"","id":"a","t":1,"v":1}"#,
-            "form",
-        ),
-    ];
-    for (front, piece, count, back, want) in table {
-        let mut line = String::from_str(rt.alloc(), front)?;
-        for _ in 0..count {
-            line.push_str(piece)?;
-        }
-        line.push_str(back)?;
-        assert_eq!(rt;
-            outcome(rt.alloc(), line.as_bytes()),
-            want,
-            "{count} of {piece}"
-        );
+        (id, "x", 512, id_end, "ok"),
+        (id, "x", 513, id_end, "form"),
+        (ns, "m", 32, ns_end, "ok"),
+        (ns, "m", 33, ns_end, "form"),
+    ] {
+        let got = long_outcome(rt.alloc(), front, piece, count, back)?;
+        assert_eq!(rt; got, want, "{count} of {piece}");
     }
     Ok(())
 }
 
-#[test]
-fn fields(rt: HostRuntime) {
-    let write = br#"{"v":-7,"t":100,"id":"hello","ns":"m","op":"write"}"#;
-    assert!(rt;
-        read_line(rt.alloc(), write).is_ok_and(|request| match request {
-            Request::One(
-                Act::Write {
-                    ns,
-                    id,
-                    t,
-                    v,
-                    level,
-                    version
-                }
-            ) => ns.as_str() == "m"
-                && id.as_str() == "hello"
-                && (t, v) == (100, -7)
-                && level == WriteLevel::Majority
-                && version.is_none(),
-            _ => false,
-        })
-    );
-    let fetch = br#"{"to":9,"from":2,"id":"hello","ns":"m","op":"fetch"}"#;
-    assert!(rt;
-        read_line(rt.alloc(), fetch).is_ok_and(|request| match request {
-            Request::One(
-                Act::Fetch {
-                    ns,
-                    id,
-                    from,
-                    to,
-                    level,
-                    version
-                }
-            ) => ns.as_str() == "m"
-                && id.as_str() == "hello"
-                && (from, to) == (2, 9)
-                && level == ReadLevel::Majority
-                && version.is_none(),
-            _ => false,
-        })
-    );
-    let wanted =
-        br#"{"where":[["dc","=","x"],["h","!=",""]],"to":9,"from":2,"ns":"m","op":"match"}"#;
-    assert!(rt;
-        read_line(rt.alloc(), wanted).is_ok_and(|request| match request {
-            Request::One(
-                Act::Match {
-                    ns,
-                    wanted,
-                    from,
-                    to,
-                    ..
-                }
-            ) => { ns.as_str() == "m" && (from, to) == (2, 9) && are_two(wanted.as_slice()) }
-            _ => false,
-        })
-    );
+// Lines of fields in another order, each with what is read of it before it.
+const FIELDS: &str =
+    r#"write m hello 100 -7 Majority None => {"v":-7,"t":100,"id":"hello","ns":"m","op":"write"}
+fetch m hello 2 9 Majority None => {"to":9,"from":2,"id":"hello","ns":"m","op":"fetch"}
+match m dc=x h!= 2 9 => {"where":[["dc","=","x"],["h","!=",""]],"to":9,"from":2,"ns":"m","op":"match"}"#;
+
+fn tell_matcher(matcher: &Matcher, out: &mut String) -> Result<(), Fail> {
+    let sign = if matcher.equal { "=" } else { "!=" };
+    Ok(write!(
+        out,
+        "{}{sign}{} ",
+        matcher.name.as_str(),
+        matcher.value.as_str()
+    )?)
 }
 
-// The matchers of the line in `fields`.
-fn are_two(wanted: &[Matcher]) -> bool {
-    match wanted {
-        [a, b] => {
-            a.name.as_str() == "dc"
-                && a.equal
-                && a.value.as_str() == "x"
-                && b.name.as_str() == "h"
-                && !b.equal
-                && b.value.as_str() == ""
+fn tell_act(act: &Act, out: &mut String) -> Result<(), Fail> {
+    match act {
+        Act::Write {
+            ns,
+            id,
+            t,
+            v,
+            level,
+            version,
+        } => write!(
+            out,
+            "write {} {} {t} {v} {level:?} {version:?}",
+            ns.as_str(),
+            id.as_str()
+        )?,
+        Act::Fetch {
+            ns,
+            id,
+            from,
+            to,
+            level,
+            version,
+        } => write!(
+            out,
+            "fetch {} {} {from} {to} {level:?} {version:?}",
+            ns.as_str(),
+            id.as_str()
+        )?,
+        Act::Match {
+            ns,
+            wanted,
+            from,
+            to,
+            ..
+        } => {
+            write!(out, "match {} ", ns.as_str())?;
+            for matcher in wanted.as_slice() {
+                tell_matcher(matcher, out)?;
+            }
+            write!(out, "{from} {to}")?;
         }
-        _ => false,
+        _ => {}
     }
+    Ok(())
+}
+
+fn told(alloc: Global, line: &str) -> Result<String, Fail> {
+    let mut out = String::new(alloc);
+    if let Ok(Request::One(act)) = read_line(alloc, line.as_bytes()) {
+        tell_act(&act, &mut out)?;
+    }
+    Ok(out)
+}
+
+#[test]
+fn fields(rt: HostRuntime) -> Result<(), Fail> {
+    for row in FIELDS.lines() {
+        let (want, line) = row.split_once(" => ").unwrap_or(("", ""));
+        assert_eq!(rt; told(rt.alloc(), line)?.as_str(), want, "{line}");
+    }
+    Ok(())
 }

@@ -1,4 +1,3 @@
-use crate::print_reply;
 use m3_model::answer::{Answer, RepairLine, StatusLine};
 use m3_model::memory::Memory;
 use m3_model::placement::{Assignment, Instance, Placement, ShardState};
@@ -8,6 +7,7 @@ use m3_model::replica::Standing;
 use m3_model::seq::Seq;
 use m3_model::text::Text;
 use m3_model::turn::Reply;
+use m3_replies::print_reply;
 use std::alloc::Global;
 use std::test::Fail;
 
@@ -213,179 +213,124 @@ fn corrupt(alloc: Global, damage: Damage) -> Result<Answer, Memory> {
     }
 }
 
-// Whether the answer, made or not, prints as this.
-fn prints(alloc: Global, answer: Result<Answer, Memory>, want: &str) -> Result<bool, Memory> {
-    let place = place(alloc)?;
-    let text = print_reply(alloc, &Reply::One(answer?), Some(&place))?;
-    Ok(text.as_str() == want)
+// An answer that is no refusal, by a word; one that isn't listed is done.
+fn service(alloc: Global, word: &str) -> Result<Answer, Memory> {
+    match word {
+        "placed" => placed(alloc),
+        "available" => available(alloc),
+        "acks" => acks(alloc),
+        "found" => found(alloc, "hello", &[(100, 5)], false),
+        "short" => found(alloc, "a\"b\n", &[(0, -1), (7, 9)], true),
+        "stale" => outcomes(alloc, Some(Reason::Stale { fence: 3 })),
+        "took" => outcomes(alloc, None),
+        "swept" => swept(alloc),
+        "repaired" => repaired(alloc),
+        "status" => status(alloc, Standing::Open),
+        _ => Ok(Answer::Done),
+    }
 }
 
-#[test]
-fn prints_placements(rt: HostRuntime) -> Result<(), Fail> {
-    let alloc = rt.alloc();
-    assert!(rt;
-        prints(
-            alloc,
-            placed(alloc),
-            "{\"ok\":true,\"placement\":{\"instances\":[[\"a\",\"g1\",false],[\"b\",\"g2\",false],[\"c\",\"g3\",false]],\"rf\":3,\"shards\":[[[\"a\",\"available\",1],[\"b\",\"available\",1],[\"c\",\"available\",1]]]},\"version\":1}"
-        )?
-    );
-    assert!(rt;
-        prints(
-            alloc,
-            available(alloc),
-            "{\"available\":[[0,[\"a\",\"c\"]]],\"ok\":true,\"placement\":{\"instances\":[[\"a\",\"g1\",false],[\"b\",\"g2\",false],[\"c\",\"g3\",false]],\"rf\":3,\"shards\":[[[\"a\",\"leaving\",1],[\"b\",\"initializing\",2,\"a\"],[\"c\",\"available\",1]]]},\"version\":2}"
-        )?
-    );
-    Ok(())
+// A refusal by a word; one that isn't listed is of the form.
+fn refusal(alloc: Global, word: &str) -> Result<Answer, Memory> {
+    match word {
+        "long" => Ok(Answer::Long),
+        "order" => Ok(Answer::Order),
+        "unknown" => unknown(alloc),
+        "limit" => Ok(Answer::Limit { limit: 64 }),
+        "clock" => Ok(Answer::Clock { now: 100 }),
+        "consistency" => consistency(alloc),
+        "busy" => busy(alloc),
+        "group" => Ok(Answer::Group { shard: 2 }),
+        "peers" => peers(alloc, Reason::Stale { fence: 2 }),
+        "disk" => disk(alloc),
+        "state" => state(alloc),
+        "memory" => Ok(Answer::Memory),
+        "full" => Ok(Answer::Full),
+        "digest" => corrupt(alloc, digest_damage(alloc)?),
+        "damage" => corrupt(alloc, form_damage(alloc)?),
+        "later" => Ok(Answer::Later),
+        _ => Ok(Answer::Form),
+    }
 }
+
+fn print(alloc: Global, reply: &Reply) -> Result<Text, Memory> {
+    let place = place(alloc)?;
+    print_reply(alloc, reply, Some(&place))
+}
+
+fn print_service(alloc: Global, word: &str) -> Result<Text, Memory> {
+    let reply = Reply::One(service(alloc, word)?);
+    print(alloc, &reply)
+}
+
+fn print_refusal(alloc: Global, word: &str) -> Result<Text, Memory> {
+    let reply = Reply::One(refusal(alloc, word)?);
+    print(alloc, &reply)
+}
+
+// Answers by their words, and the lines that they are printed as.
+const SERVICES: &str =
+    r#"placed {"ok":true,"placement":{"instances":[["a","g1",false],["b","g2",false],["c","g3",false]],"rf":3,"shards":[[["a","available",1],["b","available",1],["c","available",1]]]},"version":1}
+available {"available":[[0,["a","c"]]],"ok":true,"placement":{"instances":[["a","g1",false],["b","g2",false],["c","g3",false]],"rf":3,"shards":[[["a","leaving",1],["b","initializing",2,"a"],["c","available",1]]]},"version":2}
+done {"ok":true}
+acks {"acks":["a","b","c"],"ok":true}
+found {"ok":true,"series":[{"id":"hello","points":[[100,5]]}],"short":false}
+short {"ok":true,"series":[{"id":"a\"b\n","points":[[0,-1],[7,9]]}],"short":true}
+stale {"ok":true,"outcomes":[["b",0,"stale",3]]}
+took {"ok":true,"outcomes":[["b",0,"took"]]}
+swept {"done":[["a",0,12]],"failed":[["c",0,"disk"]],"ok":true}
+repaired {"ok":true,"shards":[{"digests":[["a","abababababababababababababababababababababababababababababababab"]],"failed":[["c","down"]],"merged":4,"shard":0}]}
+status {"now":5,"ok":true,"replicas":[{"buffered":0,"fence":1,"node":"a","segments":1,"shard":0,"snapshot":1,"standing":"open","state":"available","volumes":1}],"version":1}"#;
+
+const REFUSALS: &str = r#"form {"code":1,"error":"form","ok":false}
+long {"code":2,"error":"long","ok":false}
+order {"code":3,"error":"order","ok":false}
+unknown {"code":4,"error":"unknown","name":"zz","ok":false}
+limit {"code":5,"error":"limit","limit":64,"ok":false}
+clock {"code":6,"error":"clock","now":100,"ok":false}
+consistency {"code":7,"error":"consistency","got":0,"needed":2,"ok":false,"reasons":[["a","past"],["b","past"],["c","past"]],"shard":0}
+busy {"code":8,"error":"busy","node":"d","ok":false,"shard":0}
+group {"code":9,"error":"group","ok":false,"shard":2}
+peers {"code":10,"error":"peers","got":1,"needed":2,"ok":false,"reasons":[["a","stale",2]],"shard":3}
+disk {"code":11,"error":"disk","node":"a","ok":false,"shard":1}
+state {"code":12,"error":"state","node":"a","ok":false}
+memory {"code":13,"error":"memory","ok":false}
+full {"code":14,"error":"full","ok":false}
+digest {"code":15,"error":"corrupt","file":"log","found":"ffffffffffffffffffffffffffffffffffffffffffffffffffffffffffffffff","kept":"1010101010101010101010101010101010101010101010101010101010101010","node":"a","ok":false,"shard":0}
+damage {"at":9,"code":15,"error":"corrupt","file":"log","node":"a","ok":false,"shard":0}
+later {"code":16,"error":"later","ok":false}"#;
 
 #[test]
 fn prints_services(rt: HostRuntime) -> Result<(), Fail> {
-    let alloc = rt.alloc();
-    let table = [
-        (Ok(Answer::Done), "{\"ok\":true}"),
-        (acks(alloc), "{\"acks\":[\"a\",\"b\",\"c\"],\"ok\":true}"),
-        (
-            found(alloc, "hello", &[(100, 5)], false),
-            "{\"ok\":true,\"series\":[{\"id\":\"hello\",\"points\":[[100,5]]}],\"short\":false}",
-        ),
-        (
-            found(alloc, "a\"b\n", &[(0, -1), (7, 9)], true),
-            "{\"ok\":true,\"series\":[{\"id\":\"a\\\"b\\n\",\"points\":[[0,-1],[7,9]]}],\"short\":true}",
-        ),
-        (
-            outcomes(alloc, Some(Reason::Stale { fence: 3 })),
-            "{\"ok\":true,\"outcomes\":[[\"b\",0,\"stale\",3]]}",
-        ),
-        (
-            outcomes(alloc, None),
-            "{\"ok\":true,\"outcomes\":[[\"b\",0,\"took\"]]}",
-        ),
-        (
-            swept(alloc),
-            "{\"done\":[[\"a\",0,12]],\"failed\":[[\"c\",0,\"disk\"]],\"ok\":true}",
-        ),
-        (
-            repaired(alloc),
-            "{\"ok\":true,\"shards\":[{\"digests\":[[\"a\",\"abababababababababababababababababababababababababababababababab\"]],\"failed\":[[\"c\",\"down\"]],\"merged\":4,\"shard\":0}]}",
-        ),
-        (
-            status(alloc, Standing::Open),
-            "{\"now\":5,\"ok\":true,\"replicas\":[{\"buffered\":0,\"fence\":1,\"node\":\"a\",\"segments\":1,\"shard\":0,\"snapshot\":1,\"standing\":\"open\",\"state\":\"available\",\"volumes\":1}],\"version\":1}",
-        ),
-    ];
-    for (answer, want) in table {
-        assert!(rt; prints(alloc, answer, want)?, "{want}");
+    for row in SERVICES.lines() {
+        let (word, want) = row.split_once(' ').unwrap_or(("", ""));
+        assert_eq!(rt; print_service(rt.alloc(), word)?.as_str(), want);
     }
     Ok(())
 }
 
 #[test]
 fn prints_refusals(rt: HostRuntime) -> Result<(), Fail> {
-    let alloc = rt.alloc();
-    let table = [
-        (
-            Ok(Answer::Form),
-            "{\"code\":1,\"error\":\"form\",\"ok\":false}",
-        ),
-        (
-            Ok(Answer::Long),
-            "{\"code\":2,\"error\":\"long\",\"ok\":false}",
-        ),
-        (
-            Ok(Answer::Order),
-            "{\"code\":3,\"error\":\"order\",\"ok\":false}",
-        ),
-        (
-            unknown(alloc),
-            "{\"code\":4,\"error\":\"unknown\",\"name\":\"zz\",\"ok\":false}",
-        ),
-        (
-            Ok(Answer::Limit { limit: 64 }),
-            "{\"code\":5,\"error\":\"limit\",\"limit\":64,\"ok\":false}",
-        ),
-        (
-            Ok(Answer::Clock { now: 100 }),
-            "{\"code\":6,\"error\":\"clock\",\"now\":100,\"ok\":false}",
-        ),
-        (
-            consistency(alloc),
-            "{\"code\":7,\"error\":\"consistency\",\"got\":0,\"needed\":2,\"ok\":false,\"reasons\":[[\"a\",\"past\"],[\"b\",\"past\"],[\"c\",\"past\"]],\"shard\":0}",
-        ),
-        (
-            busy(alloc),
-            "{\"code\":8,\"error\":\"busy\",\"node\":\"d\",\"ok\":false,\"shard\":0}",
-        ),
-        (
-            Ok(Answer::Group { shard: 2 }),
-            "{\"code\":9,\"error\":\"group\",\"ok\":false,\"shard\":2}",
-        ),
-        (
-            peers(alloc, Reason::Stale { fence: 2 }),
-            "{\"code\":10,\"error\":\"peers\",\"got\":1,\"needed\":2,\"ok\":false,\"reasons\":[[\"a\",\"stale\",2]],\"shard\":3}",
-        ),
-        (
-            disk(alloc),
-            "{\"code\":11,\"error\":\"disk\",\"node\":\"a\",\"ok\":false,\"shard\":1}",
-        ),
-        (
-            state(alloc),
-            "{\"code\":12,\"error\":\"state\",\"node\":\"a\",\"ok\":false}",
-        ),
-        (
-            Ok(Answer::Memory),
-            "{\"code\":13,\"error\":\"memory\",\"ok\":false}",
-        ),
-        (
-            Ok(Answer::Full),
-            "{\"code\":14,\"error\":\"full\",\"ok\":false}",
-        ),
-        (
-            Ok(Answer::Later),
-            "{\"code\":16,\"error\":\"later\",\"ok\":false}",
-        ),
-    ];
-    for (answer, want) in table {
-        assert!(rt; prints(alloc, answer, want)?, "{want}");
+    for row in REFUSALS.lines() {
+        let (word, want) = row.split_once(' ').unwrap_or(("", ""));
+        assert_eq!(rt; print_refusal(rt.alloc(), word)?.as_str(), want);
     }
     Ok(())
 }
 
-#[test]
-fn prints_damage(rt: HostRuntime) -> Result<(), Fail> {
-    let alloc = rt.alloc();
-    let digest = corrupt(alloc, digest_damage(alloc)?);
-    assert!(rt;
-        prints(
-            alloc,
-            digest,
-            "{\"code\":15,\"error\":\"corrupt\",\"file\":\"log\",\"found\":\"ffffffffffffffffffffffffffffffffffffffffffffffffffffffffffffffff\",\"kept\":\"1010101010101010101010101010101010101010101010101010101010101010\",\"node\":\"a\",\"ok\":false,\"shard\":0}"
-        )?
-    );
-    let form = corrupt(alloc, form_damage(alloc)?);
-    assert!(rt;
-        prints(
-            alloc,
-            form,
-            "{\"at\":9,\"code\":15,\"error\":\"corrupt\",\"file\":\"log\",\"node\":\"a\",\"ok\":false,\"shard\":0}"
-        )?
-    );
-    Ok(())
-}
-
-#[test]
-fn prints_lists_of_replies(rt: HostRuntime) -> Result<(), Fail> {
-    let alloc = rt.alloc();
+// The replies of one client, where there is no placement yet.
+fn beside(alloc: Global) -> Result<Text, Memory> {
     let client = one(alloc, Answer::Later)?;
     let reply = Reply::Par {
         clients: one(alloc, client)?,
         workers: Seq::new(alloc),
     };
-    let text = print_reply(alloc, &reply, None)?;
-    assert_eq!(rt;
-        text.as_str(),
-        "{\"clients\":[[{\"code\":16,\"error\":\"later\",\"ok\":false}]],\"ok\":true,\"workers\":[]}"
-    );
+    print_reply(alloc, &reply, None)
+}
+
+#[test]
+fn prints_lists_of_replies(rt: HostRuntime) -> Result<(), Fail> {
+    let want = r#"{"clients":[[{"code":16,"error":"later","ok":false}]],"ok":true,"workers":[]}"#;
+    assert_eq!(rt; beside(rt.alloc())?.as_str(), want);
     Ok(())
 }

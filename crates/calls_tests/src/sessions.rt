@@ -1,14 +1,6 @@
 ghost use Rattle.std.specs.Prelude.{◌≡◌, ◌≤◌, length, IfOk};
 ghost use Rattle.wire_bytes.specs.Entries.{IsBounded};
 
-use crate::call::Call;
-use crate::deliver::deliver;
-use crate::machines::Machines;
-use crate::net::Net;
-use crate::read::{Found, fetch};
-use crate::session_err::SessionErr;
-use crate::slot::Slot;
-use crate::write::write;
 use m3_model::act::{Fate, ReadLevel, WriteLevel};
 use m3_model::memory::Memory;
 use m3_model::placement::{Assignment, Instance, Placement, ShardState};
@@ -21,6 +13,14 @@ use mem_disk::disk::MemDisk;
 use net_plan::bag::Bag;
 use net_plan::fates::{Fates, is_fates_row};
 use replica_machine::machine::Machine;
+use session::call::Call;
+use session::deliver::deliver;
+use session::machines::Machines;
+use session::net::Net;
+use session::read::{Found, fetch};
+use session::session_err::SessionErr;
+use session::slot::Slot;
+use session::write::write;
 use std::alloc::Global;
 use std::test::Fail;
 
@@ -93,19 +93,33 @@ fn rules(alloc: Global) -> Result<Rules, Memory> {
     })
 }
 
+fn booted(alloc: Global, fuse: Option<u64>) -> Result<Machine<MemDisk>, Memory> {
+    let mut machine = Machine::new(alloc, MemDisk::new(alloc, &[], fuse)?);
+    match machine.boot(1) {
+        Ok(_) => Ok(machine),
+        Err(_) => Err(Memory),
+    }
+}
+
+fn add_machine(
+    alloc: Global,
+    machines: &mut Machines<MemDisk>,
+    node: u8,
+    fuse: Option<u64>,
+) -> Result<(), Memory> {
+    let machine = booted(alloc, fuse)?;
+    match machines.insert(Slot { shard: 0, node }, machine) {
+        Ok(()) => Ok(()),
+        Err(_) => Err(Memory),
+    }
+}
+
 // Each of them began with tenure 1. Of the first one's disk all calls fail after so many, until it is restarted.
 fn machines(alloc: Global, fuse: Option<u64>) -> Result<Machines<MemDisk>, Memory> {
     let mut all = Machines::new(alloc);
-    for node in 0u8..3 {
-        let fuse = if node == 0 { fuse } else { None };
-        let mut machine = Machine::new(alloc, MemDisk::new(alloc, &[], fuse)?);
-        if machine.boot(1).is_err() {
-            return Err(Memory);
-        }
-        if all.insert(Slot { shard: 0, node }, machine).is_err() {
-            return Err(Memory);
-        }
-    }
+    add_machine(alloc, &mut all, 0, fuse)?;
+    add_machine(alloc, &mut all, 1, None)?;
+    add_machine(alloc, &mut all, 2, None)?;
     Ok(all)
 }
 
@@ -275,29 +289,59 @@ fn act(
     Ok(())
 }
 
-// What the acts of a row answer, one word each.
-fn story(alloc: Global, fuse: Option<u64>, listed: &str, acts: &str) -> Result<Vec<u8>, Memory> {
-    let mut out = Vec::new(alloc);
-    let mut net = Net {
-        state: MetaState {
-            rules: rules(alloc)?,
-            seed: 0,
-            place: placement(alloc)?,
-        },
-        machines: machines(alloc, fuse)?,
-        fates: fates(alloc, listed)?,
-        bag: Bag::new(alloc)?,
-    };
+fn state(alloc: Global) -> Result<MetaState, Memory>
+    ensures { IfOk result (λ state. length state.place.shards ≡ 1) }
+{
+    let rules = rules(alloc)?;
+    let place = placement(alloc)?;
+    Ok(MetaState {
+        rules,
+        seed: 0,
+        place,
+    })
+}
+
+fn net(alloc: Global, fuse: Option<u64>, listed: &str) -> Result<Net<MemDisk>, Memory> {
+    let state = state(alloc)?;
+    let fates = fates(alloc, listed)?;
+    let bag = Bag::new(alloc)?;
+    let machines = machines(alloc, fuse)?;
+    Ok(Net {
+        state,
+        machines,
+        fates,
+        bag,
+    })
+}
+
+// What the acts answer, one word each.
+fn act_all(
+    alloc: Global,
+    net: &mut Net<MemDisk>,
+    acts: &str,
+    out: &mut Vec<u8>,
+) -> Result<(), Memory> {
     for (number, word) in acts.split(' ').enumerate() {
         let call = Call {
             client: 0,
             number: number as u64,
             version: None,
         };
-        act(alloc, &mut net, &call, word, &mut out)?;
+        act(alloc, net, &call, word, out)?;
         out.push(b':')?;
     }
-    Ok(out)
+    Ok(())
+}
+
+fn story(
+    alloc: Global,
+    fuse: Option<u64>,
+    listed: &str,
+    acts: &str,
+    out: &mut Vec<u8>,
+) -> Result<(), Memory> {
+    let mut net = net(alloc, fuse, listed)?;
+    act_all(alloc, &mut net, acts, out)
 }
 
 // How many calls of the first disk pass, if not all; fates, acts, and their answers, each ended by a colon. An act's number is
@@ -315,14 +359,22 @@ const STORIES: &str = "||wM05 rM d|abc:05,.::
 ||o7 b7 s0 o0 b0 o0 rA|?:::-:::.:
 20||wA05 wA16 wA27 b0 o0 s1 s2 rO|abc:2/3a~:2/3a-:::::05,.:";
 
+fn told(alloc: Global, row: &str) -> Result<Vec<u8>, Memory> {
+    let (fuse, rest) = row.split_once('|').unwrap_or(("", ""));
+    let (listed, acts) = rest.split_once('|').unwrap_or(("", ""));
+    let mut out = Vec::new(alloc);
+    story(alloc, fuse.parse::<u64>().ok(), listed, acts, &mut out)?;
+    Ok(out)
+}
+
 #[test]
 fn stories_are_told(rt: HostRuntime) -> Result<(), Fail> {
     for row in STORIES.lines() {
-        let (fuse, rest) = row.split_once('|').unwrap_or(("", ""));
-        let (listed, rest) = rest.split_once('|').unwrap_or(("", ""));
-        let (acts, want) = rest.split_once('|').unwrap_or(("", ""));
-        let told = story(rt.alloc(), fuse.parse::<u64>().ok(), listed, acts)?;
-        assert!(rt; told.as_slice() == want.as_bytes(), "{row}");
+        let (story, want) = row.rsplit_once('|').unwrap_or(("", ""));
+        assert!(rt;
+            told(rt.alloc(), story)?.as_slice() == want.as_bytes(),
+            "{row}"
+        );
     }
     Ok(())
 }
