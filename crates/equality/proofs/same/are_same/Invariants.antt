@@ -1,5 +1,5 @@
 use Rattle.std.proofs.Common.{◌≡◌, ◌↔◌, drop}
-use Rattle.lawful_steps.proofs.same.are_same.Given as goal
+use Rattle.equality.proofs.same.are_same.Given as goal
 
 -- the whole lists are the same exactly where what is left of them is
 abbrev pub invariant-loop-item : goal.invariant-loop-item
