@@ -359,22 +359,25 @@ const STORIES: &str = "||wM05 rM d|abc:05,.::
 ||o7 b7 s0 o0 b0 o0 rA|?:::-:::.:
 20||wA05 wA16 wA27 b0 o0 s1 s2 rO|abc:2/3a~:2/3a-:::::05,.:";
 
-fn told(alloc: Global, row: &str) -> Result<Vec<u8>, Memory> {
-    let (fuse, rest) = row.split_once('|').unwrap_or(("", ""));
-    let (listed, acts) = rest.split_once('|').unwrap_or(("", ""));
-    let mut out = Vec::new(alloc);
-    story(alloc, fuse.parse::<u64>().ok(), listed, acts, &mut out)?;
-    Ok(out)
+// Each row's acts with what they answer.
+fn tell_rows(alloc: Global, rows: &str, out: &mut Vec<u8>) -> Result<(), Memory> {
+    for row in rows.lines() {
+        let (told, _) = row.rsplit_once('|').unwrap_or(("", ""));
+        let (fuse, rest) = told.split_once('|').unwrap_or(("", ""));
+        let (listed, acts) = rest.split_once('|').unwrap_or(("", ""));
+        out.extend_from_slice(told.as_bytes())?;
+        out.push(b'|')?;
+        story(alloc, fuse.parse::<u64>().ok(), listed, acts, out)?;
+        out.push(b'\n')?;
+    }
+    Ok(())
 }
 
 #[test]
 fn stories_are_told(rt: HostRuntime) -> Result<(), Fail> {
-    for row in STORIES.lines() {
-        let (story, want) = row.rsplit_once('|').unwrap_or(("", ""));
-        assert!(rt;
-            told(rt.alloc(), story)?.as_slice() == want.as_bytes(),
-            "{row}"
-        );
-    }
+    let mut out = Vec::new(rt.alloc());
+    tell_rows(rt.alloc(), STORIES, &mut out)?;
+    let told = str::from_utf8(out.as_slice()).unwrap_or("");
+    assert_eq!(rt; told.trim_end(), STORIES);
     Ok(())
 }
