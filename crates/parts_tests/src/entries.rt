@@ -31,42 +31,50 @@ fn bytes_of(alloc: Global, hex: &str) -> Result<Vec<u8>, Fail> {
     Ok(bytes)
 }
 
-fn outcome(alloc: Global, bytes: &[u8]) -> Result<String, Fail> {
+fn tell_point(bytes: &[u8], out: &mut String) -> Result<(), Fail> {
     match get_point(bytes, 0) {
         Ok(p) => {
             let id = str::from_utf8(&bytes[p.id_from..p.id_to]).unwrap_or("");
-            Ok(format!(in alloc; "{} {id} {} {}", p.ns, p.t, p.v)?)
+            Ok(write!(out, "{} {id} {} {}", p.ns, p.t, p.v)?)
         }
-        Err(e) => Ok(format!(in alloc; "{e:?}")?),
+        Err(e) => Ok(write!(out, "{e:?}")?),
     }
 }
 
-fn entry(alloc: Global, bytes: &[u8]) -> Result<String, Fail> {
+fn tell_entry(bytes: &[u8], out: &mut String) -> Result<(), Fail> {
     match get_entry(bytes, 0) {
-        Ok(EntryAt::Points { count, .. }) => Ok(format!(in alloc; "points {count}")?),
-        Ok(EntryAt::Fence { fence, .. }) => Ok(format!(in alloc; "fence {fence}")?),
-        Ok(EntryAt::Tenure { tenure, .. }) => Ok(format!(in alloc; "tenure {tenure}")?),
-        Err(e) => Ok(format!(in alloc; "{e:?}")?),
+        Ok(EntryAt::Points { count, .. }) => Ok(write!(out, "points {count}")?),
+        Ok(EntryAt::Fence { fence, .. }) => Ok(write!(out, "fence {fence}")?),
+        Ok(EntryAt::Tenure { tenure, .. }) => Ok(write!(out, "tenure {tenure}")?),
+        Err(e) => Ok(write!(out, "{e:?}")?),
     }
 }
 
 // What stands in the bytes that a row gives in base 16: an entry or a point.
-fn read(alloc: Global, hex: &str, is_entry: bool) -> Result<String, Fail> {
+fn read(alloc: Global, hex: &str, is_entry: bool, out: &mut String) -> Result<(), Fail> {
     let bytes = bytes_of(alloc, hex)?;
     if is_entry {
-        entry(alloc, &bytes)
+        tell_entry(&bytes, out)
     } else {
-        outcome(alloc, &bytes)
+        tell_point(&bytes, out)
     }
+}
+
+fn read_rows(alloc: Global, rows: &str, out: &mut String) -> Result<(), Fail> {
+    for row in rows.lines() {
+        let (want, hex) = row.split_once(" => ").unwrap_or(("", ""));
+        let is_entry = want.starts_with("fence") || want.starts_with("tenure");
+        read(alloc, hex, is_entry, out)?;
+        write!(out, " => {hex}\n")?;
+    }
+    Ok(())
 }
 
 #[test]
 fn bytes_are_those_of_the_format(rt: HostRuntime) -> Result<(), Fail> {
-    for row in ROWS.lines() {
-        let (want, hex) = row.split_once(" => ").expect(&rt, "two parts");
-        let is_entry = want.starts_with("fence") || want.starts_with("tenure");
-        assert_eq!(rt; read(rt.alloc(), hex, is_entry)?.as_str(), want, "{row}");
-    }
+    let mut out = String::new(rt.alloc());
+    read_rows(rt.alloc(), ROWS, &mut out)?;
+    assert_eq!(rt; out.as_str().trim_end(), ROWS);
     Ok(())
 }
 
@@ -89,29 +97,22 @@ fn put_all(alloc: Global, out: &mut Vec<u8>) -> Result<bool, Fail> {
 }
 
 // What is read at the places where an entry, a fence, a number and a point begin, and beyond the end.
-fn read_back(alloc: Global, bytes: &[u8], out: &mut String) -> Result<(), Fail> {
+fn read_back(bytes: &[u8], out: &mut String) -> Result<(), Fail> {
     if bytes.len() != 27 + 9 + 9 + 2 + 24 {
         return Ok(write!(out, "{} bytes", bytes.len())?);
     }
-    write!(
-        out,
-        "{}, {}, ",
-        entry(alloc, bytes)?,
-        entry(alloc, &bytes[27..])?
-    )?;
-    write!(
-        out,
-        "{:?}, {:?}, ",
-        get_number(bytes, 45, 2),
-        get_number(bytes, 70, 2)
-    )?;
-    Ok(write!(out, "{}", outcome(alloc, &bytes[47..])?)?)
+    tell_entry(bytes, out)?;
+    out.push_str(", ")?;
+    tell_entry(&bytes[27..], out)?;
+    write!(out, ", {:?}, ", get_number(bytes, 45, 2))?;
+    write!(out, "{:?}, ", get_number(bytes, 70, 2))?;
+    tell_point(&bytes[47..], out)
 }
 
 fn put_and_read(alloc: Global, out: &mut String) -> Result<(), Fail> {
     let mut bytes = Vec::new(alloc);
     if put_all(alloc, &mut bytes)? {
-        read_back(alloc, &bytes, out)?;
+        read_back(&bytes, out)?;
     }
     Ok(())
 }

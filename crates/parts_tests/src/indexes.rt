@@ -37,52 +37,47 @@ remove a => true
 posting host:h1 =>
 posting dc:x => 1";
 
-fn listed(alloc: Global, ordinals: Result<Seq<u32>, Memory>) -> Result<String, Fail> {
-    let mut text = String::new(alloc);
-    match ordinals {
-        Ok(ordinals) => {
-            for ordinal in ordinals.as_slice() {
-                write!(text, " {ordinal}")?;
-            }
-        }
-        Err(Memory) => text.push_str(" Memory")?,
+fn list(ordinals: Result<Seq<u32>, Memory>, out: &mut String) -> Result<(), Fail> {
+    for ordinal in ordinals?.as_slice() {
+        write!(out, " {ordinal}")?;
     }
-    Ok(text)
+    Ok(())
 }
 
-fn outcome(alloc: Global, index: &mut Index, call: &str) -> Result<String, Fail> {
-    let mut words = call.split(' ');
-    let verb = words.next().unwrap_or("");
-    let first = words.next().unwrap_or("");
-    let second = words.next().unwrap_or("");
-    if verb == "add" {
-        let id = Text::from_string(String::from_str(alloc, first)?);
-        let tags = tags_of(alloc, second)?;
-        return match index.add(&id, &tags) {
-            Ok(ordinal) => Ok(format!(in alloc; " {ordinal}")?),
-            Err(Memory) => Ok(format!(in alloc; " Memory")?),
-        };
+fn add(alloc: Global, index: &mut Index, id: &str, tags: &str) -> Result<u32, Fail> {
+    let tags = tags_of(alloc, tags)?;
+    let id = Text::from_string(String::from_str(alloc, id)?);
+    Ok(index.add(&id, &tags)?)
+}
+
+fn name_of<'a>(index: &'a Index, ordinal: &str) -> &'a str {
+    match index.id(ordinal.parse().unwrap_or(u32::MAX)) {
+        Some(id) => id.as_str(),
+        None => "none",
     }
-    if verb == "posting" {
-        let (name, value) = first.split_once(':').unwrap_or(("", ""));
-        return listed(alloc, index.posting(name, value));
+}
+
+// Does what the call says, and writes its answer.
+fn act(
+    alloc: Global,
+    index: &mut Index,
+    verb: &str,
+    rest: &str,
+    out: &mut String,
+) -> Result<(), Fail> {
+    let (first, second) = rest.split_once(' ').unwrap_or((rest, ""));
+    match verb {
+        "add" => write!(out, " {}", add(alloc, index, first, second)?)?,
+        "posting" => {
+            let (name, value) = first.split_once(':').unwrap_or(("", ""));
+            list(index.posting(name, value), out)?;
+        }
+        "all" => list(index.all(), out)?,
+        "id" => write!(out, " {}", name_of(index, first))?,
+        "has" => write!(out, " {}", index.has(first))?,
+        _ => write!(out, " {}", index.remove(first))?,
     }
-    if verb == "all" {
-        return listed(alloc, index.all());
-    }
-    if verb == "id" {
-        let id = match index.id(first.parse().unwrap_or(u32::MAX)) {
-            Some(id) => id.as_str(),
-            None => "none",
-        };
-        return Ok(format!(in alloc; " {id}")?);
-    }
-    let answer = if verb == "has" {
-        index.has(first)
-    } else {
-        index.remove(first)
-    };
-    Ok(format!(in alloc; " {answer}")?)
+    Ok(())
 }
 
 // Each call of the rows on one index, with its answer.
@@ -90,8 +85,10 @@ fn told(alloc: Global, rows: &str, out: &mut String) -> Result<(), Fail> {
     let mut index = Index::new(alloc);
     for row in rows.lines() {
         let (call, _) = row.split_once(" =>").unwrap_or(("", ""));
-        let answer = outcome(alloc, &mut index, call)?;
-        writeln!(out, "{call} =>{answer}")?;
+        let (verb, rest) = call.split_once(' ').unwrap_or((call, ""));
+        write!(out, "{call} =>")?;
+        act(alloc, &mut index, verb, rest, out)?;
+        out.push('\n')?;
     }
     Ok(())
 }

@@ -124,11 +124,17 @@ no>22|a b c d|0L1 1A1 2I20/1L1 2A1 3I21>32|a b c d|0L1 1L1 2I20 3I31/1L1 2A1 3I2
 no>22|a b c d|0L1 1A1 2I20/1L1 2A1 3I21>32|a b c d|2A2 1A1/1L1 2A1 3I21>02
 no>22|a b c d|0L1 1A1 2I20/1L1 2A1 3I21>32|a b c d|1A1 2A20/1L1 2A1 3I21>02";
 
+fn is_step_to(alloc: Global, old: &Placement, next: &str, done: &str) -> Result<bool, Memory> {
+    let done = done_list(alloc, done)?;
+    let next = placement(alloc, next)?;
+    Ok(is_step(old, &next, &done))
+}
+
 fn is_listed_step(alloc: Global, row: &str) -> Result<bool, Memory> {
     let (old, rest) = row.split_once('>').unwrap_or(("", ""));
     let (next, done) = rest.split_once('>').unwrap_or(("", ""));
-    let done = done_list(alloc, done)?;
-    Ok(is_step(&placement(alloc, old)?, &placement(alloc, next)?, &done))
+    let old = placement(alloc, old)?;
+    is_step_to(alloc, &old, next, done)
 }
 
 #[test]
@@ -154,23 +160,30 @@ fn spelled(nodes: &[u8], want: &str) -> bool {
             .all(|(node, byte)| *node == digit(*byte))
 }
 
-fn replicas_are(alloc: Global, row: &str) -> Result<bool, Memory> {
-    let (place, rest) = row.split_once('>').unwrap_or(("", ""));
-    let (want_counted, rest) = rest.split_once('>').unwrap_or(("", ""));
+fn are_members(members: &[Assignment], want: &str) -> bool {
+    members.len() == want.len()
+        && members
+            .iter()
+            .zip(want.as_bytes())
+            .all(|(member, byte)| member.node == digit(*byte))
+}
+
+fn has_replicas(alloc: Global, place: &Placement, wanted: &str) -> Result<bool, Memory> {
+    let (want_counted, rest) = wanted.split_once('>').unwrap_or(("", ""));
     let (want_members, want_former) = rest.split_once('>').unwrap_or(("", ""));
-    let place = placement(alloc, place)?;
     if place.shards.len() == 0 {
         return Ok(false);
     }
-    let mut nodes = Vec::new(alloc);
-    for member in members(alloc, &place, 0)?.as_slice() {
-        nodes.push(member.node)?;
-    }
-    Ok(
-        spelled(counted(alloc, &place, 0)?.as_slice(), want_counted)
-            && spelled(&nodes, want_members)
-            && spelled(former(alloc, &place, 0)?.as_slice(), want_former),
-    )
+    let counted_are = spelled(counted(alloc, place, 0)?.as_slice(), want_counted);
+    let members_are = are_members(members(alloc, place, 0)?.as_slice(), want_members);
+    let former_are = spelled(former(alloc, place, 0)?.as_slice(), want_former);
+    Ok(counted_are && members_are && former_are)
+}
+
+fn replicas_are(alloc: Global, row: &str) -> Result<bool, Memory> {
+    let (place, wanted) = row.split_once('>').unwrap_or(("", ""));
+    let place = placement(alloc, place)?;
+    has_replicas(alloc, &place, wanted)
 }
 
 #[test]

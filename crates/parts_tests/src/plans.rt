@@ -1,4 +1,4 @@
-ghost use Rattle.std.specs.Prelude.{◌≡◌, ◌≤◌, [], ◌∷◌, IfOk, IsTrue};
+ghost use Rattle.std.specs.Prelude.{◌≡◌, ◌≤◌, [], ◌∷◌, ◌++◌, IfOk, OnOk, IsTrue};
 ghost use Rattle.m3_model.specs.Names.{is_name};
 ghost use Rattle.placement_core.specs.Lawful.{IsLawful};
 
@@ -16,13 +16,26 @@ use placement_plan::replacement::replace;
 use std::alloc::{AllocError, Global};
 use std::test::Fail;
 
+fn push_node(
+    alloc: Global,
+    nodes: &mut Vec<(Text, Text)>,
+    name: &str,
+    group: &str,
+) -> Result<(), Memory>
+    ensures { OnOk result (nodes.new.items ≡ nodes.old.items ++ (name.now, group.now) ∷ []) }
+{
+    let name = Text::from_str(alloc, name)?;
+    nodes.push((name, Text::from_str(alloc, group)?))?;
+    Ok(())
+}
+
 fn three_nodes(alloc: Global) -> Result<Seq<(Text, Text)>, Memory>
     ensures { IfOk result (λ nodes. nodes ≡ (97 ∷ [], 49 ∷ []) ∷ (98 ∷ [], 50 ∷ []) ∷ (99 ∷ [], 51 ∷ []) ∷ []) }
 {
     let mut nodes = Vec::new(alloc);
-    nodes.push((Text::from_str(alloc, "a")?, Text::from_str(alloc, "1")?))?;
-    nodes.push((Text::from_str(alloc, "b")?, Text::from_str(alloc, "2")?))?;
-    nodes.push((Text::from_str(alloc, "c")?, Text::from_str(alloc, "3")?))?;
+    push_node(alloc, &mut nodes, "a", "1")?;
+    push_node(alloc, &mut nodes, "b", "2")?;
+    push_node(alloc, &mut nodes, "c", "3")?;
     Ok(Seq::from_vec(nodes))
 }
 

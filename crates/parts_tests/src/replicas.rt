@@ -1,5 +1,5 @@
 use cluster_core::event::{Event, StepCall, StepReply};
-use cluster_core::replica_state::replica_of;
+use cluster_core::replica_state::{ReplicaState, replica_of};
 use m3_model::memory::Memory;
 use m3_model::seq::Seq;
 use std::alloc::Global;
@@ -32,10 +32,14 @@ fn fenced_events(alloc: Global) -> Result<Vec<Event>, Memory> {
     Ok(events)
 }
 
+fn folded(alloc: Global) -> Result<ReplicaState, Memory> {
+    let events = fenced_events(alloc)?;
+    replica_of(alloc, 0, 0, &events)
+}
+
 // How the first node stands after the events, its fence and its tenure.
 fn told(alloc: Global) -> Result<String, Fail> {
-    let events = fenced_events(alloc)?;
-    let state = replica_of(alloc, 0, 0, &events)?;
+    let state = folded(alloc)?;
     Ok(format!(in alloc; "{:?} {} {:?}", state.standing, state.fence, state.tenure)?)
 }
 
