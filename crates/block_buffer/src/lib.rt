@@ -6,5 +6,3 @@ pub mod buffer;
 pub mod laws;
 mod series_buffer;
 mod series_key;
-#[cfg(test)]
-mod tests;

@@ -4,5 +4,3 @@
 pub mod event;
 pub mod laws;
 pub mod replica_state;
-#[cfg(test)]
-mod tests;

@@ -8,9 +8,9 @@ ghost use Rattle.lawful_steps.specs.Shows.{IsAnswered, IsPaged};
 
 use crate::ascending::{ByKey, is_below, is_ordered};
 use crate::points::{covers, has_point, is_gone, is_wanted, points_in, space_picked};
-use crate::same::Same;
 use cluster_core::event::StepCall;
 use cluster_core::replica_state::ReplicaState;
+use equality::same::Same;
 use m3_model::memory::Memory;
 use m3_model::point::{Key, Page, Pick, Point, Series};
 use m3_model::rules::Rules;

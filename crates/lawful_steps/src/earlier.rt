@@ -2,8 +2,8 @@
 ghost use Rattle.std.specs.Prelude.{◌≡◌, ◌↔◌, IsTrue, MatchOption, None, Some, slice_get};
 ghost use Rattle.cluster_core.specs.Earlier.{GivesTenure, GavePage, HasClock, HasSend, HasTenure, HasPage};
 
-use crate::same::Same;
 use cluster_core::event::{Event, StepReply};
+use equality::same::Same;
 use m3_model::placement::{Assignment, Placement};
 use m3_model::point::{Page, Point};
 use m3_model::rules::Rules;

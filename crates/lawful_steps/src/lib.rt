@@ -7,4 +7,3 @@ pub mod earlier;
 pub mod points;
 mod refusals;
 pub mod rows;
-pub mod same;

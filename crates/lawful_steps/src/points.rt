@@ -7,8 +7,8 @@ ghost use Rattle.cluster_core.specs.Answers.{HoldsOf, IsWanted};
 ghost use Rattle.cluster_core.specs.Replicas.{IsGone};
 
 use crate::refusals::has_passed;
-use crate::same::Same;
 use cluster_core::replica_state::ReplicaState;
+use equality::same::Same;
 use m3_model::duplicate::Duplicate;
 use m3_model::memory::Memory;
 use m3_model::point::{Matcher, Pick, Point, Series};

@@ -3,7 +3,7 @@ ghost use Rattle.std.specs.Prelude.{◌↔◌, IsTrue};
 ghost use Rattle.cluster_core.specs.Asks.{IsNamed, IsAskFor, IsLike, WasAsked};
 
 use cluster_core::event::{Asked, Event};
-use lawful_steps::same::Same;
+use equality::same::Same;
 
 fn names(asked: &Asked, event: &Event) -> bool
     ensures { IsTrue result ↔ IsNamed asked.now event.now }

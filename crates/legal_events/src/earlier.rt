@@ -6,8 +6,8 @@ ghost use Rattle.cluster_core.specs.Earlier.{PlacesShard, CountsNodes, TookPoint
 ghost use Rattle.legal_events.specs.Takes.{HasTaken};
 
 use cluster_core::event::{Event, StepCall, StepReply};
+use equality::same::Same;
 use lawful_steps::earlier::shard_of;
-use lawful_steps::same::Same;
 use m3_model::placement::{Assignment, Placement, ShardState};
 use m3_model::point::Point;
 use m3_model::rules::Rules;

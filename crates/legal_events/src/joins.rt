@@ -6,7 +6,7 @@ ghost use Rattle.cluster_core.specs.Joins.{BeganWith, FencedAt, GaveAsked, Merge
 ghost use Rattle.legal_events.specs.Joining.{IsNext, IsNoNext, IsNewPeer};
 
 use cluster_core::event::{Event, StepCall, StepReply};
-use lawful_steps::same::Same;
+use equality::same::Same;
 use m3_model::duplicate::Duplicate;
 use m3_model::memory::Memory;
 use m3_model::placement::{Assignment, ShardState};

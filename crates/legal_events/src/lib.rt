@@ -5,9 +5,3 @@ mod asks;
 mod earlier;
 mod joins;
 pub mod legal;
-#[cfg(test)]
-mod scenes;
-#[cfg(test)]
-mod stories;
-#[cfg(test)]
-mod tests;

@@ -15,5 +15,3 @@ mod names;
 mod namespace;
 mod nodes;
 mod not_yet;
-#[cfg(test)]
-mod tests;

@@ -14,5 +14,3 @@ mod schedule;
 pub mod sink;
 pub mod slot;
 pub mod source;
-#[cfg(test)]
-mod tests;

@@ -1,6 +1,7 @@
 //! The texts of replies: each one is a line of compact JSON with its keys in ascending order.
 #![tactic(auto)]
 
+mod fields;
 mod json;
 pub mod laws;
 mod names;
@@ -11,11 +12,9 @@ mod reason;
 mod refusal;
 mod repair;
 mod reply;
+mod rows;
 mod series;
 mod status;
 mod success;
 
 pub use reply::print_reply;
-
-#[cfg(test)]
-mod tests;

@@ -4,11 +4,12 @@ ghost use Rattle.m3_replies.specs.Outcomes.{outcome_data, merged_data, swept_dat
 
 use crate::json::{ToJson, list_value};
 use crate::names::name_of;
-use crate::reason::with_reason;
+use crate::reason::push_reason;
+use crate::rows::{push_number, push_text};
 use m3_model::placement::Instance;
 use m3_model::reason::Reason;
 use m3_model::seq::Seq;
-use serde_json::{Value, json};
+use serde_json::Value;
 use std::alloc::{AllocError, Global};
 
 /// A node and a shard, with the reason where the write wasn't taken.
@@ -16,14 +17,14 @@ impl ToJson for (u8, u32, Option<Reason>) {
     ghost data_of = { outcome_data };
 
     fn to_json(&self, alloc: Global, instances: &[Instance]) -> Result<Value, AllocError> {
-        let node = self.0.to_json(alloc, instances)?;
+        let mut row = Vec::new(alloc);
+        push_text(&mut row, alloc, name_of(instances, self.0))?;
+        push_number(&mut row, u64::from(self.1))?;
         match &self.2 {
-            None => json!(in alloc; [node, self.1, "took"]),
-            Some(reason) => {
-                let row = vec![in alloc; node, Value::from(self.1)]?;
-                Ok(Value::Array(with_reason(alloc, row, reason)?))
-            }
+            None => push_text(&mut row, alloc, "took")?,
+            Some(reason) => push_reason(&mut row, alloc, reason)?,
         }
+        Ok(Value::Array(row))
     }
 }
 
@@ -32,8 +33,10 @@ impl ToJson for (u32, Seq<u8>) {
     ghost data_of = { merged_data };
 
     fn to_json(&self, alloc: Global, instances: &[Instance]) -> Result<Value, AllocError> {
-        let peers = list_value(alloc, instances, self.1.as_slice())?;
-        json!(in alloc; [self.0, peers])
+        let mut row = Vec::new(alloc);
+        push_number(&mut row, u64::from(self.0))?;
+        row.push(list_value(alloc, instances, self.1.as_slice())?)?;
+        Ok(Value::Array(row))
     }
 }
 
@@ -42,8 +45,11 @@ impl ToJson for (u8, u32, u64) {
     ghost data_of = { swept_data };
 
     fn to_json(&self, alloc: Global, instances: &[Instance]) -> Result<Value, AllocError> {
-        let (node, shard, count) = *self;
-        json!(in alloc; [name_of(instances, node), shard, count])
+        let mut row = Vec::new(alloc);
+        push_text(&mut row, alloc, name_of(instances, self.0))?;
+        push_number(&mut row, u64::from(self.1))?;
+        push_number(&mut row, self.2)?;
+        Ok(Value::Array(row))
     }
 }
 
@@ -52,8 +58,10 @@ impl ToJson for (u8, u32, Reason) {
     ghost data_of = { failed_data };
 
     fn to_json(&self, alloc: Global, instances: &[Instance]) -> Result<Value, AllocError> {
-        let node = self.0.to_json(alloc, instances)?;
-        let row = vec![in alloc; node, Value::from(self.1)]?;
-        Ok(Value::Array(with_reason(alloc, row, &self.2)?))
+        let mut row = Vec::new(alloc);
+        push_text(&mut row, alloc, name_of(instances, self.0))?;
+        push_number(&mut row, u64::from(self.1))?;
+        push_reason(&mut row, alloc, &self.2)?;
+        Ok(Value::Array(row))
     }
 }

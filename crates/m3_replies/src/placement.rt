@@ -3,12 +3,14 @@ ghost use Rattle.serde_json.specs.View.{view};
 ghost use Rattle.m3_replies.specs.Json.{list_of};
 ghost use Rattle.m3_replies.specs.Placements.{state_text, instance_item, instances_data, assignment_item, shard_data, placement_data};
 
+use crate::fields::{put_number, put_value};
 use crate::json::ToJson;
 use crate::names::name_of;
 use crate::order::Roll;
+use crate::rows::{push_number, push_text};
 use m3_model::placement::{Assignment, Instance, Placement, ShardState};
 use m3_model::seq::Seq;
-use serde_json::{Value, json};
+use serde_json::{Map, Value, json};
 use std::alloc::{AllocError, Global};
 
 /// The word for a state.
@@ -48,14 +50,14 @@ fn assignment_value(
 ) -> Result<Value, AllocError>
     ensures { IfOk result (λ value. view value ≡ (assignment_item instances.now assignment.now).1) }
 {
-    let name = name_of(instances, assignment.node);
-    let state = state_text(assignment.state);
-    match assignment.source {
-        None => json!(in alloc; [name, state, assignment.tenure]),
-        Some(source) => {
-            json!(in alloc; [name, state, assignment.tenure, name_of(instances, source)])
-        }
+    let mut row = Vec::new(alloc);
+    push_text(&mut row, alloc, name_of(instances, assignment.node))?;
+    push_text(&mut row, alloc, state_text(assignment.state))?;
+    push_number(&mut row, assignment.tenure)?;
+    if let Some(source) = assignment.source {
+        push_text(&mut row, alloc, name_of(instances, source))?;
     }
+    Ok(Value::Array(row))
 }
 
 fn shard_value(
@@ -93,8 +95,11 @@ impl ToJson for Placement {
 
     fn to_json(&self, alloc: Global, _instances: &[Instance]) -> Result<Value, AllocError> {
         let own = self.instances.as_slice();
-        let instances = instances_value(alloc, own)?;
+        let mut map = Map::new(alloc);
+        put_value(&mut map, alloc, "instances", instances_value(alloc, own)?)?;
+        put_number(&mut map, alloc, "rf", u64::from(self.rf))?;
         let shards = shards_value(alloc, own, self.shards.as_slice())?;
-        json!(in alloc; {"instances": instances, "rf": self.rf, "shards": shards})
+        put_value(&mut map, alloc, "shards", shards)?;
+        Ok(Value::Object(map))
     }
 }

@@ -1,8 +1,10 @@
-ghost use Rattle.std.specs.Prelude.{◌≡◌, ◌++◌, map, IfOk};
+ghost use Rattle.std.specs.Prelude.{◌≡◌, ◌++◌, map, OnOk};
 ghost use Rattle.serde_json.specs.View.{view};
 ghost use Rattle.m3_replies.specs.Reasons.{reason_word, reason_items, reason_data};
 
 use crate::json::ToJson;
+use crate::names::name_of;
+use crate::rows::{push_number, push_text};
 use m3_model::placement::Instance;
 use m3_model::reason::Reason;
 use serde_json::Value;
@@ -25,20 +27,15 @@ fn reason_word(reason: &Reason) -> &'static str
     }
 }
 
-/// The row with the items of the reason after its own.
-pub fn with_reason(
-    alloc: Global,
-    row: Vec<Value>,
-    reason: &Reason,
-) -> Result<Vec<Value>, AllocError>
-    ensures { IfOk result (λ longer. map view longer.items ≡ map view row.items ++ reason_items reason.now) }
+/// Adds the items of the reason to the row.
+pub fn push_reason(row: &mut Vec<Value>, alloc: Global, reason: &Reason) -> Result<(), AllocError>
+    ensures ok { OnOk result (map view row.new.items ≡ map view row.old.items ++ reason_items reason.now) }
 {
-    let mut row = row;
-    row.push(Value::try_from_str(alloc, reason_word(reason))?)?;
-    if let Reason::Stale { fence } = reason {
-        row.push(Value::from(*fence))?;
+    push_text(row, alloc, reason_word(reason))?;
+    match reason {
+        Reason::Stale { fence } => push_number(row, *fence),
+        _ => Ok(()),
     }
-    Ok(row)
 }
 
 /// A node with its reason.
@@ -46,8 +43,9 @@ impl ToJson for (u8, Reason) {
     ghost data_of = { reason_data };
 
     fn to_json(&self, alloc: Global, instances: &[Instance]) -> Result<Value, AllocError> {
-        let node = self.0.to_json(alloc, instances)?;
-        let row = vec![in alloc; node]?;
-        Ok(Value::Array(with_reason(alloc, row, &self.1)?))
+        let mut row = Vec::new(alloc);
+        push_text(&mut row, alloc, name_of(instances, self.0))?;
+        push_reason(&mut row, alloc, &self.1)?;
+        Ok(Value::Array(row))
     }
 }

@@ -1,41 +1,62 @@
-ghost use Rattle.std.specs.Prelude.{◌≡◌, IfOk};
-ghost use Rattle.serde_json.specs.View.{view};
+ghost use Rattle.std.specs.Prelude.{◌≡◌, IfOk, OnOk};
+ghost use Rattle.serde_json.specs.Data.{put as with_member};
+ghost use Rattle.serde_json.specs.View.{view, members_view};
+ghost use Rattle.m3_replies.specs.Repairs.{hex_data};
 ghost use Rattle.m3_replies.specs.Json.{object_of};
 ghost use Rattle.m3_replies.specs.Refusals.{plain_fields, unknown_fields, limit_fields, clock_fields, quorum_fields, replica_fields, group_fields, state_fields, digest_damage_fields, form_damage_fields, corrupt_fields};
 
-use crate::json::list_value;
+use crate::fields::{put_bool, put_list, put_number, put_text, put_value};
 use crate::repair::hex_value;
 use m3_model::placement::Instance;
 use m3_model::reason::{Damage, Reason};
-use serde_json::{Value, json};
+use serde_json::{Map, Value};
 use std::alloc::{AllocError, Global};
 
 /// A refusal that says no more than its kind.
 pub fn plain_value(alloc: Global, code: u64, error: &str) -> Result<Value, AllocError>
     ensures { IfOk result (λ value. view value ≡ object_of (plain_fields code error.now)) }
 {
-    json!(in alloc; {"code": code, "error": error, "ok": false})
+    let mut map = Map::new(alloc);
+    put_number(&mut map, alloc, "code", code)?;
+    put_text(&mut map, alloc, "error", error)?;
+    put_bool(&mut map, alloc, "ok", false)?;
+    Ok(Value::Object(map))
 }
 
 /// The name isn't known.
 pub fn unknown_value(alloc: Global, name: &str) -> Result<Value, AllocError>
     ensures { IfOk result (λ value. view value ≡ object_of (unknown_fields name.now)) }
 {
-    json!(in alloc; {"code": 4u64, "error": "unknown", "name": name, "ok": false})
+    let mut map = Map::new(alloc);
+    put_number(&mut map, alloc, "code", 4)?;
+    put_text(&mut map, alloc, "error", "unknown")?;
+    put_text(&mut map, alloc, "name", name)?;
+    put_bool(&mut map, alloc, "ok", false)?;
+    Ok(Value::Object(map))
 }
 
 /// The request passes a limit.
 pub fn limit_value(alloc: Global, limit: u64) -> Result<Value, AllocError>
     ensures { IfOk result (λ value. view value ≡ object_of (limit_fields limit)) }
 {
-    json!(in alloc; {"code": 5u64, "error": "limit", "limit": limit, "ok": false})
+    let mut map = Map::new(alloc);
+    put_number(&mut map, alloc, "code", 5)?;
+    put_text(&mut map, alloc, "error", "limit")?;
+    put_number(&mut map, alloc, "limit", limit)?;
+    put_bool(&mut map, alloc, "ok", false)?;
+    Ok(Value::Object(map))
 }
 
 /// The request would move the clock back.
 pub fn clock_value(alloc: Global, now: u64) -> Result<Value, AllocError>
     ensures { IfOk result (λ value. view value ≡ object_of (clock_fields now)) }
 {
-    json!(in alloc; {"code": 6u64, "error": "clock", "now": now, "ok": false})
+    let mut map = Map::new(alloc);
+    put_number(&mut map, alloc, "code", 6)?;
+    put_text(&mut map, alloc, "error", "clock")?;
+    put_number(&mut map, alloc, "now", now)?;
+    put_bool(&mut map, alloc, "ok", false)?;
+    Ok(Value::Object(map))
 }
 
 /// How many replicas of a shard answered, how many were needed, and why others didn't.
@@ -58,16 +79,15 @@ pub fn quorum_value(
     ensures { IfOk result (λ value. view value ≡ object_of (quorum_fields code error.now instances.now
         shortfall.entry.got shortfall.entry.needed shortfall.entry.reasons.now shortfall.entry.shard)) }
 {
-    let reasons = list_value(alloc, instances, shortfall.reasons)?;
-    json!(in alloc; {
-        "code": code,
-        "error": error,
-        "got": shortfall.got,
-        "needed": shortfall.needed,
-        "ok": false,
-        "reasons": reasons,
-        "shard": shortfall.shard
-    })
+    let mut map = Map::new(alloc);
+    put_number(&mut map, alloc, "code", code)?;
+    put_text(&mut map, alloc, "error", error)?;
+    put_number(&mut map, alloc, "got", u64::from(shortfall.got))?;
+    put_number(&mut map, alloc, "needed", u64::from(shortfall.needed))?;
+    put_bool(&mut map, alloc, "ok", false)?;
+    put_list(&mut map, alloc, "reasons", instances, shortfall.reasons)?;
+    put_number(&mut map, alloc, "shard", u64::from(shortfall.shard))?;
+    Ok(Value::Object(map))
 }
 
 /// One replica refused.
@@ -80,21 +100,49 @@ pub fn replica_value(
 ) -> Result<Value, AllocError>
     ensures { IfOk result (λ value. view value ≡ object_of (replica_fields code error.now node.now shard)) }
 {
-    json!(in alloc; {"code": code, "error": error, "node": node, "ok": false, "shard": shard})
+    let mut map = Map::new(alloc);
+    put_number(&mut map, alloc, "code", code)?;
+    put_text(&mut map, alloc, "error", error)?;
+    put_text(&mut map, alloc, "node", node)?;
+    put_bool(&mut map, alloc, "ok", false)?;
+    put_number(&mut map, alloc, "shard", u64::from(shard))?;
+    Ok(Value::Object(map))
 }
 
 /// The replicas of the shard can't all stand in groups of their own.
 pub fn group_value(alloc: Global, shard: u32) -> Result<Value, AllocError>
     ensures { IfOk result (λ value. view value ≡ object_of (group_fields shard)) }
 {
-    json!(in alloc; {"code": 9u64, "error": "group", "ok": false, "shard": shard})
+    let mut map = Map::new(alloc);
+    put_number(&mut map, alloc, "code", 9)?;
+    put_text(&mut map, alloc, "error", "group")?;
+    put_bool(&mut map, alloc, "ok", false)?;
+    put_number(&mut map, alloc, "shard", u64::from(shard))?;
+    Ok(Value::Object(map))
 }
 
 /// The node isn't in the state asked for.
 pub fn state_value(alloc: Global, node: &str) -> Result<Value, AllocError>
     ensures { IfOk result (λ value. view value ≡ object_of (state_fields node.now)) }
 {
-    json!(in alloc; {"code": 12u64, "error": "state", "node": node, "ok": false})
+    let mut map = Map::new(alloc);
+    put_number(&mut map, alloc, "code", 12)?;
+    put_text(&mut map, alloc, "error", "state")?;
+    put_text(&mut map, alloc, "node", node)?;
+    put_bool(&mut map, alloc, "ok", false)?;
+    Ok(Value::Object(map))
+}
+
+fn put_hex(
+    map: &mut Map<String, Value>,
+    alloc: Global,
+    key: &str,
+    digest: [u8; 32],
+) -> Result<(), AllocError>
+    ensures ok { OnOk result (members_view map.new.entries ≡ with_member key.now (hex_data digest) (members_view map.old.entries)) }
+{
+    let text = hex_value(alloc, digest)?;
+    put_value(map, alloc, key, text)
 }
 
 fn digest_damage_value(
@@ -107,18 +155,16 @@ fn digest_damage_value(
 ) -> Result<Value, AllocError>
     ensures { IfOk result (λ value. view value ≡ object_of (digest_damage_fields node.now shard file.now kept found)) }
 {
-    let found = hex_value(alloc, found)?;
-    let kept = hex_value(alloc, kept)?;
-    json!(in alloc; {
-        "code": 15u64,
-        "error": "corrupt",
-        "file": file,
-        "found": found,
-        "kept": kept,
-        "node": node,
-        "ok": false,
-        "shard": shard
-    })
+    let mut map = Map::new(alloc);
+    put_number(&mut map, alloc, "code", 15)?;
+    put_text(&mut map, alloc, "error", "corrupt")?;
+    put_text(&mut map, alloc, "file", file)?;
+    put_hex(&mut map, alloc, "found", found)?;
+    put_hex(&mut map, alloc, "kept", kept)?;
+    put_text(&mut map, alloc, "node", node)?;
+    put_bool(&mut map, alloc, "ok", false)?;
+    put_number(&mut map, alloc, "shard", u64::from(shard))?;
+    Ok(Value::Object(map))
 }
 
 fn form_damage_value(
@@ -130,15 +176,15 @@ fn form_damage_value(
 ) -> Result<Value, AllocError>
     ensures { IfOk result (λ value. view value ≡ object_of (form_damage_fields node.now shard file.now at)) }
 {
-    json!(in alloc; {
-        "at": at,
-        "code": 15u64,
-        "error": "corrupt",
-        "file": file,
-        "node": node,
-        "ok": false,
-        "shard": shard
-    })
+    let mut map = Map::new(alloc);
+    put_number(&mut map, alloc, "at", at)?;
+    put_number(&mut map, alloc, "code", 15)?;
+    put_text(&mut map, alloc, "error", "corrupt")?;
+    put_text(&mut map, alloc, "file", file)?;
+    put_text(&mut map, alloc, "node", node)?;
+    put_bool(&mut map, alloc, "ok", false)?;
+    put_number(&mut map, alloc, "shard", u64::from(shard))?;
+    Ok(Value::Object(map))
 }
 
 /// A file of a replica is damaged.

@@ -5,7 +5,8 @@ ghost use Rattle.serde_json.specs.View.{view};
 ghost use Rattle.m3_replies.specs.Names.{instances_of};
 ghost use Rattle.m3_replies.specs.Replies.{answer_data, reply_data, reply_text};
 
-use crate::json::{ToJson, list_value};
+use crate::fields::{put_bool, put_list};
+use crate::json::ToJson;
 use crate::names::instances_of;
 use crate::refusal::{
     Shortfall, clock_value, corrupt_value, group_value, limit_value, plain_value, quorum_value,
@@ -20,7 +21,7 @@ use m3_model::memory::Memory;
 use m3_model::placement::{Instance, Placement};
 use m3_model::text::Text;
 use m3_model::turn::Reply;
-use serde_json::{Value, json};
+use serde_json::{Map, Value, json};
 use std::alloc::{AllocError, Global};
 
 impl ToJson for Answer {
@@ -108,9 +109,11 @@ impl ToJson for Reply {
         match self {
             Reply::One(answer) => answer.to_json(alloc, instances),
             Reply::Par { clients, workers } => {
-                let clients = list_value(alloc, instances, clients.as_slice())?;
-                let workers = list_value(alloc, instances, workers.as_slice())?;
-                json!(in alloc; {"clients": clients, "ok": true, "workers": workers})
+                let mut map = Map::new(alloc);
+                put_list(&mut map, alloc, "clients", instances, clients.as_slice())?;
+                put_bool(&mut map, alloc, "ok", true)?;
+                put_list(&mut map, alloc, "workers", instances, workers.as_slice())?;
+                Ok(Value::Object(map))
             }
         }
     }

@@ -2,10 +2,11 @@ ghost use Rattle.std.specs.Prelude.{◌≡◌, IfOk};
 ghost use Rattle.serde_json.specs.View.{view};
 ghost use Rattle.m3_replies.specs.Series.{pair_data, series_data};
 
-use crate::json::{ToJson, list_value};
+use crate::fields::{put_list, put_text};
+use crate::json::ToJson;
 use m3_model::placement::Instance;
 use m3_model::point::Series;
-use serde_json::{Value, json};
+use serde_json::{Map, Value, json};
 use std::alloc::{AllocError, Global};
 
 /// A time with its value.
@@ -22,7 +23,9 @@ impl ToJson for Series {
     ghost data_of = { λ _ series. series_data series };
 
     fn to_json(&self, alloc: Global, instances: &[Instance]) -> Result<Value, AllocError> {
-        let points = list_value(alloc, instances, self.points.as_slice())?;
-        json!(in alloc; {"id": self.id.as_str(), "points": points})
+        let mut map = Map::new(alloc);
+        put_text(&mut map, alloc, "id", self.id.as_str())?;
+        put_list(&mut map, alloc, "points", instances, self.points.as_slice())?;
+        Ok(Value::Object(map))
     }
 }

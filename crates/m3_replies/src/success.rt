@@ -2,13 +2,13 @@ ghost use Rattle.std.specs.Prelude.{◌≡◌, IfOk};
 ghost use Rattle.serde_json.specs.View.{view};
 ghost use Rattle.m3_replies.specs.Replies.{answer_data};
 
-use crate::json::{ToJson, list_value};
+use crate::fields::{put_bool, put_item, put_list, put_number};
 use m3_model::answer::{Answer, RepairLine, StatusLine};
 use m3_model::placement::{Instance, Placement};
 use m3_model::point::Series;
 use m3_model::reason::Reason;
 use m3_model::seq::Seq;
-use serde_json::{Value, json};
+use serde_json::{Map, Value};
 use std::alloc::{AllocError, Global};
 
 /// A placement was made or changed.
@@ -20,16 +20,21 @@ pub fn placed_value(
 ) -> Result<Value, AllocError>
     ensures { IfOk result (λ value. view value ≡ answer_data instances.now (Answer.Placed placement.now version)) }
 {
-    let placement = placement.to_json(alloc, instances)?;
-    json!(in alloc; {"ok": true, "placement": placement, "version": version})
+    let mut map = Map::new(alloc);
+    put_bool(&mut map, alloc, "ok", true)?;
+    put_item(&mut map, alloc, "placement", instances, placement)?;
+    put_number(&mut map, alloc, "version", version)?;
+    Ok(Value::Object(map))
 }
 
 /// These nodes took a write.
 pub fn acks_value(alloc: Global, instances: &[Instance], acks: &[u8]) -> Result<Value, AllocError>
     ensures { IfOk result (λ value. view value ≡ answer_data instances.now (Answer.Acks acks.now)) }
 {
-    let acks = list_value(alloc, instances, acks)?;
-    json!(in alloc; {"acks": acks, "ok": true})
+    let mut map = Map::new(alloc);
+    put_list(&mut map, alloc, "acks", instances, acks)?;
+    put_bool(&mut map, alloc, "ok", true)?;
+    Ok(Value::Object(map))
 }
 
 /// These series were read.
@@ -41,8 +46,11 @@ pub fn found_value(
 ) -> Result<Value, AllocError>
     ensures { IfOk result (λ value. view value ≡ answer_data instances.now (Answer.Found series.now short)) }
 {
-    let series = list_value(alloc, instances, series)?;
-    json!(in alloc; {"ok": true, "series": series, "short": short})
+    let mut map = Map::new(alloc);
+    put_bool(&mut map, alloc, "ok", true)?;
+    put_list(&mut map, alloc, "series", instances, series)?;
+    put_bool(&mut map, alloc, "short", short)?;
+    Ok(Value::Object(map))
 }
 
 /// What became of writes that were on their way.
@@ -53,8 +61,10 @@ pub fn outcomes_value(
 ) -> Result<Value, AllocError>
     ensures { IfOk result (λ value. view value ≡ answer_data instances.now (Answer.Outcomes outcomes.now)) }
 {
-    let outcomes = list_value(alloc, instances, outcomes)?;
-    json!(in alloc; {"ok": true, "outcomes": outcomes})
+    let mut map = Map::new(alloc);
+    put_bool(&mut map, alloc, "ok", true)?;
+    put_list(&mut map, alloc, "outcomes", instances, outcomes)?;
+    Ok(Value::Object(map))
 }
 
 /// These shards turned available.
@@ -67,14 +77,12 @@ pub fn available_value(
 ) -> Result<Value, AllocError>
     ensures { IfOk result (λ value. view value ≡ answer_data instances.now (Answer.Available available.now placement.now version)) }
 {
-    let available = list_value(alloc, instances, available)?;
-    let placement = placement.to_json(alloc, instances)?;
-    json!(in alloc; {
-        "available": available,
-        "ok": true,
-        "placement": placement,
-        "version": version
-    })
+    let mut map = Map::new(alloc);
+    put_list(&mut map, alloc, "available", instances, available)?;
+    put_bool(&mut map, alloc, "ok", true)?;
+    put_item(&mut map, alloc, "placement", instances, placement)?;
+    put_number(&mut map, alloc, "version", version)?;
+    Ok(Value::Object(map))
 }
 
 /// A sweep was done on these replicas, and not on others.
@@ -86,9 +94,11 @@ pub fn swept_value(
 ) -> Result<Value, AllocError>
     ensures { IfOk result (λ value. view value ≡ answer_data instances.now (Answer.Swept done.now failed.now)) }
 {
-    let done = list_value(alloc, instances, done)?;
-    let failed = list_value(alloc, instances, failed)?;
-    json!(in alloc; {"done": done, "failed": failed, "ok": true})
+    let mut map = Map::new(alloc);
+    put_list(&mut map, alloc, "done", instances, done)?;
+    put_list(&mut map, alloc, "failed", instances, failed)?;
+    put_bool(&mut map, alloc, "ok", true)?;
+    Ok(Value::Object(map))
 }
 
 /// What a repair did in each shard.
@@ -99,8 +109,10 @@ pub fn repaired_value(
 ) -> Result<Value, AllocError>
     ensures { IfOk result (λ value. view value ≡ answer_data instances.now (Answer.Repaired shards.now)) }
 {
-    let shards = list_value(alloc, instances, shards)?;
-    json!(in alloc; {"ok": true, "shards": shards})
+    let mut map = Map::new(alloc);
+    put_bool(&mut map, alloc, "ok", true)?;
+    put_list(&mut map, alloc, "shards", instances, shards)?;
+    Ok(Value::Object(map))
 }
 
 /// What each replica says of itself.
@@ -113,6 +125,10 @@ pub fn status_value(
 ) -> Result<Value, AllocError>
     ensures { IfOk result (λ value. view value ≡ answer_data instances.now (Answer.Status now replicas.now version)) }
 {
-    let replicas = list_value(alloc, instances, replicas)?;
-    json!(in alloc; {"now": now, "ok": true, "replicas": replicas, "version": version})
+    let mut map = Map::new(alloc);
+    put_number(&mut map, alloc, "now", now)?;
+    put_bool(&mut map, alloc, "ok", true)?;
+    put_list(&mut map, alloc, "replicas", instances, replicas)?;
+    put_number(&mut map, alloc, "version", version)?;
+    Ok(Value::Object(map))
 }

@@ -11,4 +11,3 @@ pub mod NameLemmas
 pub mod RestartLemmas
 pub mod DiskLemmas
 pub mod PlaceLemmas
-pub mod TestLemmas

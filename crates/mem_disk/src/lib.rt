@@ -11,5 +11,3 @@ mod picks;
 mod place;
 mod schedule;
 mod settle;
-#[cfg(test)]
-mod tests;

@@ -7,5 +7,3 @@ pub mod fate_key;
 pub mod fates;
 pub mod late_write;
 pub mod laws;
-#[cfg(test)]
-mod tests;

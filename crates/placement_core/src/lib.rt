@@ -8,5 +8,3 @@ mod names;
 pub mod replicas;
 mod shard_step;
 pub mod step;
-#[cfg(test)]
-mod tests;

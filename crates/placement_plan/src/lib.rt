@@ -14,6 +14,4 @@ mod readiness;
 pub mod removal;
 pub mod replacement;
 mod shards;
-#[cfg(test)]
-mod tests;
 mod version;

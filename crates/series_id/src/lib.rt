@@ -10,8 +10,6 @@ mod read;
 mod scan;
 mod series_id;
 mod spell;
-#[cfg(test)]
-mod tests;
 
 pub use hash::shard_of;
 pub use id_err::IdErr;

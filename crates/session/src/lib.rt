@@ -9,6 +9,4 @@ pub mod read;
 pub mod session_err;
 pub mod slot;
 mod tally;
-#[cfg(test)]
-mod tests;
 pub mod write;

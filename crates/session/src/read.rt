@@ -194,6 +194,7 @@ fn gather<D: Disk>(
     for shard in first..end {
         let tally = ask_shard(alloc, net, asking, pick, shard, &mut joined)?;
         if tally.answered.len() < quorum.needed as usize {
+            drop(joined);
             return Ok(Gathered::TooFew { shard, tally });
         }
         whole &= quorum.majority as usize <= tally.answered.len();

@@ -3,5 +3,3 @@
 
 pub mod sink;
 pub mod source;
-#[cfg(test)]
-mod tests;

@@ -10,7 +10,5 @@ mod entry;
 mod index;
 pub mod laws;
 mod links;
-#[cfg(test)]
-mod tests;
 
 pub use index::Index;

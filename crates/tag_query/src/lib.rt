@@ -6,8 +6,6 @@
 
 mod matchers;
 mod postings;
-#[cfg(test)]
-mod tests;
 
 pub use matchers::holds;
 pub use postings::{both, minus};

@@ -7,8 +7,6 @@ mod entries;
 mod entry_read;
 mod numbers;
 mod points;
-#[cfg(test)]
-mod tests;
 mod texts;
 mod wire_err;
 

@@ -1,0 +1,4 @@
+//! Whether two values are equal, decided.
+#![tactic(auto)]
+
+pub mod same;

@@ -1,5 +1,0 @@
-use Rattle.placement_core.specs.Lawful.{IsLawful}
-use Rattle.placement_plan.proofs.tests.after_calls.Given as goal
-
-abbrev pub invariant-loop-words : goal.invariant-loop-words
-invariant-loop-words l = IsLawful l.place
