@@ -1,0 +1,16 @@
+pub mod TurnLemmas
+pub mod RuleLemmas
+pub mod ClockLemmas
+pub mod OpeningLemmas
+pub mod AnswerLemmas
+pub mod KeptLemmas
+pub mod LineLemmas
+pub mod OneLemmas
+pub mod KindLemmas
+pub mod JoinedLemmas
+pub mod AckLemmas
+pub mod LeaveLemmas
+pub mod ListLemmas
+pub mod SampleLemmas
+pub mod LoopLemmas
+pub mod CallLemmas
