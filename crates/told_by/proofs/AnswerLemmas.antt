@@ -106,7 +106,7 @@ needed_is spaces (act.Match ns wanted from to level version) read c e f rf =
     sym (ap (λ (x : Call). x.needed rf) is) ∙ asks_by (namespace_place ns spaces) (λ k. record { pick = pick.Match k wanted; from = from; to = to; level = level }) read (λ r. needed_read level rf ≡ needed_read r.level rf) (λ k. refl) e
 needed_is spaces _ read c e f rf = cc
 
-shard_below : (id : List ℕ) (seed shards : ℕ) → 0 < shards → shard_of id seed shards < shards
+pub shard_below : (id : List ℕ) (seed shards : ℕ) → 0 < shards → shard_of id seed shards < shards
 shard_below id seed shards some = mod_below (murmur3 id seed) shards some
 
 -- a read asks the shard of each point that matches

@@ -1,4 +1,6 @@
 -- A list whose calls are told is told.
+use Rattle.std.proofs.Common.{take}
+use Rattle.told_by.proofs.HearLemmas.{makes_by}
 use Rattle.std.proofs.Common.{◌≡◌, ℕ, ◌<◌, ◌≤◌, List, [], ◌∷◌, ◌++◌, length, refl, sym, ap, subst, inl, inr, arith, length-append}
 use Rattle.std.specs.Prelude.{◌⊎◌, Option}
 use Rattle.transcripts.specs.Record.{TurnPlace}
@@ -56,6 +58,7 @@ module _ (start : Option MetaState) (turns : List Turn) (events : List Event) (l
     order = record {
       not_below = λ p h. (told_of p h).order.not_below p (call_at p h);
       not_above = λ p h. (told_of p h).order.not_above p (call_at p h);
+      not_back = λ p h. (told_of p h).order.not_back p (call_at p h);
       order = λ p q hp hq earlier. calls.in_order p q (length p.earlier) (length q.earlier) (call_at p hp) (call_at q hq) (same_line p q hp hq earlier);
       made = λ i e mine past there kind.
           let m = (tells_at i e mine there kind).order.made i e (mine, refl) past there kind in
@@ -85,6 +88,8 @@ module _ (start : Option MetaState) (turns : List Turn) (events : List Event) (l
       set = λ p h sets. lift_clock (lifts (length p.earlier)) start p ((told_of p h).clocks.set p (call_at p h) sets);
       each_clock = λ i rules mine past there. (tells_at i (event.Clock rules) mine there tt).clocks.each_clock i rules (mine, refl) past there;
     };
+    makes = λ i e mine past there. makes_by start (take i all) (makers i) e (λ kind. (tells_at i e mine there kind).makes i e (mine, refl) past there);
+    hears = λ p h. (told_of p h).hears p (call_at p h);
   }
     where
       init_of : (p : TurnPlace) → IsInitOf start long all (calls.spans (length p.earlier)) p → IsInitOf start long all spans p

@@ -82,7 +82,7 @@ module _ (start : Option MetaState) (turns : List Turn) (events : List Event) (a
       take_past [] ys i = let same : 0 + i ≡ i = omega arith in ap (λ n. take n ys) same
       take_past (x ∷ xs) ys i = let same : suc (length xs) + i ≡ suc (length xs + i) = omega arith in ap (λ n. take n (x ∷ (xs ++ ys))) same ∙ ap (λ zs. x ∷ zs) (take_past xs ys i)
 
-  pub plain_told : PlainLine turns events a b more → TellsLine start turns events (line_of a b) more
+  pub plain_told : PlainLine start turns events a b more → TellsLine start turns events (line_of a b) more
   plain_told h =
       let among : (i : ℕ) (e : Event) → length events ≤ i → At (events ++ more) i e → MayChange (place_after turns a b) (take i (events ++ more)) e =
       λ i e le there.
@@ -101,14 +101,16 @@ module _ (start : Option MetaState) (turns : List Turn) (events : List Event) (a
         prints = h.prints;
         each_end = λ i place done le past there. among i (event.Place place done) le there;
         set = λ sets. absurd (let bad : true ≡ false = sym sets ∙ (h.plain).no_rules in cc);
+        makes = (h.makes).makes;
+        hears = (h.makes).hears;
         each_clock = λ i rules le past there. absurd (among i (event.Clock rules) le there);
       })
 
-  pub plain_told_from : (h : PlainLine turns events a b more) → ((plain_told h).spans).from (place_after turns a b) ≡ length events
+  pub plain_told_from : (h : PlainLine start turns events a b more) → ((plain_told h).spans).from (place_after turns a b) ≡ length events
   unfolding plain_told
   plain_told_from h = one_told_from start turns events a b more (_)
 
-  pub plain_told_to : (h : PlainLine turns events a b more) → ((plain_told h).spans).to (place_after turns a b) ≡ length (events ++ more)
+  pub plain_told_to : (h : PlainLine start turns events a b more) → ((plain_told h).spans).to (place_after turns a b) ≡ length (events ++ more)
   unfolding plain_told
   plain_told_to h = one_told_to start turns events a b more (_)
 
@@ -138,6 +140,8 @@ module _ (start : Option MetaState) (turns : List Turn) (events : List Event) (a
         prints = record { is_place = λ place is. absurd (let bad : None ≡ Some place = sym (ap printed done) ∙ is in cc); not_earlier = λ p k was is of_was of_is. absurd (let bad : None ≡ Some is = sym (ap printed done) ∙ of_is in cc) };
         each_end = λ i place done le past there d m. elim (among i (event.Place place done) le there) as (λ _. PrintsPeers (take i (events ++ more)) (place_after turns a b) d.0 d.1) [ inl none ↦ absurd none | inr is ↦ cc ];
         set = λ sets. record { clock = length events + length h.asks; there = clock_there; mine = omega arith; past_opening = omega (arith, h.opened); own = refl };
+        makes = (h.makes).makes;
+        hears = (h.makes).hears;
         each_clock = λ i rules le past there. elim (among i (event.Clock rules) le there) as (λ _. IsClockOf start (turns ++ line_of a b ∷ []) (place_after turns a b) rules) [
           | inl none ↦ absurd none
           | inr is ↦ record { alone = is_alone start turns events a b more; sets = h.sets; rules_are = cc }
@@ -188,6 +192,8 @@ module _ (start : Option MetaState) (turns : List Turn) (events : List Event) (a
         };
         each_end = λ i place done le past there d m. absurd (h.steps (event.Place place done) (among_back (placing ∷ clock ∷ []) h.begins i (event.Place place done) (subst (λ es. At es i (event.Place place done)) whole there) past));
         set = λ sets. absurd (let bad : true ≡ false = sym sets ∙ ap (sets_rules a) h.answered ∙ placed_sets_not a h.place h.version in cc);
+        makes = (h.makes).makes;
+        hears = (h.makes).hears;
         each_clock = λ i rules le past there. absurd (h.steps (event.Clock rules) (among_back (placing ∷ clock ∷ []) h.begins i (event.Clock rules) (subst (λ es. At es i (event.Clock rules)) whole there) past));
       })
 
@@ -256,6 +262,8 @@ module _ (start : Option MetaState) (turns : List Turn) (events : List Event) (a
           | inr rest ↦ elim rest as (λ _. PrintsPeers (take i (events ++ more)) (place_after turns a b) d.0 d.1) [ inl none ↦ absurd none | inr last ↦ let k = in_ack (length events) b (event.Place place done) last in let bad = k.2 in cc ]
         ];
         set = λ sets. absurd (let bad : true ≡ false = sym sets ∙ h.no_rules in cc);
+        makes = (h.makes).makes;
+        hears = (h.makes).hears;
         each_clock = λ i rules le past there. elim (among i (event.Clock rules) le there) as (λ _. IsClockOf start (turns ++ line_of a b ∷ []) (place_after turns a b) rules) [
           | inl is ↦ cc
           | inr rest ↦ elim rest as (λ _. IsClockOf start (turns ++ line_of a b ∷ []) (place_after turns a b) rules) [ inl none ↦ absurd none | inr last ↦ let k = in_ack (length events) b (event.Clock rules) last in let bad = k.2 in cc ]
@@ -425,5 +433,7 @@ module _ (start : Option MetaState) (turns : List Turn) (events : List Event) (a
         prints = record { is_place = λ place is. absurd (let bad : None ≡ Some place = sym h.no_place ∙ is in cc); not_earlier = λ p k was is of_was of_is. absurd (let bad : None ≡ Some is = sym h.no_place ∙ of_is in cc) };
         each_end = λ i place done le past there. absurd (r.kinds i (event.Place place done) le there);
         set = λ sets. absurd (let bad : true ≡ false = sym sets ∙ h.no_rules in cc);
+        makes = (h.makes).makes;
+        hears = (h.makes).hears;
         each_clock = λ i rules le past there. absurd (r.kinds i (event.Clock rules) le there);
       })

@@ -49,7 +49,7 @@ use Rattle.told_by.proofs.AnswerLemmas.{sent_by}
 use Rattle.told_by.proofs.ClockLemmas.{NotAbove, clock_cases, clocks_below, expired_later}
 use Rattle.told_by.proofs.KeptLemmas.{acked_by_turn, late_send, opening_low, same_place, sent_by_turn, sent_grows}
 use Rattle.told_by.proofs.KindLemmas.{plain_told, plain_told_from, plain_told_to}
-use Rattle.told_by.proofs.LineLemmas.{at_front, line_told, line_told_from, line_told_to, place_last, place_stays, take_front}
+use Rattle.told_by.proofs.LineLemmas.{at_front, line_told, line_told_from, line_told_to, place_last, place_stays, take_all, take_front}
 use Rattle.told_by.proofs.OneLemmas.{among_back, is_last, is_own}
 use Rattle.told_by.proofs.OpeningLemmas.{FirstEvent, OneSeed, first_event, one_seed, place_fine}
 use Rattle.told_by.proofs.RuleLemmas.{Grows, after_grows, lines_grow, point_grows}
@@ -85,10 +85,6 @@ place_there events p e = elim (last_place_from events None p e) as (λ _. (i : �
 
 clock_there : (events : List Event) (r : Rules) → last_clock events ≡ Some r → (i : ℕ) × At events i (event.Clock r)
 clock_there events r e = elim (last_clock_from events None r e) as (λ _. (i : ℕ) × At events i (event.Clock r)) [ inl h ↦ h | inr bad ↦ cc ]
-
-pub take_all : {X : Type 0} (xs : List X) → take (length xs) xs ≡ xs
-take_all [] = refl
-take_all (x ∷ xs) = ap (λ ys. x ∷ ys) (take_all xs)
 
 -- ---- one more record
 
@@ -144,8 +140,9 @@ idle = act.Deliver
 abbrev unheard : Answer
 unheard = answer.Memory
 
-idle_line : (turns : List Turn) (events : List Event) → PlainLine turns events idle unheard []
-idle_line turns events = record {
+idle_line : (start : Option MetaState) (turns : List Turn) (events : List Event) → PlainLine start turns events idle unheard []
+idle_line start turns events = record {
+  makes = record { makes = λ i e le past there. absurd (omega (arith, at_within (events ++ []) i e there, length-append events [])); hears = tt };
   plain = record { no_acks = λ nodes e. cc; not_unmet = λ h. h; no_found = refl; no_rules = refl; no_seed = refl };
   opened = inr refl;
   adds = λ i e h. absurd (let bad = at_within [] i e h in omega arith);
@@ -368,15 +365,15 @@ pub stands_again : (past : List Record) (start : Option MetaState) (turns : List
     → IsLeftState start turns (events ++ more) left → HoldsAgain (events ++ more) opening left next
     → OpeningStands (past ++ record { start = start; turns = turns; unanswered = unanswered } ∷ []) (Some left) next
 stands_again past start turns unanswered events more opening left next legal agrees stands_so told may_be is_left again =
-    let plain = plain_told start turns events idle unheard [] (idle_line turns events) in
+    let plain = plain_told start turns events idle unheard [] (idle_line start turns events) in
     let same : events ++ [] ≡ events = append-nil events in
     let whole : (events ++ []) ++ more ≡ events ++ more = ap (λ es. es ++ more) same in
     let told_on = line_told start turns events (line_of idle unheard) [] told plain in
     let last = is_last start turns events idle unheard [] in
     let low : (told_on.spans).from (after_lines turns idle unheard) ≡ length (events ++ []) =
-    line_told_from start turns events (line_of idle unheard) [] told plain (after_lines turns idle unheard) last ∙ plain_told_from start turns events idle unheard [] (idle_line turns events) ∙ ap length (sym same) in
+    line_told_from start turns events (line_of idle unheard) [] told plain (after_lines turns idle unheard) last ∙ plain_told_from start turns events idle unheard [] (idle_line start turns events) ∙ ap length (sym same) in
     let high : (told_on.spans).to (after_lines turns idle unheard) ≡ length (events ++ []) =
-    line_told_to start turns events (line_of idle unheard) [] told plain (after_lines turns idle unheard) last ∙ plain_told_to start turns events idle unheard [] (idle_line turns events) in
+    line_told_to start turns events (line_of idle unheard) [] told plain (after_lines turns idle unheard) last ∙ plain_told_to start turns events idle unheard [] (idle_line start turns events) in
     let legal_on = subst (Legal true) (sym whole) legal in
     let legal_told = legal_front (events ++ []) more legal_on in
     let agrees_on = subst (λ es. AgreesWith es opening) (sym whole) agrees in

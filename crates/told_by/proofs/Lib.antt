@@ -4,6 +4,7 @@ pub mod ClockLemmas
 pub mod OpeningLemmas
 pub mod AnswerLemmas
 pub mod KeptLemmas
+pub mod HearLemmas
 pub mod LineLemmas
 pub mod OneLemmas
 pub mod KindLemmas

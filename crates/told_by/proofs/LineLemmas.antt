@@ -1,4 +1,7 @@
 -- A run that is told goes on by one line.
+use Rattle.told_by.specs.Makes.{MayMake, TellsMakes}
+use Rattle.told_by.specs.Hears.{HearsBy, InStretch, TellsHears}
+use Rattle.told_by.proofs.HearLemmas.{hears_on}
 use Rattle.std.proofs.Common.{◌≡◌, ℕ, zero, suc, ◌<◌, ◌≤◌, ◌+◌, List, [], ◌∷◌, ◌++◌, take, length, refl, sym, ap, ◌∙◌, subst, inl, inr, arith, length-append, append_assoc, cond}
 use Rattle.std.specs.Prelude.{◌⊎◌, Option, Some, None}
 use Rattle.std.proofs.Math.Dec.{ltb}
@@ -25,7 +28,7 @@ use Rattle.told_by.specs.Openings.{IsInitOf, TellsInit, opening_length}
 use Rattle.told_by.specs.Placements.{HasPlace, PrintsPeers, TellsPlacements}
 use Rattle.told_by.specs.Reads.{Asking, Fetched, IsAskingOf, IsFetchOf, IsStartAt, IsStartOf, IsTold, TellsReads}
 use Rattle.told_by.specs.Spans.{AreOrdered, From, IsAlone, IsEarlier, IsWithin, Spans}
-use Rattle.told_by.specs.Told.{TellsLine, ToldBy}
+use Rattle.told_by.specs.Told.{AreLines, TellsLine, ToldBy}
 use Rattle.told_by.specs.Writes.{HasAck, HasSend, IsSendAt, IsSendOf, TellsWrites, Uses}
 
 -- ---- what is so of some events is so of more
@@ -145,6 +148,10 @@ at_front [] ys i x h lt = absurd (omega arith)
 at_front (y ∷ xs) ys zero x h lt = h
 at_front (y ∷ xs) ys (suc i) x h lt = at_front xs ys i x h (omega arith)
 
+pub take_all : {X : Type 0} (xs : List X) → take (length xs) xs ≡ xs
+take_all [] = refl
+take_all (x ∷ xs) = ap (λ ys. x ∷ ys) (take_all xs)
+
 pub take_front : {X : Type 0} (xs ys : List X) (i : ℕ) → i ≤ length xs → take i (xs ++ ys) ≡ take i xs
 take_front [] ys zero le = refl
 take_front [] ys (suc i) le = absurd (omega arith)
@@ -248,6 +255,10 @@ module _ (start : Option MetaState) (turns : List Turn) (events : List Event) (l
     not_above = λ p h. elim (which p h) as (λ _. spans.to p ≤ length all) [
       | inl k ↦ omega (arith, old_to p k, (told.tells).order.not_above p k, longer)
       | inr k ↦ omega (arith, new_to p k, (next.tells).order.not_above p k)
+    ];
+    not_back = λ p h. elim (which p h) as (λ _. spans.from p ≤ spans.to p) [
+      | inl k ↦ omega (arith, old_from p k, old_to p k, (told.tells).order.not_back p k)
+      | inr k ↦ omega (arith, new_from p k, new_to p k, (next.tells).order.not_back p k)
     ];
     order = λ p q hp hq earlier. elim (which p hp) as (λ _. spans.to p ≤ spans.from q) [
       | inl op ↦ elim (which q hq) as (λ _. spans.to p ≤ spans.from q) [
@@ -407,12 +418,69 @@ module _ (start : Option MetaState) (turns : List Turn) (events : List Event) (l
     ];
   }
 
+  makes_told : TellsMakes start (From low) all makers
+  makes_told i e above past there = elim (cases_lt i (length events)) as (λ _. MayMake start (take i all) (makers i) e) [
+    | inl lt ↦
+        subst (λ x. MayMake start (take i all) x e) (sym (by_left i (length events) (told.makers i) (next.makers i) lt))
+        (subst (λ es. MayMake start es (told.makers i) e) (sym (take_front events more i (omega arith))) ((told.tells).makes i e above past (at_front events more i e there lt)))
+    | inr ge ↦ subst (λ x. MayMake start (take i all) x e) (sym (by_right i (length events) (told.makers i) (next.makers i) ge)) ((next.tells).makes i e ge past there)
+  ]
+
+  hears_told : TellsHears start (IsTurnPlace long) all spans
+  hears_told p h = elim (which p h) as (λ _. HearsAt p (spans.from p) (spans.to p)) [
+    | inl k ↦
+        let below : (told.spans).from p ≤ length events = omega (arith, (told.tells).order.not_back p k, (told.tells).order.not_above p k) in
+        let old : HearsBy start (take ((told.spans).from p) all) (InStretch events ((told.spans).from p) ((told.spans).to p)) p p.turn.act p.turn.answer =
+        subst (λ es. HearsBy start es (InStretch events ((told.spans).from p) ((told.spans).to p)) p p.turn.act p.turn.answer) (sym (take_front events more ((told.spans).from p) below)) ((told.tells).hears p k) in
+        moved p (sym (old_from p k)) (sym (old_to p k))
+        (hears_on start (take ((told.spans).from p) all) (InStretch events ((told.spans).from p) ((told.spans).to p)) (InStretch all ((told.spans).from p) ((told.spans).to p)) (λ i e s. (s.0, s.1, at_append events more i e s.2)) p p.turn.act p.turn.answer old)
+    | inr k ↦ moved p (sym (new_from p k)) (sym (new_to p k)) ((next.tells).hears p k)
+  ]
+    where
+      HearsAt : TurnPlace → ℕ → ℕ → Type 0
+      HearsAt p from to = HearsBy start (take from all) (InStretch all from to) p p.turn.act p.turn.answer
+
+      moved : (p : TurnPlace) {from to from_now to_now : ℕ} → from ≡ from_now → to ≡ to_now → HearsAt p from to → HearsAt p from_now to_now
+      moved p {from} {to} {from_now} {to_now} e f h = subst (λ n. HearsAt p from_now n) f (subst (λ n. HearsAt p n to) e h)
+
+  -- how many events stand before each line
+  abbrev ends : ℕ → ℕ
+  ends k = cond (ltb (length turns) k) (length all) (told.ends k)
+
+  old_ends : (k : ℕ) → k ≤ length turns → ends k ≡ told.ends k
+  old_ends k le = by_right (length turns) k (length all) (told.ends k) le
+
+  new_ends : (k : ℕ) → length turns < k → ends k ≡ length all
+  new_ends k lt = by_left (length turns) k (length all) (told.ends k) lt
+
+  lines_told : AreLines start long all spans ends
+  lines_told = record {
+    first = old_ends 0 (omega arith) ∙ (told.lines).first;
+    last = new_ends (length long) (omega (arith, length-append turns (line ∷ [])));
+    ascends = λ k lt. elim (cases_lt k (length turns)) as (λ _. ends k ≤ ends (suc k)) [
+      | inl less ↦ omega (arith, old_ends k (omega arith), old_ends (suc k) (omega arith), (told.lines).ascends k less)
+      | inr ge ↦
+          let now : length turns ≡ k = omega (arith, lt, length-append turns (line ∷ [])) in
+          omega (arith, old_ends k (omega arith), new_ends (suc k) (omega arith), ap told.ends now, (told.lines).last, longer)
+    ];
+    low = λ p h. elim (which p h) as (λ _. ends (length p.lines) ≤ spans.from p) [
+      | inl k ↦ omega (arith, old_ends (length p.lines) (omega (arith, line_below turns p k)), old_from p k, (told.lines).low p k)
+      | inr k ↦ omega (arith, old_ends (length p.lines) (omega (arith, ap length k.lines_are)), ap (λ ls. told.ends (length ls)) k.lines_are, (told.lines).last, new_from p k, (next.tells).order.not_below p k)
+    ];
+    high = λ p h. elim (which p h) as (λ _. spans.to p ≤ ends (suc (length p.lines))) [
+      | inl k ↦ omega (arith, old_ends (suc (length p.lines)) (omega (arith, line_below turns p k)), old_to p k, (told.lines).high p k)
+      | inr k ↦ omega (arith, new_ends (suc (length p.lines)) (omega (arith, ap length k.lines_are)), new_to p k, (next.tells).order.not_above p k)
+    ];
+  }
+
   pub line_told : ToldBy start long all
   line_told = record {
     spans = spans;
     makers = makers;
+    ends = ends;
+    lines = lines_told;
     opened = λ state is. let o = told.opened state is in record { placed = at_append events more 0 (event.Place state.place []) o.placed; clock = at_append events more 1 (event.Clock state.rules) o.clock };
-    tells = record { order = order_told; init = init_told; writes = writes_told; reads = reads_told; placements = placements_told; clocks = clocks_told };
+    tells = record { order = order_told; init = init_told; writes = writes_told; reads = reads_told; placements = placements_told; clocks = clocks_told; makes = makes_told; hears = hears_told };
   }
 
   pub line_told_from : (p : TurnPlace) → IsLastTurnPlace turns line p → (line_told.spans).from p ≡ (next.spans).from p
@@ -439,9 +507,11 @@ pub told_at_first : ToldBy None [] []
 told_at_first = record {
   spans = record { from = λ p. 0; to = λ p. 0 };
   makers = λ i. nobody;
+  ends = λ k. 0;
+  lines = record { first = refl; last = refl; ascends = λ k lt. omega arith; low = λ p h. omega arith; high = λ p h. absurd (no_place p h) };
   opened = λ state is. let bad : None ≡ Some state = is in cc;
   tells = record {
-    order = record { not_below = λ p h. omega arith; not_above = λ p h. omega arith; order = λ p q h k e. omega arith; made = λ i e low past there kind. absurd (nothing_at i e there) };
+    order = record { not_below = λ p h. omega arith; not_above = λ p h. omega arith; not_back = λ p h. omega arith; order = λ p q h k e. omega arith; made = λ i e low past there kind. absurd (nothing_at i e there) };
     init = record { begun = λ low e there. absurd (nothing_at 0 e there); inits = λ p h sets. absurd (no_place p h) };
     writes = record {
       acked = λ p h nodes is. absurd (no_place p h);
@@ -456,5 +526,7 @@ told_at_first = record {
     };
     placements = record { is_place = λ p h place is. absurd (no_place p h); not_earlier = λ p q h k e was is of_was of_is. absurd (no_place p h); each_end = λ i place done low past there d m. absurd (nothing_at i (event.Place place done) there) };
     clocks = record { set = λ p h sets. absurd (no_place p h); each_clock = λ i rules low past there. absurd (nothing_at i (event.Clock rules) there) };
+    makes = λ i e low past there. absurd (nothing_at i e there);
+    hears = λ p h. absurd (no_place p h);
   };
 }

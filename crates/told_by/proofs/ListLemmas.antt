@@ -1,4 +1,7 @@
 -- A line whose lists are told is told.
+use Rattle.std.proofs.Common.{take}
+use Rattle.told_by.specs.Hears.{HearsBy, InStretch}
+use Rattle.told_by.proofs.HearLemmas.{makes_by}
 use Rattle.std.proofs.Common.{◌≡◌, ℕ, ◌<◌, ◌≤◌, ◌-◌, List, [], ◌∷◌, ◌++◌, length, refl, sym, ap, ◌∙◌, subst, inl, inr, arith, length-append}
 use Rattle.std.specs.Prelude.{◌⊎◌, Option, Some}
 use Rattle.m3_model.proofs.SplitLemmas.{not_empty}
@@ -113,6 +116,7 @@ module _ (start : Option MetaState) (turns : List Turn) (events : List Event) (l
       order = record {
         not_below = λ p h. let l = in_list p h in subst (λ n. length events ≤ (lists.spans n).from p) (sym l.number) ((told_of p l).order.not_below p l.here);
         not_above = λ p h. let l = in_list p h in subst (λ n. (lists.spans n).to p ≤ length all) (sym l.number) ((told_of p l).order.not_above p l.here);
+        not_back = λ p h. let l = in_list p h in subst (λ n. (lists.spans n).from p ≤ (lists.spans n).to p) (sym l.number) ((told_of p l).order.not_back p l.here);
         order = ordered;
         made = λ i e le past there kind.
             let m = (tells_at i e le there kind).order.made i e (own i le) past there kind in
@@ -146,6 +150,8 @@ module _ (start : Option MetaState) (turns : List Turn) (events : List Event) (l
         set = λ p h sets. let l = in_list p h in lift_clock (lifts l.list) start p ((told_of p l).clocks.set p l.here sets);
         each_clock = λ i rules le past there. (tells_at i (event.Clock rules) le there tt).clocks.each_clock i rules (own i le) past there;
       };
+      makes = λ i e le past there. makes_by start (take i all) (makers i) e (λ kind. (tells_at i e le there kind).makes i e (own i le) past there);
+      hears = λ p h. let l = in_list p h in subst (λ n. HearsBy start (take ((lists.spans n).from p) all) (InStretch all ((lists.spans n).from p) ((lists.spans n).to p)) p p.turn.act p.turn.answer) (sym l.number) ((told_of p l).hears p l.here);
     };
     not_earlier = lists.not_earlier;
   }

@@ -1,4 +1,5 @@
 -- Fetches one after the other, and placements that are printed.
+use Rattle.told_by.proofs.LineLemmas.{take_all}
 use Rattle.std.proofs.Common.{◌≡◌, ℕ, suc, ◌≤◌, ◌+◌, List, [], ◌∷◌, ◌++◌, length, refl, sym, ap, ◌∙◌, subst, inl, inr, arith, append_assoc, length-append, true}
 use Rattle.std.specs.Prelude.{◌⊎◌, Option, Some}
 use Rattle.m3_model.specs.Members.{IsIn}
@@ -18,7 +19,7 @@ use Rattle.cluster_core.proofs.PlaceLemmas.{at_grows, at_place}
 use Rattle.told_by.specs.Lines.{AreFetched, AreSteps, AreWhole, IsCutShort, IsFetched, PrintsPlace, start_of}
 use Rattle.told_by.specs.Reads.{Asking, Fetched}
 use Rattle.told_by.specs.Told.{ToldBy}
-use Rattle.told_by.proofs.LeaveLemmas.{place_there, take_all}
+use Rattle.told_by.proofs.LeaveLemmas.{place_there}
 use Rattle.told_by.proofs.OpeningLemmas.{first_event, place_fine}
 
 module _ (start : Option MetaState) (p : TurnPlace) (a : Asking) where

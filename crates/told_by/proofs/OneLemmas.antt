@@ -1,6 +1,9 @@
 -- A line of one act: it is told where its events tell of its only turn.
+use Rattle.told_by.proofs.LineLemmas.{take_all, take_front}
+use Rattle.told_by.specs.Makes.{MayMake}
+use Rattle.told_by.specs.Hears.{HearsBy, InStretch}
 use Rattle.transcripts.proofs.PlaceLemmas.{line_of}
-use Rattle.std.proofs.Common.{◌≡◌, ℕ, zero, suc, ◌≤◌, ◌+◌, List, [], ◌∷◌, ◌++◌, take, length, refl, sym, ap, ◌∙◌, subst, inl, inr, arith, true}
+use Rattle.std.proofs.Common.{◌≡◌, ℕ, zero, suc, ◌≤◌, ◌+◌, List, [], ◌∷◌, ◌++◌, take, length, refl, sym, ap, ◌∙◌, subst, inl, inr, arith, length-append, true}
 use Rattle.std.specs.Prelude.{Option, Some}
 use Rattle.m3_model.specs.Members.{IsIn}
 use Rattle.m3_model.specs.Reads.{Found, found_of}
@@ -75,6 +78,8 @@ module _ (start : Option MetaState) (turns : List Turn) (events : List Event) (a
     pub each_end : (i : ℕ) (place : Placement) (done : List (ℕ × ℕ)) → length events ≤ i → 2 ≤ i → At all i (event.Place place done) → (d : ℕ × ℕ) → IsIn done d → PrintsPeers (take i all) own d.0 d.1
     pub set : sets_rules a b ≡ true → HasClock start (From (length events)) all makers own
     pub each_clock : (i : ℕ) (rules : Rules) → length events ≤ i → 2 ≤ i → At all i (event.Clock rules) → IsClockOf start long own rules
+    pub makes : (i : ℕ) (e : Event) → length events ≤ i → 2 ≤ i → At all i e → MayMake start (take i all) own e
+    pub hears : HearsBy start events (InStretch all (length events) (length all)) own a b
 
   pub is_last : IsLastTurnPlace turns (line_of a b) own
   is_last = record { lines_are = refl; line_is = refl; stands = record { front = []; later = []; back = []; in_line = refl; others = refl; client_is = refl } }
@@ -101,6 +106,7 @@ module _ (start : Option MetaState) (turns : List Turn) (events : List Event) (a
       order = record {
         not_below = λ p h. omega arith;
         not_above = λ p h. omega arith;
+        not_back = λ p h. omega (arith, length-append events more);
         order = λ p q hp hq e. absurd (not_earlier p q (is_own p hp) (is_own q hq) e);
         made = λ i e low past there kind. (is_last, (low, at_within all i e there));
       };
@@ -128,6 +134,8 @@ module _ (start : Option MetaState) (turns : List Turn) (events : List Event) (a
         set = λ p h. each (λ q. sets_rules q.turn.act q.turn.answer ≡ true → HasClock start (From (length events)) all makers q) t.set p h;
         each_clock = t.each_clock;
       };
+      makes = t.makes;
+      hears = λ p h. subst (λ es. HearsBy start es (InStretch all (length events) (length all)) p p.turn.act p.turn.answer) (sym (take_front events more (length events) (omega arith) ∙ take_all events)) (each (λ q. HearsBy start events (InStretch all (length events) (length all)) q q.turn.act q.turn.answer) t.hears p h);
     };
     not_earlier = λ p q hp hq was is of_was of_is. (t.prints).not_earlier p hp was is of_was (ap (λ (x : TurnPlace). printed x.turn.answer) (sym (is_own q hq)) ∙ of_is);
   }

@@ -19,6 +19,8 @@ use Rattle.cluster_core.specs.Lists.{At}
 use Rattle.cluster_core.specs.declared.event.Event.{Event}
 use Rattle.cluster_core.specs.declared.event.Event.TheVariants as event
 use Rattle.told_by.specs.Clocks.{rules_left, sets_rules}
+use Rattle.told_by.specs.Hears.{HearsBy, InStretch}
+use Rattle.told_by.specs.Makes.{MayMake}
 use Rattle.told_by.specs.Openings.{sets_seed}
 use Rattle.told_by.specs.Placements.{HasPlace, PrintsPeers}
 use Rattle.told_by.specs.Reads.{Asking, IsAskedBy, AreTogether, Fetched, IsAskingOf}
@@ -36,6 +38,11 @@ IsAskOrStep _ = ⊥
 
 abbrev pub AreSteps : List Event → Type 0
 AreSteps events = (e : Event) → IsIn events e → IsAskOrStep e
+
+-- its turn may make each event that the line adds, and hears in them what its answer says
+pub record MakesAndHears (start : Option MetaState) (turns : List Turn) (events : List Event) (a : Act) (b : Answer) (more : List Event) : Type 0 where
+  pub makes : (i : ℕ) (e : Event) → length events ≤ i → 2 ≤ i → At (events ++ more) i e → MayMake start (take i (events ++ more)) (place_after turns a b) e
+  pub hears : HearsBy start events (InStretch (events ++ more) (length events) (length (events ++ more))) (place_after turns a b) a b
 
 -- ---- lines that neither write nor read, and that set nothing
 
@@ -57,7 +64,8 @@ abbrev pub MayChange : TurnPlace → List Event → Event → Type 0
 MayChange p past (event.Place placement done) = (d : ℕ × ℕ) → IsIn done d → PrintsPeers past p d.0 d.1
 MayChange p past e = IsAskOrStep e
 
-pub record PlainLine (turns : List Turn) (events : List Event) (a : Act) (b : Answer) (more : List Event) : Type 0 where
+pub record PlainLine (start : Option MetaState) (turns : List Turn) (events : List Event) (a : Act) (b : Answer) (more : List Event) : Type 0 where
+  pub makes : MakesAndHears start turns events a b more
   pub plain : IsPlain a b
   pub opened : (0 < length events) ⊎ (more ≡ [])
   pub adds : (i : ℕ) (e : Event) → At more i e → MayChange (place_after turns a b) (events ++ take i more) e
@@ -66,6 +74,7 @@ pub record PlainLine (turns : List Turn) (events : List Event) (a : Act) (b : An
 -- ---- `now` and `namespace`
 
 pub record ClockLine (start : Option MetaState) (turns : List Turn) (events : List Event) (a : Act) (b : Answer) (more : List Event) : Type 0 where
+  pub makes : MakesAndHears start turns events a b more
   pub sets : sets_rules a b ≡ true
   pub opened : 2 ≤ length events
   pub asks : List Event
@@ -75,6 +84,7 @@ pub record ClockLine (start : Option MetaState) (turns : List Turn) (events : Li
 -- ---- `init`
 
 pub record InitLine (start : Option MetaState) (turns : List Turn) (events : List Event) (a : Act) (b : Answer) (more : List Event) : Type 0 where
+  pub makes : MakesAndHears start turns events a b more
   pub found_nothing : start ≡ None
   pub opens : events ≡ []
   pub sets : sets_seed a b ≡ true
@@ -94,6 +104,7 @@ ack_by send (answer.Acks nodes) = event.Ack send nodes ∷ []
 ack_by send _ = []
 
 pub record WriteLine (start : Option MetaState) (turns : List Turn) (events : List Event) (a : Act) (b : Answer) (more : List Event) : Type 0 where
+  pub makes : MakesAndHears start turns events a b more
   pub version : ℕ
   pub s : ℕ
   pub point : Point
@@ -149,6 +160,7 @@ pub record Finds (start : Option MetaState) (p : TurnPlace) (a : Asking) (fetche
   pub not_short : found.short ≡ false → a.read.level ≡ Unstrict → (s : ℕ) → IsAskedBy start p a s → majority a.place.rf ≤ length (fetches s).nodes
 
 pub record ReadLine (start : Option MetaState) (turns : List Turn) (events : List Event) (a : Act) (b : Answer) (more : List Event) : Type 0 where
+  pub makes : MakesAndHears start turns events a b more
   pub asking : Asking
   pub of_turn : IsAskingOf start events (place_after turns a b) asking
   pub no_acks : (nodes : List ℕ) → b ≡ answer.Acks nodes → ⊥

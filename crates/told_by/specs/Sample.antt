@@ -1,11 +1,10 @@
 -- A short run with the list that tells of it: one node, one shard, a namespace, a write and a read.
 use Rattle.transcripts.proofs.PlaceLemmas.{line_of}
-use Rattle.std.specs.Prelude.{ℕ, pos, List, [], ◌∷◌, ◌++◌, length, None, true, false}
-use Rattle.m3_model.specs.Hash.{shard_of}
+use Rattle.std.specs.Prelude.{ℕ, pos, List, [], ◌∷◌, ◌++◌, None, true, false}
 use Rattle.m3_model.specs.declared.act.Act.{Act}
 use Rattle.m3_model.specs.declared.act.Act.TheVariants as act
-use Rattle.m3_model.specs.declared.act.ReadLevel.TheVariants as read
-use Rattle.m3_model.specs.declared.act.WriteLevel.TheVariants as write
+use Rattle.m3_model.specs.declared.act.ReadLevel.TheVariants as level
+use Rattle.m3_model.specs.declared.act.WriteLevel.TheVariants as taking
 use Rattle.m3_model.specs.declared.answer.Answer.{Answer}
 use Rattle.m3_model.specs.declared.answer.Answer.TheVariants as answer
 use Rattle.m3_model.specs.declared.placement.Placement.{Placement}
@@ -15,9 +14,12 @@ use Rattle.m3_model.specs.declared.point.Point.{Point}
 use Rattle.m3_model.specs.declared.point.Series.{Series}
 use Rattle.m3_model.specs.declared.rules.Rules.{Rules}
 use Rattle.m3_model.specs.declared.turn.Turn.{Turn}
+use Rattle.cluster_core.specs.declared.event.Asked.TheVariants as asked
+use Rattle.cluster_core.specs.declared.event.StepCall.{StepCall}
+use Rattle.cluster_core.specs.declared.event.StepCall.TheVariants as call
+use Rattle.cluster_core.specs.declared.event.StepReply.TheVariants as reply
 use Rattle.cluster_core.specs.declared.event.Event.{Event}
 use Rattle.cluster_core.specs.declared.event.Event.TheVariants as event
-use Rattle.told_by.specs.Lines.{AreSteps}
 use Rattle.told_by.specs.Told.{ToldBy}
 
 abbrev pub name : List ℕ
@@ -36,16 +38,16 @@ abbrev pub spaced : Act
 spaced = act.Namespace name 10 5 5 20
 
 abbrev pub written : Act
-written = act.Write name name 3 (pos 7) write.Majority None
+written = act.Write name name 3 (pos 7) taking.Majority None
 
-abbrev pub asked : Act
-asked = act.Fetch name name 0 10 read.Majority None
+abbrev pub fetched : Act
+fetched = act.Fetch name name 0 10 level.Majority None
 
 abbrev pub series : List Series
 series = record { id = name; points = (3, pos 7) ∷ [] } ∷ []
 
 abbrev pub turns : List Turn
-turns = line_of begun placed ∷ line_of spaced answer.Done ∷ line_of written (answer.Acks (0 ∷ [])) ∷ line_of asked (answer.Found series false) ∷ []
+turns = line_of begun placed ∷ line_of spaced answer.Done ∷ line_of written (answer.Acks (0 ∷ [])) ∷ line_of fetched (answer.Found series false) ∷ []
 
 abbrev pub rules : Rules
 rules = record { now = 0; spaces = record { name = name; block = 10; past = 5; future = 5; retention = 20 } ∷ [] }
@@ -53,31 +55,31 @@ rules = record { now = 0; spaces = record { name = name; block = 10; past = 5; f
 abbrev pub point : Point
 point = record { ns = 0; id = name; t = 3; v = pos 7 }
 
-abbrev pub shard : ℕ
-shard = shard_of name 0 1
+-- the events of the four lines: what the turn makes, what it asks for, and what the replica answers
+abbrev pub begin : StepCall
+begin = call.Begin 1
 
--- the events of the four lines, with what replicas do between them
-abbrev pub of_init : List Event → List Event
-of_init begins = event.Place place [] ∷ event.Clock (record { now = 0; spaces = [] }) ∷ begins
+abbrev pub put : StepCall
+put = call.Put 0 0 rules 1 point
 
-abbrev pub of_space : List Event → List Event
-of_space asks = asks ++ event.Clock rules ∷ []
+abbrev pub read : StepCall
+read = call.Read 0 1 rules 1 (pick.One 0 name) 0 10
 
-abbrev pub of_write : ℕ → List Event → List Event
-of_write at puts = event.Send 1 shard point ∷ (puts ++ event.Ack at (0 ∷ []) ∷ [])
+abbrev pub of_init : List Event
+of_init = event.Place place [] ∷ event.Clock (record { now = 0; spaces = [] }) ∷ event.Ask (asked.Step 0 0 begin) ∷ event.Step 0 0 begin (reply.Began 1 []) ∷ []
 
-abbrev pub of_read : ℕ → List Event → List Event
-of_read at reads = event.FetchStart 1 shard rules (pick.One 0 name) 0 10 ∷ (reads ++ event.FetchDone at (0 ∷ []) series ∷ [])
+abbrev pub of_space : List Event
+of_space = event.Ask (asked.Clock rules) ∷ event.Clock rules ∷ []
 
-abbrev pub before_write : List Event → List Event → List Event
-before_write begins asks = of_init begins ++ of_space asks
+abbrev pub of_write : List Event
+of_write = event.Send 1 0 point ∷ event.Ask (asked.Step 0 0 put) ∷ event.Step 0 0 put reply.Done ∷ event.Ack 6 (0 ∷ []) ∷ []
 
-abbrev pub before_read : List Event → List Event → List Event → List Event
-before_read begins asks puts = before_write begins asks ++ of_write (length (before_write begins asks)) puts
+abbrev pub of_read : List Event
+of_read = event.FetchStart 1 0 rules (pick.One 0 name) 0 10 ∷ event.Ask (asked.Step 0 0 read) ∷ event.Step 0 0 read (reply.Found series) ∷ event.FetchDone 10 (0 ∷ []) series ∷ []
 
-abbrev pub events : List Event → List Event → List Event → List Event → List Event
-events begins asks puts reads = before_read begins asks puts ++ of_read (length (before_read begins asks puts)) reads
+abbrev pub events : List Event
+events = (((of_init) ++ of_space) ++ of_write) ++ of_read
 
--- whatever Asks and steps stand between, the list tells of the run
+-- the list tells of the run
 abbrev pub SampleIsTold : Type 0
-SampleIsTold = (begins asks puts reads : List Event) → AreSteps begins → AreSteps asks → AreSteps puts → AreSteps reads → ToldBy None turns (events begins asks puts reads)
+SampleIsTold = ToldBy None turns events

@@ -24,6 +24,7 @@ IsWithin spans p i = (spans.from p ≤ i) × (i < spans.to p)
 
 -- an event that a turn makes itself, and no replica: past the first two, which open the list
 abbrev pub IsOfTurn : Event → Type 0
+IsOfTurn (event.Ask asked) = ⊤
 IsOfTurn (event.Clock rules) = ⊤
 IsOfTurn (event.Place placement done) = ⊤
 IsOfTurn (event.Send version s point) = ⊤
@@ -41,5 +42,6 @@ From low i = low ≤ i
 pub record AreOrdered (Here : TurnPlace → Type 0) (low : ℕ) (Mine : ℕ → Type 0) (events : List Event) (spans : Spans) (makers : ℕ → TurnPlace) : Type 0 where
   pub not_below : (p : TurnPlace) → Here p → low ≤ spans.from p
   pub not_above : (p : TurnPlace) → Here p → spans.to p ≤ length events
+  pub not_back : (p : TurnPlace) → Here p → spans.from p ≤ spans.to p
   pub order : (p q : TurnPlace) → Here p → Here q → IsEarlier p q → spans.to p ≤ spans.from q
   pub made : (i : ℕ) (e : Event) → Mine i → 2 ≤ i → At events i e → IsOfTurn e → Here (makers i) × IsWithin spans (makers i) i
