@@ -25,7 +25,9 @@ use Rattle.told_by.specs.Spans.{IsOfTurn}
 
 -- a turn may make what no turn makes
 pub makes_by : (start : Option MetaState) (past : List Event) (p : TurnPlace) (e : Event) → (IsOfTurn e → MayMake start past p e) → MayMake start past p e
-makes_by start past p (event.Step n s c a) h = tt
+makes_by start past p (event.Step n s call.Stop a) h = h tt
+makes_by start past p (event.Step n s call.Restart a) h = h tt
+makes_by start past p (event.Step n s _ a) h = tt
 makes_by start past p _ h = h tt
 
 module _ (start : Option MetaState) (past : List Event) (Old New : ℕ → Event → Type 0) (on : (i : ℕ) (e : Event) → Old i e → New i e) (p : TurnPlace) where

@@ -155,7 +155,7 @@ HearsOutcome start Here p (node, shard, Some why) = HasStep Here (IsLatePut star
 
 -- ---- slots
 
--- the slot was given to a node of this name by the placement that stands, or by one before
+-- the slot was given to the node, which has this name
 pub record IsSlotOf (past : List Event) (name : List ℕ) (node shard : ℕ) : Type 0 where
   pub of_node : IsNamedLast past node name
   pub tenure : ℕ

@@ -1,5 +1,5 @@
 -- What a turn asks replicas to do, and which of their answers it counts: those of this very call.
-use Rattle.std.specs.Prelude.{◌≡◌, ◌≤◌, ◌<◌, ℕ, ⊤, List, [], take, Option, Some, true, false, IsTrue}
+use Rattle.std.specs.Prelude.{◌≡◌, ◌≤◌, ◌<◌, ℕ, ⊤, List, [], ◌∷◌, take, Option, Some, true, false, IsTrue}
 use Rattle.std.specs.List.{Any}
 use Rattle.m3_model.specs.Delivery.{is_cut}
 use Rattle.m3_model.specs.Members.{IsIn}
@@ -15,19 +15,20 @@ use Rattle.m3_model.specs.declared.point.Series.{Series}
 use Rattle.m3_model.specs.declared.rules.MetaState.{MetaState}
 use Rattle.m3_model.specs.declared.rules.Rules.{Rules}
 use Rattle.placement_core.specs.Shards.{Shard, former}
-use Rattle.cluster_core.specs.Earlier.{last_place}
+use Rattle.cluster_core.specs.Earlier.{HasTenure, last_place}
 use Rattle.cluster_core.specs.Lists.{At}
 use Rattle.cluster_core.specs.declared.event.Asked.{Asked}
 use Rattle.cluster_core.specs.declared.event.Asked.TheVariants as asked
 use Rattle.cluster_core.specs.declared.event.Event.{Event}
 use Rattle.cluster_core.specs.declared.event.Event.TheVariants as event
+use Rattle.cluster_core.specs.declared.event.StepCall.{StepCall}
 use Rattle.cluster_core.specs.declared.event.StepCall.TheVariants as call
 use Rattle.cluster_core.specs.declared.event.StepReply.TheVariants as reply
 use Rattle.transcripts.specs.Deliveries.{LateMessage, IsLateMessage, shard_of_message}
 use Rattle.transcripts.specs.Fates.{OfNode, call_number, fate_at, is_stopped}
 use Rattle.transcripts.specs.Placements.{IsCounted, has_replica}
 use Rattle.transcripts.specs.Points.{point_of}
-use Rattle.transcripts.specs.Record.{TurnPlace, inner_turns}
+use Rattle.transcripts.specs.Record.{TurnPlace, inner_turns, lists_of}
 use Rattle.transcripts.specs.Rules.{rules_at, rules_by}
 use Rattle.transcripts.specs.Waiting.{is_covering}
 
@@ -125,6 +126,13 @@ pub record IsUnassigned (past : List Event) (node shard : ℕ) : Type 0 where
   pub last : last_place past ≡ Some place
   pub gone : has_replica (Some place) shard node ≡ false
 
+-- a stop or a restart of a slot that the named node was given, by a turn that is alone in its line
+pub record MayHalt (past : List Event) (p : TurnPlace) (name : List ℕ) (node shard : ℕ) : Type 0 where
+  pub alone : lists_of p.line ≡ (p.turn ∷ []) ∷ []
+  pub of_node : IsNamedLast past node name
+  pub tenure : ℕ
+  pub given : HasTenure past node shard tenure
+
 -- ---- asks
 
 -- a placement line asks for a Place that ends no move, and takes away the tenures of replicas that are gone
@@ -142,9 +150,9 @@ MayAsk start past p (act.Write ns id t v level version) (asked.Step n s (call.Pu
 MayAsk start past p (act.Fetch ns id least end level version) (asked.Step n s (call.Read client number rules at_version pick from to)) = MayRead start past p n s client number rules at_version pick from to
 MayAsk start past p (act.Match ns wanted least end level version) (asked.Step n s (call.Read client number rules at_version pick from to)) = MayRead start past p n s client number rules at_version pick from to
 MayAsk start past p act.Deliver (asked.Step n s (call.Put client number rules version point)) = MayPutLate start p n s client number rules version point
-MayAsk start past p (act.Stop node) (asked.Step n s call.Stop) = IsNamedLast past n node × (p.turn.answer ≡ answer.Done)
-MayAsk start past p (act.Restart node pick) (asked.Step n s call.Restart) = IsNamedLast past n node × (is_stopped (inner_turns p.lines) node ≡ true)
-MayAsk start past p (act.Restart node pick) (asked.Step n s call.Stop) = IsNamedLast past n node × (is_stopped (inner_turns p.lines) node ≡ true) × (p.turn.answer ≡ answer.Done → ⊥)
+MayAsk start past p (act.Stop node) (asked.Step n s call.Stop) = MayHalt past p node n s × (p.turn.answer ≡ answer.Done)
+MayAsk start past p (act.Restart node pick) (asked.Step n s call.Restart) = MayHalt past p node n s × (is_stopped (inner_turns p.lines) node ≡ true)
+MayAsk start past p (act.Restart node pick) (asked.Step n s call.Stop) = MayHalt past p node n s × (is_stopped (inner_turns p.lines) node ≡ true) × (p.turn.answer ≡ answer.Done → ⊥)
 MayAsk start past p (act.Bootstrap node only) (asked.Step n s (call.Begin tenure)) = MayBegin past node only n s tenure
 MayAsk start past p (act.Bootstrap node only) (asked.Step n s (call.Fence version)) = MayStream past node only n s version
 MayAsk start past p (act.Bootstrap node only) (asked.Step n s (call.Page from)) = (tenure : ℕ) × MayStream past node only n s tenure
@@ -189,9 +197,16 @@ abbrev pub CountsOwnReads : Option MetaState → List Event → TurnPlace → �
 CountsOwnReads start past p began nodes =
     (version shard : ℕ) (rules : Rules) (pick : Pick) (from to : ℕ) → At past began (event.FetchStart version shard rules pick from to) → (node : ℕ) → IsIn nodes node → AnsweredOwn start past p began version shard pick from to node
 
+-- a stop or a restart that is asked for is done in its turn
+abbrev pub MayStep : Option MetaState → List Event → TurnPlace → ℕ → ℕ → StepCall → Type 0
+MayStep start past p n s call.Stop = MayAsk start past p p.turn.act (asked.Step n s call.Stop)
+MayStep start past p n s call.Restart = MayAsk start past p p.turn.act (asked.Step n s call.Restart)
+MayStep start past p n s _ = ⊤
+
 -- what a turn may make after these events, beside what writes, reads, placements and clocks say of theirs
 abbrev pub MayMake : Option MetaState → List Event → TurnPlace → Event → Type 0
 MayMake start past p (event.Ask what) = MayAsk start past p p.turn.act what
+MayMake start past p (event.Step n s c a) = MayStep start past p n s c
 MayMake start past p (event.Ack send nodes) = CountsOwnPuts start past p send nodes
 MayMake start past p (event.FetchDone began nodes series) = CountsOwnReads start past p began nodes
 MayMake start past p _ = ⊤

@@ -4,6 +4,8 @@ use Rattle.transcripts.specs.Record.{TurnPlace, lists_of}
 use Rattle.m3_model.specs.declared.turn.Turn.{Turn}
 use Rattle.cluster_core.specs.Lists.{At}
 use Rattle.cluster_core.specs.declared.event.Event.{Event}
+use Rattle.cluster_core.specs.declared.event.StepCall.{StepCall}
+use Rattle.cluster_core.specs.declared.event.StepCall.TheVariants as call
 use Rattle.cluster_core.specs.declared.event.Event.TheVariants as event
 
 -- one turn is before another of the run: in an earlier line, or earlier in the same list of one line
@@ -22,8 +24,15 @@ pub record Spans : Type 0 where
 abbrev pub IsWithin : Spans → TurnPlace → ℕ → Type 0
 IsWithin spans p i = (spans.from p ≤ i) × (i < spans.to p)
 
--- an event that a turn makes itself, and no replica: past the first two, which open the list
+-- a replica is stopped or restarted, which only lines outside `par` do
+abbrev pub IsHalt : StepCall → Type 0
+IsHalt call.Stop = ⊤
+IsHalt call.Restart = ⊤
+IsHalt _ = ⊥
+
+-- an event that a turn makes itself past the first two, which open the list: all but the steps of replicas, and of these the stops and the restarts
 abbrev pub IsOfTurn : Event → Type 0
+IsOfTurn (event.Step n s c a) = IsHalt c
 IsOfTurn (event.Ask asked) = ⊤
 IsOfTurn (event.Clock rules) = ⊤
 IsOfTurn (event.Place placement done) = ⊤
@@ -31,7 +40,6 @@ IsOfTurn (event.Send version s point) = ⊤
 IsOfTurn (event.Ack send nodes) = ⊤
 IsOfTurn (event.FetchStart version s rules pick from to) = ⊤
 IsOfTurn (event.FetchDone start nodes series) = ⊤
-IsOfTurn _ = ⊥
 
 -- the events from this place on
 abbrev pub From : ℕ → ℕ → Type 0
