@@ -1,0 +1,4 @@
+//! Where a legal list of events tells of a run, refusals have their causes.
+#![tactic(auto)]
+
+pub mod faults;
