@@ -1,5 +1,5 @@
 -- What a turn hears from replicas: each reason in its answer, but for want of memory, is the answer of a step within its stretch, and each replica that it has to ask is asked.
-use Rattle.std.specs.Prelude.{◌≡◌, ◌≤◌, ◌<◌, ℕ, ⊤, List, length, map, take, Option, Some, None, Bool, true, false, IsTrue}
+use Rattle.std.specs.Prelude.{◌≡◌, ◌≤◌, ◌<◌, ℕ, ⊤, List, length, map, take, Option, Some, None, slice_get, ◌⊎◌, Bool, true, false, IsTrue}
 use Rattle.m3_model.specs.Ascends.{Ascends}
 use Rattle.m3_model.specs.Levels.{majority}
 use Rattle.m3_model.specs.Members.{IsIn}
@@ -10,6 +10,7 @@ use Rattle.m3_model.specs.declared.answer.Answer.{Answer}
 use Rattle.m3_model.specs.declared.answer.Answer.TheVariants as answer
 use Rattle.m3_model.specs.declared.answer.RepairLine.{RepairLine}
 use Rattle.m3_model.specs.declared.answer.StatusLine.{StatusLine}
+use Rattle.m3_model.specs.declared.placement.Instance.{Instance}
 use Rattle.m3_model.specs.declared.placement.Placement.{Placement}
 use Rattle.m3_model.specs.declared.reason.Reason.{Reason}
 use Rattle.m3_model.specs.declared.reason.Reason.TheVariants as reason
@@ -155,11 +156,18 @@ HearsOutcome start Here p (node, shard, Some why) = HasStep Here (IsLatePut star
 
 -- ---- slots
 
--- the slot was given to the node, which has this name
+-- each Place that has the node calls it so
+abbrev pub IsNamedBy : List Event → ℕ → List ℕ → Type 0
+IsNamedBy events node name = (i : ℕ) (place : Placement) (done : List (ℕ × ℕ)) (own : Instance) → At events i (event.Place place done) → slice_get place.instances node ≡ Some own → own.name ≡ name
+
+-- the slot has a replica: a Place gave the node the shard, or the replica was called
+abbrev pub HasReplica : List Event → ℕ → ℕ → Type 0
+HasReplica past node shard = ((tenure : ℕ) × HasTenure past node shard tenure) ⊎ ((i : ℕ) × (c : StepCall) × (a : StepReply) × At past i (event.Step node shard c a))
+
+-- the slot has a replica, and its node has this name
 pub record IsSlotOf (past : List Event) (name : List ℕ) (node shard : ℕ) : Type 0 where
-  pub of_node : IsNamedLast past node name
-  pub tenure : ℕ
-  pub given : HasTenure past node shard tenure
+  pub named : IsNamedBy past node name
+  pub has : HasReplica past node shard
 
 -- a step of this very call of each slot of the node
 abbrev pub HearsEachSlot : List Event → (ℕ → Event → Type 0) → List ℕ → StepCall → Type 0
