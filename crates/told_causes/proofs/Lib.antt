@@ -1,1 +1,5 @@
 pub mod FaultLemmas
+pub mod NameLemmas
+pub mod RefusalLemmas
+pub mod HaltLemmas
+pub mod DownLemmas
