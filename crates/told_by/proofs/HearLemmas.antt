@@ -40,6 +40,7 @@ module _ (start : Option MetaState) (past : List Event) (Old New : ℕ → Event
   heard_on : (place : Placement) (s n : ℕ) (why : Reason) → IsHeard start Old p place s n why → IsHeard start New p place s n why
   heard_on place s n reason.Cut h = h
   heard_on place s n reason.Memory h = h
+  heard_on place s n (reason.Corrupt damage) h = (h.0, step_on (IsOwnCall start p place.version) n s (reply.Refused (reason.Corrupt damage)) h.1)
   heard_on place s n why h = (h.0, h.1, happens_on (event.Step n s h.0 (reply.Refused why)) h.2)
 
   served_on : (place : Placement) (s n : ℕ) → HasServed start Old p place s n → HasServed start New p place s n
@@ -99,6 +100,7 @@ module _ (start : Option MetaState) (past : List Event) (Old New : ℕ → Event
   outcome_on : (x : ℕ × ℕ × Option Reason) → HearsOutcome start Old p x → HearsOutcome start New p x
   outcome_on (n, s, None) h = step_on (IsLatePut start p n s) n s reply.Done h
   outcome_on (n, s, Some reason.Memory) h = h
+  outcome_on (n, s, Some (reason.Corrupt damage)) h = (h.0, step_on (IsLatePut start p n s) n s (reply.Refused (reason.Corrupt damage)) h.1)
   outcome_on (n, s, Some why) h = (h.0, h.1, happens_on (event.Step n s h.0 (reply.Refused why)) h.2)
 
   reason_on : (Kind : StepCall → Type 0) (n s : ℕ) (why : Reason) → HearsReason Old Kind n s why → HearsReason New Kind n s why
@@ -133,6 +135,6 @@ module _ (start : Option MetaState) (past : List Event) (Old New : ℕ → Event
   hears_on (act.Restart node pick) answer.Done h = λ n s slot. happens_on (event.Step n s call.Restart reply.Done) (h n s slot)
   hears_on (act.Restart node pick) (answer.Disk name s) h = (h.0, refused_on node s IsRestartCall reason.Disk h.1)
   hears_on (act.Bootstrap node only) (answer.Disk name s) h = (h.0, h.1, refused_on node s IsJoinCall reason.Disk h.2)
-  hears_on (act.Bootstrap node only) (answer.Corrupt name s damage) h = (h.0, h.1, refused_on node s IsJoinCall (reason.Corrupt damage) h.2)
+  hears_on (act.Bootstrap node only) (answer.Corrupt name s damage) h = (h.0, h.1, h.2, refused_on node s IsJoinCall (reason.Corrupt damage) h.3)
   hears_on (act.Bootstrap node only) (answer.Available available place version) h = λ n s tenure slot given. let step = h n s tenure slot given in (step.0, step.1, step_on IsBeginCall n s step.0 step.2)
   hears_on _ _ h = h

@@ -32,6 +32,7 @@ use Rattle.transcripts.specs.Fates.{IsCutAt, call_number}
 use Rattle.transcripts.specs.Levels.{AreAnswers}
 use Rattle.transcripts.specs.Placements.{IsCounted, MayUse, has_replica}
 use Rattle.transcripts.specs.Points.{point_of}
+use Rattle.transcripts.specs.Reasons.{IsShown}
 use Rattle.transcripts.specs.Record.{TurnPlace}
 use Rattle.transcripts.specs.Rules.{rules_at}
 use Rattle.transcripts.specs.Waiting.{is_covering}
@@ -71,6 +72,7 @@ IsServed _ = ⊥
 abbrev pub IsHeard : Option MetaState → (ℕ → Event → Type 0) → TurnPlace → Placement → ℕ → ℕ → Reason → Type 0
 IsHeard start Here p place shard node reason.Cut = IsCutAt p place node
 IsHeard start Here p place shard node reason.Memory = ⊤
+IsHeard start Here p place shard node (reason.Corrupt damage) = IsShown damage × HasStep Here (IsOwnCall start p place.version) node shard (reply.Refused (reason.Corrupt damage))
 IsHeard start Here p place shard node why = HasStep Here (IsOwnCall start p place.version) node shard (reply.Refused why)
 
 -- the replica did as this very call asks
@@ -152,6 +154,7 @@ IsLatePut start p node shard _ = ⊥
 abbrev pub HearsOutcome : Option MetaState → (ℕ → Event → Type 0) → TurnPlace → ℕ × ℕ × Option Reason → Type 0
 HearsOutcome start Here p (node, shard, None) = HasStep Here (IsLatePut start p node shard) node shard reply.Done
 HearsOutcome start Here p (node, shard, Some reason.Memory) = ⊤
+HearsOutcome start Here p (node, shard, Some (reason.Corrupt damage)) = IsShown damage × HasStep Here (IsLatePut start p node shard) node shard (reply.Refused (reason.Corrupt damage))
 HearsOutcome start Here p (node, shard, Some why) = HasStep Here (IsLatePut start p node shard) node shard (reply.Refused why)
 
 -- ---- slots
@@ -261,7 +264,7 @@ HearsBy start past Here p (act.Stop node) answer.Done = HearsEachSlot past Here 
 HearsBy start past Here p (act.Restart node pick) answer.Done = HearsEachSlot past Here node call.Restart
 HearsBy start past Here p (act.Restart node pick) (answer.Disk name shard) = (name ≡ node) × HearsRefused past Here node shard IsRestartCall reason.Disk
 HearsBy start past Here p (act.Bootstrap node only) (answer.Disk name shard) = (name ≡ node) × IsTrue (is_covering shard only) × HearsRefused past Here node shard IsJoinCall reason.Disk
-HearsBy start past Here p (act.Bootstrap node only) (answer.Corrupt name shard damage) = (name ≡ node) × IsTrue (is_covering shard only) × HearsRefused past Here node shard IsJoinCall (reason.Corrupt damage)
+HearsBy start past Here p (act.Bootstrap node only) (answer.Corrupt name shard damage) = (name ≡ node) × IsTrue (is_covering shard only) × IsShown damage × HearsRefused past Here node shard IsJoinCall (reason.Corrupt damage)
 HearsBy start past Here p (act.Bootstrap node only) (answer.Available available place version) = HearsBegun past Here node only
 HearsBy start past Here p _ _ = ⊤
 
