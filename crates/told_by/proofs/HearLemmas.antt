@@ -65,6 +65,7 @@ module _ (start : Option MetaState) (past : List Event) (Old New : ℕ → Event
     place = h.place;
     may_use = h.may_use;
     by_name = h.by_name;
+    some = h.some;
     enough = h.enough;
     counted = h.counted;
     served = λ s asked n m. served_on h.place s n (h.served s asked n m);

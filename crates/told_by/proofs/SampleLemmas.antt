@@ -150,6 +150,7 @@ told_write =
           place = place;
           may_use = (inner_turns second ++ [], record { others = []; some_of = tt; are = refl }, refl);
           by_name = (λ y none. absurd none, tt);
+          some = omega arith;
           enough = omega arith;
           counted = λ s is node m. counted_here s is node m;
           served = λ s is node m. served_here s is node m;

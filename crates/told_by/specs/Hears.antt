@@ -102,6 +102,7 @@ pub record HearsAcks (start : Option MetaState) (Here : ℕ → Event → Type 0
   pub place : Placement
   pub may_use : MayUse start p call.version place
   pub by_name : Ascends (IsNamedBelow place) nodes
+  pub some : 0 < length nodes
   pub enough : call.needed place.rf ≤ length nodes
   pub counted : (shard : ℕ) → AsksShard start p place call.id shard → (node : ℕ) → IsIn nodes node → IsCounted place shard node
   pub served : (shard : ℕ) → AsksShard start p place call.id shard → (node : ℕ) → IsIn nodes node → HasServed start Here p place shard node

@@ -3,3 +3,4 @@ pub mod NameLemmas
 pub mod RefusalLemmas
 pub mod HaltLemmas
 pub mod DownLemmas
+pub mod CallLemmas

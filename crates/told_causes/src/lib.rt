@@ -1,5 +1,6 @@
 //! Where a legal list of events tells of a run, refusals have their causes.
 #![tactic(auto)]
 
+pub mod calls;
 pub mod faults;
 pub mod standing;
