@@ -15,3 +15,4 @@ pub mod ListLemmas
 pub mod SampleLemmas
 pub mod LoopLemmas
 pub mod CallLemmas
+pub mod BrokenLemmas
