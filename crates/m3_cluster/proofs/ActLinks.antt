@@ -2,7 +2,7 @@
 use Rattle.std.proofs.Common.{◌≡◌, ◌⊎◌, ℕ, List, [], ◌∷◌, ◌++◌, map, refl, ap, subst, length, inl, inr, true, false}
 use Rattle.std.specs.Prelude.{Option, Some, None}
 use Rattle.m3_outside.specs.declared.disk.Disk.{Ghosts}
-use Rattle.transcripts.specs.Faults.{Fault}
+use Rattle.transcripts.specs.Faults.{Fault, Taking}
 use Rattle.m3_model.specs.Members.{IsIn}
 use Rattle.m3_model.specs.declared.act.Act.{Act}
 use Rattle.m3_model.specs.declared.act.Act.TheVariants as act
@@ -32,7 +32,7 @@ use Rattle.session.specs.declared.net.Net.{Net}
 use Rattle.session.specs.declared.slot.Slot.{Slot}
 use Rattle.m3_cluster.specs.Acts.{Answers, IsMade, OnMembers, after_call, after_fates, next_call}
 use Rattle.m3_cluster.specs.Chains.{Link, IsUnbooted, TakesLinks, boot_link, covered_slots, first_tenure, restart_at, refused_restart_at, slots_of_node, stop_at}
-use Rattle.m3_cluster.specs.Depots.{Depot}
+use Rattle.m3_outside.specs.Depots.{Depot}
 use Rattle.m3_cluster.specs.Nodes.{IsBootstrapped, IsDelivered, IsFated, IsRestarted, IsStopped, IsUnstarted}
 use Rattle.m3_cluster.specs.Steps.{IsFetched, IsMoved, IsNamed, IsWriteAnswer, IsWritten, NamedPoint, placed}
 use Rattle.m3_cluster.specs.declared.cluster.Cluster.{Cluster}
@@ -291,5 +291,5 @@ TurnLists state lines old a b new (inr on) more = ListsFaults lines on.m (turn_l
 -- and the fault for which a disk couldn't be taken
 abbrev pub ListsTaken : {D : Type 0} {G : Ghosts D} (state : D → DiskState) (lines : List Turn) (now : Depot D) (old : Cluster D G) (rf shards seed : ℕ) (nodes : List (List ℕ × List ℕ)) (b : Answer) (after : Depot D) (new : Cluster D G)
     → IsMade state now old rf shards seed nodes b after new → List Fault → Type 0
-ListsTaken state lines now old rf shards seed nodes (answer.Disk name shard) after new h more = IsIn more (record { line = length lines; node = (h.2).node; shard = shard; is_damage = false })
+ListsTaken state lines now old rf shards seed nodes (answer.Disk name shard) after new h more = IsIn more (record { line = length lines; node = (h.2).node; shard = shard; kind = Taking })
 ListsTaken state lines now old rf shards seed nodes _ after new h more = Unit {0}

@@ -12,7 +12,7 @@ use Rattle.replica_machine.specs.Machines.{MachineState}
 use Rattle.replica_machine.specs.Steps.{IsStep}
 use Rattle.session.specs.Changes.{Step, TakesSteps}
 use Rattle.m3_cluster.specs.Chains.{EndsBoots, IsPassed, first_tenure}
-use Rattle.m3_cluster.specs.Depots.{TellAll}
+use Rattle.m3_outside.specs.Depots.{TellAll}
 use Rattle.m3_cluster.specs.Replicas.{HasReplica}
 use Rattle.m3_cluster.proofs.LinkLemmas.{one_asked, or_first, or_true}
 use Rattle.m3_cluster.proofs.ReplicaLemmas.{IsAsked, IsDone, begin_refused, has_fault, is_fault, replica_next, standing_next}

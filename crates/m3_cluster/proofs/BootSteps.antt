@@ -1,14 +1,16 @@
 -- What a bootstrap of a node leaves.
-use Rattle.std.proofs.Common.{◌≡◌, ◌≢◌, ◌⊎◌, ℕ, List, [], ◌∷◌, map, refl, sym, ap, ap₂, subst, ◌∙◌, inl, inr, Bool, true, false, not, ◌&&◌}
-use Rattle.std.specs.Prelude.{Option, Some, None, nat_eq, slice_get}
+use Rattle.std.proofs.Common.{◌≡◌, ◌≢◌, ◌⊎◌, ℕ, List, [], ◌∷◌, map, refl, sym, ap, ap₂, subst, ◌∙◌, inl, inr, Bool, true, false, not, ◌&&◌, cond}
+use Rattle.std.specs.Prelude.{Option, Some, None, nat_eq, nat_lt, slice_get}
 use Rattle.std.specs.Cmp.Lexicographic.{pointwise}
 use Rattle.std.specs.FinMap as finite
 use Rattle.std.specs.List.{All}
 use Rattle.std.proofs.lemmas.Bool.{and_parts, cases_eq, eqb-true, eq-eqb}
 use Rattle.m3_outside.specs.declared.disk.Disk.{Ghosts}
 use Rattle.m3_outside.specs.DiskState.{DiskState, IsLawful}
-use Rattle.transcripts.specs.Faults.{Fault, is_covering}
+use Rattle.transcripts.specs.Faults.{Fault}
+use Rattle.transcripts.specs.Waiting.{is_covering}
 use Rattle.m3_model.specs.Members.{IsIn}
+use Rattle.transcripts.specs.Placements.{later_placement}
 use Rattle.transcripts.specs.Record.{inner_turns}
 use Rattle.m3_model.specs.declared.act.Act.{Act}
 use Rattle.m3_model.specs.declared.act.Act.TheVariants as act
@@ -28,7 +30,7 @@ use Rattle.session.specs.Changes.{IsStepped, Step, TakesSteps}
 use Rattle.session.specs.Slots.{MachineMap}
 use Rattle.session.specs.declared.slot.Slot.{Slot}
 use Rattle.m3_cluster.specs.Chains.{AreBooted, Boot, IsPassed, IsUnbooted, Link, boot_link, covered_slots}
-use Rattle.m3_cluster.specs.Depots.{TellAll}
+use Rattle.m3_outside.specs.Depots.{TellAll}
 use Rattle.m3_cluster.specs.Nodes.{IsBootstrapped, IsHeldUp, IsStartedUp}
 use Rattle.m3_cluster.specs.Replicas.{IsShutFor}
 use Rattle.m3_cluster.specs.Serves.{IsServing, WasAcked, WasSent, next_place}
@@ -46,9 +48,19 @@ use Rattle.m3_cluster.proofs.MoreFaults.{AreAmong}
 use Rattle.m3_cluster.proofs.NumberLemmas.{and_then}
 use Rattle.m3_cluster.proofs.QuietLemmas.{Tells, extends_same, fates_kept, fates_stay, grown_goes, grown_prints, leaves_all, quiet_change, rules_stay, stopped_stays, stops_kept, tells_disk, tells_memory, tells_state, tells_unknown}
 use Rattle.m3_cluster.proofs.ReplicaLemmas.{IsAsked, IsDone, links_steps, replica_next, replica_sound, steps_at}
-use Rattle.m3_cluster.proofs.ServingLemmas.{StaysRight, acked_none, closed_now, down_on, machine_instance, machine_slot, serving_next, shut_on}
+use Rattle.m3_cluster.proofs.ServingLemmas.{StaysRight, acked_none, closed_now, down_on, machine_instance, machine_placed, machine_slot, placed_on, serving_next, shut_on}
 use Rattle.m3_cluster.proofs.SlotLists.{in_or_out}
 use Rattle.m3_cluster.proofs.StandLemmas.{Goes, Grows, other_numbered}
+
+-- ---- the placement that is printed again
+
+-- it stays the one that stands
+newer_same : (shown place : Placement) → shown ≡ place → later_placement (Some shown) (Some place) ≡ Some place
+newer_same shown place same = by_test (nat_lt shown.version place.version)
+  where
+    by_test : (t : Bool) → Some (cond t place shown) ≡ Some place
+    by_test true = refl
+    by_test false = ap Some same
 
 -- ---- the slots of a bootstrap
 
@@ -87,9 +99,9 @@ not_both true false h = refl
 not_both false c h = refl
 
 upped_stays : {D : Type 0} {G : Ghosts D} {state : D → DiskState} {faults : List Fault} {lines : List Turn} {c : Cluster D G} {m g : Members D G} (more : List Fault) → AreAmong faults more → TellAll state → (h : At state faults lines c m) (name : List ℕ) (asked : Option ℕ)
-    (available : List (ℕ × List ℕ)) (shown : Placement) (version : ℕ) (up : IsStartedUp state m name asked g) (s : Slot) (x y : MachineState D) → IsIn m.slots.items s → IsServing state faults lines m s x → TakesSteps state (steps_at s (map boot_link up.booted.boots)) x y
+    (available : List (ℕ × List ℕ)) (shown : Placement) (version : ℕ) → shown ≡ m.net.state.place → (up : IsStartedUp state m name asked g) (s : Slot) (x y : MachineState D) → IsIn m.slots.items s → IsServing state faults lines m s x → TakesSteps state (steps_at s (map boot_link up.booted.boots)) x y
     → StaysRight more lines m (act.Bootstrap name asked) (answer.Available available shown version) g s y.standing
-upped_stays {D} {G} {state} {faults} {lines} {c} {m} {g} more among tell h name asked available shown version up s x y slot serving taken =
+upped_stays {D} {G} {state} {faults} {lines} {c} {m} {g} more among tell h name asked available shown version same_shown up s x y slot serving taken =
     elim (in_or_out (covered_slots node asked m.slots.items) s) as (λ _. StaysRight more lines m a b g s y.standing) [ inl covered ↦ booted covered | inr out ↦ away out ]
   where
     place : Placement
@@ -104,6 +116,9 @@ upped_stays {D} {G} {state} {faults} {lines} {c} {m} {g} more among tell h name 
     b : Answer
     b = answer.Available available shown version
 
+    prints : later_placement (Some shown) (Some place) ≡ Some place
+    prints = newer_same shown place same_shown
+
     steps : List Step
     steps = steps_at s (map boot_link up.booted.boots)
 
@@ -117,7 +132,7 @@ upped_stays {D} {G} {state} {faults} {lines} {c} {m} {g} more among tell h name 
             | inl none ↦ absurd (boots_some up.booted s covered none)
             | inr down ↦ record {
               shut = subst (λ z. IsShutFor more (next_place (and_then lines a b)) place s z) (sym (still.0 ∙ down))
-                  (down_on faults more lines a b place s among (λ one there. refl) (λ one there. refl) (subst (λ z. IsShutFor faults (next_place lines) place s z) down serving.shut));
+                  (down_on faults more lines a b place s among (λ one there. refl) (λ one there. refl) (placed_on lines a b place s (machine_placed h s slot) prints) (subst (λ z. IsShutFor faults (next_place lines) place s z) down serving.shut));
               halted = λ is. still.0 ∙ down;
             }
           ]
@@ -132,20 +147,21 @@ upped_stays {D} {G} {state} {faults} {lines} {c} {m} {g} more among tell h name 
         let none : steps ≡ [] = steps_none s (map boot_link up.booted.boots) (λ link i same. out (subst (IsIn (covered_slots node asked m.slots.items)) same (boots_slot up.booted link i))) in
         let still : y.standing ≡ x.standing = ap (λ (z : MachineState D). z.standing) (subst (λ xs. TakesSteps state xs x y) none taken) in
         record {
-          shut = subst (λ z. IsShutFor more (next_place (and_then lines a b)) place s z) (sym still) (shut_on faults more lines a b place s x.standing among (record {
+          shut = subst (λ z. IsShutFor more (next_place (and_then lines a b)) place s z) (sym still) (shut_on faults more lines a b place s x.standing among (machine_placed h s slot) (record {
             restarts = λ one there. refl;
             stops = λ one there. refl;
             waits = λ one there. not_both (pointwise nat_eq one.name name) (is_covering s.shard asked) (elim (cases_eq s.node node) as (λ _. (pointwise nat_eq one.name name ≡ false) ⊎ (is_covering s.shard asked ≡ false)) [
               | inl same ↦ inr (covers out same (is_covering s.shard asked) refl)
               | inr other ↦ inl (named_elsewhere h up.runs s.node one other there)
             ]);
+            prints = prints;
           }) serving.shut);
           halted = λ is. still ∙ serving.halted (ap (λ xs. slice_get xs s.node) (sym up.keeps.stopped) ∙ is);
         }
 
 upped_grows : {D : Type 0} {G : Ghosts D} {state : D → DiskState} {faults : List Fault} {lines : List Turn} {c : Cluster D G} {m g : Members D G} (more : List Fault) → AreAmong faults more → TellAll state → (h : At state faults lines c m) (name : List ℕ) (asked : Option ℕ)
-    (available : List (ℕ × List ℕ)) (shown : Placement) (version : ℕ) → IsStartedUp state m name asked g → Grows state more lines m (act.Bootstrap name asked) (answer.Available available shown version) g
-upped_grows {D} {G} {state} {faults} {lines} {c} {m} {g} more among tell h name asked available shown version up =
+    (available : List (ℕ × List ℕ)) (shown : Placement) (version : ℕ) → shown ≡ m.net.state.place → IsStartedUp state m name asked g → Grows state more lines m (act.Bootstrap name asked) (answer.Available available shown version) g
+upped_grows {D} {G} {state} {faults} {lines} {c} {m} {g} more among tell h name asked available shown version same_shown up =
     let a = act.Bootstrap name asked in
     let b = answer.Available available shown version in
     let extends = extends_same {g = g} {a = a} {b = b} h up.keeps.keeps.state refl in
@@ -159,7 +175,7 @@ upped_grows {D} {G} {state} {faults} {lines} {c} {m} {g} more among tell h name 
       serving = serving_next h more tell extends links up.booted.taken
           (λ s step i. boot_asked (WasSent (spaces_in g) (inner_turns (and_then lines a b))) IsPassed step (boots_steps up.booted.boots up.booted.passed s step i))
           (λ s p w. acked_none h extends (λ acks e. cc) (steps_at s links) s p w)
-          (λ s x y was serving taken how. upped_stays more among tell h name asked available shown version up s x y (machine_slot h s x was) serving taken);
+          (λ s x y was serving taken how. upped_stays more among tell h name asked available shown version same_shown up s x y (machine_slot h s x was) serving taken);
       fates = fates_kept g a b h refl same_place up.keeps.keeps.fates;
       stops = stops_kept g a b h (λ n x. refl) same_place up.keeps.stopped;
       late = late_stays extends refl up.keeps.keeps.bag (on h).late;
@@ -210,7 +226,7 @@ held_stays {D} {G} {state} {faults} {lines} {c} {m} {g} {name} {asked} {shard} {
 
     still_right : y.standing ≡ x.standing → StaysRight more lines m a b g s y.standing
     still_right still = record {
-      shut = subst (λ z. IsShutFor more (next_place (and_then lines a b)) place s z) (sym still) (shut_on faults more lines a b place s x.standing among (leaves_all a b place t.not_done t.prints s) serving.shut);
+      shut = subst (λ z. IsShutFor more (next_place (and_then lines a b)) place s z) (sym still) (shut_on faults more lines a b place s x.standing among (machine_placed h s slot) (leaves_all a b place t.not_done t.prints s) serving.shut);
       halted = λ is. still ∙ serving.halted (ap (λ xs. slice_get xs s.node) (sym held.keeps.stopped) ∙ is);
     }
 
@@ -224,7 +240,7 @@ held_stays {D} {G} {state} {faults} {lines} {c} {m} {g} {name} {asked} {shard} {
           | inr rest ↦ elim rest as (λ _. StaysRight more lines m a b g s y.standing) [
             | inl still ↦ still_right still
             | inr down ↦ (let one = machine_instance h s slot in record {
-              shut = subst (λ z. IsShutFor more (next_place (and_then lines a b)) place s z) (sym down.0) (inr (closed_now more lines a b place s one.0 one.1 (listed s slot down.1)));
+              shut = subst (λ z. IsShutFor more (next_place (and_then lines a b)) place s z) (sym down.0) (inr (closed_now more lines a b place s one.0 one.1 (placed_on lines a b place s (machine_placed h s slot) (ap (λ o. later_placement o (Some place)) t.prints)) (listed s slot down.1)));
               halted = λ is. down.0;
             })
           ]
@@ -286,7 +302,7 @@ pub bootstrap_goes : {D : Type 0} {G : Ghosts D} {state : D → DiskState} {faul
     → new.members ≡ Some g → new.calls ≡ old.calls → (name : List ℕ) (asked : Option ℕ) (b : Answer) (turn : IsBootstrapped state m name asked b g) → ListsFaults lines m (bootstrapped_links state m name asked b g turn) more → Goes state more lines old (act.Bootstrap name asked) b new
 bootstrap_goes {D} {G} {state} {faults} {lines} {old} {new} {m} {g} more among tell lawful h is calls name asked (answer.Available available shown version) s listed =
     let up = s.3 in
-    grown_prints h.stands h.members is (upped_grows more among tell h name asked available shown version up) (ap (λ (st : MetaState). st.rules) (sym up.keeps.keeps.state)) (ap Some s.1) (λ n. refl)
+    grown_prints h.stands h.members is (upped_grows more among tell h name asked available shown version s.1 up) (ap (λ (st : MetaState). st.rules) (sym up.keeps.keeps.state)) (newer_same shown m.net.state.place s.1) (λ n. refl)
     (other_numbered h.stands refl (λ none. let bad : None ≡ Some g = sym none ∙ is in absurd (cc)) refl calls) (λ acks e. cc)
 bootstrap_goes {D} {G} {state} {faults} {lines} {old} {new} {m} {g} more among tell lawful h is calls name asked (answer.Unknown unknown) s listed =
     quiet_change more among tell h.stands (tells_unknown (act.Bootstrap name asked) unknown) refl (is ∙ ap Some s.1 ∙ sym h.members) calls

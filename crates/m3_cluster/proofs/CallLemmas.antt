@@ -1,5 +1,5 @@
 -- What is known of the nodes that a call asks, and why one of them answers or doesn't.
-use Rattle.std.proofs.Common.{◌≡◌, ◌<◌, ◌≤◌, ◌+◌, ◌-◌, ◌^◌, ℕ, List, [], ◌∷◌, min, refl, sym, ap, ◌∙◌, inl, inr, arith, Bool, true, false, ◌&&◌, cond}
+use Rattle.std.proofs.Common.{◌≡◌, ◌<◌, ◌≤◌, ◌+◌, ◌-◌, ◌^◌, ℕ, List, [], ◌∷◌, min, refl, sym, ap, ◌∙◌, inl, inr, arith, append-nil, Bool, true, false, ◌&&◌, cond}
 use Rattle.std.specs.Prelude.{Option, Some, None, nat_eq, slice_get, slice_index, option_map}
 use Rattle.std.specs.Option.{option_map_or}
 use Rattle.std.specs.Cmp.Lexicographic.{pointwise}
@@ -7,12 +7,11 @@ use Rattle.std.proofs.lemmas.Bool.{cases_lt}
 use Rattle.std.proofs.lemmas.Bool.Decides.{nat_tests}
 use Rattle.std.proofs.Math.Nat.{min-eq_left, le-min}
 use Rattle.m3_outside.specs.declared.disk.Disk.{Ghosts}
-use Rattle.transcripts.specs.Caused.{placement_at}
+use Rattle.transcripts.specs.Placements.{placement_at, seed_after, MayStand}
 use Rattle.transcripts.specs.Faults.{Fault}
 use Rattle.transcripts.specs.Fates.{numbering_after, fate_in, fate_at, is_fate_of}
 use Rattle.m3_model.specs.Members.{IsIn}
-use Rattle.transcripts.specs.Placements.{seed_after}
-use Rattle.transcripts.specs.Record.{TurnPlace, inner_turns}
+use Rattle.transcripts.specs.Record.{TurnPlace, IsAfter, inner_turns, line_of}
 use Rattle.transcripts.specs.Rules.{rules_at}
 use Rattle.m3_model.specs.declared.act.Act.{Act}
 use Rattle.m3_model.specs.declared.act.Fate.{Fate}
@@ -29,7 +28,11 @@ use Rattle.m3_cluster.specs.declared.members.Members.{Members}
 
 -- the place of the only turn of a line after these lines
 abbrev pub place_after : List Turn → Act → Answer → TurnPlace
-place_after lines a b = record { lines = lines; client = 0; earlier = []; beside = []; turn = record { act = a; answer = b } }
+place_after lines a b = record { lines = lines; line = line_of a b; client = 0; earlier = []; beside = []; turn = record { act = a; answer = b } }
+
+-- its turn is answered after the turns of these lines
+pub after_lines : (lines : List Turn) (a : Act) (b : Answer) → IsAfter (place_after lines a b) (inner_turns lines)
+after_lines lines a b = record { others = []; some_of = tt; are = sym (append-nil (inner_turns lines)) }
 
 -- a cluster that stands after these lines
 pub record At {D : Type 0} {G : Ghosts D} (state : D → DiskState) (faults : List Fault) (lines : List Turn) (c : Cluster D G) (m : Members D G) : Type 0 where
@@ -47,6 +50,10 @@ rules_there {D} {G} h a b = h.stands.rules ∙ ap (λ o. option_map_or (λ (x : 
 
 pub seed_there : {D : Type 0} {G : Ghosts D} {state : D → DiskState} {faults : List Fault} {lines : List Turn} {c : Cluster D G} {m : Members D G} (h : At state faults lines c m) → seed_after None (inner_turns lines) ≡ m.net.state.seed
 seed_there {D} {G} h = h.stands.seed ∙ ap (λ o. option_map_or (λ (x : Members D G). x.net.state.seed) o 0) h.members
+
+-- its placement is the one that a request may use
+pub stands_there : {D : Type 0} {G : Ghosts D} {state : D → DiskState} {faults : List Fault} {lines : List Turn} {c : Cluster D G} {m : Members D G} (h : At state faults lines c m) (a : Act) (b : Answer) → MayStand None (place_after lines a b) m.net.state.place
+stands_there {D} {G} {state} {faults} {lines} h a b = (inner_turns lines, after_lines lines a b, place_at h a b)
 
 -- ---- what becomes of a call's messages
 

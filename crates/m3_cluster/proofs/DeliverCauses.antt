@@ -1,6 +1,6 @@
 -- What comes of the late writes that are delivered is what may come of their messages.
-use Rattle.std.proofs.Common.{◌≡◌, ◌<◌, ◌⊎◌, ℕ, suc, List, [], ◌∷◌, map, drop, length, refl, sym, ap, ◌∙◌, subst, inl, inr, arith, Bool, true, false, cond}
-use Rattle.std.specs.Prelude.{Option, Some, None, option_map, nat_lt}
+use Rattle.std.proofs.Common.{◌≡◌, ◌<◌, ◌+◌, ◌⊎◌, ℕ, suc, List, [], ◌∷◌, map, drop, length, length-append, refl, sym, ap, ◌∙◌, subst, inl, inr, arith, Bool, true, false, cond}
+use Rattle.std.specs.Prelude.{Option, Some, None, option_map, nat_lt, slice_get}
 use Rattle.std.specs.FinMap as finite
 use Rattle.std.specs.List.{list_any}
 use Rattle.std.specs.Ordering.{eq_by_cmp}
@@ -9,10 +9,10 @@ use Rattle.std.proofs.lemmas.List.Elements.{All-cons, All-nil}
 use Rattle.std.proofs.lemmas.Option.{slice_get_within}
 use Rattle.m3_outside.specs.declared.disk.Disk.{Ghosts}
 use Rattle.m3_outside.specs.DiskState.{DiskState}
-use Rattle.transcripts.specs.Caused.{LateMessage, IsDelivered, AreOutcomes, MayComeOf}
-use Rattle.transcripts.specs.Faults.{Fault, HasFailed, IsClosedByFault, WaitsForBoot, is_restart}
-use Rattle.transcripts.specs.Fates.{IsStoppedAt}
-use Rattle.m3_model.specs.Hash.{shard_of}
+use Rattle.transcripts.specs.Deliveries.{LateMessage, IsDelivered, AreOutcomes, MayComeOf}
+use Rattle.transcripts.specs.Faults.{Fault, Failing, HasFailed, IsClosedByFault, is_restart}
+use Rattle.transcripts.specs.Waiting.{WaitsForBoot}
+use Rattle.transcripts.specs.Fates.{IsStoppedAt, OfNode, is_stopped}
 use Rattle.m3_model.specs.Members.{IsIn}
 use Rattle.transcripts.specs.Points.{point_of}
 use Rattle.transcripts.specs.Record.{TurnPlace, inner_turns}
@@ -23,6 +23,7 @@ use Rattle.m3_model.specs.declared.act.Act.TheVariants as act
 use Rattle.m3_model.specs.declared.act.Fate.TheVariants as fate
 use Rattle.m3_model.specs.declared.answer.Answer.{Answer}
 use Rattle.m3_model.specs.declared.answer.Answer.TheVariants as answer
+use Rattle.m3_model.specs.declared.placement.Placement.{Placement}
 use Rattle.m3_model.specs.declared.point.Point.{Point}
 use Rattle.m3_model.specs.declared.reason.Reason.{Reason}
 use Rattle.m3_model.specs.declared.reason.Reason.TheVariants as reason
@@ -44,14 +45,14 @@ use Rattle.session.specs.Outcomes.{IsOutcome as IsTold}
 use Rattle.session.specs.Slots.{MachineMap, refusal_of, slot_at, slot_cmp}
 use Rattle.session.specs.declared.slot.Slot.{Slot}
 use Rattle.session.proofs.SlotLemmas.{same_slot}
-use Rattle.m3_cluster.specs.Depots.{TellAll}
+use Rattle.m3_outside.specs.Depots.{TellAll}
 use Rattle.m3_cluster.specs.Replicas.{HasReplica, IsShutFor}
-use Rattle.m3_cluster.specs.Serves.{IsHeldBack, AreHeldBack, WasAcked, WasSent, counted_in}
+use Rattle.m3_cluster.specs.Serves.{IsHeldBack, AreHeldBack, WasAcked, WasDelivered, WasSent, counted_in}
 use Rattle.m3_cluster.specs.Steps.{spaces_in}
 use Rattle.m3_cluster.specs.declared.cluster.Cluster.{Cluster}
 use Rattle.m3_cluster.specs.declared.members.Members.{Members}
 use Rattle.m3_cluster.proofs.ActLinks.{ListsFaults, late_links}
-use Rattle.m3_cluster.proofs.CallLemmas.{place_after, At, on, place_at, rules_there, seed_there}
+use Rattle.m3_cluster.proofs.CallLemmas.{place_after, At, on, rules_there}
 use Rattle.m3_cluster.proofs.FaultLinks.{late_failed, own_slot}
 use Rattle.m3_cluster.proofs.KnownNodes.{KnownNode, known_node, counted_slot, against, machine_put, down_cause, boot_cause}
 use Rattle.m3_cluster.proofs.MoreFaults.{AreAmong}
@@ -91,12 +92,13 @@ all_known {D} {G} {state} {faults} {lines} {c} {m} h (message ∷ messages) [] h
 
 -- ---- machines while late writes are delivered
 
--- The machine at a slot within a line: it is a replica, and where it isn't open, that has its cause.
+-- The machine at a slot within a line: it is a replica, where it isn't open, that has its cause, and it is down where its node is stopped.
 record IsGoing {D : Type 0} {G : Ghosts D} (state : D → DiskState) (more : List Fault) (p : TurnPlace) (m : Members D G) (machines : MachineMap D) (s : Slot) : Type 0 where
   machine : MachineState D
   stands : finite.get machines s ≡ Some machine
   replica : HasReplica state (λ q. Unit {0}) (λ q. ⊥) machine
   shut : IsShutFor more p m.net.state.place s machine.standing
+  halted : slice_get m.stopped.items s.node ≡ Some true → machine.standing ≡ standing.Down
 
 -- so are those of all nodes that count
 abbrev AreGoing : {D : Type 0} {G : Ghosts D} → (D → DiskState) → List Fault → TurnPlace → Members D G → MachineMap D → Type 0
@@ -113,6 +115,7 @@ going_first {D} {G} {state} {faults} {lines} {c} {m} h more among a b shard node
       stands = known_is.stands;
       replica = replica_less state (WasSent (spaces_in m) (inner_turns lines)) (λ q. Unit {0}) (WasAcked m (inner_turns lines) (slot_at node shard)) (λ q. ⊥) (λ q sent. tt) (λ q none. absurd none) x known_is.serving.replica;
       shut = by_standing known_is x.standing refl;
+      halted = known_is.serving.halted;
     }
   where
     by_standing : (known_is : KnownNode state faults lines m shard node) (s : Standing) → known_is.machine.standing ≡ s → IsShutFor more (place_after lines a b) m.net.state.place (slot_at node shard) s
@@ -127,15 +130,17 @@ drop_all (x ∷ xs) = drop_all xs
 
 -- a fault of this line closed the machine of a slot
 closed_now : {D : Type 0} {G : Ghosts D} {state : D → DiskState} {faults : List Fault} {lines : List Turn} {c : Cluster D G} {m : Members D G} (h : At state faults lines c m) (more : List Fault) (a : Act) (b : Answer) (shard node : ℕ)
-    → shard < length m.net.state.place.shards → IsIn (counted_in m shard) node → HasFailed more (place_after lines a b) shard node → IsClosedByFault more (place_after lines a b) m.net.state.place shard node
+    → shard < length m.net.state.place.shards → IsIn (counted_in m shard) node → HasFailed more (place_after lines a b) shard node → IsClosedByFault more None (place_after lines a b) m.net.state.place shard node
 closed_now {D} {G} {state} {faults} {lines} {c} {m} h more a b shard node low counts failed =
     let known_is = known_node h shard node low counts in
     record {
-      fault = record { line = length lines; node = node; shard = shard; is_damage = false };
+      fault = record { line = length lines; node = node; shard = shard; kind = Failing };
       among = failed;
       of_node = refl;
       of_shard = refl;
+      closing = refl;
       not_later = omega arith;
+      was_there = λ low. absurd (omega (arith, low));
       not_restarted = record { instance_ = known_is.instance_; stands = known_is.there; holds = ap (λ ls. list_any (is_restart known_is.instance_.name) (inner_turns ls)) (drop_all lines) };
     }
 
@@ -198,6 +203,7 @@ going_here {D} {G} {state} {faults} {lines} {c} {m} h tell more a b one outcome 
         | inl same ↦ subst (IsShutFor more p m.net.state.place (goal_of one)) (sym (stands ∙ same)) going.shut
         | inr disk ↦ subst (IsShutFor more p m.net.state.place (goal_of one)) (sym (stands ∙ disk.1)) (inr (closed_now h more a b one.shard one.node low counts (failed disk.0)))
       ];
+      halted = λ is. elim (put_stands one.client one.number one.version rules one.point x.standing outcome there told) as (λ _. y.standing ≡ standing.Down) [ inl same ↦ stands ∙ same ∙ going.halted is | inr disk ↦ stands ∙ disk.1 ];
     }
 
 -- a put goes on with all of them
@@ -218,39 +224,60 @@ going_next {D} {G} {state} {faults} {lines} {c} {m} h tell more a b one outcome 
       stands = put.stepped.others (slot_at node shard) (λ same. let own : eq_by_cmp slot_cmp (slot_at node shard) (goal_of one) ≡ true = ap (eq_by_cmp slot_cmp (slot_at node shard)) (sym same) ∙ own_slot (slot_at node shard) in let bad : true ≡ false = sym own ∙ e in cc) ∙ was.stands;
       replica = was.replica;
       shut = was.shut;
+      halted = was.halted;
     }
 
 -- ---- what comes of one
 
 -- by how its machine stands: shut, else refused for its own reason, else taken, or memory is wanted, or the disk failed
 came_by : (P : Option Reason → Type 0) (s : Standing) (own outcome : Option Reason) → IsTold false (against s own) outcome → (s ≡ standing.Down → P (Some reason.Down)) → (s ≡ standing.Boot → P (Some reason.Boot)) → ((x : Reason) → own ≡ Some x → P (Some x))
-    → (own ≡ None → P None) → P (Some reason.Memory) → (outcome ≡ Some reason.Disk → P (Some reason.Disk)) → P outcome
+    → (s ≡ standing.Open → own ≡ None → P None) → P (Some reason.Memory) → (outcome ≡ Some reason.Disk → P (Some reason.Disk)) → P outcome
 came_by P standing.Down own outcome h down boot refused taken memory disk = subst P (sym h) (down refl)
 came_by P standing.Boot own outcome h down boot refused taken memory disk = subst P (sym h) (boot refl)
 came_by P standing.Open (Some x) outcome h down boot refused taken memory disk = subst P (sym h) (refused x refl)
 came_by P standing.Open None outcome h down boot refused taken memory disk =
     elim h as (λ _. P outcome) [
-      | inl e ↦ subst P (sym e) (taken refl)
+      | inl e ↦ subst P (sym e) (taken refl refl)
       | inr rest ↦ elim rest as (λ _. P outcome) [ inl e ↦ subst P (sym e) memory | inr e ↦ subst P (sym e) (disk e) ]
     ]
 
+-- a node whose machine is open runs
+open_node : {D : Type 0} {G : Ghosts D} {state : D → DiskState} {faults : List Fault} {lines : List Turn} {c : Cluster D G} {m : Members D G} {more : List Fault} {p : TurnPlace} {machines : MachineMap D} {shard node : ℕ} (h : At state faults lines c m) → shard < length m.net.state.place.shards
+    → IsIn (counted_in m shard) node → (going : IsGoing state more p m machines (slot_at node shard)) → going.machine.standing ≡ standing.Open → OfNode m.net.state.place node (λ name. is_stopped (inner_turns lines) name ≡ false)
+open_node {D} {G} {state} {faults} {lines} {c} {m} {more} {p} {machines} {shard} {node} h low counts going open_ =
+    let known_is = known_node h shard node low counts in
+    record { instance_ = known_is.instance_; stands = known_is.there; holds = by_flag known_is (is_stopped (inner_turns lines) known_is.instance_.name) refl }
+  where
+    by_flag : (known_is : KnownNode state faults lines m shard node) (halted : Bool) → is_stopped (inner_turns lines) known_is.instance_.name ≡ halted → halted ≡ false
+    by_flag known_is false e = refl
+    by_flag known_is true e =
+        let bad : standing.Open ≡ standing.Down = sym open_ ∙ going.halted ((on h).stops node known_is.instance_ known_is.there ∙ ap Some e) in
+        cc
+
+-- what is so of the placement and the node of a late write is so of those of its message
+of_message : {D : Type 0} {G : Ghosts D} {m : Members D G} {lines : List Turn} {message : LateMessage} {one : LateWrite} → IsHeldBack m lines message one → (P : Placement → ℕ → Type 0) → P m.net.state.place one.node → P message.used message.node
+of_message {D} {G} {m} {lines} {message} {one} held P x = subst (λ (place : Placement). P place message.node) (sym held.used) (subst (P m.net.state.place) held.node x)
+
 -- what became of a late write is what may come of its message
 came : {D : Type 0} {G : Ghosts D} {state : D → DiskState} {faults : List Fault} {lines : List Turn} {c : Cluster D G} {m : Members D G} (h : At state faults lines c m) (more : List Fault) (b : Answer) (message : LateMessage) (one : LateWrite) (outcome : Option Reason) (machines : MachineMap D)
-    → IsHeldBack m lines message one → IsGoing state more (place_after lines act.Deliver b) m machines (goal_of one) → IsTold false (refusal_of (finite.get machines (goal_of one)) (late_step m.net.state.rules one)) outcome
-    → (outcome ≡ Some reason.Disk → HasFailed more (place_after lines act.Deliver b) one.shard one.node) → MayComeOf more None (place_after lines act.Deliver b) m.net.state.place one.shard message outcome
-came {D} {G} {state} {faults} {lines} {c} {m} h more b message one outcome machines held going told failed =
+    → IsHeldBack m lines message one → one.shard < length m.net.state.place.shards → IsGoing state more (place_after lines act.Deliver b) m machines (goal_of one) → IsTold false (refusal_of (finite.get machines (goal_of one)) (late_step m.net.state.rules one)) outcome
+    → (outcome ≡ Some reason.Disk → HasFailed more (place_after lines act.Deliver b) one.shard one.node) → MayComeOf true more None (place_after lines act.Deliver b) message one.shard outcome
+came {D} {G} {state} {faults} {lines} {c} {m} h more b message one outcome machines held low going told failed =
     let p = place_after lines act.Deliver b in
     let place = m.net.state.place in
     let rules = m.net.state.rules in
     let rules_are : rules_at None p ≡ rules = rules_there h act.Deliver b in
     let there = late_low h message one held in
-    came_by (MayComeOf more None p place one.shard message) going.machine.standing (outside rules one.point) outcome (told_against state more p m machines one outcome going held.version told)
-    (λ down. subst (λ n. IsStoppedAt p place n ⊎ IsClosedByFault more p place one.shard n) held.node (subst (IsShutFor more p place (goal_of one)) down going.shut))
-    (λ boot. subst (λ n. WaitsForBoot false p place one.shard n) held.node (subst (IsShutFor more p place (goal_of one)) boot going.shut))
-    (λ x e. outside_cause (λ r. MayComeOf more None p place one.shard message (Some r)) rules one.point x there e
+    came_by (MayComeOf true more None p message one.shard) going.machine.standing (outside rules one.point) outcome (told_against state more p m machines one outcome going held.version told)
+    (λ down. of_message held (λ used n. IsStoppedAt p used n ⊎ IsClosedByFault more None p used one.shard n) (subst (IsShutFor more p place (goal_of one)) down going.shut))
+    (λ boot tells. of_message held (λ used n. WaitsForBoot None p used one.shard n) (subst (IsShutFor more p place (goal_of one)) boot going.shut))
+    (λ x e. outside_cause (λ r. MayComeOf true more None p message one.shard (Some r)) rules one.point x there e
     (λ past. subst (λ r. IsPast r message.point) (sym rules_are) (subst (IsPast rules) held.point past))
     (λ future. subst (λ r. IsFuture r message.point) (sym rules_are) (subst (IsFuture rules) held.point future)))
-    (λ free. subst (λ r. InWindow r message.point) (sym rules_are) (subst (InWindow rules) held.point (in_window rules one.point there free)))
+    (λ open_ free. (
+      subst (λ r. InWindow r message.point) (sym rules_are) (subst (InWindow rules) held.point (in_window rules one.point there free)),
+      of_message held (λ used n. OfNode used n (λ name. is_stopped (inner_turns lines) name ≡ false)) (open_node h low held.counted going open_),
+    ))
     tt
     (λ disk. subst (λ n. HasFailed more p one.shard n) held.node (failed disk))
 
@@ -259,7 +286,7 @@ came {D} {G} {state} {faults} {lines} {c} {m} h more b message one outcome machi
 each_outcome : {D : Type 0} {G : Ghosts D} {state : D → DiskState} {faults : List Fault} {lines : List Turn} {c : Cluster D G} {m : Members D G} (h : At state faults lines c m) → TellAll state → (more : List Fault) (b : Answer) (messages : List LateMessage) (lates : List LateWrite)
     (deliveries : List Delivery) (old new : MachineMap D) → late.AreDelivered state m.net.state.rules lates deliveries old new → AreHeldBack m lines messages lates → AreGoing state more (place_after lines act.Deliver b) m old
     → ((d : Delivery) → IsIn deliveries d → d.1 ≡ Some reason.Disk → IsIn m.slots.items (goal_of d.0) → HasFailed more (place_after lines act.Deliver b) d.0.shard d.0.node)
-    → AreOutcomes more None (place_after lines act.Deliver b) m.net.state.place messages (map outcome_of deliveries)
+    → AreOutcomes true more None (place_after lines act.Deliver b) messages (map outcome_of deliveries)
 each_outcome {D} {G} {state} {faults} {lines} {c} {m} h tell more b [] [] [] old new put held going failed = tt
 each_outcome {D} {G} {state} {faults} {lines} {c} {m} h tell more b (message ∷ messages) (one ∷ lates) (d ∷ deliveries) old new put held going failed =
     let first : IsHeldBack m lines message one = held.0 in
@@ -269,11 +296,11 @@ each_outcome {D} {G} {state} {faults} {lines} {c} {m} h tell more b (message ∷
     let failed_one : d.1 ≡ Some reason.Disk → HasFailed more (place_after lines act.Deliver b) one.shard one.node = λ disk.
     subst (λ (l : LateWrite). HasFailed more (place_after lines act.Deliver b) l.shard l.node) one_is (failed d (inl refl) disk (subst (λ (l : LateWrite). IsIn m.slots.items (goal_of l)) (sym one_is) (counted_slot h one.shard one.node first.counted))) in (
       record {
-        message = record { at = was.at; of_act = was.of_act; was_sent = was.was_sent; late = was.late; not_yet = was.not_yet };
+        message = record { made = inl first.at; of_act = was.of_act; was_sent = was.was_sent; call = was.call; of_call = was.of_call; may_use = was.may_use; member = was.member; late = was.late; not_yet = was.not_yet };
         node_is = ap (λ (l : LateWrite). l.node) one_is ∙ first.node;
-        shard_is = ap (λ (l : LateWrite). l.shard) one_is ∙ first.shard ∙ sym (ap (λ seed. shard_of message.point.id seed (length m.net.state.place.shards)) (seed_there h));
-        came = subst (λ (l : LateWrite). MayComeOf more None (place_after lines act.Deliver b) m.net.state.place l.shard message d.1) (sym one_is)
-            (came h more b message one d.1 old first (going one.shard one.node low first.counted) (put.2).told failed_one);
+        shard_is = ap (λ (l : LateWrite). l.shard) one_is ∙ first.goes_to;
+        came = subst (λ (l : LateWrite). MayComeOf true more None (place_after lines act.Deliver b) message l.shard d.1) (sym one_is)
+            (came h more b message one d.1 old first low (going one.shard one.node low first.counted) (put.2).told failed_one);
       },
       each_outcome h tell more b messages lates deliveries put.1 new put.3 held.1
           (going_next h tell more act.Deliver b one d.1 old put.1 first.version (late_low h message one first) low first.counted put.2 failed_one going) (λ e i. failed e (inr i)),
@@ -286,20 +313,32 @@ each_outcome {D} {G} {state} {faults} {lines} {c} {m} h tell more b (message ∷
 -- the outcomes of a delivery are those of the messages that were made late
 pub delivered_due : {D : Type 0} {G : Ghosts D} {state : D → DiskState} {faults : List Fault} {lines : List Turn} {c : Cluster D G} {m : Members D G} (h : At state faults lines c m) → TellAll state → (more : List Fault) → AreAmong faults more → (g : Members D G)
     (outcomes : List (ℕ × ℕ × Option Reason)) (done : late.IsDelivered state m.net outcomes g.net)
-    → ListsFaults lines m (late_links state m.net.state.rules (known m.net.state.rules m.net.bag) done.deliveries m.net.machines g.net.machines done.put) more → IsDelivered more None (place_after lines act.Deliver (answer.Outcomes outcomes)) outcomes
+    → ListsFaults lines m (late_links state m.net.state.rules (known m.net.state.rules m.net.bag) done.deliveries m.net.machines g.net.machines done.put) more → IsDelivered true more None (place_after lines act.Deliver (answer.Outcomes outcomes)) (on h).late.messages outcomes
 delivered_due {D} {G} {state} {faults} {lines} {c} {m} h tell more among g outcomes done lists =
     let waits = (on h).late in
     let b = answer.Outcomes outcomes in
     let p = place_after lines act.Deliver b in
-    let place = m.net.state.place in
     let rules = m.net.state.rules in
     let held : AreHeldBack m lines waits.messages (known rules m.net.bag) = subst (AreHeldBack m lines waits.messages) (sym (all_known h waits.messages m.net.bag waits.held_back)) waits.held_back in
     record {
-      place = place;
-      stands = place_at h act.Deliver b;
-      messages = waits.messages;
       in_order = waits.in_order;
-      each = subst (AreOutcomes more None p place waits.messages) (sym done.outcomes_are)
+      each = subst (AreOutcomes true more None p waits.messages) (sym done.outcomes_are)
           (each_outcome h tell more b waits.messages (known rules m.net.bag) done.deliveries m.net.machines g.net.machines done.put held (going_first h more among act.Deliver b)
           (λ d i disk there. lists (goal_of d.0) there (late_failed state rules (known rules m.net.bag) done.deliveries m.net.machines g.net.machines done.put d i disk)));
     }
+
+-- a message that waits is held back
+held_of : {D : Type 0} {G : Ghosts D} (m : Members D G) (lines : List Turn) (messages : List LateMessage) (bag : List LateWrite) → AreHeldBack m lines messages bag → (message : LateMessage) → IsIn messages message → (late : LateWrite) × IsHeldBack m lines message late
+held_of {D} {G} m lines [] [] h message i = absurd i
+held_of {D} {G} m lines (x ∷ messages) (late ∷ bag) h message i =
+    elim i as (λ _. (y : LateWrite) × IsHeldBack m lines message y) [ inl same ↦ (late, subst (λ (z : LateMessage). IsHeldBack m lines z late) same h.0) | inr rest ↦ held_of m lines messages bag h.1 message rest ]
+held_of {D} {G} m lines [] (late ∷ bag) h message i = absurd h
+held_of {D} {G} m lines (x ∷ messages) [] h message i = absurd h
+
+-- it was made late in an earlier line, and none were delivered since
+pub delivered_before : {D : Type 0} {G : Ghosts D} {state : D → DiskState} {faults : List Fault} {lines : List Turn} {c : Cluster D G} {m : Members D G} (h : At state faults lines c m) (outcomes : List (ℕ × ℕ × Option Reason)) (message : LateMessage) → IsIn (on h).late.messages message
+    → WasDelivered (place_after lines act.Deliver (answer.Outcomes outcomes)) message
+delivered_before {D} {G} {state} {faults} {lines} {c} {m} h outcomes message i =
+    let held = (held_of m lines (on h).late.messages m.net.bag (on h).late.held_back message i).1 in
+    let all : length lines ≡ length message.place.lines + suc (length held.at.after) = ap length held.at.in_run ∙ length-append message.place.lines (message.place.line ∷ held.at.after) in
+    record { earlier = omega (arith, all); delivers = refl; not_before = held.was_late.not_yet }

@@ -1,9 +1,11 @@
 -- What is due where no cluster stands, and where one does.
-use Rattle.std.proofs.Common.{◌≡◌, ℕ, List, sym, ap, ◌∙◌, subst, inr, Bool}
+use Rattle.std.proofs.Common.{◌≡◌, ℕ, List, [], map, sym, ap, ◌∙◌, subst, inr, Bool, true}
 use Rattle.std.specs.Prelude.{Option, Some, None, option_map}
 use Rattle.m3_outside.specs.declared.disk.Disk.{Ghosts}
 use Rattle.m3_outside.specs.DiskState.{DiskState}
-use Rattle.transcripts.specs.Caused.{CausedAt, IsDue, placement_at}
+use Rattle.transcripts.specs.Caused.{CausedAt, IsDueBy, IsOwn}
+use Rattle.transcripts.specs.Deliveries.{LateMessage}
+use Rattle.transcripts.specs.Placements.{placement_at, placements}
 use Rattle.transcripts.specs.Faults.{Fault}
 use Rattle.transcripts.specs.Fates.{is_stopped}
 use Rattle.transcripts.specs.Record.{inner_turns}
@@ -18,7 +20,7 @@ use Rattle.m3_model.specs.declared.turn.Turn.{Turn}
 use Rattle.m3_cluster.specs.Serves.{Stands}
 use Rattle.m3_cluster.specs.declared.cluster.Cluster.{Cluster}
 use Rattle.m3_cluster.specs.declared.members.Members.{Members}
-use Rattle.m3_cluster.proofs.CallLemmas.{place_after, At, place_at, rules_there}
+use Rattle.m3_cluster.proofs.CallLemmas.{place_after, after_lines, At, place_at, rules_there}
 
 pub standing : {D : Type 0} {G : Ghosts D} {state : D → DiskState} {faults : List Fault} {lines : List Turn} {c : Cluster D G} {m : Members D G} → Stands state faults lines c → c.members ≡ Some m → At state faults lines c m
 standing s is = record { stands = s; members = is }
@@ -28,18 +30,31 @@ pub nowhere : {D : Type 0} {G : Ghosts D} {state : D → DiskState} {faults : Li
 nowhere {D} {G} {state} {faults} {lines} {c} s none a b = s.place ∙ ap (option_map (λ (m : Members D G). m.net.state.place)) none
 
 -- there an act is out of order
-pub due_nowhere : {D : Type 0} {G : Ghosts D} {state : D → DiskState} {faults : List Fault} {lines : List Turn} {c : Cluster D G} → Stands state faults lines c → (more : List Fault) (a : Act) (b : Answer) → c.members ≡ None
-    → ((rules : Rules) (stopped : List ℕ → Bool) → refusal_by None rules stopped a ≡ Some answer.Order) → b ≡ answer.Order → CausedAt more None (place_after lines a b)
-due_nowhere {D} {G} {state} {faults} {lines} {c} s more a b none refused is =
+pub due_nowhere : {D : Type 0} {G : Ghosts D} {state : D → DiskState} {faults : List Fault} {lines : List Turn} {c : Cluster D G} → Stands state faults lines c → (more : List Fault) (messages : List LateMessage) (a : Act) (b : Answer) → c.members ≡ None
+    → ((versions : List ℕ) (rules : Rules) (stopped : List ℕ → Bool) → refusal_by None versions rules stopped a ≡ Some answer.Order) → b ≡ answer.Order → CausedAt true more [] None messages (place_after lines a b)
+due_nowhere {D} {G} {state} {faults} {lines} {c} s more messages a b none refused is =
     let p = place_after lines a b in
     let stopped = is_stopped (inner_turns lines) in
-    inr (subst (λ (o : Option Placement). IsDue more None p (refusal_by o (rules_at None p) stopped a)) (sym (nowhere s none a b)) (subst (IsDue more None p) (sym (refused (rules_at None p) stopped)) is))
+    let versions = map (λ (place : Placement). place.version) (placements None (inner_turns lines)) in
+    inr (inr (inner_turns lines, after_lines lines a b, subst (λ (o : Option Placement). IsDueBy true more None messages p (refusal_by o versions (rules_at None p) stopped a)) (sym (nowhere s none a b))
+    (subst (IsDueBy true more None messages p) (sym (refused versions (rules_at None p) stopped)) is)))
 
 -- where one stands, what its placement, its rules and its stopped nodes refuse
-pub due_there : {D : Type 0} {G : Ghosts D} {state : D → DiskState} {faults : List Fault} {lines : List Turn} {c : Cluster D G} {m : Members D G} (h : At state faults lines c m) (more : List Fault) (a : Act) (b : Answer) (refusal : Option Answer)
-    → refusal_by (Some m.net.state.place) m.net.state.rules (is_stopped (inner_turns lines)) a ≡ refusal → IsDue more None (place_after lines a b) refusal → CausedAt more None (place_after lines a b)
-due_there {D} {G} {state} {faults} {lines} {c} {m} h more a b refusal is due =
+pub due_there : {D : Type 0} {G : Ghosts D} {state : D → DiskState} {faults : List Fault} {lines : List Turn} {c : Cluster D G} {m : Members D G} (h : At state faults lines c m) (more : List Fault) (messages : List LateMessage) (a : Act) (b : Answer) (refusal : Option Answer)
+    → ((versions : List ℕ) → refusal_by (Some m.net.state.place) versions m.net.state.rules (is_stopped (inner_turns lines)) a ≡ refusal) → IsDueBy true more None messages (place_after lines a b) refusal → CausedAt true more [] None messages (place_after lines a b)
+due_there {D} {G} {state} {faults} {lines} {c} {m} h more messages a b refusal is due =
     let p = place_after lines a b in
     let stopped = is_stopped (inner_turns lines) in
-    inr (subst (λ (o : Option Placement). IsDue more None p (refusal_by o (rules_at None p) stopped a)) (sym (place_at h a b))
-    (subst (λ (r : Rules). IsDue more None p (refusal_by (Some m.net.state.place) r stopped a)) (sym (rules_there h a b)) (subst (IsDue more None p) (sym is) due)))
+    let versions = map (λ (place : Placement). place.version) (placements None (inner_turns lines)) in
+    inr (inr (inner_turns lines, after_lines lines a b, subst (λ (o : Option Placement). IsDueBy true more None messages p (refusal_by o versions (rules_at None p) stopped a)) (sym (place_at h a b))
+    (subst (λ (r : Rules). IsDueBy true more None messages p (refusal_by (Some m.net.state.place) versions r stopped a)) (sym (rules_there h a b)) (subst (IsDueBy true more None messages p) (sym (is versions)) due))))
+
+-- and where none stands and nothing is refused, the act's own answer
+pub due_free : {D : Type 0} {G : Ghosts D} {state : D → DiskState} {faults : List Fault} {lines : List Turn} {c : Cluster D G} → Stands state faults lines c → (more : List Fault) (a : Act) (b : Answer) → c.members ≡ None
+    → ((versions : List ℕ) (rules : Rules) (stopped : List ℕ → Bool) → refusal_by None versions rules stopped a ≡ None) → IsOwn true more None [] (place_after lines a b) a b → CausedAt true more [] None [] (place_after lines a b)
+due_free {D} {G} {state} {faults} {lines} {c} s more a b none free own =
+    let p = place_after lines a b in
+    let stopped = is_stopped (inner_turns lines) in
+    let versions = map (λ (place : Placement). place.version) (placements None (inner_turns lines)) in
+    inr (inr (inner_turns lines, after_lines lines a b, subst (λ (o : Option Placement). IsDueBy true more None [] p (refusal_by o versions (rules_at None p) stopped a)) (sym (nowhere s none a b))
+    (subst (IsDueBy true more None [] p) (sym (free versions (rules_at None p) stopped)) own)))

@@ -29,7 +29,7 @@ use Rattle.net_plan.proofs.KeyLemmas.{own_key, keys_apart}
 use Rattle.net_plan.proofs.RowLemmas.{same, get-fates}
 use Rattle.placement_core.proofs.ListLemmas.{same_at}
 use Rattle.m3_cluster.specs.Acts.{after_fates}
-use Rattle.m3_cluster.specs.Depots.{TellAll}
+use Rattle.m3_outside.specs.Depots.{TellAll}
 use Rattle.m3_cluster.specs.Nodes.{AreNumbered, IsFated, KeepsButFates}
 use Rattle.m3_cluster.specs.declared.cluster.Cluster.{Cluster}
 use Rattle.m3_cluster.specs.declared.members.Members.{Members}
@@ -108,7 +108,7 @@ fated_grows {D} {G} {state} {faults} {lines} {c} {m} {g} more among tell h list 
       slots = keeps.slots;
       manned = λ s some. subst (λ ms. IsSome (get ms s)) (sym keeps.machines) some;
       none = λ s none. ap (λ ms. get ms s) keeps.machines ∙ none;
-      serving = serving_stays h more among tell extends keeps.machines keeps.stopped (λ acks e. cc) (λ s. record { restarts = λ one there. refl; stops = λ one there. refl; waits = λ one there. refl });
+      serving = serving_stays h more among tell extends keeps.machines keeps.stopped (λ acks e. cc) (λ s. record { restarts = λ one there. refl; stops = λ one there. refl; waits = λ one there. refl; prints = refl });
       fates = λ client call node one there.
           let key : FateKey = record { client = client; call = call; node = node } in
           ap (λ f. fate_of f key) fates ∙ ap (λ o. unwrap_or o Deliver) (get-fates items key)

@@ -21,7 +21,7 @@ use Rattle.session.specs.Slots.{MachineMap}
 use Rattle.session.specs.declared.slot.Slot.{Slot}
 use Rattle.session.proofs.ChangeLemmas.{stepped_not}
 use Rattle.m3_cluster.specs.Chains.{first_tenure}
-use Rattle.m3_cluster.specs.Depots.{Depot}
+use Rattle.m3_outside.specs.Depots.{Depot}
 use Rattle.m3_cluster.specs.First.{AreApart, IsUntouched, IsLent, IsGivenBack, first_boot}
 use Rattle.m3_cluster.specs.Lending.{HasTaken, MayHaveTaken, AreFirstBooted, IsBootedOnce, AreBootedOnce, AreOpened}
 use Rattle.m3_cluster.specs.declared.first.Unopened.TheVariants as unopened

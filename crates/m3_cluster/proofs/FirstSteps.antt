@@ -1,5 +1,5 @@
 -- What an `init` that makes a cluster leaves.
-use Rattle.std.proofs.Common.{◌≡◌, ◌<◌, ◌⊎◌, ℕ, zero, suc, List, [], ◌∷◌, length, map, replicate, refl, sym, ap, subst, ◌∙◌, inl, inr, arith, true, false}
+use Rattle.std.proofs.Common.{◌≡◌, ◌<◌, ◌⊎◌, ℕ, zero, suc, List, [], ◌∷◌, length, map, replicate, refl, sym, ap, ap₂, subst, ◌∙◌, inl, inr, arith, true, false}
 use Rattle.std.specs.Prelude.{Option, Some, None, IsSome, slice_get}
 use Rattle.std.specs.FinMap.{get}
 use Rattle.std.specs.Option.{option_map, option_map_or}
@@ -11,6 +11,7 @@ use Rattle.m3_outside.specs.declared.slot.Slot.{Slot as Place}
 use Rattle.transcripts.specs.Faults.{Fault}
 use Rattle.transcripts.specs.Fates.{Numbering, fate_in}
 use Rattle.m3_model.specs.Members.{IsIn}
+use Rattle.transcripts.specs.Placements.{later_placement, printed}
 use Rattle.transcripts.specs.Record.{InnerTurn, inner_turns}
 use Rattle.m3_model.specs.declared.act.Act.TheVariants as act
 use Rattle.m3_model.specs.declared.answer.Answer.{Answer}
@@ -36,7 +37,8 @@ use Rattle.replica_machine.specs.Machines.{MachineState, first_machine}
 use Rattle.replica_machine.specs.Steps.{IsStep}
 use Rattle.session.specs.declared.slot.Slot.{Slot}
 use Rattle.m3_cluster.specs.Chains.{Link, first_tenure}
-use Rattle.m3_cluster.specs.Depots.{Depot, TellAll, place_of_slot}
+use Rattle.m3_outside.specs.Depots.{Depot, TellAll}
+use Rattle.m3_cluster.specs.Depots.{place_of_slot}
 use Rattle.m3_cluster.specs.First.{first_boot}
 use Rattle.m3_cluster.specs.Replicas.{HasReplica, IsBare, IsShutFor}
 use Rattle.m3_cluster.specs.Serves.{IsServing, IsWellFormed, Stands, StandsOn, WasAcked, WasSent, next_place}
@@ -51,8 +53,8 @@ use Rattle.m3_cluster.proofs.NumberLemmas.{and_then, numbering_more}
 use Rattle.m3_cluster.proofs.OptionLemmas.{same_some}
 use Rattle.m3_cluster.proofs.ReplicaLemmas.{IsDone, bare_replica, begin_refused, given_bare, is_fault, replica_less, replica_next, replica_sound, standing_next}
 use Rattle.m3_cluster.proofs.ReplicaSteps.{giving, gives, lawful_for}
-use Rattle.m3_cluster.proofs.ServingLemmas.{closed_now, stopped_push, turn_cases}
-use Rattle.m3_cluster.proofs.SlotLists.{in_or_out, slot_instance}
+use Rattle.m3_cluster.proofs.ServingLemmas.{IsPlaced, closed_now, placement_push, stopped_push, turn_cases}
+use Rattle.m3_cluster.proofs.SlotLists.{in_or_out, slot_instance, slot_replica}
 use Rattle.m3_cluster.proofs.StandLemmas.{Goes, other_numbered}
 
 -- ---- lists
@@ -119,8 +121,8 @@ made_links {D} {G} {state} {rf} {shards} {seed} {nodes} {now} {after} {g} first 
 
 first_serving : {D : Type 0} {G : Ghosts D} {state : D → DiskState} {faults : List Fault} {lines : List Turn} {old : Cluster D G} (more : List Fault) → TellAll state → ((d : D) → IsLawful (state d)) → (s : Stands state faults lines old) → old.members ≡ None
     → (rf shards seed : ℕ) (nodes : List (List ℕ × List ℕ)) (b : Answer) (now after : Depot D) (g : Members D G) → ((place : Place) → IsBare state (now.held place)) → (first : IsFirst state rf shards seed nodes now after g)
-    → ((acks : List ℕ) → b ≡ answer.Acks acks → ⊥) → ListsFaults lines g (made_links first) more → (slot : Slot) (y : MachineState D) → get g.net.machines slot ≡ Some y → IsServing state more (and_then lines (act.Init rf shards seed nodes) b) g slot y
-first_serving {D} {G} {state} {faults} {lines} {old} more tell lawful s none rf shards seed nodes b now after g bare first no_acks listed slot y is =
+    → ((acks : List ℕ) → b ≡ answer.Acks acks → ⊥) → printed b ≡ Some g.net.state.place → ListsFaults lines g (made_links first) more → (slot : Slot) (y : MachineState D) → get g.net.machines slot ≡ Some y → IsServing state more (and_then lines (act.Init rf shards seed nodes) b) g slot y
+first_serving {D} {G} {state} {faults} {lines} {old} more tell lawful s none rf shards seed nodes b now after g bare first no_acks shown listed slot y is =
     elim (in_or_out g.slots.items slot) as (λ _. IsServing state more lines_on g slot y) [
       | inl among ↦ own among
       | inr out ↦ (let empty = (first.machines.others slot out).no_machine in let bad : None ≡ Some y = sym empty ∙ is in absurd (cc))
@@ -138,6 +140,12 @@ first_serving {D} {G} {state} {faults} {lines} {old} more tell lawful s none rf 
       | inr its_own ↦ no_acks w.acks (ap (λ (x : InnerTurn). x.answer) its_own ∙ w.acked)
     ]
 
+    placed : IsIn g.slots.items slot → IsPlaced lines_on g.net.state.place slot
+    placed among = record {
+      stands = placement_push lines (act.Init rf shards seed nodes) b ∙ ap₂ later_placement shown (s.place ∙ ap (option_map (λ (x : Members D G). x.net.state.place)) none);
+      member = slot_replica g.net.state.place slot (subst (λ slots. IsIn slots slot) first.slots among);
+    }
+
     own : IsIn g.slots.items slot → IsServing state more lines_on g slot y
     own among =
         let known = booted_as g.slots.items first.booted slot among in
@@ -152,15 +160,15 @@ first_serving {D} {G} {state} {faults} {lines} {old} more tell lawful s none rf 
           shut = elim (first_outcome state tell lawful Sent (λ p. ⊥) booted.disk y booted.answer has step booted.no_want booted.sound) as (λ _. IsShutFor more (next_place lines_on) g.net.state.place slot y.standing) [
             | inl open_ ↦ subst (λ z. IsShutFor more (next_place lines_on) g.net.state.place slot z) (sym open_) tt
             | inr down ↦ subst (λ z. IsShutFor more (next_place lines_on) g.net.state.place slot z) (sym down.0)
-                (inr (closed_now more lines (act.Init rf shards seed nodes) b g.net.state.place slot one.0 one.1 (listed slot among (first_fault (answer_at g.slots.items first.booted) g.slots.items slot among (ap is_fault (sym known.answer) ∙ down.1)))))
+                (inr (closed_now more lines (act.Init rf shards seed nodes) b g.net.state.place slot one.0 one.1 (placed among) (listed slot among (first_fault (answer_at g.slots.items first.booted) g.slots.items slot among (ap is_fault (sym known.answer) ∙ down.1)))))
           ];
           halted = λ halted. absurd (runs_only (length g.net.state.place.instances) slot.node (ap (λ xs. slice_get xs slot.node) (sym first.stopped) ∙ halted));
         }
 
 first_stands : {D : Type 0} {G : Ghosts D} {state : D → DiskState} {faults : List Fault} {lines : List Turn} {old : Cluster D G} (more : List Fault) → TellAll state → ((d : D) → IsLawful (state d)) → (s : Stands state faults lines old) → old.members ≡ None
-    → (rf shards seed : ℕ) (nodes : List (List ℕ × List ℕ)) (place : Placement) (version : ℕ) (now after : Depot D) (g : Members D G) → ((p : Place) → IsBare state (now.held p)) → (first : IsFirst state rf shards seed nodes now after g) → ListsFaults lines g (made_links first) more
+    → (rf shards seed : ℕ) (nodes : List (List ℕ × List ℕ)) (place : Placement) (version : ℕ) (now after : Depot D) (g : Members D G) → ((p : Place) → IsBare state (now.held p)) → (first : IsFirst state rf shards seed nodes now after g) → place ≡ g.net.state.place → ListsFaults lines g (made_links first) more
     → StandsOn state more (and_then lines (act.Init rf shards seed nodes) (answer.Placed place version)) g
-first_stands {D} {G} {state} {faults} {lines} {old} more tell lawful s none rf shards seed nodes place version now after g bare first listed =
+first_stands {D} {G} {state} {faults} {lines} {old} more tell lawful s none rf shards seed nodes place version now after g bare first shown listed =
     let a = act.Init rf shards seed nodes in
     let b = answer.Placed place version in
     record {
@@ -172,7 +180,7 @@ first_stands {D} {G} {state} {faults} {lines} {old} more tell lawful s none rf s
       stops = λ node one there.
           ap (λ xs. slice_get xs node) first.stopped ∙ runs_at (length g.net.state.place.instances) node (at_within g.net.state.place.instances node one there)
           ∙ ap Some (sym (stopped_push lines a b one.name ∙ s.no_stops none one.name));
-      serving = first_serving more tell lawful s none rf shards seed nodes b now after g bare first (λ acks e. cc) listed;
+      serving = first_serving more tell lawful s none rf shards seed nodes b now after g bare first (λ acks e. cc) (ap Some shown) listed;
       late = late_none g (and_then lines a b) first.bag;
     }
 
@@ -186,11 +194,11 @@ init_goes {D} {G} {state} {faults} {lines} {old} {new} more tell lawful s none r
     let seed_in : Option (Members D G) → ℕ = λ o. option_map_or (λ (x : Members D G). x.net.state.seed) o 0 in
     record {
       rules = ap rules_in none ∙ sym first.rules ∙ sym (ap rules_in is);
-      place = ap Some shown ∙ sym (ap (option_map (λ (x : Members D G). x.net.state.place)) is);
+      place = ap (later_placement (Some place)) (ap (option_map (λ (m : Members D G). m.net.state.place)) none) ∙ ap Some shown ∙ sym (ap (option_map (λ (x : Members D G). x.net.state.place)) is);
       seed = sym first.seed_is ∙ sym (ap seed_in is);
       numbers = other_numbered s refl (λ _. none) refl calls;
       no_stops = λ gone. let bad : None ≡ Some g = sym gone ∙ is in absurd (cc);
-      members = λ x x_is. subst (StandsOn state more (and_then lines a b)) (same_some new.members g x is x_is) (first_stands more tell lawful s none rf shards seed nodes place version now after g bare first listed);
+      members = λ x x_is. subst (StandsOn state more (and_then lines a b)) (same_some new.members g x is x_is) (first_stands more tell lawful s none rf shards seed nodes place version now after g bare first shown listed);
       kept = λ turn acks kept. let bad : None ≡ Some kept.members = sym none ∙ kept.stands in absurd (cc);
       acked = λ acks e. cc;
     }

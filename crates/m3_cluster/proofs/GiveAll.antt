@@ -1,22 +1,24 @@
 -- Disks given back one after the other.
-use Rattle.std.proofs.Common.{◌≡◌, ◌≢◌, ◌≤◌, ◌<◌, ◌+◌, ℕ, List, [], ◌∷◌, ◌++◌, length, take, get_or, refl, sym, ap, subst, ◌∙◌, inl, inr, arith}
+use Rattle.std.proofs.Common.{◌≡◌, ◌≢◌, ◌≤◌, ◌<◌, ◌+◌, ◌-◌, min, ℕ, List, [], ◌∷◌, ◌++◌, length, take, get_or, refl, sym, ap, subst, ◌∙◌, inl, inr, arith}
 use Rattle.std.specs.Prelude.{◌⊎◌, Option, Some, None}
 use Rattle.std.specs.FinMap.{get, remove, empty, get-empty}
 use Rattle.m3_model.specs.Members.{IsIn}
-use Rattle.m3_model.proofs.MemberLemmas.{IsIn-append_cases}
+use Rattle.m3_model.proofs.MemberLemmas.{IsIn-append_cases, IsIn-append_left, IsIn-append_right}
+use Rattle.m3_outside.specs.Causes.{RoseBy, last_count}
 use Rattle.m3_outside.specs.DiskState.{DiskState}
 use Rattle.m3_outside.specs.Slots.{Here, Out, OthersStay}
 use Rattle.m3_outside.specs.declared.slot.Slot.{Slot as Place}
 use Rattle.replica_machine.specs.Machines.{MachineState}
 use Rattle.session.specs.Slots.{MachineMap, slot_cmp, slot_at}
 use Rattle.session.specs.declared.slot.Slot.{Slot}
-use Rattle.m3_cluster.specs.Depots.{Depot, place_of_slot, AreOut}
-use Rattle.m3_cluster.specs.First.{IsUntouched, IsLent, IsGivenBack, HasReturned, MayNotOpen}
+use Rattle.m3_outside.specs.Depots.{Depot}
+use Rattle.m3_cluster.specs.Depots.{AreOut, count_at, place_of_slot, risen}
+use Rattle.m3_cluster.specs.First.{AreApart, IsUntouched, IsLent, IsGivenBack, HasReturned, MayNotOpen}
 use Rattle.m3_cluster.specs.Lending.{IsKept, IsBack, HasGivenBack, MayHaveTaken, IsUnopened}
-use Rattle.m3_cluster.specs.Serves.{count_at}
 use Rattle.m3_cluster.specs.declared.first.Unopened.{Unopened}
 use Rattle.m3_cluster.specs.declared.first.Unopened.TheVariants as unopened
 use Rattle.m3_cluster.proofs.ListLemmas.{take_at}
+use Rattle.m3_cluster.proofs.ReplicaFaults.{rose_more}
 use Rattle.m3_cluster.proofs.SlotCases.{other_place, get-remove_here, get-remove_other}
 use Rattle.m3_cluster.proofs.SlotLists.{slot_or_other}
 use Rattle.m3_cluster.proofs.TakeAll.{rose_to}
@@ -27,6 +29,23 @@ clash o x none some = let bad : None ≡ Some x = sym none ∙ some in cc
 same_some : {X : Type 0} (o : Option X) (x y : X) → o ≡ Some x → o ≡ Some y → x ≡ y
 same_some o x y p q = let both : Some x ≡ Some y = sym p ∙ q in cc
 
+rose_nothing : (last n : ℕ) → min (n + 0) last ≤ n
+rose_nothing last n = omega arith
+
+-- all but the last of slots that stand once do so, and the last isn't among them
+apart_parts : (done : List Slot) (s : Slot) → AreApart (done ++ s ∷ []) → AreApart done × ¬ IsIn done s
+apart_parts [] s apart = (tt, λ i. i)
+apart_parts (x ∷ done) s apart =
+    let parts = apart_parts done s apart.1 in (
+      (λ y i. apart.0 y (IsIn-append_left done (s ∷ []) y i), parts.0),
+      λ i. elim i as (λ _. ⊥) [ inl same ↦ apart.0 s (IsIn-append_right done (s ∷ []) s (inl refl)) same | inr later ↦ parts.1 later ],
+    )
+
+risen_push : {D : Type 0} (state : D → DiskState) (depot : Depot D) (machines : MachineMap D) (done : List Slot) (s : Slot)
+    → risen state depot machines (done ++ s ∷ []) ≡ risen state depot machines done + (count_at state depot (get machines s) s - depot.counted (place_of_slot s))
+risen_push state depot machines [] s = omega arith
+risen_push state depot machines (x ∷ done) s = let rest = risen_push state depot machines done s in omega (arith, rest)
+
 -- ---- one after the other
 
 -- none was given back yet
@@ -34,7 +53,9 @@ pub given_none : {D : Type 0} (state : D → DiskState) (depot : Depot D) (machi
 given_none state depot machines = record {
   each = λ s. inl (record { machine = refl; held = refl; counted = refl });
   gone = λ s i. absurd i;
+  others = λ s out. refl;
   later = omega arith;
+  rose = λ apart. rose_nothing last_count depot.faults;
 }
 
 -- a machine that is there has its disk still
@@ -61,9 +82,19 @@ given_not state done s old now machines left after had none is = record {
       | inr nothing ↦ absurd nothing
     ]
   ];
+  others = λ t out. same t ∙ had.others t (λ i. out (IsIn-append_left done (s ∷ []) t i));
   later = had.later;
+  rose = λ apart.
+      let parts = apart_parts done s apart in
+      let empty_there : get machines s ≡ None = sym (had.others s parts.1) ∙ none in
+      let stays : risen state old machines (done ++ s ∷ []) ≡ risen state old machines done =
+      risen_push state old machines done s ∙ ap (λ o. risen state old machines done + (count_at state old o s - old.counted (place_of_slot s))) empty_there ∙ none_more (risen state old machines done) (old.counted (place_of_slot s)) in
+      subst (λ n. RoseBy n old.faults now.faults) (sym stays) (had.rose parts.0);
 }
   where
+    none_more : (n k : ℕ) → n + (k - k) ≡ n
+    none_more n k = omega arith
+
     same : (t : Slot) → get after t ≡ get left t
     same t = elim (slot_or_other t s) as (λ _. get after t ≡ get left t) [
       | inl e ↦ subst (λ x. get after x ≡ get left x) (sym e) (ap (λ m. get m s) is ∙ get-remove_here left s ∙ sym none)
@@ -73,8 +104,8 @@ given_not state done s old now machines left after had none is = record {
 -- the disk of the slot's machine was given back
 pub given_more : {D : Type 0} (state : D → DiskState) (done : List Slot) (s : Slot) (m : MachineState D) (old now new : Depot D) (machines left after : MachineMap D) → HasGivenBack state done old machines now left → get left s ≡ Some m
     → after ≡ remove left s → new.held (place_of_slot s) ≡ Here m.disk → OthersStay (place_of_slot s) now.held new.held → new.counted (place_of_slot s) ≡ (state m.disk).faults → OthersStay (place_of_slot s) now.counted new.counted
-    → now.faults ≤ new.faults → HasGivenBack state (done ++ s ∷ []) old machines new after
-given_more {D = D} state done s m old now new machines left after had there is here others counted counted_others later = record {
+    → now.faults ≤ new.faults → RoseBy ((state m.disk).faults - now.counted (place_of_slot s)) now.faults new.faults → HasGivenBack state (done ++ s ∷ []) old machines new after
+given_more {D = D} state done s m old now new machines left after had there is here others counted counted_others later more = record {
   each = λ t. elim (slot_or_other s t) as (λ _. Left t) [
     | inl same ↦ subst Left same back
     | inr other ↦ stays t (λ e. other (sym e))
@@ -89,9 +120,24 @@ given_more {D = D} state done s m old now new machines left after had there is h
       | inr nothing ↦ absurd nothing
     ]
   ];
+  others = λ t out. ap (λ n. get n t) is ∙ get-remove_other left s t (λ e. out (IsIn-append_right done (s ∷ []) t (inl (sym e)))) ∙ had.others t (λ i. out (IsIn-append_left done (s ∷ []) t i));
   later = omega (arith, had.later, later);
+  rose = λ apart.
+      let parts = apart_parts done s apart in
+      let was : get machines s ≡ Some m = sym (had.others s parts.1) ∙ there in
+      let term : count_at state old (get machines s) s - old.counted (place_of_slot s) ≡ (state m.disk).faults - now.counted (place_of_slot s) =
+      ap (λ o. count_at state old o s - old.counted (place_of_slot s)) was ∙ ap (λ n. (state m.disk).faults - n) (sym uncounted) in
+      let all : risen state old machines (done ++ s ∷ []) ≡ risen state old machines done + ((state m.disk).faults - now.counted (place_of_slot s)) =
+      risen_push state old machines done s ∙ ap (λ n. risen state old machines done + n) term in
+      subst (λ n. RoseBy n old.faults new.faults) (sym all) (rose_more (risen state old machines done) ((state m.disk).faults - now.counted (place_of_slot s)) old.faults now.faults new.faults (had.rose parts.0) more);
 }
   where
+    uncounted : now.counted (place_of_slot s) ≡ old.counted (place_of_slot s)
+    uncounted = elim (had.each s) as (λ _. now.counted (place_of_slot s) ≡ old.counted (place_of_slot s)) [
+      | inl kept ↦ kept.counted
+      | inr back ↦ absurd (clash (get left s) m back.gone there)
+    ]
+
     Left : Slot → Type 0
     Left t = IsKept old machines new after t ⊎ IsBack state machines new after t
 
@@ -222,12 +268,14 @@ counts_given {D = D} state slots old new machines left own given s = by_slot (gi
 -- the disk of the next slot's machine was given back
 pub given_by : {D : Type 0} (state : D → DiskState) (slots : List Slot) (i : ℕ) (d : Slot) (place : Place) (disk : D) (m : MachineState D) (old now new : Depot D) (machines left after : MachineMap D) → i < length slots
     → HasGivenBack state (take i slots) old machines now left → Some m ≡ get left (get_or slots i d) → after ≡ remove left (get_or slots i d) → place ≡ place_of_slot (get_or slots i d) → disk ≡ m.disk → new.held place ≡ Here disk
-    → OthersStay place now.held new.held → new.counted place ≡ (state disk).faults → OthersStay place now.counted new.counted → now.faults ≤ new.faults → HasGivenBack state (take (i + 1) slots) old machines new after
-given_by {D} state slots i d place disk m old now new machines left after low had there is at own here others counted counted_others later =
+    → OthersStay place now.held new.held → new.counted place ≡ (state disk).faults → OthersStay place now.counted new.counted → now.faults ≤ new.faults → RoseBy ((state disk).faults - now.counted place) now.faults new.faults
+    → HasGivenBack state (take (i + 1) slots) old machines new after
+given_by {D} state slots i d place disk m old now new machines left after low had there is at own here others counted counted_others later more =
     let s = get_or slots i d in
     subst (λ done. HasGivenBack state done old machines new after) (sym (take_at slots i d low))
     (given_more state (take i slots) s m old now new machines left after had (sym there) is (subst (λ p. new.held p ≡ Here disk) at here ∙ ap Here own) (subst (λ p. OthersStay p now.held new.held) at others)
-    (subst (λ p. new.counted p ≡ (state disk).faults) at counted ∙ ap (λ x. (state x).faults) own) (subst (λ p. OthersStay p now.counted new.counted) at counted_others) later)
+    (subst (λ p. new.counted p ≡ (state disk).faults) at counted ∙ ap (λ x. (state x).faults) own) (subst (λ p. OthersStay p now.counted new.counted) at counted_others) later
+    (subst (λ x. RoseBy ((state x).faults - now.counted (place_of_slot s)) now.faults new.faults) own (subst (λ p. RoseBy ((state disk).faults - now.counted p) now.faults new.faults) at more)))
 
 -- it has none
 pub given_none_at : {D : Type 0} (state : D → DiskState) (slots : List Slot) (i : ℕ) (d : Slot) (old now : Depot D) (machines left after : MachineMap D) → i < length slots → HasGivenBack state (take i slots) old machines now left

@@ -25,7 +25,7 @@ use Rattle.replica_machine.specs.Machines.{MachineState}
 use Rattle.session.specs.Changes.{Step}
 use Rattle.session.specs.declared.slot.Slot.{Slot}
 use Rattle.m3_cluster.specs.Chains.{Link, slots_of_node, stop_at}
-use Rattle.m3_cluster.specs.Depots.{TellAll}
+use Rattle.m3_outside.specs.Depots.{TellAll}
 use Rattle.m3_cluster.specs.Nodes.{IsHalted, IsNode, IsStopped}
 use Rattle.m3_cluster.specs.Replicas.{IsShutFor}
 use Rattle.m3_cluster.specs.Serves.{IsServing, WasSent, next_place}
@@ -41,7 +41,7 @@ use Rattle.m3_cluster.proofs.NodeLemmas.{node_found, same_node, set_elsewhere, s
 use Rattle.m3_cluster.proofs.NumberLemmas.{and_then}
 use Rattle.m3_cluster.proofs.QuietLemmas.{extends_same, fates_kept, grown_goes, quiet_change, tells_state, tells_unknown}
 use Rattle.m3_cluster.proofs.ReplicaLemmas.{IsAsked, standing_after, steps_at}
-use Rattle.m3_cluster.proofs.ServingLemmas.{StaysRight, acked_none, machine_slot, serving_next, shut_on, stopped_push}
+use Rattle.m3_cluster.proofs.ServingLemmas.{StaysRight, acked_none, machine_placed, machine_slot, serving_next, shut_on, stopped_push}
 use Rattle.m3_cluster.proofs.StandLemmas.{Goes, Grows, other_numbered}
 
 -- ---- a node by its name
@@ -112,10 +112,11 @@ halted_stays {D} {G} {state} {faults} {lines} {c} {m} {g} more among h name halt
         other (ap (λ (q : Slot). q.node) (sym (ap (λ (l : Link). l.slot) from.2 ∙ same)) ∙ of_node node m.slots.items from.0 from.1)) in
         let still : y.standing ≡ x.standing = how ∙ ap (λ steps. standing_after steps x.standing) none in
         record {
-          shut = subst (λ z. IsShutFor more (next_place lines_on) place s z) (sym still) (shut_on faults more lines (act.Stop name) answer.Done place s x.standing among (record {
+          shut = subst (λ z. IsShutFor more (next_place lines_on) place s z) (sym still) (shut_on faults more lines (act.Stop name) answer.Done place s x.standing among (machine_placed h s slot) (record {
             restarts = λ one there. refl;
             stops = λ one there. cond_true (pointwise nat_eq one.name name);
             waits = λ one there. refl;
+            prints = refl;
           }) serving.shut);
           halted = λ is. still ∙ serving.halted (sym (set_elsewhere m.stopped.items node s.node true other) ∙ ap (λ xs. slice_get xs s.node) (sym halted.stopped_now) ∙ is);
         }

@@ -3,11 +3,11 @@ use Rattle.std.proofs.Common.{◌≡◌, ◌<◌, ℕ, zero, suc, List, [], ◌�
 use Rattle.std.specs.Prelude.{Option, Some, None, IsSome, option_map, slice_get}
 use Rattle.m3_outside.specs.declared.disk.Disk.{Ghosts}
 use Rattle.m3_outside.specs.DiskState.{DiskState}
-use Rattle.transcripts.specs.Caused.{CausedAt, IsDue, NamesNode}
+use Rattle.transcripts.specs.Caused.{CausedAt, NamesNode}
 use Rattle.transcripts.specs.Faults.{Fault}
 use Rattle.transcripts.specs.Fates.{is_stopped}
 use Rattle.transcripts.specs.Kept.{KeptAt}
-use Rattle.placement_plan.specs.First.{IsFirstPlacement}
+use Rattle.placement_plan.specs.First.{IsFirstPlacement, IsInitial}
 use Rattle.m3_model.specs.Reads.{found_of}
 use Rattle.transcripts.specs.Record.{inner_turns}
 use Rattle.transcripts.specs.Refusals.{refusal_by}
@@ -20,13 +20,13 @@ use Rattle.m3_model.specs.declared.placement.Placement.{Placement}
 use Rattle.m3_model.specs.declared.turn.Turn.{Turn}
 use Rattle.session.specs.Slots.{slot_at}
 use Rattle.m3_cluster.specs.Acts.{IsMade}
-use Rattle.m3_cluster.specs.Depots.{Depot}
+use Rattle.m3_outside.specs.Depots.{Depot}
 use Rattle.m3_cluster.specs.Serves.{Stands}
 use Rattle.m3_cluster.specs.declared.cluster.Cluster.{Cluster}
 use Rattle.m3_cluster.specs.declared.members.Members.{Members}
 use Rattle.m3_cluster.proofs.ActLinks.{ListsTaken}
 use Rattle.m3_cluster.proofs.CallLemmas.{place_after}
-use Rattle.m3_cluster.proofs.DueLemmas.{due_there, nowhere, standing}
+use Rattle.m3_cluster.proofs.DueLemmas.{due_free, due_there, standing}
 use Rattle.m3_cluster.proofs.OptionLemmas.{mapped_from}
 use Rattle.m3_cluster.proofs.ShardLemmas.{slot_low}
 
@@ -44,27 +44,24 @@ names_node rf shards nodes place node one first at =
 
 -- what `init` answers is caused
 pub made_caused : {D : Type 0} {G : Ghosts D} (state : D → DiskState) (lines : List Turn) (now : Depot D) (old : Cluster D G) (rf shards seed : ℕ) (nodes : List (List ℕ × List ℕ)) (b : Answer) (after : Depot D) (new : Cluster D G) (faults more : List Fault) → Stands state faults lines old
-    → (h : IsMade state now old rf shards seed nodes b after new) → ListsTaken state lines now old rf shards seed nodes b after new h more → CausedAt more None (place_after lines (act.Init rf shards seed nodes) b)
+    → (h : IsMade state now old rf shards seed nodes b after new) → ListsTaken state lines now old rf shards seed nodes b after new h more → CausedAt true more [] None [] (place_after lines (act.Init rf shards seed nodes) b)
 made_caused {D} {G} state lines now old rf shards seed nodes (answer.Placed place version) after new faults more s h lists =
     let a = act.Init rf shards seed nodes in
-    let p = place_after lines a (answer.Placed place version) in
     let made = h.2 in
-    let first : IsFirstPlacement rf shards nodes made.0.net.state.place = made.2.place in
-    let own : IsFirstPlacement rf shards nodes place = subst (IsFirstPlacement rf shards nodes) (sym made.3) first in
-    inr (subst (λ (o : Option Placement). IsDue more None p (refusal_by o (rules_at None p) (is_stopped (inner_turns lines)) a)) (sym (nowhere s h.0 a (answer.Placed place version))) (own, h.1 ∙ sym own.version_is))
+    let own : IsInitial rf shards nodes place = subst (IsInitial rf shards nodes) (sym made.3) made.2.initial in
+    due_free s more a (answer.Placed place version) h.0 (λ versions rules stopped. refl) (own, h.1 ∙ sym own.version)
 made_caused {D} {G} state lines now old rf shards seed nodes answer.Order after new faults more s h lists = by_old old.members refl h.0
   where
-    by_old : (o : Option (Members D G)) → old.members ≡ o → IsSome o → CausedAt more None (place_after lines (act.Init rf shards seed nodes) answer.Order)
+    by_old : (o : Option (Members D G)) → old.members ≡ o → IsSome o → CausedAt true more [] None [] (place_after lines (act.Init rf shards seed nodes) answer.Order)
     by_old None is some = cc
-    by_old (Some m) is some = due_there (standing s is) more (act.Init rf shards seed nodes) answer.Order (Some answer.Order) refl refl
+    by_old (Some m) is some = due_there (standing s is) more [] (act.Init rf shards seed nodes) answer.Order (Some answer.Order) (λ versions. refl) refl
 made_caused {D} {G} state lines now old rf shards seed nodes (answer.Disk name shard) after new faults more s h lists =
     let a = act.Init rf shards seed nodes in
     let b = answer.Disk name shard in
-    let p = place_after lines a b in
     let untaken = h.2 in
     let names : NamesNode nodes name untaken.node = subst (λ n. NamesNode nodes n untaken.node) (sym untaken.name_is) (names_node rf shards nodes untaken.place untaken.node untaken.instance_ untaken.first untaken.named) in
     let low : shard < shards = subst (λ k. shard < k) untaken.first.shards_are (slot_low untaken.place (slot_at untaken.node shard) untaken.of_slot) in
-    inr (subst (λ (o : Option Placement). IsDue more None p (refusal_by o (rules_at None p) (is_stopped (inner_turns lines)) a)) (sym (nowhere s h.0 a b)) (untaken.node, names, low, lists))
+    due_free s more a b h.0 (λ versions rules stopped. refl) (untaken.node, names, low, lists)
 made_caused state lines now old rf shards seed nodes answer.Memory after new faults more s h lists = inl refl
 made_caused state lines now old rf shards seed nodes _ after new faults more s h lists = absurd h
 

@@ -27,7 +27,7 @@ use Rattle.m3_model.specs.declared.rules.Rules.{Rules}
 use Rattle.m3_model.specs.declared.turn.Turn.{Turn}
 use Rattle.session.specs.Reads.{first_asked, end_asked}
 use Rattle.m3_cluster.specs.Acts.{Answers, next_call}
-use Rattle.m3_cluster.specs.Depots.{TellAll}
+use Rattle.m3_outside.specs.Depots.{TellAll}
 use Rattle.m3_cluster.specs.Nodes.{IsBootstrapped, IsDelivered, IsFated, IsRestarted, IsStopped}
 use Rattle.m3_cluster.specs.Serves.{Stands, shard_in}
 use Rattle.m3_cluster.specs.Steps.{spaces_in, wish, IsNamed, IsMoved, IsWritten, IsWriteAnswer, IsFetched, IsRead, NamedPoint, placed}

@@ -1,12 +1,14 @@
 -- What is known of the nodes that count for a shard: how the machine of one stands, and why it answers or doesn't.
 use Rattle.std.proofs.Common.{◌≡◌, ◌<◌, ℕ, List, [], length, filter, refl, sym, ap, ap₂, subst, ◌∙◌, inl, inr, Bool, true, false, not, ◌&&◌}
-use Rattle.std.specs.Prelude.{◌⊎◌, Option, Some, None, IsSome, slice_get}
+use Rattle.std.specs.Prelude.{◌⊎◌, Option, Some, None, IsSome, IsTrue, slice_get}
 use Rattle.std.specs.FinMap as finite
 use Rattle.std.specs.Option.{option_or, option_map_or}
 use Rattle.m3_outside.specs.declared.disk.Disk.{Ghosts}
 use Rattle.m3_outside.specs.DiskState.{DiskState}
-use Rattle.transcripts.specs.Caused.{MayRefuse}
-use Rattle.transcripts.specs.Faults.{Fault, HasFailed, IsClosedByFault, WaitsForBoot}
+use Rattle.m3_model.specs.Calls.{is_call}
+use Rattle.transcripts.specs.Reasons.{MayRefuse}
+use Rattle.transcripts.specs.Faults.{Fault, HasFailed, IsClosedByFault}
+use Rattle.transcripts.specs.Waiting.{WaitsForBoot}
 use Rattle.transcripts.specs.Fates.{IsStoppedAt, fate_at, is_stopped, is_reached, reaches}
 use Rattle.m3_model.specs.Delivery.{is_cut}
 use Rattle.m3_model.specs.Members.{IsIn}
@@ -130,19 +132,19 @@ read_against {D} {G} {state} {faults} {lines} {m} {shard} {node} known call w ve
 
 -- it is down since its node is stopped or a fault closed it
 pub down_cause : {D : Type 0} {G : Ghosts D} {state : D → DiskState} {faults : List Fault} {lines : List Turn} {m : Members D G} {s : Slot} {machine : MachineState D} (serving : IsServing state faults lines m s machine) (more : List Fault) → AreAmong faults more → (a : Act) (b : Answer)
-    → machine.standing ≡ standing.Down → IsStoppedAt (place_after lines a b) m.net.state.place s.node ⊎ IsClosedByFault more (place_after lines a b) m.net.state.place s.shard s.node
+    → machine.standing ≡ standing.Down → IsStoppedAt (place_after lines a b) m.net.state.place s.node ⊎ IsClosedByFault more None (place_after lines a b) m.net.state.place s.shard s.node
 down_cause {D} {G} {state} {faults} {lines} {m} {s} {machine} serving more among a b is =
     let p = place_after lines a b in
     let place = m.net.state.place in
     let shut_for : IsShutFor faults (next_place lines) place s standing.Down = subst (IsShutFor faults (next_place lines) place s) is serving.shut in
-    elim shut_for as (λ _. IsStoppedAt p place s.node ⊎ IsClosedByFault more p place s.shard s.node) [
+    elim shut_for as (λ _. IsStoppedAt p place s.node ⊎ IsClosedByFault more None p place s.shard s.node) [
       | inl stopped ↦ inl stopped
-      | inr closed ↦ inr (record { fault = closed.fault; among = among closed.fault closed.among; of_node = closed.of_node; of_shard = closed.of_shard; not_later = closed.not_later; not_restarted = closed.not_restarted })
+      | inr closed ↦ inr (record { fault = closed.fault; among = among closed.fault closed.among; of_node = closed.of_node; of_shard = closed.of_shard; closing = closed.closing; not_later = closed.not_later; was_there = closed.was_there; not_restarted = closed.not_restarted })
     ]
 
 -- it waits for a bootstrap
 pub boot_cause : {D : Type 0} {G : Ghosts D} {state : D → DiskState} {faults : List Fault} {lines : List Turn} {m : Members D G} {s : Slot} {machine : MachineState D} (serving : IsServing state faults lines m s machine) (a : Act) (b : Answer) → machine.standing ≡ standing.Boot
-    → WaitsForBoot false (place_after lines a b) m.net.state.place s.shard s.node
+    → WaitsForBoot None (place_after lines a b) m.net.state.place s.shard s.node
 boot_cause {D} {G} {state} {faults} {lines} {m} {s} {machine} serving a b is = subst (IsShutFor faults (next_place lines) m.net.state.place s) is serving.shut
 
 -- ---- outcomes
@@ -203,17 +205,17 @@ answered_was {D} {G} {state} {faults} {lines} {c} {m} {shard} {node} h a b known
 
 -- a node that didn't answer has its cause
 pub refused_was : {D : Type 0} {G : Ghosts D} {state : D → DiskState} {faults : List Fault} {lines : List Turn} {c : Cluster D G} {m : Members D G} {shard node : ℕ} (h : At state faults lines c m) (more : List Fault) → AreAmong faults more → (a : Act) (b : Answer)
-    (known : KnownNode state faults lines m shard node) (refused own : Option Reason) (why : Reason) → refused ≡ against known.machine.standing own → IsOutcome (is_cut (fate_to m.net.fates (next_call c None) node)) refused (Some why)
-    → ((x : Reason) → own ≡ Some x → MayRefuse more None (place_after lines a b) m.net.state.place shard node x) → (why ≡ reason.Disk → HasFailed more (place_after lines a b) shard node)
-    → MayRefuse more None (place_after lines a b) m.net.state.place shard node why
-refused_was {D} {G} {state} {faults} {lines} {c} {m} {shard} {node} h more among a b known refused own why is outcome own_cause failed =
+    → IsTrue (is_call a) → (known : KnownNode state faults lines m shard node) (refused own : Option Reason) (why : Reason) → refused ≡ against known.machine.standing own → IsOutcome (is_cut (fate_to m.net.fates (next_call c None) node)) refused (Some why)
+    → ((x : Reason) → own ≡ Some x → MayRefuse true more None (place_after lines a b) m.net.state.place shard node x) → (why ≡ reason.Disk → HasFailed more (place_after lines a b) shard node)
+    → MayRefuse true more None (place_after lines a b) m.net.state.place shard node why
+refused_was {D} {G} {state} {faults} {lines} {c} {m} {shard} {node} h more among a b calls known refused own why is outcome own_cause failed =
     let p = place_after lines a b in
     let place = m.net.state.place in
     let cut = is_cut (fate_to m.net.fates (next_call c None) node) in
-    refusal_was (MayRefuse more None p place shard node) cut known.machine.standing own why (subst (λ o. IsOutcome cut o (Some why)) is outcome)
-    (λ lost. record { instance_ = known.instance_; stands = known.there; holds = ap is_cut (sym (fate_is h a b None node known.instance_ known.there)) ∙ lost })
+    refusal_was (MayRefuse true more None p place shard node) cut known.machine.standing own why (subst (λ o. IsOutcome cut o (Some why)) is outcome)
+    (λ lost. (calls, record { instance_ = known.instance_; stands = known.there; holds = ap is_cut (sym (fate_is h a b None node known.instance_ known.there)) ∙ lost }))
     (down_cause known.serving more among a b)
-    (boot_cause known.serving a b)
+    (λ is tells. boot_cause known.serving a b is)
     own_cause
     tt
     failed

@@ -1,17 +1,19 @@
 -- The writes that are held back, one line on.
-use Rattle.std.proofs.Common.{◌≡◌, ◌+◌, ◌<◌, ◌⊎◌, ℕ, zero, suc, List, [], ◌∷◌, ◌++◌, filter, length, length-append, map, take, refl, sym, ap, ap₂, subst, ◌∙◌, inl, inr, arith, append-nil, Bool, true, false, cond}
+use Rattle.std.proofs.Common.{◌≡◌, ◌+◌, ◌<◌, ◌⊎◌, ℕ, ◌≤◌, zero, suc, List, [], ◌∷◌, ◌++◌, drop, filter, length, length-append, map, take, refl, sym, ap, ap₂, subst, ◌∙◌, inl, inr, arith, append-nil, Bool, true, false, cond}
 use Rattle.std.specs.Prelude.{Some, None, IsTrue, nat_eq, option_map, slice_get}
 use Rattle.std.proofs.lemmas.List.{append_assoc, take-map}
 use Rattle.m3_outside.specs.declared.disk.Disk.{Ghosts}
 use Rattle.m3_outside.specs.DiskState.{DiskState}
 use Rattle.m3_model.specs.Ascends.{Ascends}
 use Rattle.transcripts.specs.Faults.{Fault}
-use Rattle.transcripts.specs.Caused.{LateMessage, IsLateMessage, IsLateBefore, delivers_nothing}
+use Rattle.transcripts.specs.Calls.{Call, call_of}
+use Rattle.transcripts.specs.Deliveries.{LateMessage, IsLateMessage, IsLateBefore, delivers_nothing, shard_of_message}
+use Rattle.transcripts.specs.Placements.{MayUse, has_replica}
 use Rattle.placement_core.specs.NodeNames.{IsNamedBelow}
 use Rattle.m3_model.specs.Hash.{shard_of}
 use Rattle.m3_model.specs.Members.{IsIn}
 use Rattle.transcripts.specs.Points.{point_of, sent_point, was_sent}
-use Rattle.transcripts.specs.Record.{InnerTurn, TurnPlace, IsTurnPlace, inner_turns}
+use Rattle.transcripts.specs.Record.{InnerTurn, TurnPlace, IsTurnPlace, inner_turns, line_of}
 use Rattle.transcripts.specs.Rules.{rules_after, start_rules}
 use Rattle.m3_model.specs.Rules.{namespace_place}
 use Rattle.m3_model.specs.declared.act.Act.{Act}
@@ -24,9 +26,11 @@ use Rattle.m3_model.specs.declared.point.Point.{Point}
 use Rattle.m3_model.specs.declared.rules.Rules.{Rules}
 use Rattle.m3_model.specs.declared.rules.Space.{Space}
 use Rattle.m3_model.specs.declared.turn.Turn.{Turn}
-use Rattle.m3_model.proofs.MemberLemmas.{IsIn-append_cases, IsIn-map}
+use Rattle.m3_model.proofs.MemberLemmas.{IsIn-append_cases, IsIn-map, map-IsIn}
 use Rattle.net_plan.specs.declared.late_write.LateWrite.{LateWrite}
-use Rattle.placement_core.specs.Shards.{shard_at, counted}
+use Rattle.m3_model.specs.declared.placement.Assignment.{Assignment}
+use Rattle.placement_core.specs.Shards.{shard_at, counted, is_available, nodes_of}
+use Rattle.placement_core.proofs.HolderLemmas.{chosen_node}
 use Rattle.placement_core.proofs.ListLemmas.{IsIn-filter, chosen}
 use Rattle.placement_core.proofs.OrderLemmas.{ascends-filter, ascends-map}
 use Rattle.session.specs.Outcomes.{fate_to}
@@ -36,9 +40,10 @@ use Rattle.m3_cluster.specs.Serves.{IsHeldBack, AreHeldBack, HoldsLate, counted_
 use Rattle.m3_cluster.specs.Steps.{spaces_in}
 use Rattle.m3_cluster.specs.declared.cluster.Cluster.{Cluster}
 use Rattle.m3_cluster.specs.declared.members.Members.{Members}
-use Rattle.m3_cluster.proofs.CallLemmas.{At, on, place_after, fate_is}
+use Rattle.m3_cluster.proofs.CallLemmas.{At, on, place_after, fate_is, seed_there, stands_there}
 use Rattle.m3_cluster.proofs.KnownNodes.{known_node}
-use Rattle.m3_cluster.proofs.NumberLemmas.{line_of, and_then}
+use Rattle.m3_cluster.proofs.ListLemmas.{any_of}
+use Rattle.m3_cluster.proofs.NumberLemmas.{and_then}
 use Rattle.m3_cluster.proofs.OptionLemmas.{mapped_from}
 use Rattle.m3_cluster.proofs.ShardLemmas.{ascends_on}
 use Rattle.m3_cluster.proofs.SpaceLemmas.{namespace_place-append}
@@ -61,25 +66,15 @@ sent_point-append spaces more d p e = sent_by spaces more d.act (was_sent d.answ
 -- ---- places, one line on
 
 abbrev pub place_on : {lines : List Turn} {p : TurnPlace} → IsTurnPlace lines p → (line : Turn) → IsTurnPlace (lines ++ line ∷ []) p
-place_on {lines} {p} h line = record {
-  line = h.line;
-  after = h.after ++ line ∷ [];
-  front = h.front;
-  later = h.later;
-  back = h.back;
-  in_run = ap (λ xs. xs ++ line ∷ []) h.in_run ∙ append_assoc p.lines (h.line ∷ h.after) (line ∷ []);
-  in_line = h.in_line;
-  others = h.others;
-  client_is = h.client_is;
-}
+place_on {lines} {p} h line = record { after = h.after ++ line ∷ []; in_run = ap (λ xs. xs ++ line ∷ []) h.in_run ∙ append_assoc p.lines (p.line ∷ h.after) (line ∷ []); stands = h.stands }
 
 -- the only turn of the last line
 abbrev pub place_last : (lines : List Turn) (a : Act) (b : Answer) → IsTurnPlace (and_then lines a b) (place_after lines a b)
-place_last lines a b = record { line = line_of a b; after = []; front = []; later = []; back = []; in_run = refl; in_line = refl; others = refl; client_is = refl }
+place_last lines a b = record { after = []; in_run = refl; stands = record { front = []; later = []; back = []; in_line = refl; others = refl; client_is = refl } }
 
 -- an earlier line has fewer lines before it
 line_below : {lines : List Turn} {p : TurnPlace} → IsTurnPlace lines p → length p.lines < length lines
-line_below {lines} {p} h = let all : length lines ≡ length p.lines + suc (length h.after) = ap length h.in_run ∙ length-append p.lines (h.line ∷ h.after) in omega (arith, all)
+line_below {lines} {p} h = let all : length lines ≡ length p.lines + suc (length h.after) = ap length h.in_run ∙ length-append p.lines (p.line ∷ h.after) in omega (arith, all)
 
 -- ---- what a turn leaves of the cluster that a late message meets
 
@@ -105,27 +100,44 @@ point_later {D} {G} {lines} {m} {g} {a} {b} e x p is =
     ap (λ (r : Rules). point_of r.spaces x) e.rules_are ∙ ap (λ spaces. point_of spaces x) e.spaces
     ∙ point_of-append (spaces_in m) e.more x p (ap (λ (r : Rules). point_of r.spaces x) (sym e.rules_were) ∙ is)
 
+-- behind an earlier place, one line more
+drop_on : {X : Type 0} (k : ℕ) (xs : List X) (x y : X) → IsIn (drop k (xs ++ x ∷ [])) y → IsIn (drop k xs) y ⊎ (x ≡ y)
+drop_on zero xs x y i = elim (IsIn-append_cases xs (x ∷ []) y i) as (λ _. IsIn xs y ⊎ (x ≡ y)) [ inl before ↦ inl before | inr last ↦ elim last as (λ _. IsIn xs y ⊎ (x ≡ y)) [ inl same ↦ inr same | inr none ↦ absurd none ] ]
+drop_on (suc k) [] x y i = absurd (none_left k i)
+  where
+    none_left : (k : ℕ) → IsIn (drop k []) y → ⊥
+    none_left zero i = i
+    none_left (suc k) i = i
+drop_on (suc k) (z ∷ xs) x y i = drop_on k xs x y i
+
 -- a late message stays late while none are delivered
-message_on : {D : Type 0} {G : Ghosts D} {lines : List Turn} {m g : Members D G} {a : Act} {b : Answer} → Extends lines m a b g → IsTrue (delivers_nothing (line_of a b)) → (place : Placement) (message : LateMessage) → IsLateMessage None (next_place lines) place message
-    → IsLateMessage None (next_place (and_then lines a b)) place message
-message_on {D} {G} {lines} {m} {g} {a} {b} e quiet place message h = record {
-  at = place_on h.at (line_of a b);
+message_on : {D : Type 0} {G : Ghosts D} {lines : List Turn} {m g : Members D G} {a : Act} {b : Answer} → Extends lines m a b g → IsTrue (delivers_nothing (line_of a b)) → (message : LateMessage) → IsTurnPlace lines message.place → IsLateMessage None (next_place lines) message
+    → IsLateMessage None (next_place (and_then lines a b)) message
+message_on {D} {G} {lines} {m} {g} {a} {b} e quiet message at h = record {
+  made = inl (place_on at (line_of a b));
   of_act = point_later e message.place.turn.act message.point h.of_act;
   was_sent = h.was_sent;
+  call = h.call;
+  of_call = h.of_call;
+  may_use = h.may_use;
+  member = h.member;
   late = h.late;
-  not_yet = λ line i. elim (IsIn-append_cases h.at.after (line_of a b ∷ []) line i) as (λ _. IsTrue (delivers_nothing line)) [
+  not_yet = λ line i. elim (drop_on (suc (length message.place.lines)) lines (line_of a b) line i) as (λ _. IsTrue (delivers_nothing line)) [
     | inl before ↦ h.not_yet line before
-    | inr last ↦ elim last as (λ _. IsTrue (delivers_nothing line)) [ inl same ↦ subst (λ l. IsTrue (delivers_nothing l)) same quiet | inr none ↦ absurd none ]
+    | inr same ↦ subst (λ l. IsTrue (delivers_nothing l)) same quiet
   ];
 }
 
 held_on : {D : Type 0} {G : Ghosts D} {lines : List Turn} {m g : Members D G} {a : Act} {b : Answer} → Extends lines m a b g → IsTrue (delivers_nothing (line_of a b)) → (message : LateMessage) (late : LateWrite) → IsHeldBack m lines message late
     → IsHeldBack g (and_then lines a b) message late
 held_on {D} {G} {lines} {m} {g} {a} {b} e quiet message late h = record {
-  was_late = subst (λ place. IsLateMessage None (next_place (and_then lines a b)) place message) (sym e.place) (message_on e quiet m.net.state.place message h.was_late);
+  at = place_on h.at (line_of a b);
+  was_late = message_on e quiet message h.at h.was_late;
+  used = h.used ∙ sym e.place;
   node = h.node;
   counted = subst (λ ns. IsIn ns late.node) (sym (counted_same e late.shard)) h.counted;
   shard = h.shard ∙ sym (shard_same e message.point.id);
+  goes_to = h.goes_to;
   version = h.version;
   point = h.point;
 }
@@ -142,7 +154,7 @@ all_held_on {D} {G} e quiet (message ∷ messages) [] h = absurd h
 pub late_stays : {D : Type 0} {G : Ghosts D} {lines : List Turn} {m g : Members D G} {a : Act} {b : Answer} → Extends lines m a b g → IsTrue (delivers_nothing (line_of a b)) → g.net.bag ≡ m.net.bag → HoldsLate m lines → HoldsLate g (and_then lines a b)
 late_stays {D} {G} {lines} {m} {g} {a} {b} e quiet same h = record {
   messages = h.messages;
-  in_order = subst (λ place. Ascends (IsLateBefore place) h.messages) (sym e.place) h.in_order;
+  in_order = h.in_order;
   held_back = subst (AreHeldBack g (and_then lines a b) h.messages) (sym same) (all_held_on e quiet h.messages m.net.bag h.held_back);
 }
 
@@ -195,6 +207,19 @@ message_held {D} {G} g lines (message ∷ messages) [] h x i = absurd h
 message_held {D} {G} g lines (message ∷ messages) (late ∷ bag) h x i =
     elim i as (λ _. (l : LateWrite) × IsHeldBack g lines x l) [ inl same ↦ (late, subst (λ y. IsHeldBack g lines y late) same h.0) | inr rest ↦ message_held g lines messages bag h.1 x rest ]
 
+-- nothing stands behind a whole list
+none_behind : {X : Type 0} (k : ℕ) (xs : List X) → length xs ≤ k → (y : X) → IsIn (drop k xs) y → ⊥
+none_behind zero [] few y i = i
+none_behind zero (x ∷ xs) few y i = absurd (omega (arith, few))
+none_behind (suc k) [] few y i = i
+none_behind (suc k) (x ∷ xs) few y i = none_behind k xs (omega (arith, few)) y i
+
+-- a node that counts has a replica
+counted_replica : (place : Placement) (shard n : ℕ) → IsIn (counted (shard_at place shard)) n → has_replica (Some place) shard n ≡ true
+counted_replica place shard n i =
+    let chose = chosen_node is_available (shard_at place shard) n i in
+    any_of (nodes_of (shard_at place shard)) n (subst (IsIn (nodes_of (shard_at place shard))) chose.2 (map-IsIn (λ (x : Assignment). x.node) (shard_at place shard) chose.0 chose.1))
+
 late_by : (f : Fate) → is_late f ≡ true → f ≡ fate.Late
 late_by fate.Late e = refl
 late_by _ e = cc
@@ -204,33 +229,47 @@ pub record Delays {D : Type 0} {G : Ghosts D} (lines : List Turn) (m : Members D
   pub of_act : point_of (spaces_in m) a ≡ Some point
   pub was_sent : was_sent b ≡ true
   pub quiet : IsTrue (delivers_nothing (line_of a b))
+  pub call : Call
+  pub of_call : call_of a ≡ Some call
+  pub present : call.version ≡ None
   pub low : shard_in m point.id < length m.net.state.place.shards
   pub counted : (n : ℕ) → IsIn nodes n → IsIn (counted_in m (shard_in m point.id)) n
   pub by_name : Ascends (IsNamedBelow m.net.state.place) nodes
 
 -- the message of the write to a node
-abbrev message_to : List Turn → Act → Answer → Point → ℕ → LateMessage
-message_to lines a b point n = record { place = place_after lines a b; node = n; point = point }
+abbrev message_to : List Turn → Act → Answer → Placement → Point → ℕ → LateMessage
+message_to lines a b used point n = record { place = place_after lines a b; used = used; node = n; point = point }
 
 new_held : {D : Type 0} {G : Ghosts D} {state : D → DiskState} {faults : List Fault} {lines : List Turn} {c : Cluster D G} {m g : Members D G} (h : At state faults lines c m) {a : Act} {b : Answer} (e : Extends lines m a b g) (point : Point) (nodes : List ℕ) → Delays lines m a b point nodes
-    → (n : ℕ) → IsIn nodes n → is_late (fate_to m.net.fates (next_call c None) n) ≡ true → IsHeldBack g (and_then lines a b) (message_to lines a b point n) (late_to (next_call c None) (shard_in m point.id) 1 point n)
+    → (n : ℕ) → IsIn nodes n → is_late (fate_to m.net.fates (next_call c None) n) ≡ true → IsHeldBack g (and_then lines a b) (message_to lines a b m.net.state.place point n) (late_to (next_call c None) (shard_in m point.id) 1 point n)
 new_held {D} {G} {state} {faults} {lines} {c} {m} {g} h {a} {b} e point nodes d n i late =
     let known = known_node h (shard_in m point.id) n d.low (d.counted n i) in
+    let to_shard : shard_of_message None (message_to lines a b m.net.state.place point n) ≡ shard_in m point.id = ap (λ (seed : ℕ). shard_of point.id seed (length m.net.state.place.shards)) (seed_there h) in
     record {
+      at = place_last lines a b;
       was_late = record {
-        at = place_last lines a b;
+        made = inl (place_last lines a b);
         of_act = point_later e a point (ap (λ (r : Rules). point_of r.spaces a) e.rules_were ∙ d.of_act);
         was_sent = d.was_sent;
+        call = d.call;
+        of_call = d.of_call;
+        may_use = subst (λ v. MayUse None (place_after lines a b) v m.net.state.place) (sym d.present) (stands_there h a b);
+        member = subst (λ k. IsTrue (has_replica (Some m.net.state.place) k n)) (sym to_shard) (counted_replica m.net.state.place (shard_in m point.id) n (d.counted n i));
         late = record {
           instance_ = known.instance_;
-          stands = ap (λ (place : Placement). slice_get place.instances n) e.place ∙ known.there;
+          stands = known.there;
           holds = sym (fate_is h a b None n known.instance_ known.there) ∙ late_by (fate_to m.net.fates (next_call c None) n) late;
         };
-        not_yet = λ line none. absurd none;
+        not_yet = λ line i. elim (drop_on (suc (length lines)) lines (line_of a b) line i) as (λ _. IsTrue (delivers_nothing line)) [
+          | inl none ↦ absurd (none_behind (suc (length lines)) lines (omega arith) line none)
+          | inr same ↦ subst (λ l. IsTrue (delivers_nothing l)) same d.quiet
+        ];
       };
+      used = sym e.place;
       node = refl;
       counted = subst (λ ns. IsIn ns n) (sym (counted_same e (shard_in m point.id))) (d.counted n i);
       shard = sym (shard_same e point.id);
+      goes_to = sym to_shard;
       version = refl;
       point = refl;
     }
@@ -245,7 +284,7 @@ earlier_line : {D : Type 0} {G : Ghosts D} (m : Members D G) (lines : List Turn)
 earlier_line {D} {G} m lines messages bag held message nodes of_line x y i j =
     let from = IsIn-map message nodes y j in
     let here : length lines ≡ length y.place.lines = sym (of_line from.0) ∙ ap (λ (z : LateMessage). length z.place.lines) from.2 in
-    let before = line_below ((message_held m lines messages bag held x i).1).was_late.at in
+    let before = line_below ((message_held m lines messages bag held x i).1).at in
     omega (arith, here, before)
 
 -- the late messages of a write are behind those that were held back
@@ -254,7 +293,7 @@ pub late_more : {D : Type 0} {G : Ghosts D} {state : D → DiskState} {faults : 
 late_more {D} {G} {state} {faults} {lines} {c} {m} {g} h {a} {b} e point nodes d is =
     let old = (on h).late in
     let late = late_to (next_call c None) (shard_in m point.id) 1 point in
-    let to_node = message_to lines a b point in
+    let to_node = message_to lines a b m.net.state.place point in
     let late_nodes = filter (λ n. is_late (fate_to m.net.fates (next_call c None) n)) nodes in
     let some = filled_with m.net.bag (map late late_nodes) in
     let first = take some.0 late_nodes in
@@ -266,10 +305,9 @@ late_more {D} {G} {state} {faults} {lines} {c} {m} {g} h {a} {b} e point nodes d
     let bag_is : g.net.bag ≡ m.net.bag ++ map late first = is ∙ some.1 ∙ ap (λ xs. m.net.bag ++ xs) (take-map late some.0 late_nodes) in
     record {
       messages = old.messages ++ map to_node first;
-      in_order = subst (λ place. Ascends (IsLateBefore place) (old.messages ++ map to_node first)) (sym e.place)
-          (ascends_append (IsLateBefore m.net.state.place) old.messages (map to_node first) old.in_order
-          (ascends-map (IsLateBefore m.net.state.place) to_node first (ascends_on (IsNamedBelow m.net.state.place) (λ x y. IsLateBefore m.net.state.place (to_node x) (to_node y)) first (λ x y below. inr (refl, below))
+      in_order = ascends_append IsLateBefore old.messages (map to_node first) old.in_order
+          (ascends-map IsLateBefore to_node first (ascends_on (IsNamedBelow m.net.state.place) (λ x y. IsLateBefore (to_node x) (to_node y)) first (λ x y below. inr (refl, inr (inr (refl, below))))
           (ascends_take (IsNamedBelow m.net.state.place) some.0 late_nodes (ascends-filter (IsNamedBelow m.net.state.place) (λ n. is_late (fate_to m.net.fates (next_call c None) n)) nodes d.by_name))))
-          (λ x y i j. inl (earlier_line m lines old.messages m.net.bag old.held_back (to_node) first (λ n. refl) x y i j)));
+          (λ x y i j. inl (earlier_line m lines old.messages m.net.bag old.held_back (to_node) first (λ n. refl) x y i j));
       held_back = subst (AreHeldBack g (and_then lines a b) (old.messages ++ map to_node first)) (sym bag_is) (held_append g (and_then lines a b) old.messages (map to_node first) m.net.bag (map late first) was new);
     }

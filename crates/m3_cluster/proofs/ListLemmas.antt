@@ -1,6 +1,8 @@
 -- Lists as loops go over them: what was passed, the element, and what is left.
-use Rattle.std.proofs.Common.{◌≡◌, ◌<◌, ◌≤◌, ◌+◌, ℕ, zero, suc, List, [], ◌∷◌, ◌++◌, length, take, drop, get_or, replicate, refl, sym, ap, subst, ◌∙◌, inl, inr, arith, Bool, true, false, cond}
-use Rattle.std.specs.Prelude.{filter}
+use Rattle.std.proofs.Common.{◌≡◌, ◌<◌, ◌≤◌, ◌+◌, ℕ, zero, suc, List, [], ◌∷◌, ◌++◌, length, take, drop, get_or, replicate, refl, sym, ap, subst, ◌∙◌, inl, inr, arith, Bool, true, false, cond, ◌||◌}
+use Rattle.std.specs.Prelude.{filter, nat_eq}
+use Rattle.std.specs.List.{list_any}
+use Rattle.std.proofs.lemmas.Bool.{eq-eqb}
 use Rattle.std.proofs.lemmas.List.{get_or_default}
 use Rattle.m3_model.specs.Ascends.{Ascends}
 use Rattle.m3_model.specs.Members.{IsIn}
@@ -75,3 +77,16 @@ pub filter_parted : {X : Type 0} (f : X → Bool) (xs : List X) (i : ℕ) (d : X
     → filter f xs ≡ filter f (take i xs) ++ get_or xs i d ∷ filter f (drop (suc i) xs)
 filter_parted f xs i d low e =
     ap (filter f) (parted xs i d low) ∙ filter_append f (take i xs) (get_or xs i d ∷ drop (suc i) xs) ∙ ap (λ ys. filter f (take i xs) ++ ys) (filter_one f (get_or xs i d) (drop (suc i) xs) e)
+
+or_later : (a b : Bool) → b ≡ true → (a || b) ≡ true
+or_later true b e = refl
+or_later false b e = e
+
+-- a number that is among them passes the test of being one of them
+pub any_of : (ns : List ℕ) (n : ℕ) → IsIn ns n → list_any (nat_eq n) ns ≡ true
+any_of [] n i = absurd i
+any_of (m ∷ ns) n i =
+    elim i as (λ _. (nat_eq n m || list_any (nat_eq n) ns) ≡ true) [
+      | inl same ↦ ap (λ t. t || list_any (nat_eq n) ns) (eq-eqb n m (sym same))
+      | inr later ↦ or_later (nat_eq n m) (list_any (nat_eq n) ns) (any_of ns n later)
+    ]

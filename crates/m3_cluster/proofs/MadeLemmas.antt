@@ -7,7 +7,7 @@ use Rattle.m3_outside.specs.Causes.{RoseBy, last_count}
 use Rattle.m3_outside.specs.declared.disk.Disk.{Ghosts}
 use Rattle.m3_outside.specs.DiskState.{DiskState, IsLawful}
 use Rattle.m3_outside.specs.declared.slot.Slot.{Slot as Place}
-use Rattle.transcripts.specs.Faults.{AreDifferent, Fault}
+use Rattle.transcripts.specs.Faults.{AreDifferent, Fault, Taking}
 use Rattle.m3_model.specs.Members.{IsIn}
 use Rattle.m3_model.specs.declared.act.Act.TheVariants as act
 use Rattle.m3_model.specs.declared.answer.Answer.{Answer}
@@ -17,7 +17,7 @@ use Rattle.m3_model.proofs.MemberLemmas.{IsIn-append_cases, IsIn-append_left, Is
 use Rattle.placement_core.proofs.ListLemmas.{All-from_each}
 use Rattle.session.specs.declared.slot.Slot.{Slot}
 use Rattle.m3_cluster.specs.Acts.{IsMade}
-use Rattle.m3_cluster.specs.Depots.{Depot, TellAll}
+use Rattle.m3_outside.specs.Depots.{Depot, TellAll}
 use Rattle.m3_cluster.specs.First.{AreApart, HasReturned}
 use Rattle.m3_cluster.specs.Replicas.{IsBare}
 use Rattle.m3_cluster.specs.Serves.{AreCounted, IsUnmade, Stands}
@@ -27,7 +27,8 @@ use Rattle.m3_cluster.proofs.ActLinks.{ListsFaults, ListsTaken}
 use Rattle.m3_cluster.proofs.FirstFaults.{made_counted, returned_counted}
 use Rattle.m3_cluster.proofs.FirstSteps.{init_goes, made_links}
 use Rattle.m3_cluster.proofs.MoreFaults.{AreAmong}
-use Rattle.m3_cluster.proofs.NumberLemmas.{and_then, line_of}
+use Rattle.m3_cluster.proofs.NumberLemmas.{and_then}
+use Rattle.transcripts.specs.Record.{line_of}
 use Rattle.m3_cluster.proofs.QuietLemmas.{Tells, quiet_change, tells_disk, tells_memory, tells_order}
 use Rattle.m3_cluster.proofs.ReplicaLemmas.{bare_back, counted_quiet, fault_listed, fault_of, line_faults}
 use Rattle.m3_cluster.proofs.SlotLists.{slots_apart}
@@ -72,7 +73,7 @@ no_more last before now later = omega (arith, later)
 
 -- an `init` that was refused, with these faults of taking disks
 refused_makes : {D : Type 0} {G : Ghosts D} (state : D → DiskState) → TellAll state → (first now after : Depot D) (lines : List Turn) (old new : Cluster D G) (rf shards seed : ℕ) (nodes : List (List ℕ × List ℕ)) (b : Answer) (taking taken failing : List Fault) → old.members ≡ None → new ≡ old
-    → HasReturned state now empty after → Tells (act.Init rf shards seed nodes) b → AreDifferent taken → All (λ (f : Fault). (f.line ≡ length lines) × (f.is_damage ≡ false)) taken → RoseBy (length taken) now.faults after.faults
+    → HasReturned state now empty after → Tells (act.Init rf shards seed nodes) b → AreDifferent taken → All (λ (f : Fault). (f.line ≡ length lines) × (f.kind ≡ Taking)) taken → RoseBy (length taken) now.faults after.faults
     → AreCounted state first now lines old taking failing → IsUnmade state now failing → Stands state (taking ++ failing) lines old → (made : IsMade state now old rf shards seed nodes b after new)
     → ListsTaken state lines now old rf shards seed nodes b after new made ((taking ++ taken) ++ (failing ++ [])) → Makes state first now lines old rf shards seed nodes b after new taking failing made
 refused_makes {D} {G} state tell first now after lines old new rf shards seed nodes b taking taken failing none same returned tells apart of_line rose counted unmade s made lists =
@@ -130,14 +131,14 @@ made_next {D} {G} state tell lawful first now after lines old new rf shards seed
     some_gone None some gone = cc
     some_gone (Some m) some gone = cc
 made_next state tell lawful first now after lines old new rf shards seed nodes (answer.Disk name shard) taking failing counted unmade s made =
-    let fault : Fault = record { line = length lines; node = made.2.node; shard = shard; is_damage = false } in
+    let fault : Fault = record { line = length lines; node = made.2.node; shard = shard; kind = Taking } in
     refused_makes state tell first now after lines old new rf shards seed nodes (answer.Disk name shard) taking (fault ∷ []) failing made.0 made.1 made.3 (tells_disk (act.Init rf shards seed nodes) name shard) (λ i. i, tt)
-    (All-from_each (λ (f : Fault). (f.line ≡ length lines) × (f.is_damage ≡ false)) (fault ∷ []) (λ f i.
-    elim i as (λ _. (f.line ≡ length lines) × (f.is_damage ≡ false)) [ inl same ↦ (ap (λ (x : Fault). x.line) (sym same), ap (λ (x : Fault). x.is_damage) (sym same)) | inr none ↦ absurd none ]))
+    (All-from_each (λ (f : Fault). (f.line ≡ length lines) × (f.kind ≡ Taking)) (fault ∷ []) (λ f i.
+    elim i as (λ _. (f.line ≡ length lines) × (f.kind ≡ Taking)) [ inl same ↦ (ap (λ (x : Fault). x.line) (sym same), ap (λ (x : Fault). x.kind) (sym same)) | inr none ↦ absurd none ]))
     made.2.rose counted (unmade made.0) s made
     (IsIn-append_left (taking ++ fault ∷ []) (failing ++ []) fault (IsIn-append_right taking (fault ∷ []) fault (inl refl)))
 made_next state tell lawful first now after lines old new rf shards seed nodes answer.Memory taking failing counted unmade s made =
     refused_makes state tell first now after lines old new rf shards seed nodes answer.Memory taking [] failing made.0 made.1 made.2 (tells_memory (act.Init rf shards seed nodes)) tt
-    (All-from_each (λ (f : Fault). (f.line ≡ length lines) × (f.is_damage ≡ false)) [] (λ f i. absurd i))
+    (All-from_each (λ (f : Fault). (f.line ≡ length lines) × (f.kind ≡ Taking)) [] (λ f i. absurd i))
     (no_more last_count now.faults after.faults made.2.later) counted (unmade made.0) s made tt
 made_next state tell lawful first now after lines old new rf shards seed nodes _ taking failing counted unmade s made = absurd made

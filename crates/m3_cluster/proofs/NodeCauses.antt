@@ -10,7 +10,9 @@ use Rattle.std.proofs.lemmas.List.Elements.{All-cons, All-nil}
 use Rattle.m3_outside.specs.declared.disk.Disk.{Ghosts}
 use Rattle.m3_outside.specs.DiskState.{DiskState, IsLawful}
 use Rattle.transcripts.specs.Caused.{OnDisk}
-use Rattle.transcripts.specs.Faults.{Fault, is_covering}
+use Rattle.transcripts.specs.Faults.{Fault, Failing}
+use Rattle.transcripts.specs.Placements.{has_replica}
+use Rattle.transcripts.specs.Waiting.{is_covering}
 use Rattle.m3_model.specs.Members.{IsIn}
 use Rattle.placement_core.specs.NodeNames.{is_listed}
 use Rattle.transcripts.specs.Record.{inner_turns}
@@ -33,7 +35,7 @@ use Rattle.session.specs.Changes.{IsStepped, Step}
 use Rattle.session.specs.Slots.{MachineMap, slot_cmp}
 use Rattle.session.specs.declared.slot.Slot.{Slot}
 use Rattle.m3_cluster.specs.Chains.{Boot, TakesLinks, boot_link, covered_slots, first_tenure, refused_restart_at, restart_at, slots_of_node, stop_at}
-use Rattle.m3_cluster.specs.Depots.{TellAll}
+use Rattle.m3_outside.specs.Depots.{TellAll}
 use Rattle.m3_cluster.specs.Replicas.{HasReplica}
 use Rattle.m3_cluster.specs.Nodes.{HasShard, IsHeldUp, IsNoShard, IsNode, IsUnstarted}
 use Rattle.m3_cluster.specs.Serves.{WasAcked, WasSent}
@@ -41,12 +43,12 @@ use Rattle.m3_cluster.specs.Steps.{spaces_in}
 use Rattle.m3_cluster.specs.declared.cluster.Cluster.{Cluster}
 use Rattle.m3_cluster.specs.declared.members.Members.{Members}
 use Rattle.m3_cluster.proofs.ActLinks.{ListsFaults, refused_boot, unbooted_links, unstarted_links}
-use Rattle.m3_cluster.proofs.CallLemmas.{place_after, At, on, place_at}
+use Rattle.m3_cluster.proofs.CallLemmas.{place_after, At, on, stands_there}
 use Rattle.m3_cluster.proofs.FaultLinks.{link_fault}
 use Rattle.m3_cluster.proofs.KnownNodes.{some_there}
 use Rattle.m3_cluster.proofs.NodeLemmas.{node_found}
 use Rattle.m3_cluster.proofs.ReplicaLemmas.{IsAsked, IsDone, links_steps, replica_next, replica_sound, steps_at}
-use Rattle.m3_cluster.proofs.ShardLemmas.{slot_low}
+use Rattle.m3_cluster.proofs.SlotLists.{slot_replica}
 
 -- ---- refusals
 
@@ -55,16 +57,16 @@ abbrev pub start_refusal : List ℕ → Bool → Bool → Option Answer
 start_refusal name listed halted = option_or (option_map (λ n. answer.Unknown n) (cond listed None (Some name))) (cond (not halted) (Some (answer.State name)) None)
 
 pub restart_refusal : (place : Placement) (rules : Rules) (stopped : List ℕ → Bool) (name : List ℕ) (pick : ℕ) (listed halted : Bool) → is_listed name place ≡ listed → stopped name ≡ halted
-    → refusal_by (Some place) rules stopped (act.Restart name pick) ≡ start_refusal name listed halted
-restart_refusal place rules stopped name pick listed halted e f = ap (λ b. start_refusal name b (stopped name)) e ∙ ap (start_refusal name listed) f
+    → (versions : List ℕ) → refusal_by (Some place) versions rules stopped (act.Restart name pick) ≡ start_refusal name listed halted
+restart_refusal place rules stopped name pick listed halted e f versions = ap (λ b. start_refusal name b (stopped name)) e ∙ ap (start_refusal name listed) f
 
 -- what is refused of a bootstrap, by whether its node is listed, by the shard that is missing, and whether the node is stopped
 abbrev pub boot_refusal : List ℕ → Bool → Option (List ℕ) → Bool → Option Answer
 boot_refusal name listed missing halted = option_or (option_map (λ n. answer.Unknown n) (option_or (cond listed None (Some name)) missing)) (cond halted (Some (answer.State name)) None)
 
 pub bootstrap_refusal : (place : Placement) (rules : Rules) (stopped : List ℕ → Bool) (name : List ℕ) (asked : Option ℕ) (listed : Bool) (missing : Option (List ℕ)) (halted : Bool) → is_listed name place ≡ listed → missing_shard (Some place) asked ≡ missing → stopped name ≡ halted
-    → refusal_by (Some place) rules stopped (act.Bootstrap name asked) ≡ boot_refusal name listed missing halted
-bootstrap_refusal place rules stopped name asked listed missing halted e g f =
+    → (versions : List ℕ) → refusal_by (Some place) versions rules stopped (act.Bootstrap name asked) ≡ boot_refusal name listed missing halted
+bootstrap_refusal place rules stopped name asked listed missing halted e g f versions =
     ap (λ b. boot_refusal name b (missing_shard (Some place) asked) (stopped name)) e ∙ ap (λ o. boot_refusal name listed o (stopped name)) g ∙ ap (boot_refusal name listed missing) f
 
 -- a shard that is there isn't missing
@@ -81,18 +83,18 @@ shard_away m (Some shard) name h = ap (λ b. cond b None (Some (decimal shard)))
 
 -- the slot's disk failed in this line
 pub on_disk : {D : Type 0} {G : Ghosts D} {state : D → DiskState} {faults : List Fault} {lines : List Turn} {c : Cluster D G} {m : Members D G} (h : At state faults lines c m) (more : List Fault) (a : Act) (b : Answer) (name : List ℕ) (halted : Bool) (is : IsNode m name halted)
-    (s : Slot) (shard : ℕ) → IsIn m.slots.items s → s.node ≡ is.node → s.shard ≡ shard → IsIn more (record { line = length lines; node = s.node; shard = s.shard; is_damage = false }) → OnDisk more None (place_after lines a b) name shard
+    (s : Slot) (shard : ℕ) → IsIn m.slots.items s → s.node ≡ is.node → s.shard ≡ shard → IsIn more (record { line = length lines; node = s.node; shard = s.shard; kind = Failing }) → OnDisk more None (place_after lines a b) name shard
 on_disk {D} {G} {state} {faults} {lines} {c} {m} h more a b name halted is s shard among of_node of_shard failed =
     let at = node_found name m.net.state.place.instances is.node is.found in
-    let low : s.shard < length m.net.state.place.shards = slot_low m.net.state.place s (subst (λ (slots : List Slot). IsIn slots s) (on h).well.slots among) in (
+    let member = slot_replica m.net.state.place s (subst (λ (slots : List Slot). IsIn slots s) (on h).well.slots among) in (
       is.node,
       record {
         place = m.net.state.place;
-        stands = place_at h a b;
+        stands = stands_there h a b;
         named = record { instance_ = at.instance_; stands = at.stands; holds = at.name_is };
-        has_shard = subst (λ k. k < length m.net.state.place.shards) of_shard low;
+        member = subst (λ k. IsTrue (has_replica (Some m.net.state.place) k is.node)) of_shard (subst (λ n. IsTrue (has_replica (Some m.net.state.place) s.shard n)) of_node member);
       },
-      subst (λ k. IsIn more (record { line = length lines; node = is.node; shard = k; is_damage = false })) of_shard (subst (λ n. IsIn more (record { line = length lines; node = n; shard = s.shard; is_damage = false })) of_node failed),
+      subst (λ k. IsIn more (record { line = length lines; node = is.node; shard = k; kind = Failing })) of_shard (subst (λ n. IsIn more (record { line = length lines; node = n; shard = s.shard; kind = Failing })) of_node failed),
     )
 
 and_true : (a b : Bool) → (a && b) ≡ true → (a ≡ true) × (b ≡ true)

@@ -7,7 +7,7 @@ use Rattle.std.proofs.lemmas.List.{get_or-set_same}
 use Rattle.std.proofs.lemmas.List.Concat.{flat_map-append}
 use Rattle.std.proofs.lemmas.List.Sums.{fold_push}
 use Rattle.transcripts.specs.Fates.{calls_in, fates_set, numbering_by, numbering_after}
-use Rattle.transcripts.specs.Record.{InnerTurn, inner_turns}
+use Rattle.transcripts.specs.Record.{InnerTurn, inner_turns, line_of}
 use Rattle.m3_model.specs.declared.act.Act.{Act}
 use Rattle.m3_model.specs.declared.answer.Answer.{Answer}
 use Rattle.m3_model.specs.declared.turn.Reply.TheVariants as reply
@@ -19,10 +19,6 @@ use Rattle.m3_cluster.specs.Acts.{after_call}
 abbrev pub turn_of : Act → Answer → InnerTurn
 turn_of a b = record { act = a; answer = b }
 
--- the line of which it is the only turn
-abbrev pub line_of : Act → Answer → Turn
-line_of a b = record { request = request.One a; reply = reply.One b }
-
 -- the lines with this one behind them
 abbrev pub and_then : List Turn → Act → Answer → List Turn
 and_then lines a b = lines ++ line_of a b ∷ []
@@ -30,12 +26,12 @@ and_then lines a b = lines ++ line_of a b ∷ []
 pub inner_turns-push : (lines : List Turn) (a : Act) (b : Answer) → inner_turns (and_then lines a b) ≡ inner_turns lines ++ turn_of a b ∷ []
 inner_turns-push lines a b = flat_map-append _ lines _
 
-pub numbering_push : (lines : List Turn) (a : Act) (b : Answer) → numbering_after 0 (and_then lines a b) ≡ numbering_by (fates_set (request.One a) (reply.One b)) (calls_in (turn_of a b ∷ [])) (numbering_after 0 lines)
+pub numbering_push : (lines : List Turn) (a : Act) (b : Answer) → numbering_after 0 (and_then lines a b) ≡ numbering_by (fates_set (request.One a) (reply.One b)) (calls_in (a ∷ [])) (numbering_after 0 lines)
 numbering_push lines a b = fold_push _ _ lines (line_of a b)
 
 -- a turn that sets no fates leaves those that stand, and adds its call
-pub numbering_more : (lines : List Turn) (a : Act) (b : Answer) → fates_set (request.One a) (reply.One b) ≡ None → numbering_after 0 (and_then lines a b) ≡ numbering_by None (calls_in (turn_of a b ∷ [])) (numbering_after 0 lines)
-numbering_more lines a b none = numbering_push lines a b ∙ ap (λ o. numbering_by o (calls_in (turn_of a b ∷ [])) (numbering_after 0 lines)) none
+pub numbering_more : (lines : List Turn) (a : Act) (b : Answer) → fates_set (request.One a) (reply.One b) ≡ None → numbering_after 0 (and_then lines a b) ≡ numbering_by None (calls_in (a ∷ [])) (numbering_after 0 lines)
+numbering_more lines a b none = numbering_push lines a b ∙ ap (λ o. numbering_by o (calls_in (a ∷ [])) (numbering_after 0 lines)) none
 
 -- a counter that stops at its last value, one call on
 count_on : (n top : ℕ) → min (min n top + 1) top ≡ min (n + 1) top

@@ -17,7 +17,8 @@ use Rattle.replica_machine.specs.Machines.{MachineState}
 use Rattle.session.specs.declared.call.Call.{Call}
 use Rattle.session.specs.declared.slot.Slot.{Slot}
 use Rattle.m3_cluster.specs.Acts.{Answers, IsMade, next_call}
-use Rattle.m3_cluster.specs.Depots.{AreOut, Depot, OwnedBy, OwnsDisks, place_of_slot}
+use Rattle.m3_cluster.specs.Depots.{AreOut, OwnedBy, OwnsDisks, place_of_slot}
+use Rattle.m3_outside.specs.Depots.{Depot}
 use Rattle.m3_cluster.specs.First.{HasReturned, IsGivenBack, IsUntouched}
 use Rattle.m3_cluster.specs.Nodes.{IsBootstrapped, IsDelivered, IsFated, IsRestarted, IsStopped}
 use Rattle.m3_cluster.specs.Steps.{IsMoved, IsNamed, IsWritten, NamedPoint}

@@ -1,7 +1,7 @@
 -- The placement of a cluster is the one that was printed last.
-use Rattle.std.proofs.Common.{◌≡◌, ℕ, List, [], ◌∷◌, refl, sym, ap, ◌∙◌, inl, inr}
-use Rattle.std.specs.Prelude.{Option, Some, None, option_map}
-use Rattle.transcripts.specs.Placements.{later_placement, placement_after, printed}
+use Rattle.std.proofs.Common.{◌≡◌, ℕ, List, [], ◌∷◌, refl, sym, ap, ◌∙◌, inl, inr, Bool, true, false, cond}
+use Rattle.std.specs.Prelude.{Option, Some, None, nat_lt, option_map}
+use Rattle.transcripts.specs.Placements.{later_placement, newer, placement_after, printed}
 use Rattle.transcripts.specs.Record.{inner_turns}
 use Rattle.m3_model.specs.declared.act.Act.{Act}
 use Rattle.m3_model.specs.declared.act.Act.TheVariants as act
@@ -20,7 +20,7 @@ use Rattle.m3_outside.specs.DiskState.{DiskState}
 use Rattle.m3_outside.specs.declared.disk.Disk.{Ghosts}
 use Rattle.session.specs.declared.call.Call.{Call}
 use Rattle.m3_cluster.specs.Acts.{Answers, IsMade, OnMembers}
-use Rattle.m3_cluster.specs.Depots.{Depot}
+use Rattle.m3_outside.specs.Depots.{Depot}
 use Rattle.m3_cluster.specs.Nodes.{IsFated, IsDelivered, IsStopped, IsRestarted, IsBootstrapped}
 use Rattle.m3_cluster.specs.Serves.{place_of}
 use Rattle.m3_cluster.specs.Steps.{NamedPoint, placed, IsNamed, IsMoved, IsWriteAnswer, IsWritten, IsRead, IsFetched}
@@ -108,8 +108,17 @@ restarted state m g name (answer.Disk node shard) h = record { none = refl; same
 restarted state m g name answer.Memory h = record { none = refl; same = ap (λ s. s.place) h.1.keeps.state }
 restarted state m g name _ h = absurd h
 
+-- a placement that is printed once more
+newer_same : (place : Placement) → newer place (Some place) ≡ place
+newer_same place = by_flag (nat_lt place.version place.version)
+  where
+    by_flag : (older : Bool) → cond older place place ≡ place
+    by_flag true = refl
+    by_flag false = refl
+
 bootstrapped : {D : Type 0} {G : Ghosts D} (state : D → DiskState) (m g : Members D G) (name : List ℕ) (asked : Option ℕ) (b : Answer) → IsBootstrapped state m name asked b g → Shows m b g
-bootstrapped state m g name asked (answer.Available available place version) h = ap Some (h.1 ∙ sym (ap (λ s. s.place) h.3.keeps.keeps.state))
+bootstrapped state m g name asked (answer.Available available place version) h =
+    ap (λ p. later_placement (Some p) (Some m.net.state.place)) h.1 ∙ ap Some (newer_same m.net.state.place ∙ sym (ap (λ s. s.place) h.3.keeps.keeps.state))
 bootstrapped state m g name asked (answer.Unknown unknown) h = quiet_shows m g (answer.Unknown unknown) (stays m g (answer.Unknown unknown) refl h.1)
 bootstrapped state m g name asked (answer.State node) h = quiet_shows m g (answer.State node) (stays m g (answer.State node) refl h.3)
 bootstrapped state m g name asked (answer.Disk node shard) h = ap Some (sym (ap (λ s. s.place) h.1.keeps.keeps.state))
@@ -135,7 +144,7 @@ placed_next state old new _ b h = absurd h
 
 made_shows : {D : Type 0} {G : Ghosts D} (state : D → DiskState) (depot : Depot D) (old : Cluster D G) (rf shards seed : ℕ) (nodes : List (List ℕ × List ℕ)) (b : Answer) (after : Depot D) (new : Cluster D G)
     → IsMade state depot old rf shards seed nodes b after new → later_placement (printed b) (place_of old) ≡ place_of new
-made_shows state depot old rf shards seed nodes (answer.Placed place version) after new h = ap Some h.2.3 ∙ sym (ap place_in h.2.1)
+made_shows state depot old rf shards seed nodes (answer.Placed place version) after new h = ap (λ o. later_placement (Some place) (place_in o)) h.0 ∙ ap Some h.2.3 ∙ sym (ap place_in h.2.1)
 made_shows {D} {G} state depot old rf shards seed nodes answer.Order after new h = ap (λ (c : Cluster D G). place_of c) (sym h.1)
 made_shows {D} {G} state depot old rf shards seed nodes (answer.Disk name shard) after new h = ap (λ (c : Cluster D G). place_of c) (sym h.1)
 made_shows {D} {G} state depot old rf shards seed nodes answer.Memory after new h = ap (λ (c : Cluster D G). place_of c) (sym h.1)

@@ -29,7 +29,7 @@ use Rattle.session.specs.Writes.{ArePut}
 use Rattle.session.specs.declared.call.Call.{Call}
 use Rattle.session.specs.declared.slot.Slot.{Slot}
 use Rattle.m3_cluster.specs.Chains.{Link, TakesLinks}
-use Rattle.m3_cluster.specs.Depots.{TellAll}
+use Rattle.m3_outside.specs.Depots.{TellAll}
 use Rattle.m3_cluster.specs.Replicas.{IsShutFor}
 use Rattle.m3_cluster.specs.Serves.{IsServing, WasAcked, WasSent, next_place}
 use Rattle.m3_cluster.specs.Steps.{spaces_in}
@@ -42,7 +42,7 @@ use Rattle.m3_cluster.proofs.LinkLemmas.{IsPutOf, puts_asked, puts_shut}
 use Rattle.m3_cluster.proofs.MoreFaults.{AreAmong}
 use Rattle.m3_cluster.proofs.NumberLemmas.{and_then}
 use Rattle.m3_cluster.proofs.ReplicaLemmas.{IsDone, standing_after, steps_at}
-use Rattle.m3_cluster.proofs.ServingLemmas.{Leaves, StaysRight, closed_now, machine_instance, machine_slot, sent_on, serving_next, shut_on}
+use Rattle.m3_cluster.proofs.ServingLemmas.{Leaves, StaysRight, closed_now, machine_instance, machine_placed, machine_slot, placed_on, sent_on, serving_next, shut_on}
 
 -- ---- the steps of a put
 
@@ -141,11 +141,11 @@ serving_puts {D} {G} {state} {faults} {lines} {c} {m} {g} {a} {b} more among tel
         let later : (p : Point) → WasSent (spaces_in m) (inner_turns lines) p → Later p = λ p sent. sent_on lines a b (spaces_in m) e.more (spaces_in g) p e.spaces sent in
         elim (puts_shut state tell (WasSent (spaces_in m) (inner_turns lines)) Later (WasAcked m (inner_turns lines) s) later (steps_at s links) (puts s) x y taken_here serving.replica) as (λ _. StaysRight more lines m a b g s y.standing) [
           | inl same ↦ record {
-            shut = subst (λ z. IsShutFor more (next_place (and_then lines a b)) m.net.state.place s z) (sym same) (shut_on faults more lines a b m.net.state.place s x.standing among (leaves s) serving.shut);
+            shut = subst (λ z. IsShutFor more (next_place (and_then lines a b)) m.net.state.place s z) (sym same) (shut_on faults more lines a b m.net.state.place s x.standing among (machine_placed h s slot) (leaves s) serving.shut);
             halted = λ is. same ∙ serving.halted (ap (λ xs. slice_get xs s.node) (sym stopped) ∙ is);
           }
           | inr down ↦ record {
-            shut = subst (λ z. IsShutFor more (next_place (and_then lines a b)) m.net.state.place s z) (sym down.0) (inr (closed_now more lines a b m.net.state.place s one.0 one.1 (listed s slot down.1)));
+            shut = subst (λ z. IsShutFor more (next_place (and_then lines a b)) m.net.state.place s z) (sym down.0) (inr (closed_now more lines a b m.net.state.place s one.0 one.1 (placed_on lines a b m.net.state.place s (machine_placed h s slot) (leaves s).prints) (listed s slot down.1)));
             halted = λ is. down.0;
           }
         ]

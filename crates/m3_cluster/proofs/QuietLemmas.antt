@@ -4,12 +4,13 @@ use Rattle.std.specs.Prelude.{Option, Some, None, IsTrue, slice_get}
 use Rattle.std.specs.Option.{option_map, option_map_or}
 use Rattle.m3_outside.specs.declared.disk.Disk.{Ghosts}
 use Rattle.m3_outside.specs.DiskState.{DiskState}
-use Rattle.transcripts.specs.Caused.{delivers_nothing}
-use Rattle.transcripts.specs.Faults.{Fault, is_restart, waits_by}
+use Rattle.transcripts.specs.Deliveries.{delivers_nothing}
+use Rattle.transcripts.specs.Faults.{Fault, is_restart}
+use Rattle.transcripts.specs.Waiting.{Replica, waits_by}
 use Rattle.m3_model.specs.Calls.{is_call}
 use Rattle.transcripts.specs.Fates.{Numbering, fate_in, fates_set, is_stopped, numbering_after, stopped_by}
 use Rattle.transcripts.specs.Placements.{printed, later_placement, seed_by}
-use Rattle.transcripts.specs.Record.{inner_turns}
+use Rattle.transcripts.specs.Record.{inner_turns, line_of}
 use Rattle.transcripts.specs.Rules.{rules_by}
 use Rattle.m3_model.specs.declared.act.Act.{Act}
 use Rattle.m3_model.specs.declared.act.Act.TheVariants as act
@@ -28,17 +29,17 @@ use Rattle.m3_model.specs.declared.turn.Turn.{Turn}
 use Rattle.net_plan.specs.Fates.{fate_of}
 use Rattle.session.specs.declared.slot.Slot.{Slot}
 use Rattle.m3_cluster.specs.Acts.{after_call}
-use Rattle.m3_cluster.specs.Depots.{TellAll}
+use Rattle.m3_outside.specs.Depots.{TellAll}
 use Rattle.m3_cluster.specs.Serves.{Stands, StandsOn, EachNode, IsKept, rules_of, place_of, seed_of}
 use Rattle.m3_cluster.specs.Steps.{spaces_in}
 use Rattle.m3_cluster.specs.declared.cluster.Cluster.{Cluster}
 use Rattle.m3_cluster.specs.declared.members.Members.{Members}
 use Rattle.m3_cluster.proofs.CallLemmas.{At, on, rules_there}
 use Rattle.m3_cluster.proofs.LateLemmas.{Extends, late_stays}
-use Rattle.m3_cluster.proofs.NumberLemmas.{turn_of, line_of, and_then, numbering_more}
+use Rattle.m3_cluster.proofs.NumberLemmas.{turn_of, and_then, numbering_more}
 use Rattle.m3_cluster.proofs.OptionLemmas.{same_some}
 use Rattle.m3_cluster.proofs.MoreFaults.{AreAmong}
-use Rattle.m3_cluster.proofs.ServingLemmas.{Leaves, serving_stays, stopped_push}
+use Rattle.m3_cluster.proofs.ServingLemmas.{Leaves, replica_at, serving_stays, stopped_push}
 use Rattle.m3_cluster.proofs.StandLemmas.{Grows, Goes, Numbered, call_numbered, kept_on, other_numbered, rules_push, stands_on}
 
 -- ---- what an answer tells
@@ -74,19 +75,20 @@ restart_not_done (act.Restart node pick) answer.Done name h = absurd (h refl)
 restart_not_done (act.Restart node pick) _ name h = refl
 restart_not_done _ b name h = refl
 
-waits_stay : (a : Act) (b : Answer) (name : List ℕ) (shard : ℕ) → (b ≡ answer.Done → ⊥) → printed b ≡ None → waits_by name shard a b true ≡ true
-waits_stay (act.Restart node pick) answer.Done name shard h e = absurd (h refl)
-waits_stay (act.Restart node pick) _ name shard h e = refl
-waits_stay (act.Bootstrap node asked) (answer.Available available place version) name shard h e = cc
-waits_stay (act.Bootstrap node asked) _ name shard h e = refl
-waits_stay _ b name shard h e = refl
+waits_stay : (x : Replica) (stays : Bool) (a : Act) (b : Answer) → (b ≡ answer.Done → ⊥) → printed b ≡ None → waits_by x stays a b true ≡ true
+waits_stay x stays (act.Restart node pick) answer.Done h e = absurd (h refl)
+waits_stay x stays (act.Restart node pick) _ h e = refl
+waits_stay x stays (act.Bootstrap node asked) (answer.Available available place version) h e = cc
+waits_stay x stays (act.Bootstrap node asked) _ h e = refl
+waits_stay x stays _ b h e = refl
 
 -- an answer that neither tells that something was done nor prints a placement leaves all nodes
 pub leaves_all : (a : Act) (b : Answer) (place : Placement) → (b ≡ answer.Done → ⊥) → printed b ≡ None → (s : Slot) → Leaves a b place s
 leaves_all a b place not_done prints s = record {
   restarts = λ one there. restart_not_done a b one.name not_done;
   stops = λ one there. stopped_stays a b one.name true not_done;
-  waits = λ one there. waits_stay a b one.name s.shard not_done prints;
+  waits = λ one there. waits_stay (replica_at s one.name) true a b not_done prints;
+  prints = ap (λ o. later_placement o (Some place)) prints;
 }
 
 -- An answer that tells of no change.

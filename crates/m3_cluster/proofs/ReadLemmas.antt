@@ -40,7 +40,7 @@ use Rattle.session.specs.Reads.{Wish, IsGiven, IsFound, first_asked, end_asked}
 use Rattle.session.specs.Slots.{slot_at}
 use Rattle.session.proofs.AskedLemmas.{answering-asked, answering-told, answering_ascend}
 use Rattle.m3_cluster.specs.Acts.{next_call}
-use Rattle.m3_cluster.specs.Depots.{TellAll}
+use Rattle.m3_outside.specs.Depots.{TellAll}
 use Rattle.m3_cluster.specs.Serves.{IsKept, WasAcked, WasSent, counted_in, shard_in}
 use Rattle.m3_cluster.specs.Steps.{spaces_in}
 use Rattle.m3_cluster.specs.declared.cluster.Cluster.{Cluster}
@@ -131,7 +131,7 @@ read_keeps {D} {G} {state} {faults} {lines} {c} {m} h tell w level series short 
           let end = end_low h w.pick in
           let low : k < length place.shards = omega (arith, asked.1, end) in
           let told = found.told k in
-          let heard = read_heard h faults (λ f i. i) act.Deliver answer.Memory w k told low (found.asked k asked.0 asked.1) in
+          let heard = read_heard h faults (λ f i. i) (act.Fetch [] [] 0 0 level None) answer.Memory refl w k told low (found.asked k asked.0 asked.1) in
           let most : majority place.rf ≤ length (answering told) = strong_enough place.rf (length (answering told)) level short (on h).well.lawful.limits.some_replicas strong (found.enough k asked.0 asked.1) (λ whole is. whole_enough k asked.0 asked.1 whole is) in
           let answered : IsMajority place.rf (holders (shard_at place k)) (answering told) = record {
             distinct = distinct_by_name place (answering told) (answering_ascend (IsNamedBelow place) told heard.by_name);
@@ -153,7 +153,7 @@ read_keeps {D} {G} {state} {faults} {lines} {c} {m} h tell w level series short 
           let given = from.3.2 in
           let end = end_low h w.pick in
           let low : k < length place.shards = omega (arith, from.2, end) in
-          let heard = read_heard h faults (λ f among. among) act.Deliver answer.Memory w k (found.told k) low (found.asked k from.1 from.2) in
+          let heard = read_heard h faults (λ f among. among) (act.Fetch [] [] 0 0 level None) answer.Memory refl w k (found.told k) low (found.asked k from.1 from.2) in
           let opened = heard.opened from.3.0 (answering-told (found.told k) from.3.0 from.3.1) in
           let same : opened.machine ≡ given.0 = same_some (finite.get m.net.machines (slot_at from.3.0 k)) opened.machine given.0 opened.stands given.1 in
           let open_ : (given.0).standing ≡ standing.Open = ap (λ (x : MachineState D). x.standing) (sym same) ∙ opened.open_ in

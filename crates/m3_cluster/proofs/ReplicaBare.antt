@@ -18,7 +18,8 @@ use Rattle.cluster_core.specs.declared.replica_state.ReplicaState.{ReplicaState}
 use Rattle.replica_machine.specs.Machines.{MachineState, IsHeldBy, IsMachineOf, first_machine}
 use Rattle.session.specs.Changes.{Step}
 use Rattle.session.specs.declared.slot.Slot.{Slot}
-use Rattle.m3_cluster.specs.Depots.{Depot, TellAll, place_of_slot}
+use Rattle.m3_outside.specs.Depots.{Depot, TellAll}
+use Rattle.m3_cluster.specs.Depots.{place_of_slot}
 use Rattle.m3_cluster.specs.First.{IsOpened, first_boot}
 use Rattle.m3_cluster.specs.Replicas.{HasReplica, HasNoPoints, IsBare, IsOurs, bare}
 use Rattle.m3_cluster.proofs.ReplicaSteps.{IsAsked, IsDone, replica_next, replica_less}

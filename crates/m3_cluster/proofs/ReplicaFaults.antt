@@ -1,13 +1,13 @@
 -- The faults of a line, and how the counts of disks rise with them.
 use Rattle.std.proofs.Common.{◌≡◌, ⊎_elim, inl, inr, ℕ, ◌+◌, ◌≤◌, min, List, [], ◌∷◌, ◌++◌, length, map, filter, Bool, true, false, cond, ◌||◌, ◌&&◌, refl, sym, ap, subst, ◌∙◌, arith, append_assoc}
-use Rattle.std.specs.Prelude.{◌≢◌, Option, Some, None, IsSome, nat_eq}
+use Rattle.std.specs.Prelude.{◌≢◌, ◌<◌, Option, Some, None, IsSome, nat_eq}
 use Rattle.std.specs.FinMap.{get}
 use Rattle.std.specs.List.{All, list_any}
 use Rattle.std.proofs.lemmas.Bool.{eqb-true, and_parts}
 use Rattle.std.proofs.lemmas.List.{length_push}
 use Rattle.std.proofs.lemmas.List.Elements.{All-append}
 use Rattle.std.proofs.lemmas.List.Sums.{sum_by-append}
-use Rattle.transcripts.specs.Faults.{Fault, AreDifferent}
+use Rattle.transcripts.specs.Faults.{Fault, FaultKind, Taking, Failing, AreDifferent}
 use Rattle.m3_model.specs.Members.{IsIn}
 use Rattle.m3_model.specs.declared.reason.Reason.TheVariants as reason
 use Rattle.m3_model.specs.declared.turn.Turn.{Turn}
@@ -20,12 +20,14 @@ use Rattle.cluster_core.specs.declared.event.StepReply.{StepReply}
 use Rattle.cluster_core.specs.declared.event.StepReply.TheVariants as reply
 use Rattle.replica_machine.specs.Machines.{MachineState}
 use Rattle.session.specs.Changes.{Step, TakesSteps, IsStepped}
+use Rattle.session.specs.Slots.{slot_at}
 use Rattle.session.specs.declared.slot.Slot.{Slot}
 use Rattle.m3_cluster.specs.Chains.{Link, TakesLinks}
-use Rattle.m3_cluster.specs.Depots.{Depot, place_of_slot}
+use Rattle.m3_outside.specs.Depots.{Depot}
+use Rattle.m3_cluster.specs.Depots.{place_of_slot, count_at}
 use Rattle.m3_cluster.specs.First.{AreApart}
 use Rattle.m3_cluster.specs.Replicas.{faults_at}
-use Rattle.m3_cluster.specs.Serves.{AreCounted, IsEarlier, count_at, machine_at}
+use Rattle.m3_cluster.specs.Serves.{AreCounted, IsEarlier, machine_at}
 use Rattle.m3_cluster.specs.declared.cluster.Cluster.{Cluster}
 use Rattle.m3_cluster.specs.declared.members.Members.{Members}
 use Rattle.m3_cluster.proofs.ReplicaLinks.{steps_at, links_steps}
@@ -40,7 +42,7 @@ has_fault steps = list_any (λ step. is_fault step.reply) steps
 
 -- the fault of the slot's disk in a line
 abbrev pub fault_of : ℕ → Slot → Fault
-fault_of line s = record { line = line; node = s.node; shard = s.shard; is_damage = false }
+fault_of line s = record { line = line; node = s.node; shard = s.shard; kind = Failing }
 
 -- the slots at which a step of the links was refused for the disk
 abbrev pub failing_slots : List Link → List Slot → List Slot
@@ -91,7 +93,7 @@ different_both (x ∷ xs) ys of_xs of_ys apart =
     (λ m. ⊎_elim (λ (same : IsIn xs x). of_xs.0 same) (λ (other : IsIn ys x). apart x (inl refl) other) (IsIn-append_cases xs ys x m), different_both xs ys of_xs.1 of_ys (λ fault m n. apart fault (inr m) n))
 
 -- a fault of the line is that of one of its slots
-fault_from : (line : ℕ) (links : List Link) (slots : List Slot) (fault : Fault) → IsIn (line_faults line links slots) fault → (s : Slot) × IsIn slots s × (has_fault (steps_at s links) ≡ true) × (fault_of line s ≡ fault)
+pub fault_from : (line : ℕ) (links : List Link) (slots : List Slot) (fault : Fault) → IsIn (line_faults line links slots) fault → (s : Slot) × IsIn slots s × (has_fault (steps_at s links) ≡ true) × (fault_of line s ≡ fault)
 fault_from line links slots fault m =
     let from = IsIn-map (fault_of line) (failing_slots links slots) fault m in
     (from.0, IsIn-filter (λ s. has_fault (steps_at s links)) slots from.0 from.1, chosen (λ s. has_fault (steps_at s links)) slots from.0 from.1, from.2)
@@ -156,27 +158,39 @@ most_one line links (t ∷ slots) s apart = most_by line links t slots s apart.0
 
 -- ---- one more line
 
-pub earlier_more : (lines : List Turn) (turn : Turn) (faults : List Fault) → All (IsEarlier lines) faults → All (IsEarlier (lines ++ turn ∷ [])) faults
-earlier_more lines turn faults earlier = All-from_each (IsEarlier (lines ++ turn ∷ [])) faults (λ fault m.
-    let was = each-from_All (IsEarlier lines) faults earlier fault m in
-    record { line_low = omega (arith, was.line_low, length_push lines turn); no_damage = was.no_damage })
+pub earlier_more : (kind : FaultKind) (lines : List Turn) (turn : Turn) (faults : List Fault) → All (IsEarlier kind lines) faults → All (IsEarlier kind (lines ++ turn ∷ [])) faults
+earlier_more kind lines turn faults earlier = All-from_each (IsEarlier kind (lines ++ turn ∷ [])) faults (λ fault m.
+    let was = each-from_All (IsEarlier kind lines) faults earlier fault m in
+    record { line_low = omega (arith, was.line_low, length_push lines turn); kind_is = was.kind_is })
 
-pub line_earlier : (lines : List Turn) (turn : Turn) (links : List Link) (slots : List Slot) → All (IsEarlier (lines ++ turn ∷ [])) (line_faults (length lines) links slots)
-line_earlier lines turn links slots = All-from_each (IsEarlier (lines ++ turn ∷ [])) (line_faults (length lines) links slots) (λ fault m.
+pub line_earlier : (lines : List Turn) (turn : Turn) (links : List Link) (slots : List Slot) → All (IsEarlier Failing (lines ++ turn ∷ [])) (line_faults (length lines) links slots)
+line_earlier lines turn links slots = All-from_each (IsEarlier Failing (lines ++ turn ∷ [])) (line_faults (length lines) links slots) (λ fault m.
     let from = fault_from (length lines) links slots fault m in
     let line : length lines ≡ fault.line = ap (λ (f : Fault). f.line) from.3 in
-    record { line_low = omega (arith, line, length_push lines turn); no_damage = sym (ap (λ (f : Fault). f.is_damage) from.3) })
+    record { line_low = omega (arith, line, length_push lines turn); kind_is = sym (ap (λ (f : Fault). f.kind) from.3) })
+
+-- all faults so far came in earlier lines
+pub came_before : (lines : List Turn) (taking failing : List Fault) → All (IsEarlier Taking lines) taking → All (IsEarlier Failing lines) failing → (fault : Fault) → IsIn (taking ++ failing) fault → fault.line < length lines
+came_before lines taking failing of_taking of_failing fault i =
+    elim (IsIn-append_cases taking failing fault i) as (λ _. fault.line < length lines) [
+      | inl first ↦ (each-from_All (IsEarlier Taking lines) taking of_taking fault first).line_low
+      | inr second ↦ (each-from_All (IsEarlier Failing lines) failing of_failing fault second).line_low
+    ]
 
 -- no fault of the next line came earlier
-pub not_before : (lines : List Turn) (links : List Link) (slots : List Slot) (faults : List Fault) → All (IsEarlier lines) faults → (fault : Fault) → IsIn faults fault → IsIn (line_faults (length lines) links slots) fault → ⊥
+pub not_before : (lines : List Turn) (links : List Link) (slots : List Slot) (faults : List Fault) → ((fault : Fault) → IsIn faults fault → fault.line < length lines) → (fault : Fault) → IsIn faults fault → IsIn (line_faults (length lines) links slots) fault → ⊥
 not_before lines links slots faults earlier fault old new =
-    let was = each-from_All (IsEarlier lines) faults earlier fault old in
     let from = fault_from (length lines) links slots fault new in
-    let low = was.line_low in
+    let low = earlier fault old in
     let line : length lines ≡ fault.line = ap (λ (f : Fault). f.line) from.3 in
     omega (arith, low, line)
 
-machine_is : {D : Type 0} {G : Ghosts D} (c : Cluster D G) (m : Members D G) (s : Slot) → c.members ≡ Some m → machine_at c s ≡ get m.net.machines s
+-- a machine that takes steps is there afterwards
+stepped_some : {D : Type 0} (state : D → DiskState) (steps : List Step) (old new : Option (MachineState D)) → IsStepped state steps old new → IsSome old → IsSome new
+stepped_some state steps None new stepped some = cc
+stepped_some state steps (Some x) new stepped some = subst IsSome (sym stepped.1) refl
+
+pub machine_is : {D : Type 0} {G : Ghosts D} (c : Cluster D G) (m : Members D G) (s : Slot) → c.members ≡ Some m → machine_at c s ≡ get m.net.machines s
 machine_is c m s is = rw is refl
 
 -- the count at a slot rises with the faults that are listed of it
@@ -198,15 +212,15 @@ counted_next state first now lines turn old new m g taking failing links was is 
     let added = line_faults (length lines) links slots in
     let all : (taking ++ failing) ++ added ≡ taking ++ (failing ++ added) = append_assoc taking failing added in
     record {
-      different = subst AreDifferent all (different_both (taking ++ failing) added counted.different (line_different (length lines) links slots apart) (not_before lines links slots (taking ++ failing) counted.earlier));
-      earlier =
-          subst (λ (l : List Fault). All (IsEarlier (lines ++ turn ∷ [])) l) all
-          (All-append (IsEarlier (lines ++ turn ∷ [])) (taking ++ failing) added (earlier_more lines turn (taking ++ failing) counted.earlier) (line_earlier lines turn links slots));
+      different = subst AreDifferent all (different_both (taking ++ failing) added counted.different (line_different (length lines) links slots apart) (not_before lines links slots (taking ++ failing) (came_before lines taking failing counted.taking_earlier counted.failing_earlier)));
+      taking_earlier = earlier_more Taking lines turn taking counted.taking_earlier;
+      failing_earlier = All-append (IsEarlier Failing (lines ++ turn ∷ [])) failing added (earlier_more Failing lines turn failing counted.failing_earlier) (line_earlier lines turn links slots);
       of_taking = counted.of_taking;
+      later = counted.later;
       of_disks = λ s.
           let steps = steps_at s links in
           let more = faults_at s added in
-          let before = first.counted (place_of_slot s) in
+          let before = now.counted (place_of_slot s) in
           let stood : RoseBy (faults_at s failing) before (count_at state now (get m.net.machines s) s) = subst (λ (o : Option (MachineState _)). RoseBy (faults_at s failing) before (count_at state now o s)) (machine_is old m s was) (counted.of_disks s) in
           let away : get m.net.machines s ≡ None → more ≡ 0 = λ none. none_of (length lines) links slots s (λ among. let wrong : false ≡ true = subst (λ (o : Option (MachineState _)). IsSome o) none (manned s among) in cc) in
           let rose =
@@ -214,14 +228,27 @@ counted_next state first now lines turn old new m g taking failing links was is 
           let both : RoseBy (faults_at s (failing ++ added)) before (count_at state now (get g.net.machines s) s) =
           subst (λ (k : ℕ). RoseBy k before (count_at state now (get g.net.machines s) s)) (sym (sum_by-append (λ (f : Fault). cond (is_of s f) 1 0) failing added)) rose in
           subst (λ (o : Option (MachineState _)). RoseBy (faults_at s (failing ++ added)) before (count_at state now o s)) (sym (machine_is new g s is)) both;
+      manned = All-append (λ (f : Fault). IsSome (machine_at new (slot_at f.node f.shard))) failing added
+          (All-from_each (λ (f : Fault). IsSome (machine_at new (slot_at f.node f.shard))) failing (λ f i. still (slot_at f.node f.shard) (each-from_All (λ (f : Fault). IsSome (machine_at old (slot_at f.node f.shard))) failing counted.manned f i)))
+          (All-from_each (λ (f : Fault). IsSome (machine_at new (slot_at f.node f.shard))) added (λ f i.
+          let from = fault_from (length lines) links slots f i in
+          subst (λ (x : Fault). IsSome (machine_at new (slot_at x.node x.shard))) from.3 (still from.0 (subst IsSome (sym (machine_is old m from.0 was)) (manned from.0 from.1)))));
     }
+  where
+    still : (s : Slot) → IsSome (machine_at old s) → IsSome (machine_at new s)
+    still s some = subst IsSome (sym (machine_is new g s is)) (stepped_some state (steps_at s links) (get m.net.machines s) (get g.net.machines s) (links_steps state links m.net.machines g.net.machines taken s) (subst IsSome (machine_is old m s was) some))
 
 -- one more line that changed no machine and no disk
 pub counted_quiet : {D : Type 0} {G : Ghosts D} (state : D → DiskState) (first now : Depot D) (lines : List Turn) (turn : Turn) (old new : Cluster D G) (taking failing : List Fault) → new.members ≡ old.members
     → AreCounted state first now lines old taking failing → AreCounted state first now (lines ++ turn ∷ []) new taking failing
 counted_quiet state first now lines turn old new taking failing same counted = record {
   different = counted.different;
-  earlier = earlier_more lines turn (taking ++ failing) counted.earlier;
+  taking_earlier = earlier_more Taking lines turn taking counted.taking_earlier;
+  failing_earlier = earlier_more Failing lines turn failing counted.failing_earlier;
   of_taking = counted.of_taking;
+  later = counted.later;
   of_disks = λ s. rw same (counted.of_disks s);
+  manned = All-from_each (λ (f : Fault). IsSome (machine_at new (slot_at f.node f.shard))) failing (λ f i.
+      let some = each-from_All (λ (f : Fault). IsSome (machine_at old (slot_at f.node f.shard))) failing counted.manned f i in
+      rw same some);
 }

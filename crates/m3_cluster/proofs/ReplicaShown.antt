@@ -23,7 +23,7 @@ use Rattle.cluster_core.specs.declared.event.StepReply.TheVariants as reply
 use Rattle.cluster_core.specs.declared.replica_state.ReplicaState.{ReplicaState}
 use Rattle.replica_machine.specs.Machines.{MachineState}
 use Rattle.session.specs.Changes.{TakesSteps}
-use Rattle.m3_cluster.specs.Depots.{TellAll}
+use Rattle.m3_outside.specs.Depots.{TellAll}
 use Rattle.m3_cluster.specs.Replicas.{HasReplica, IsOurs}
 use Rattle.m3_cluster.proofs.ReplicaSteps.{giving, gives, lawful_for}
 

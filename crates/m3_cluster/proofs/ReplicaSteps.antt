@@ -29,7 +29,7 @@ use Rattle.replica_machine.specs.Machines.{MachineState, IsMachineOf}
 use Rattle.replica_machine.specs.Steps.{IsStep, IsGiven}
 use Rattle.replica_machine.proofs.HeldByLemmas.{greater_is_max}
 use Rattle.session.specs.Changes.{Step, TakesSteps}
-use Rattle.m3_cluster.specs.Depots.{TellAll}
+use Rattle.m3_outside.specs.Depots.{TellAll}
 use Rattle.m3_cluster.specs.Replicas.{HasReplica, IsOurs}
 
 -- what a line may ask of a machine: points that were sent are put at version 1, and it begins with tenure 1, is stopped or restarted

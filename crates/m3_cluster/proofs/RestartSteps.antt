@@ -5,7 +5,8 @@ use Rattle.std.specs.Cmp.Lexicographic.{pointwise}
 use Rattle.std.proofs.lemmas.Bool.{cases_eq}
 use Rattle.m3_outside.specs.declared.disk.Disk.{Ghosts}
 use Rattle.m3_outside.specs.DiskState.{DiskState}
-use Rattle.transcripts.specs.Faults.{Fault, waits_after}
+use Rattle.transcripts.specs.Faults.{Fault}
+use Rattle.transcripts.specs.Waiting.{waiting_after}
 use Rattle.transcripts.specs.Fates.{is_stopped, stopped_by}
 use Rattle.m3_model.specs.Members.{IsIn}
 use Rattle.transcripts.specs.Record.{inner_turns}
@@ -25,7 +26,7 @@ use Rattle.replica_machine.specs.Machines.{MachineState}
 use Rattle.session.specs.Changes.{Step}
 use Rattle.session.specs.declared.slot.Slot.{Slot}
 use Rattle.m3_cluster.specs.Chains.{IsUnrestarted, Link, refused_restart_at, restart_at, slots_of_node, stop_at}
-use Rattle.m3_cluster.specs.Depots.{TellAll}
+use Rattle.m3_outside.specs.Depots.{TellAll}
 use Rattle.m3_cluster.specs.Nodes.{IsRestarted, IsStarted, IsUnstarted}
 use Rattle.m3_cluster.specs.Replicas.{IsShutFor}
 use Rattle.m3_cluster.specs.Serves.{IsServing, WasSent, next_place}
@@ -43,7 +44,7 @@ use Rattle.m3_cluster.proofs.NumberLemmas.{and_then}
 use Rattle.m3_cluster.proofs.OptionLemmas.{same_of_some}
 use Rattle.m3_cluster.proofs.QuietLemmas.{Tells, extends_same, fates_kept, fates_stay, grown_goes, leaves_all, quiet_change, rules_stay, stopped_stays, stops_kept, tells_disk, tells_memory, tells_state, tells_unknown}
 use Rattle.m3_cluster.proofs.ReplicaLemmas.{IsAsked, standing_after, steps_at}
-use Rattle.m3_cluster.proofs.ServingLemmas.{StaysRight, acked_none, machine_instance, machine_slot, serving_next, shut_on, stopped_push, waits_push}
+use Rattle.m3_cluster.proofs.ServingLemmas.{StaysRight, acked_none, machine_instance, machine_placed, machine_slot, replica_at, serving_next, shut_on, stopped_push, waits_push}
 use Rattle.m3_cluster.proofs.StandLemmas.{Goes, Grows, other_numbered}
 
 -- ---- a node that runs again
@@ -81,7 +82,7 @@ started_stays {D} {G} {state} {faults} {lines} {c} {m} {g} more among h name pic
           shut = subst (λ z. IsShutFor more (next_place lines_on) place s z) (sym boot) (record {
             instance_ = one.0;
             stands = one.1;
-            holds = waits_push lines a answer.Done one.0.name s.shard ∙ ap (λ t. t || waits_after false (inner_turns lines) one.0.name s.shard) test;
+            holds = waits_push lines a answer.Done place s one.0.name (machine_placed h s slot) refl ∙ ap (λ t. t || (waiting_after (replica_at s one.0.name) None lines).waits) test;
           });
           halted = λ is.
               let runs : slice_get g.stopped.items s.node ≡ Some false = ap (λ xs. slice_get xs s.node) started.stopped_now ∙ ap (λ n. slice_get (slice_set m.stopped.items node false) n) same ∙ set_here m.stopped.items node false true started.was.is in
@@ -95,10 +96,11 @@ started_stays {D} {G} {state} {faults} {lines} {c} {m} {g} more among h name pic
         other (ap (λ (q : Slot). q.node) (sym (ap (λ (l : Link). l.slot) from.2 ∙ same)) ∙ of_node node m.slots.items from.0 from.1)) in
         let still : y.standing ≡ x.standing = how ∙ ap (λ steps. standing_after steps x.standing) none in
         record {
-          shut = subst (λ z. IsShutFor more (next_place lines_on) place s z) (sym still) (shut_on faults more lines a answer.Done place s x.standing among (record {
+          shut = subst (λ z. IsShutFor more (next_place lines_on) place s z) (sym still) (shut_on faults more lines a answer.Done place s x.standing among (machine_placed h s slot) (record {
             restarts = λ one there. named_elsewhere h started.was s.node one other there;
             stops = λ one there. ap (λ t. cond t false true) (named_elsewhere h started.was s.node one other there);
             waits = λ one there. or_true (pointwise nat_eq one.name name);
+            prints = refl;
           }) serving.shut);
           halted = λ is. still ∙ serving.halted (sym (set_elsewhere m.stopped.items node s.node false other) ∙ ap (λ xs. slice_get xs s.node) (sym started.stopped_now) ∙ is);
         }
@@ -217,7 +219,7 @@ unstarted_stays {D} {G} {state} {faults} {lines} {c} {m} {g} {shard} {why} more 
         let none : steps_at s links ≡ [] = steps_none s links (λ link i same. other (ap (λ (q : Slot). q.node) (sym same) ∙ tried_slot u link i)) in
         let still : y.standing ≡ x.standing = how ∙ ap (λ steps. standing_after steps x.standing) none in
         record {
-          shut = subst (λ z. IsShutFor more (next_place (and_then lines a b)) place s z) (sym still) (shut_on faults more lines a b place s x.standing among (leaves_all a b place t.not_done t.prints s) serving.shut);
+          shut = subst (λ z. IsShutFor more (next_place (and_then lines a b)) place s z) (sym still) (shut_on faults more lines a b place s x.standing among (machine_placed h s slot) (leaves_all a b place t.not_done t.prints s) serving.shut);
           halted = λ is. still ∙ serving.halted (ap (λ xs. slice_get xs s.node) (sym u.stays) ∙ is);
         }
 

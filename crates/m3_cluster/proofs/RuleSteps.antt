@@ -4,7 +4,7 @@ use Rattle.std.specs.Prelude.{Some, None, IsSome, IsTrue}
 use Rattle.std.specs.FinMap.{get}
 use Rattle.m3_outside.specs.declared.disk.Disk.{Ghosts}
 use Rattle.m3_outside.specs.DiskState.{DiskState}
-use Rattle.transcripts.specs.Caused.{delivers_nothing}
+use Rattle.transcripts.specs.Deliveries.{delivers_nothing}
 use Rattle.transcripts.specs.Faults.{Fault}
 use Rattle.transcripts.specs.Fates.{fates_set, stopped_by}
 use Rattle.transcripts.specs.Rules.{rules_by}
@@ -18,14 +18,14 @@ use Rattle.m3_model.specs.declared.turn.Reply.TheVariants as reply
 use Rattle.m3_model.specs.declared.turn.Request.TheVariants as request
 use Rattle.m3_model.specs.declared.turn.Turn.{Turn}
 use Rattle.session.specs.declared.slot.Slot.{Slot}
-use Rattle.m3_cluster.specs.Depots.{TellAll}
+use Rattle.m3_outside.specs.Depots.{TellAll}
 use Rattle.m3_cluster.specs.Steps.{IsMoved, IsNamed, KeepsNet, spaces_in}
 use Rattle.m3_cluster.specs.declared.cluster.Cluster.{Cluster}
 use Rattle.m3_cluster.specs.declared.members.Members.{Members}
 use Rattle.m3_cluster.proofs.CallLemmas.{At, on}
 use Rattle.m3_cluster.proofs.LateLemmas.{Extends, late_stays}
 use Rattle.m3_cluster.proofs.MoreFaults.{AreAmong}
-use Rattle.m3_cluster.proofs.NumberLemmas.{line_of}
+use Rattle.transcripts.specs.Record.{line_of}
 use Rattle.m3_cluster.proofs.QuietLemmas.{extends_by, fates_kept, grown_goes, quiet_change, stops_kept, tells_clock, tells_limit, tells_memory, tells_order}
 use Rattle.m3_cluster.proofs.ServingLemmas.{Leaves, serving_stays}
 use Rattle.m3_cluster.proofs.StandLemmas.{Goes, Grows, other_numbered}
@@ -54,7 +54,7 @@ named_goes {D} {G} {state} {faults} {lines} {old} {new} {m} {g} more among tell 
     let state = named.2 in
     let rules : rules_by (act.Namespace name block past future retention) answer.Done m.net.state.rules ≡ g.net.state.rules = sym (ap (λ (s : MetaState). s.rules) state) in
     let extends = extends_by {g = g} h (space_of name block past future retention ∷ []) (ap (λ (s : MetaState). s.rules.spaces) state) (ap (λ (s : MetaState). s.place) state) (ap (λ (s : MetaState). s.seed) state) rules in
-    grown_goes h.stands h.members is (ruled_grows more among tell h extends named.3 refl (λ name x. refl) (λ acks e. cc) (λ s. record { restarts = λ one there. refl; stops = λ one there. refl; waits = λ one there. refl }) refl) rules refl (other_numbered h.stands refl (λ none. let bad : None ≡ Some g = sym none ∙ is in absurd (cc)) refl calls) (λ acks e. cc)
+    grown_goes h.stands h.members is (ruled_grows more among tell h extends named.3 refl (λ name x. refl) (λ acks e. cc) (λ s. record { restarts = λ one there. refl; stops = λ one there. refl; waits = λ one there. refl; prints = refl }) refl) rules refl (other_numbered h.stands refl (λ none. let bad : None ≡ Some g = sym none ∙ is in absurd (cc)) refl calls) (λ acks e. cc)
 named_goes {D} {G} {state} {faults} {lines} {old} {new} {m} {g} more among tell h is calls name block past future retention answer.Order named = quiet_change more among tell h.stands (tells_order (act.Namespace name block past future retention)) refl (is ∙ ap Some named.1 ∙ sym h.members) calls
 named_goes {D} {G} {state} {faults} {lines} {old} {new} {m} {g} more among tell h is calls name block past future retention (answer.Limit limit) named = quiet_change more among tell h.stands (tells_limit (act.Namespace name block past future retention) limit) refl (is ∙ ap Some named.3 ∙ sym h.members) calls
 named_goes {D} {G} {state} {faults} {lines} {old} {new} {m} {g} more among tell h is calls name block past future retention answer.Memory named = quiet_change more among tell h.stands (tells_memory (act.Namespace name block past future retention)) refl (is ∙ ap Some named ∙ sym h.members) calls
@@ -65,6 +65,6 @@ moved_goes {D} {G} {state} {faults} {lines} {old} {new} {m} {g} more among tell 
     let state = moved.1 in
     let rules : rules_by (act.Now now) answer.Done m.net.state.rules ≡ g.net.state.rules = sym (ap (λ (s : MetaState). s.rules) state) in
     let extends = extends_by {g = g} h [] (ap (λ (s : MetaState). s.rules.spaces) state ∙ sym (append-nil (spaces_in m))) (ap (λ (s : MetaState). s.place) state) (ap (λ (s : MetaState). s.seed) state) rules in
-    grown_goes h.stands h.members is (ruled_grows more among tell h extends moved.2 refl (λ name x. refl) (λ acks e. cc) (λ s. record { restarts = λ one there. refl; stops = λ one there. refl; waits = λ one there. refl }) refl) rules refl (other_numbered h.stands refl (λ none. let bad : None ≡ Some g = sym none ∙ is in absurd (cc)) refl calls) (λ acks e. cc)
+    grown_goes h.stands h.members is (ruled_grows more among tell h extends moved.2 refl (λ name x. refl) (λ acks e. cc) (λ s. record { restarts = λ one there. refl; stops = λ one there. refl; waits = λ one there. refl; prints = refl }) refl) rules refl (other_numbered h.stands refl (λ none. let bad : None ≡ Some g = sym none ∙ is in absurd (cc)) refl calls) (λ acks e. cc)
 moved_goes {D} {G} {state} {faults} {lines} {old} {new} {m} {g} more among tell h is calls now (answer.Clock moment) moved = quiet_change more among tell h.stands (tells_clock (act.Now now) moment) refl (is ∙ ap Some moved.2 ∙ sym h.members) calls
 moved_goes {D} {G} {state} {faults} {lines} {old} {new} {m} {g} more among tell h is calls now _ moved = absurd moved

@@ -12,7 +12,8 @@ use Rattle.m3_model.specs.declared.turn.Request.TheVariants as request
 use Rattle.m3_model.specs.declared.turn.Turn.{Turn}
 use Rattle.m3_outside.specs.DiskState.{DiskState, IsLawful}
 use Rattle.m3_outside.specs.declared.disk.Disk.{Ghosts}
-use Rattle.m3_cluster.specs.Depots.{Depot, OwnsDisks, TellAll}
+use Rattle.m3_outside.specs.Depots.{Depot, TellAll}
+use Rattle.m3_cluster.specs.Depots.{OwnsDisks}
 use Rattle.m3_cluster.specs.Served.{IsServedBy}
 use Rattle.m3_cluster.specs.Serves.{Serves, place_of}
 use Rattle.m3_cluster.specs.declared.cluster.Cluster.{Cluster}

@@ -1,16 +1,20 @@
 -- What is so of the machine at a slot, one line on.
-use Rattle.std.proofs.Common.{◌≡◌, ◌⊎◌, ◌≤◌, ◌+◌, ℕ, zero, suc, List, [], ◌∷◌, ◌++◌, drop, length, length-append, refl, sym, ap, subst, ◌∙◌, inl, inr, arith, Bool, true, false, ◌||◌}
-use Rattle.std.specs.Prelude.{Option, Some, None, slice_get}
+use Rattle.std.proofs.Common.{◌≡◌, ◌⊎◌, ◌≤◌, ◌+◌, ℕ, zero, suc, ◌<◌, List, [], ◌∷◌, ◌++◌, append-nil, drop, take, length, length-append, refl, sym, ap, ap₂, subst, ◌∙◌, inl, inr, arith, Bool, true, false, not, ◌&&◌, ◌||◌}
+use Rattle.std.specs.Prelude.{Option, Some, None, IsTrue, option_map, fold, slice_get}
 use Rattle.std.specs.FinMap.{get}
 use Rattle.std.specs.List.{list_any}
-use Rattle.std.proofs.lemmas.List.Sums.{fold_push}
+use Rattle.std.proofs.lemmas.Bool.{cases_lt}
+use Rattle.std.proofs.lemmas.List.{take-append-le, take_all}
+use Rattle.std.proofs.lemmas.List.Sums.{fold_push, fold-append}
 use Rattle.m3_outside.specs.declared.disk.Disk.{Ghosts}
 use Rattle.m3_outside.specs.DiskState.{DiskState}
-use Rattle.transcripts.specs.Faults.{Fault, IsClosedByFault, is_restart, waits_after, waits_by}
+use Rattle.transcripts.specs.Faults.{Fault, IsClosedByFault, is_restart}
+use Rattle.transcripts.specs.Waiting.{Replica, Waiting, is_assigned, is_member, waiting_after, waiting_by, waits_by}
+use Rattle.transcripts.specs.Placements.{has_replica, later_placement, placement_after, printed}
 use Rattle.transcripts.specs.Fates.{is_stopped, stopped_by}
 use Rattle.m3_model.specs.Members.{IsIn}
 use Rattle.transcripts.specs.Points.{point_of, sent_point}
-use Rattle.transcripts.specs.Record.{InnerTurn, inner_turns}
+use Rattle.transcripts.specs.Record.{InnerTurn, inner_turns, joined, line_of, lists_of}
 use Rattle.m3_model.specs.declared.act.Act.{Act}
 use Rattle.m3_model.specs.declared.answer.Answer.{Answer}
 use Rattle.m3_model.specs.declared.answer.Answer.TheVariants as answer
@@ -27,7 +31,7 @@ use Rattle.replica_machine.specs.Machines.{MachineState}
 use Rattle.session.specs.Changes.{IsStepped, Step, TakesSteps}
 use Rattle.session.specs.declared.slot.Slot.{Slot}
 use Rattle.m3_cluster.specs.Chains.{Link, TakesLinks}
-use Rattle.m3_cluster.specs.Depots.{TellAll}
+use Rattle.m3_outside.specs.Depots.{TellAll}
 use Rattle.m3_cluster.specs.Replicas.{IsShutFor}
 use Rattle.m3_cluster.specs.Serves.{IsServing, WasAcked, WasSent, next_place}
 use Rattle.m3_cluster.specs.Steps.{spaces_in}
@@ -36,10 +40,10 @@ use Rattle.m3_cluster.specs.declared.members.Members.{Members}
 use Rattle.m3_cluster.proofs.CallLemmas.{At, on}
 use Rattle.m3_cluster.proofs.LateLemmas.{Extends, point_of-append, sent_point-append, shard_same}
 use Rattle.m3_cluster.proofs.MoreFaults.{AreAmong}
-use Rattle.m3_cluster.proofs.NumberLemmas.{and_then, inner_turns-push, line_of, turn_of}
+use Rattle.m3_cluster.proofs.NumberLemmas.{and_then, inner_turns-push, turn_of}
 use Rattle.m3_cluster.proofs.OptionLemmas.{same_some}
 use Rattle.m3_cluster.proofs.ReplicaLemmas.{IsAsked, IsDone, fault_of, links_steps, replica_less, replica_next, standing_after, standing_next, steps_at}
-use Rattle.m3_cluster.proofs.SlotLists.{in_or_out, slot_instance}
+use Rattle.m3_cluster.proofs.SlotLists.{in_or_out, slot_instance, slot_replica}
 
 -- ---- what was sent and acknowledged
 
@@ -85,11 +89,28 @@ acked_none {D} {G} {state} {faults} {lines} {c} {m} {g} {a} {b} h e none steps s
 
 -- ---- why a machine is shut
 
--- What a turn leaves of a slot's node: it isn't restarted, stays stopped, and waits on.
+-- the replica of a slot, whose node has this name
+abbrev pub replica_at : Slot → List ℕ → Replica
+replica_at s name = record { shard = s.shard; node = s.node; name = name }
+
+-- The placement stands after the lines, and the slot has a replica in it.
+pub record IsPlaced (lines : List Turn) (place : Placement) (s : Slot) : Type 0 where
+  pub stands : placement_after None (inner_turns lines) ≡ Some place
+  pub member : has_replica (Some place) s.shard s.node ≡ true
+
+pub placement_push : (lines : List Turn) (a : Act) (b : Answer) → placement_after None (inner_turns (and_then lines a b)) ≡ later_placement (printed b) (placement_after None (inner_turns lines))
+placement_push lines a b = ap (placement_after None) (inner_turns-push lines a b) ∙ fold_push _ None (inner_turns lines) (turn_of a b)
+
+-- and so after a turn that leaves it
+pub placed_on : (lines : List Turn) (a : Act) (b : Answer) (place : Placement) (s : Slot) → IsPlaced lines place s → later_placement (printed b) (Some place) ≡ Some place → IsPlaced (and_then lines a b) place s
+placed_on lines a b place s placed prints = record { stands = placement_push lines a b ∙ ap (later_placement (printed b)) placed.stands ∙ prints; member = placed.member }
+
+-- What a turn leaves of a slot's node: it isn't restarted, stays stopped, and waits on; and the placement stays.
 pub record Leaves (a : Act) (b : Answer) (place : Placement) (s : Slot) : Type 0 where
   pub restarts : (one : Instance) → slice_get place.instances s.node ≡ Some one → is_restart one.name (turn_of a b) ≡ false
   pub stops : (one : Instance) → slice_get place.instances s.node ≡ Some one → stopped_by one.name a b true ≡ true
-  pub waits : (one : Instance) → slice_get place.instances s.node ≡ Some one → waits_by one.name s.shard a b true ≡ true
+  pub waits : (one : Instance) → slice_get place.instances s.node ≡ Some one → waits_by (replica_at s one.name) true a b true ≡ true
+  pub prints : later_placement (printed b) (Some place) ≡ Some place
 
 drop_push : (lines : List Turn) (n : ℕ) (line : Turn) → (drop (suc n) (lines ++ line ∷ []) ≡ drop (suc n) lines ++ line ∷ []) ⊎ (drop (suc n) (lines ++ line ∷ []) ≡ drop (suc n) lines)
 drop_push [] zero line = inr refl
@@ -111,9 +132,21 @@ none_of_push p (y ∷ xs) x h e = by_test (p y) h (none_of_push p xs x)
     by_test true f rest = cc
     by_test false f rest = rest f e
 
+-- it was there after the line of a fault: after an earlier one, or after the last
+there_on : (lines : List Turn) (a : Act) (b : Answer) (place : Placement) (s : Slot) (n : ℕ) → IsPlaced (and_then lines a b) place s
+    → (n < length lines → IsTrue (has_replica (placement_after None (inner_turns (take (suc n) lines))) s.shard s.node))
+    → IsTrue (has_replica (placement_after None (inner_turns (take (suc n) (and_then lines a b)))) s.shard s.node)
+there_on lines a b place s n placed before =
+    elim (cases_lt n (length lines)) as (λ _. IsTrue (has_replica (placement_after None (inner_turns (take (suc n) (and_then lines a b)))) s.shard s.node)) [
+      | inl low ↦ subst (λ xs. IsTrue (has_replica (placement_after None (inner_turns xs)) s.shard s.node)) (sym (take-append-le (suc n) lines (line_of a b ∷ []) (omega (arith, low)))) (before low)
+      | inr high ↦
+          let all : take (suc n) (and_then lines a b) ≡ and_then lines a b = take_all (suc n) (and_then lines a b) (let later = length-append lines (line_of a b ∷ []) in omega (arith, high, later)) in
+          subst (λ xs. IsTrue (has_replica (placement_after None (inner_turns xs)) s.shard s.node)) (sym all) (ap (λ o. has_replica o s.shard s.node) placed.stands ∙ placed.member)
+    ]
+
 pub closed_on : (faults more : List Fault) (lines : List Turn) (a : Act) (b : Answer) (place : Placement) (s : Slot) → AreAmong faults more → ((one : Instance) → slice_get place.instances s.node ≡ Some one → is_restart one.name (turn_of a b) ≡ false)
-    → IsClosedByFault faults (next_place lines) place s.shard s.node → IsClosedByFault more (next_place (and_then lines a b)) place s.shard s.node
-closed_on faults more lines a b place s among free closed =
+    → IsPlaced (and_then lines a b) place s → IsClosedByFault faults None (next_place lines) place s.shard s.node → IsClosedByFault more None (next_place (and_then lines a b)) place s.shard s.node
+closed_on faults more lines a b place s among free placed closed =
     let name = closed.not_restarted.instance_.name in
     let test = is_restart name in
     let later : length (and_then lines a b) ≡ length lines + 1 = length-append lines (line_of a b ∷ []) in
@@ -123,7 +156,9 @@ closed_on faults more lines a b place s among free closed =
       among = among closed.fault closed.among;
       of_node = closed.of_node;
       of_shard = closed.of_shard;
+      closing = closed.closing;
       not_later = omega (arith, later, high);
+      was_there = λ _. there_on lines a b place s closed.fault.line placed closed.was_there;
       not_restarted = record {
         instance_ = closed.not_restarted.instance_;
         stands = closed.not_restarted.stands;
@@ -137,16 +172,18 @@ closed_on faults more lines a b place s among free closed =
     }
 
 -- a fault of this very line
-pub closed_now : (more : List Fault) (lines : List Turn) (a : Act) (b : Answer) (place : Placement) (s : Slot) (one : Instance) → slice_get place.instances s.node ≡ Some one → IsIn more (fault_of (length lines) s)
-    → IsClosedByFault more (next_place (and_then lines a b)) place s.shard s.node
-closed_now more lines a b place s one there among =
+pub closed_now : (more : List Fault) (lines : List Turn) (a : Act) (b : Answer) (place : Placement) (s : Slot) (one : Instance) → slice_get place.instances s.node ≡ Some one → IsPlaced (and_then lines a b) place s → IsIn more (fault_of (length lines) s)
+    → IsClosedByFault more None (next_place (and_then lines a b)) place s.shard s.node
+closed_now more lines a b place s one there placed among =
     let later : length (and_then lines a b) ≡ length lines + 1 = length-append lines (line_of a b ∷ []) in
     record {
       fault = fault_of (length lines) s;
       among = among;
       of_node = refl;
       of_shard = refl;
+      closing = refl;
       not_later = omega (arith, later);
+      was_there = λ _. there_on lines a b place s (length lines) placed (λ low. absurd (omega (arith, low)));
       not_restarted = record {
         instance_ = one;
         stands = there;
@@ -157,21 +194,42 @@ closed_now more lines a b place s one there among =
 pub stopped_push : (lines : List Turn) (a : Act) (b : Answer) (name : List ℕ) → is_stopped (inner_turns (and_then lines a b)) name ≡ stopped_by name a b (is_stopped (inner_turns lines) name)
 stopped_push lines a b name = ap (λ turns. is_stopped turns name) (inner_turns-push lines a b) ∙ fold_push _ false (inner_turns lines) (turn_of a b)
 
-pub waits_push : (lines : List Turn) (a : Act) (b : Answer) (name : List ℕ) (shard : ℕ) → waits_after false (inner_turns (and_then lines a b)) name shard ≡ waits_by name shard a b (waits_after false (inner_turns lines) name shard)
-waits_push lines a b name shard = ap (λ turns. waits_after false turns name shard) (inner_turns-push lines a b) ∙ fold_push _ false (inner_turns lines) (turn_of a b)
+-- the placement that goes with waiting is the one that the lines leave
+waiting_place : (x : Replica) (before : Waiting) (lines : List Turn) → (fold (waiting_by x) before lines).place ≡ placement_after before.place (inner_turns lines)
+waiting_place x before [] = refl
+waiting_place x before (line ∷ lines) =
+    let turns = joined (lists_of line) in
+    waiting_place x (waiting_by x before line) lines ∙ ap (λ ts. placement_after (placement_after before.place ts) (inner_turns lines)) (append-nil turns) ∙ sym (fold-append _ before.place turns (inner_turns lines))
+
+-- a replica of a placement that stays waits as the turn has it
+pub waits_push : (lines : List Turn) (a : Act) (b : Answer) (place : Placement) (s : Slot) (name : List ℕ) → IsPlaced lines place s → later_placement (printed b) (Some place) ≡ Some place
+    → (waiting_after (replica_at s name) None (and_then lines a b)).waits ≡ waits_by (replica_at s name) true a b ((waiting_after (replica_at s name) None lines).waits)
+waits_push lines a b place s name placed prints =
+    let x = replica_at s name in
+    let start : Waiting = record { place = None; waits = false } in
+    let before = waiting_after x None lines in
+    let stood : before.place ≡ Some place = waiting_place x start lines ∙ placed.stands in
+    let stays : later_placement (printed b) before.place ≡ Some place = ap (later_placement (printed b)) stood ∙ prints in
+    ap (λ (w : Waiting). w.waits) (fold_push (waiting_by x) start lines (line_of a b))
+    ∙ ap₂ (λ (o n : Option Placement). is_assigned x o n || waits_by x (is_member x o && is_member x n) a b before.waits) stood stays
+    ∙ ap (λ t. ((not t) && t) || waits_by x (t && t) a b before.waits) placed.member
 
 -- a machine that is down stays so for its cause
 pub down_on : (faults more : List Fault) (lines : List Turn) (a : Act) (b : Answer) (place : Placement) (s : Slot) → AreAmong faults more → ((one : Instance) → slice_get place.instances s.node ≡ Some one → is_restart one.name (turn_of a b) ≡ false)
-    → ((one : Instance) → slice_get place.instances s.node ≡ Some one → stopped_by one.name a b true ≡ true) → IsShutFor faults (next_place lines) place s standing.Down → IsShutFor more (next_place (and_then lines a b)) place s standing.Down
-down_on faults more lines a b place s among free stays (inl stopped) =
+    → ((one : Instance) → slice_get place.instances s.node ≡ Some one → stopped_by one.name a b true ≡ true) → IsPlaced (and_then lines a b) place s → IsShutFor faults (next_place lines) place s standing.Down → IsShutFor more (next_place (and_then lines a b)) place s standing.Down
+down_on faults more lines a b place s among free stays placed (inl stopped) =
     inl (record { instance_ = stopped.instance_; stands = stopped.stands; holds = stopped_push lines a b stopped.instance_.name ∙ ap (stopped_by stopped.instance_.name a b) stopped.holds ∙ stays stopped.instance_ stopped.stands })
-down_on faults more lines a b place s among free stays (inr closed) = inr (closed_on faults more lines a b place s among free closed)
+down_on faults more lines a b place s among free stays placed (inr closed) = inr (closed_on faults more lines a b place s among free placed closed)
 
-pub shut_on : (faults more : List Fault) (lines : List Turn) (a : Act) (b : Answer) (place : Placement) (s : Slot) (how : Standing) → AreAmong faults more → Leaves a b place s → IsShutFor faults (next_place lines) place s how → IsShutFor more (next_place (and_then lines a b)) place s how
-shut_on faults more lines a b place s standing.Down among leaves shut = down_on faults more lines a b place s among leaves.restarts leaves.stops shut
-shut_on faults more lines a b place s standing.Boot among leaves waits =
-    record { instance_ = waits.instance_; stands = waits.stands; holds = waits_push lines a b waits.instance_.name s.shard ∙ ap (waits_by waits.instance_.name s.shard a b) waits.holds ∙ leaves.waits waits.instance_ waits.stands }
-shut_on faults more lines a b place s standing.Open among leaves open_ = tt
+pub shut_on : (faults more : List Fault) (lines : List Turn) (a : Act) (b : Answer) (place : Placement) (s : Slot) (how : Standing) → AreAmong faults more → IsPlaced lines place s → Leaves a b place s → IsShutFor faults (next_place lines) place s how
+    → IsShutFor more (next_place (and_then lines a b)) place s how
+shut_on faults more lines a b place s standing.Down among placed leaves shut = down_on faults more lines a b place s among leaves.restarts leaves.stops (placed_on lines a b place s placed leaves.prints) shut
+shut_on faults more lines a b place s standing.Boot among placed leaves waits = record {
+  instance_ = waits.instance_;
+  stands = waits.stands;
+  holds = waits_push lines a b place s waits.instance_.name placed leaves.prints ∙ ap (waits_by (replica_at s waits.instance_.name) true a b) waits.holds ∙ leaves.waits waits.instance_ waits.stands;
+}
+shut_on faults more lines a b place s standing.Open among placed leaves open_ = tt
 
 -- ---- the machine at a slot
 
@@ -188,6 +246,11 @@ machine_slot {D} {G} {state} {faults} {lines} {c} {m} h s x is =
 pub machine_instance : {D : Type 0} {G : Ghosts D} {state : D → DiskState} {faults : List Fault} {lines : List Turn} {c : Cluster D G} {m : Members D G} (h : At state faults lines c m) (s : Slot) → IsIn m.slots.items s
     → (one : Instance) × (slice_get m.net.state.place.instances s.node ≡ Some one)
 machine_instance {D} {G} {state} {faults} {lines} {c} {m} h s among = slot_instance m.net.state.place (on h).well.lawful s (subst (λ slots. IsIn slots s) (on h).well.slots among)
+
+-- and have replicas in the placement that stands
+pub machine_placed : {D : Type 0} {G : Ghosts D} {state : D → DiskState} {faults : List Fault} {lines : List Turn} {c : Cluster D G} {m : Members D G} (h : At state faults lines c m) (s : Slot) → IsIn m.slots.items s → IsPlaced lines m.net.state.place s
+machine_placed {D} {G} {state} {faults} {lines} {c} {m} h s among =
+    record { stands = h.stands.place ∙ ap (option_map (λ (x : Members D G). x.net.state.place)) h.members; member = slot_replica m.net.state.place s (subst (λ slots. IsIn slots s) (on h).well.slots among) }
 
 -- by the steps that the machines took in the line
 pub serving_next : {D : Type 0} {G : Ghosts D} {state : D → DiskState} {faults : List Fault} {lines : List Turn} {c : Cluster D G} {m g : Members D G} {a : Act} {b : Answer} (h : At state faults lines c m) (more : List Fault) → TellAll state → Extends lines m a b g
@@ -226,6 +289,6 @@ pub serving_stays : {D : Type 0} {G : Ghosts D} {state : D → DiskState} {fault
     → (s : Slot) (y : MachineState D) → get g.net.machines s ≡ Some y → IsServing state more (and_then lines a b) g s y
 serving_stays {D} {G} {state} {faults} {lines} {c} {m} {g} {a} {b} h more among tell e same stopped none leaves =
     serving_next h more tell e [] same (λ s step i. absurd i) (λ s p w. acked_none h e none [] s p w) (λ s x y was serving taken how. record {
-      shut = subst (λ z. IsShutFor more (next_place (and_then lines a b)) m.net.state.place s z) (sym how) (shut_on faults more lines a b m.net.state.place s x.standing among (leaves s) serving.shut);
+      shut = subst (λ z. IsShutFor more (next_place (and_then lines a b)) m.net.state.place s z) (sym how) (shut_on faults more lines a b m.net.state.place s x.standing among (machine_placed h s (machine_slot h s x was)) (leaves s) serving.shut);
       halted = λ is. how ∙ serving.halted (ap (λ xs. slice_get xs s.node) (sym stopped) ∙ is);
     })

@@ -1,6 +1,6 @@
 -- The slots of a placement: each stands once, and its node is there.
-use Rattle.std.proofs.Common.{◌≡◌, ◌≢◌, ◌≤◌, ℕ, suc, List, [], ◌∷◌, map, refl, sym, ap, subst, ◌∙◌, ◌⊎◌, inl, inr, arith, Bool, true, false}
-use Rattle.std.specs.Prelude.{Some, slice_get}
+use Rattle.std.proofs.Common.{◌≡◌, ◌≢◌, ◌≤◌, ◌+◌, ℕ, suc, List, [], ◌∷◌, map, refl, sym, ap, subst, ◌∙◌, ◌⊎◌, inl, inr, arith, Bool, true, false}
+use Rattle.std.specs.Prelude.{Some, slice_get, slice_index_or}
 use Rattle.std.specs.Cmp.{tied_itself}
 use Rattle.std.specs.Ordering.{eq_by_cmp, is_eq}
 use Rattle.m3_model.specs.Ascends.{Ascends}
@@ -10,13 +10,15 @@ use Rattle.m3_model.specs.declared.placement.Instance.{Instance}
 use Rattle.m3_model.specs.declared.placement.Placement.{Placement}
 use Rattle.m3_model.proofs.MemberLemmas.{IsIn-append_cases, IsIn-map}
 use Rattle.placement_core.specs.Lawful.{IsLawful}
-use Rattle.placement_core.specs.Shards.{Shard, nodes_of}
+use Rattle.placement_core.specs.Shards.{Shard, nodes_of, shard_at}
+use Rattle.transcripts.specs.Placements.{has_replica}
 use Rattle.placement_core.proofs.OrderLemmas.{ascends-map}
 use Rattle.session.specs.Slots.{slot_at, slot_cmp}
 use Rattle.session.specs.declared.slot.Slot.{Slot}
 use Rattle.session.proofs.SlotLemmas.{same_slot, slot_cmp_total}
 use Rattle.m3_cluster.specs.First.{AreApart, slots_from, slots_of}
 use Rattle.m3_cluster.proofs.LateLemmas.{ascends_append}
+use Rattle.m3_cluster.proofs.ListLemmas.{any_of}
 use Rattle.m3_cluster.proofs.ShardLemmas.{ascends_on}
 
 -- ---- one slot or another
@@ -86,3 +88,22 @@ slots_apart_from (x ∷ shards) k each =
 -- each slot of a placement stands once
 pub slots_apart : (place : Placement) → IsLawful place → AreApart (slots_of place)
 slots_apart place lawful = slots_apart_from place.shards 0 (λ x i. (lawful.shards x i).distinct)
+
+-- it is in its own shard of these
+slot_shard : (shards : List Shard) (k : ℕ) (s : Slot) → IsIn (slots_from k shards) s → (j : ℕ) × (s.shard ≡ k + j) × IsIn (nodes_of (slice_index_or shards j [])) s.node
+slot_shard [] k s i = absurd i
+slot_shard (x ∷ shards) k s i =
+    elim (IsIn-append_cases (map (λ node. slot_at node k) (nodes_of x)) (slots_from (suc k) shards) s i) as (λ _. (j : ℕ) × (s.shard ≡ k + j) × IsIn (nodes_of (slice_index_or (x ∷ shards) j [])) s.node) [
+      | inl here ↦
+          let from = IsIn-map (λ node. slot_at node k) (nodes_of x) s here in
+          let shard_is : k ≡ s.shard = ap (λ (q : Slot). q.shard) from.2 in
+          (0, omega (arith, shard_is), subst (IsIn (nodes_of x)) (ap (λ (q : Slot). q.node) from.2) from.1)
+      | inr later ↦ let found = slot_shard shards (suc k) s later in (suc found.0, (let is = found.1 in omega (arith, is)), found.2)
+    ]
+
+-- the node of a slot has a replica of its shard
+pub slot_replica : (place : Placement) (s : Slot) → IsIn (slots_of place) s → has_replica (Some place) s.shard s.node ≡ true
+slot_replica place s i =
+    let found = slot_shard place.shards 0 s i in
+    let is : found.0 ≡ s.shard = (let e = found.1 in omega (arith, e)) in
+    any_of (nodes_of (shard_at place s.shard)) s.node (subst (λ k. IsIn (nodes_of (shard_at place k)) s.node) is found.2)

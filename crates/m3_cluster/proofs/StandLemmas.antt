@@ -93,7 +93,7 @@ pub record Numbered {D : Type 0} {G : Ghosts D} (lines : List Turn) (a : Act) (b
   pub no_fates : new.members ≡ None → (numbering_after 0 (and_then lines a b)).fates ≡ []
 
 numbered_by : {D : Type 0} {G : Ghosts D} {state : D → DiskState} {faults : List Fault} {lines : List Turn} {old new : Cluster D G} {a : Act} {b : Answer} → Stands state faults lines old → fates_set (request.One a) (reply.One b) ≡ None → (new.members ≡ None → old.members ≡ None)
-    → slice_index new.calls 0 ≡ min ((numbering_after 0 lines).calls + calls_in (turn_of a b ∷ [])) (2 ^ 64 - 1) → length new.calls ≡ 9 → Numbered lines a b new
+    → slice_index new.calls 0 ≡ min ((numbering_after 0 lines).calls + calls_in (a ∷ [])) (2 ^ 64 - 1) → length new.calls ≡ 9 → Numbered lines a b new
 numbered_by {D} {G} {state} {faults} {lines} {old} {new} {a} {b} s none still number nine =
     let same = numbering_more lines a b none in
     record {
@@ -108,7 +108,7 @@ pub call_numbered : {D : Type 0} {G : Ghosts D} {state : D → DiskState} {fault
     → new.calls ≡ after_call old.calls → Numbered lines a b new
 call_numbered {D} {G} {state} {faults} {lines} {old} {new} {a} {b} s none still calls is =
     numbered_by s none still
-    (number_on old.calls new.calls (numbering_after 0 lines).calls (calls_in (turn_of a b ∷ [])) s.calls s.number is (ap (λ t. 0 + cond t 1 0) calls))
+    (number_on old.calls new.calls (numbering_after 0 lines).calls (calls_in (a ∷ [])) s.calls s.number is (ap (λ t. 0 + cond t 1 0) calls))
     (nine_on old.calls new.calls s.calls is)
 
 -- and what isn't a call has none
@@ -116,7 +116,7 @@ pub other_numbered : {D : Type 0} {G : Ghosts D} {state : D → DiskState} {faul
     → new.calls ≡ old.calls → Numbered lines a b new
 other_numbered {D} {G} {state} {faults} {lines} {old} {new} {a} {b} s none still calls is =
     numbered_by s none still
-    (number_stays old.calls new.calls (numbering_after 0 lines).calls (calls_in (turn_of a b ∷ [])) s.number is (ap (λ t. 0 + cond t 1 0) calls))
+    (number_stays old.calls new.calls (numbering_after 0 lines).calls (calls_in (a ∷ [])) s.number is (ap (λ t. 0 + cond t 1 0) calls))
     (ap length is ∙ s.calls)
 
 -- What a turn may do.

@@ -19,7 +19,7 @@ use Rattle.m3_model.specs.declared.turn.Turn.{Turn}
 use Rattle.m3_model.proofs.MemberLemmas.{IsIn-append_cases, IsIn-append_left, IsIn-append_right}
 use Rattle.session.specs.declared.call.Call.{Call}
 use Rattle.m3_cluster.specs.Acts.{Answers, after_call, next_call}
-use Rattle.m3_cluster.specs.Depots.{Depot, TellAll}
+use Rattle.m3_outside.specs.Depots.{Depot, TellAll}
 use Rattle.m3_cluster.specs.First.{AreApart}
 use Rattle.m3_cluster.specs.Serves.{AreCounted, Stands}
 use Rattle.m3_cluster.specs.Steps.{IsFetched, IsRead}
@@ -32,7 +32,8 @@ use Rattle.m3_cluster.proofs.CallLemmas.{At, on}
 use Rattle.m3_cluster.proofs.FateSteps.{fates_goes}
 use Rattle.m3_cluster.proofs.HaltSteps.{stop_goes}
 use Rattle.m3_cluster.proofs.MoreFaults.{AreAmong}
-use Rattle.m3_cluster.proofs.NumberLemmas.{and_then, line_of}
+use Rattle.m3_cluster.proofs.NumberLemmas.{and_then}
+use Rattle.transcripts.specs.Record.{line_of}
 use Rattle.m3_cluster.proofs.QuietLemmas.{quiet_call, quiet_change, tells_consistency, tells_found, tells_memory, tells_order, tells_unknown}
 use Rattle.m3_cluster.proofs.ReplicaLemmas.{counted_next, counted_quiet, fault_listed, line_faults}
 use Rattle.m3_cluster.proofs.RestartSteps.{restart_goes}

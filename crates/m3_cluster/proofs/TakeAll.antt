@@ -10,7 +10,8 @@ use Rattle.m3_outside.specs.Slots.{MayGive, Out}
 use Rattle.replica_machine.specs.Machines.{first_machine}
 use Rattle.session.specs.Slots.{MachineMap, slot_cmp}
 use Rattle.session.specs.declared.slot.Slot.{Slot}
-use Rattle.m3_cluster.specs.Depots.{Depot, place_of_slot}
+use Rattle.m3_outside.specs.Depots.{Depot}
+use Rattle.m3_cluster.specs.Depots.{place_of_slot}
 use Rattle.m3_cluster.specs.First.{AreApart, IsUntouched, IsLent, IsGivenBack, MayNotOpen}
 use Rattle.m3_cluster.specs.Lending.{IsFree, IsNew, HasTaken, KeepsOthers, MayHaveTaken}
 use Rattle.m3_cluster.specs.declared.first.Unopened.{Unopened}

@@ -6,13 +6,14 @@ use Rattle.std.specs.List.{flat_map}
 use Rattle.m3_outside.specs.declared.disk.Disk.{Ghosts}
 use Rattle.m3_outside.specs.DiskState.{DiskState}
 use Rattle.m3_model.specs.Ascends.{Ascends}
-use Rattle.transcripts.specs.Caused.{LateMessage, delivers_nothing}
+use Rattle.m3_model.specs.Levels.{needed_write}
+use Rattle.transcripts.specs.Deliveries.{LateMessage, delivers_nothing}
 use Rattle.placement_core.specs.NodeNames.{IsNamedBelow}
 use Rattle.transcripts.specs.Faults.{Fault}
 use Rattle.m3_model.specs.Members.{IsIn}
 use Rattle.transcripts.specs.Placements.{printed}
 use Rattle.transcripts.specs.Points.{point_of, was_sent}
-use Rattle.transcripts.specs.Record.{InnerTurn, IsTurnPlace, TurnPlace, inner_turns, joined, lists_of}
+use Rattle.transcripts.specs.Record.{InnerTurn, IsTurnPlace, TurnPlace, inner_turns, joined, lists_of, line_of}
 use Rattle.m3_model.specs.declared.act.Act.{Act}
 use Rattle.m3_model.specs.declared.act.Act.TheVariants as act
 use Rattle.m3_model.specs.declared.act.WriteLevel.{WriteLevel}
@@ -38,7 +39,7 @@ use Rattle.session.specs.declared.slot.Slot.{Slot}
 use Rattle.session.proofs.AskedLemmas.{answering-asked, answering_ascend, permuted-IsIn}
 use Rattle.m3_cluster.specs.Acts.{after_call, next_call}
 use Rattle.m3_cluster.specs.Chains.{Link}
-use Rattle.m3_cluster.specs.Depots.{TellAll}
+use Rattle.m3_outside.specs.Depots.{TellAll}
 use Rattle.m3_cluster.specs.Nodes.{IsDelivered, KeepsButMachines}
 use Rattle.m3_cluster.specs.Serves.{AreHeldBack, HoldsLate, IsHeldBack, IsKept, WasAcked, WasSent, counted_in, shard_in}
 use Rattle.m3_cluster.specs.Steps.{NamedPoint, IsPut, IsWritten, placed, spaces_in}
@@ -49,7 +50,7 @@ use Rattle.m3_cluster.proofs.CallLemmas.{At, on, rules_there, version_is}
 use Rattle.m3_cluster.proofs.LateLemmas.{Delays, Extends, ascends_take, late_more, late_none, late_stays, shard_same, take-IsIn}
 use Rattle.m3_cluster.proofs.LinkLemmas.{IsPutOf, links_none, links_some, steps_among, steps_in}
 use Rattle.m3_cluster.proofs.MoreFaults.{AreAmong}
-use Rattle.m3_cluster.proofs.NumberLemmas.{turn_of, line_of, and_then}
+use Rattle.m3_cluster.proofs.NumberLemmas.{turn_of, and_then}
 use Rattle.m3_cluster.proofs.OptionLemmas.{same_some}
 use Rattle.m3_cluster.proofs.PutSteps.{late_calls, put_calls, put_done, put_nodes, serving_puts}
 use Rattle.m3_cluster.proofs.QuietLemmas.{extends_same, fates_kept, grown_goes, quiet_call, stops_kept, tells_unknown}
@@ -69,6 +70,9 @@ delays {D} {G} {state} {faults} {lines} {c} {m} h point level b place nodes quie
   of_act = of_act;
   was_sent = sent;
   quiet = quiet;
+  call = record { id = Some point.id; version = None; needed = needed_write level };
+  of_call = refl;
+  present = refl;
   low = shard_low h point.id;
   counted = λ n i. permuted-IsIn (counted_in m (shard_in m point.id)) nodes counts.same n i;
   by_name = counts.by_name (on h).well.lawful;
@@ -80,6 +84,9 @@ fewer {D} {G} {lines} {m} {a} {b} {point} {nodes} k d = record {
   of_act = d.of_act;
   was_sent = d.was_sent;
   quiet = d.quiet;
+  call = d.call;
+  of_call = d.of_call;
+  present = d.present;
   low = d.low;
   counted = λ n i. d.counted n (take-IsIn k nodes n i);
   by_name = ascends_take (IsNamedBelow m.net.state.place) k nodes d.by_name;
@@ -170,7 +177,7 @@ unsent_grows {D} {G} {state} {faults} {lines} {c} {m} {g} more among tell h poin
       slots = put.slots;
       manned = λ s some. subst (λ ms. IsSome (get ms s)) (sym unsent.machines) some;
       none = λ s none. ap (λ ms. get ms s) unsent.machines ∙ none;
-      serving = serving_stays h more among tell extends unsent.machines put.stopped (λ acks e. cc) (λ s. record { restarts = λ one there. refl; stops = λ one there. refl; waits = λ one there. refl });
+      serving = serving_stays h more among tell extends unsent.machines put.stopped (λ acks e. cc) (λ s. record { restarts = λ one there. refl; stops = λ one there. refl; waits = λ one there. refl; prints = refl });
       fates = fates_kept g _ _ h refl (ap (λ (s : MetaState). s.place) put.state_stays) put.fates;
       stops = stops_kept g _ _ h (λ name x. refl) (ap (λ (s : MetaState). s.place) put.state_stays) put.stopped;
       late = elim unsent.bag as (λ _. HoldsLate g (and_then lines a answer.Memory)) [
@@ -216,12 +223,12 @@ put_goes : {D : Type 0} {G : Ghosts D} {state : D → DiskState} {faults : List 
 put_goes {D} {G} {state} {faults} {lines} {old} {new} {m} {g} more among tell h is calls point level (answer.Acks acks) put listed =
     let done = put.answers in
     written_goes more h is calls point level (answer.Acks acks)
-    (sent_grows more among tell h point level (answer.Acks acks) put done.told done.sent refl refl listed (λ xs e. sym (same_acks acks xs e) ∙ done.acks_are) (λ s. record { restarts = λ one there. refl; stops = λ one there. refl; waits = λ one there. refl })) refl
+    (sent_grows more among tell h point level (answer.Acks acks) put done.told done.sent refl refl listed (λ xs e. sym (same_acks acks xs e) ∙ done.acks_are) (λ s. record { restarts = λ one there. refl; stops = λ one there. refl; waits = λ one there. refl; prints = refl })) refl
     (λ xs e. subst (IsKept new (turn_of (write_of point level) (answer.Acks acks))) (same_acks acks xs e) (acked_kept h is point level (answer.Acks acks) put acks done)) put
 put_goes {D} {G} {state} {faults} {lines} {old} {new} {m} {g} more among tell h is calls point level (answer.Consistency got needed reasons shard) put listed =
     let done = put.answers in
     written_goes more h is calls point level (answer.Consistency got needed reasons shard)
-    (sent_grows more among tell h point level (answer.Consistency got needed reasons shard) put done.0 done.1 refl refl listed (λ xs e. cc) (λ s. record { restarts = λ one there. refl; stops = λ one there. refl; waits = λ one there. refl })) refl (λ xs e. cc) put
+    (sent_grows more among tell h point level (answer.Consistency got needed reasons shard) put done.0 done.1 refl refl listed (λ xs e. cc) (λ s. record { restarts = λ one there. refl; stops = λ one there. refl; waits = λ one there. refl; prints = refl })) refl (λ xs e. cc) put
 put_goes {D} {G} {state} {faults} {lines} {old} {new} {m} {g} more among tell h is calls point level answer.Memory put listed =
     written_goes more h is calls point level answer.Memory (unsent_grows more among tell h point level put put.answers) refl (λ xs e. cc) put
 put_goes {D} {G} {state} {faults} {lines} {old} {new} {m} {g} more among tell h is calls point level _ put listed = absurd put.answers
@@ -251,9 +258,9 @@ flat-IsIn f (z ∷ front) back x y i = IsIn-append_right (f z) (flat_map f (fron
 -- a turn at a place of the lines is one of them
 pub place-IsIn : {lines : List Turn} {p : TurnPlace} → IsTurnPlace lines p → IsIn (inner_turns lines) p.turn
 place-IsIn {lines} {p} at =
-    let own : IsIn (p.earlier ++ p.turn ∷ at.later) p.turn = IsIn-append_right p.earlier (p.turn ∷ at.later) p.turn (inl refl) in
-    let in_line : IsIn (joined (lists_of at.line)) p.turn = subst (λ lists. IsIn (joined lists) p.turn) (sym at.in_line) (flat-IsIn (λ list. list) at.front at.back (p.earlier ++ p.turn ∷ at.later) p.turn own) in
-    subst (λ xs. IsIn (inner_turns xs) p.turn) (sym at.in_run) (flat-IsIn (λ (t : Turn). joined (lists_of t)) p.lines at.after at.line p.turn in_line)
+    let own : IsIn (p.earlier ++ p.turn ∷ at.stands.later) p.turn = IsIn-append_right p.earlier (p.turn ∷ at.stands.later) p.turn (inl refl) in
+    let in_line : IsIn (joined (lists_of p.line)) p.turn = subst (λ lists. IsIn (joined lists) p.turn) (sym at.stands.in_line) (flat-IsIn (λ list. list) at.stands.front at.stands.back (p.earlier ++ p.turn ∷ at.stands.later) p.turn own) in
+    subst (λ xs. IsIn (inner_turns xs) p.turn) (sym at.in_run) (flat-IsIn (λ (t : Turn). joined (lists_of t)) p.lines at.after p.line p.turn in_line)
 
 -- what a late write brings was sent, at the first version
 late_sent : {D : Type 0} {G : Ghosts D} {state : D → DiskState} {faults : List Fault} {lines : List Turn} {c : Cluster D G} {m : Members D G} (h : At state faults lines c m) (one : LateWrite) → IsIn m.net.bag one
@@ -262,11 +269,12 @@ late_sent {D} {G} {state} {faults} {lines} {c} {m} h one in_bag =
     let held = (on h).late in
     let from = message_of m lines held.messages m.net.bag held.held_back one in_bag in
     let message = from.0 in
-    let was = (from.1).was_late in (
+    let held_back = from.1 in
+    let was = held_back.was_late in (
       (from.1).version,
       record {
         turn = message.place.turn;
-        served = place-IsIn was.at;
+        served = place-IsIn held_back.at;
         of_act =
             ap (λ t. cond t (point_of (spaces_in m) message.place.turn.act) None) was.was_sent
             ∙ ap (λ (r : Rules). point_of r.spaces message.place.turn.act) (sym (rules_there h act.Deliver answer.Memory)) ∙ was.of_act ∙ ap Some (sym (from.1).point);
@@ -283,7 +291,7 @@ delivered_grows {D} {G} {state} {faults} {lines} {c} {m} {g} more among tell h o
       slots = d.1.slots;
       manned = links_some state links m.net.machines g.net.machines taken;
       none = links_none state links m.net.machines g.net.machines taken;
-      serving = serving_puts more among tell h extends links taken listed puts (λ s p w. acked_none h extends (λ acks e. cc) (steps_at s links) s p w) d.1.stopped (λ s. record { restarts = λ one there. refl; stops = λ one there. refl; waits = λ one there. refl });
+      serving = serving_puts more among tell h extends links taken listed puts (λ s p w. acked_none h extends (λ acks e. cc) (steps_at s links) s p w) d.1.stopped (λ s. record { restarts = λ one there. refl; stops = λ one there. refl; waits = λ one there. refl; prints = refl });
       fates = fates_kept g _ _ h refl same_place d.1.fates;
       stops = stops_kept g _ _ h (λ name x. refl) same_place d.1.stopped;
       late = late_none g (and_then lines act.Deliver b) d.0.emptied;
@@ -319,7 +327,7 @@ undelivered_grows {D} {G} {state} {faults} {lines} {c} {m} {g} more among tell h
       slots = keeps.slots;
       manned = λ s some. subst (λ ms. IsSome (get ms s)) (sym undelivered.machines) some;
       none = λ s none. ap (λ ms. get ms s) undelivered.machines ∙ none;
-      serving = serving_stays h more among tell extends undelivered.machines keeps.stopped (λ acks e. cc) (λ s. record { restarts = λ one there. refl; stops = λ one there. refl; waits = λ one there. refl });
+      serving = serving_stays h more among tell extends undelivered.machines keeps.stopped (λ acks e. cc) (λ s. record { restarts = λ one there. refl; stops = λ one there. refl; waits = λ one there. refl; prints = refl });
       fates = fates_kept g _ _ h refl same_place keeps.fates;
       stops = stops_kept g _ _ h (λ name x. refl) same_place keeps.stopped;
       late = elim undelivered.bag as (λ _. HoldsLate g (and_then lines act.Deliver answer.Memory)) [ inl same ↦ late_stays extends refl same (on h).late | inr none ↦ late_none g (and_then lines act.Deliver answer.Memory) none ];

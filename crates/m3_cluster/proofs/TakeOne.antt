@@ -9,7 +9,8 @@ use Rattle.replica_machine.specs.Machines.{MachineState, first_machine}
 use Rattle.session.proofs.SlotLemmas.{get-insert_here, get-insert_other}
 use Rattle.session.specs.Slots.{MachineMap}
 use Rattle.session.specs.declared.slot.Slot.{Slot}
-use Rattle.m3_cluster.specs.Depots.{Depot, place_of_slot}
+use Rattle.m3_outside.specs.Depots.{Depot}
+use Rattle.m3_cluster.specs.Depots.{place_of_slot}
 use Rattle.m3_cluster.specs.First.{IsUntouched, IsGivenBack}
 use Rattle.m3_cluster.specs.Lending.{IsNew, KeepsOthers}
 use Rattle.m3_cluster.proofs.SlotCases.{other_place}

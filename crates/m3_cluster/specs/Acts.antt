@@ -15,7 +15,7 @@ use Rattle.m3_outside.specs.Causes.{Rose}
 use Rattle.m3_outside.specs.DiskState.{DiskState}
 use Rattle.session.specs.Slots.{slot_at}
 use Rattle.session.specs.declared.call.Call.{Call}
-use Rattle.m3_cluster.specs.Depots.{Depot}
+use Rattle.m3_outside.specs.Depots.{Depot}
 use Rattle.m3_cluster.specs.First.{HasReturned, slots_of}
 use Rattle.m3_cluster.specs.Nodes.{IsFated, IsDelivered, IsStopped, IsRestarted, IsBootstrapped}
 use Rattle.m3_cluster.specs.Steps.{IsFirst, IsNamed, IsMoved, IsWritten, IsFetched}

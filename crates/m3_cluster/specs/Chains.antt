@@ -2,7 +2,7 @@
 use Rattle.std.specs.Prelude.{◌≡◌, ◌⊎◌, ⊤, ℕ, List, [], ◌∷◌, ◌++◌, map, filter, Option, Some, nat_eq, ◌&&◌}
 use Rattle.std.specs.FinMap.{get}
 use Rattle.std.specs.List.{All}
-use Rattle.transcripts.specs.Faults.{is_covering}
+use Rattle.transcripts.specs.Waiting.{is_covering}
 use Rattle.m3_model.specs.declared.reason.Damage.{Damage}
 use Rattle.m3_model.specs.declared.reason.Reason.{Reason}
 use Rattle.m3_model.specs.declared.reason.Reason.TheVariants as reason

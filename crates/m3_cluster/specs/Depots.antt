@@ -1,8 +1,9 @@
--- The disks of a run, and which of them the machines of a cluster have.
-use Rattle.std.specs.Prelude.{◌≡◌, ◌≢◌, ℕ, true, List, Option, Some, None}
+-- Which disks of a run the machines of a cluster have.
+use Rattle.std.specs.Prelude.{◌≡◌, ◌≢◌, ◌+◌, ◌-◌, ℕ, List, [], ◌∷◌, Option, Some, None}
 use Rattle.std.specs.FinMap.{get}
 use Rattle.m3_outside.specs.declared.disk.Disk.{Ghosts}
 use Rattle.m3_model.specs.Members.{IsIn}
+use Rattle.m3_outside.specs.Depots.{Depot}
 use Rattle.m3_outside.specs.DiskState.{DiskState}
 use Rattle.m3_outside.specs.Slots.{Held, Out}
 use Rattle.m3_outside.specs.declared.slot.Slot.{Slot as Place}
@@ -12,19 +13,9 @@ use Rattle.session.specs.declared.slot.Slot.{Slot}
 use Rattle.m3_cluster.specs.declared.cluster.Cluster.{Cluster}
 use Rattle.m3_cluster.specs.declared.members.Members.{Members}
 
--- What the disks of a run show: what lies in each slot, how many faults of its disk are counted in it, and how many in all.
-pub record Depot (D : Type 0) : Type 0 where
-  pub held : Place → Held D
-  pub counted : Place → ℕ
-  pub faults : ℕ
-
 -- the place of a slot's disk
 abbrev pub place_of_slot : Slot → Place
 place_of_slot s = record { node = s.node; shard = s.shard }
-
--- each disk of this kind tells what it holds
-abbrev pub TellAll : {D : Type 0} → (D → DiskState) → Type 0
-TellAll {D} state = (d : D) → (state d).tells ≡ true
 
 -- machines stand at these slots alone; their disks are out, and those of all other slots are not
 pub record AreOut {D : Type 0} (slots : List Slot) (machines : MachineMap D) (held : Place → Held D) : Type 0 where
@@ -40,3 +31,13 @@ OwnedBy (Some m) held = AreOut m.slots.items m.net.machines held
 -- the cluster has the disks that are out
 abbrev pub OwnsDisks : {D : Type 0} {G : Ghosts D} → Cluster D G → (Place → Held D) → Type 0
 OwnsDisks c held = OwnedBy c.members held
+
+-- the count of a slot's disk: where a machine has it, that of the disk, and else the one in the slot
+abbrev pub count_at : {D : Type 0} → (D → DiskState) → Depot D → Option (MachineState D) → Slot → ℕ
+count_at state depot None s = depot.counted (place_of_slot s)
+count_at state depot (Some machine) s = (state machine.disk).faults
+
+-- how much the counts of the disks of the machines at these slots rose since they were taken
+abbrev pub risen : {D : Type 0} → (D → DiskState) → Depot D → MachineMap D → List Slot → ℕ
+risen state depot machines [] = 0
+risen state depot machines (s ∷ slots) = (count_at state depot (get machines s) s - depot.counted (place_of_slot s)) + risen state depot machines slots

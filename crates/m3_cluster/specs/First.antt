@@ -20,7 +20,8 @@ use Rattle.session.specs.Changes.{Step, TakesSteps}
 use Rattle.session.specs.Slots.{MachineMap, slot_at}
 use Rattle.session.specs.declared.slot.Slot.{Slot}
 use Rattle.m3_cluster.specs.Chains.{first_tenure}
-use Rattle.m3_cluster.specs.Depots.{Depot, place_of_slot}
+use Rattle.m3_outside.specs.Depots.{Depot}
+use Rattle.m3_cluster.specs.Depots.{place_of_slot}
 use Rattle.m3_cluster.specs.declared.first.Unopened.{Unopened}
 use Rattle.m3_cluster.specs.declared.first.Unopened.TheVariants as unopened
 

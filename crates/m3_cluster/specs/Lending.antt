@@ -1,9 +1,10 @@
 -- Disks taken for machines, and given back.
-use Rattle.std.specs.Prelude.{◌≡◌, ◌≢◌, ◌⊎◌, ℕ, ◌≤◌, List, [], ◌∷◌, map, Some, None, Result, Ok, Err}
+use Rattle.std.specs.Prelude.{◌≡◌, ◌≢◌, ◌⊎◌, ℕ, ◌≤◌, ⊤, List, [], ◌∷◌, map, Option, Some, None, Result, Ok, Err}
 use Rattle.std.specs.FinMap.{get, empty}
 use Rattle.m3_model.specs.Members.{IsIn}
 use Rattle.m3_model.specs.declared.reason.Damage.{Damage}
 use Rattle.m3_model.specs.declared.reason.Reason.TheVariants as reason
+use Rattle.m3_outside.specs.declared.disk.Disk.{Ghosts}
 use Rattle.m3_outside.specs.DiskState.{DiskState, IsEmpty, Told}
 use Rattle.m3_outside.specs.Slots.{Held, Here, Out, MayGive}
 use Rattle.m3_outside.specs.declared.slot.Slot.{Slot as Place}
@@ -14,9 +15,12 @@ use Rattle.replica_machine.specs.Machines.{MachineState, first_machine}
 use Rattle.session.specs.Changes.{IsStepped}
 use Rattle.session.specs.Slots.{MachineMap}
 use Rattle.session.specs.declared.slot.Slot.{Slot}
-use Rattle.m3_cluster.specs.Depots.{Depot, place_of_slot}
-use Rattle.m3_cluster.specs.First.{IsUntouched, IsLent, IsGivenBack, IsFirstBooted, HasOpened, HasReturned, MayNotOpen, first_boot}
+use Rattle.m3_outside.specs.Causes.{RoseBy}
+use Rattle.m3_outside.specs.Depots.{Depot}
+use Rattle.m3_cluster.specs.Depots.{place_of_slot, risen}
+use Rattle.m3_cluster.specs.First.{AreApart, IsUntouched, IsLent, IsGivenBack, IsFirstBooted, HasOpened, HasReturned, MayNotOpen, first_boot}
 use Rattle.m3_cluster.specs.declared.first.Unopened.{Unopened}
+use Rattle.m3_cluster.specs.declared.members.Members.{Members}
 
 -- what disks show, by what lies in their slots, the counts in these and the count of all faults
 abbrev pub depot_by : {D X : Type 0} → (X → Place → Held D) → (X → Place → ℕ) → (X → ℕ) → X → Depot D
@@ -102,4 +106,11 @@ pub record IsBack {D : Type 0} (state : D → DiskState) (machines : MachineMap 
 pub record HasGivenBack {D : Type 0} (state : D → DiskState) (slots : List Slot) (old : Depot D) (machines : MachineMap D) (new : Depot D) (left : MachineMap D) : Type 0 where
   pub each : (s : Slot) → IsKept old machines new left s ⊎ IsBack state machines new left s
   pub gone : (s : Slot) → IsIn slots s → get left s ≡ None
+  pub others : (s : Slot) → ¬ IsIn slots s → get left s ≡ get machines s
   pub later : old.faults ≤ new.faults
+  pub rose : AreApart slots → RoseBy (risen state old machines slots) old.faults new.faults
+
+-- the count of all faults rises by as much as those of the members' disks rose since they were taken
+abbrev pub RisesBy : {D : Type 0} {G : Ghosts D} → (D → DiskState) → Depot D → Option (Members D G) → ℕ → Type 0
+RisesBy state depot None faults = ⊤
+RisesBy state depot (Some m) faults = AreApart m.slots.items → RoseBy (risen state depot m.net.machines m.slots.items) depot.faults faults

@@ -1,7 +1,7 @@
 -- What `init` plans before it takes any disk, and what it answers where it makes no cluster.
 use Rattle.std.specs.Prelude.{◌≡◌, ℕ, List, [], length, Some, false, replicate, slice_get, ⊤}
 use Rattle.std.specs.FinMap.{empty}
-use Rattle.placement_plan.specs.First.{IsFirstPlacement}
+use Rattle.placement_plan.specs.First.{IsFirstPlacement, IsInitial}
 use Rattle.m3_model.specs.declared.answer.Answer.{Answer}
 use Rattle.m3_model.specs.declared.answer.Answer.TheVariants as answer
 use Rattle.m3_model.specs.declared.placement.Instance.{Instance}
@@ -10,12 +10,13 @@ use Rattle.m3_outside.specs.DiskState.{DiskState}
 use Rattle.placement_core.specs.Lawful.{IsLawful}
 use Rattle.session.specs.declared.slot.Slot.{Slot}
 use Rattle.m3_cluster.specs.Acts.{IsUntaken}
-use Rattle.m3_cluster.specs.Depots.{Depot}
+use Rattle.m3_outside.specs.Depots.{Depot}
 use Rattle.m3_cluster.specs.First.{HasReturned, slots_of}
 use Rattle.m3_cluster.specs.declared.first.Plan.{Plan}
 
 -- the plan of a cluster on these nodes
 pub record IsPlan (rf shards seed : ℕ) (nodes : List (List ℕ × List ℕ)) (plan : Plan) : Type 0 where
+  pub initial : IsInitial rf shards nodes plan.state.place
   pub place : IsFirstPlacement rf shards nodes plan.state.place
   pub lawful : IsLawful plan.state.place
   pub rules : plan.state.rules ≡ record { now = 0; spaces = [] }

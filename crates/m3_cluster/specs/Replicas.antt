@@ -1,7 +1,8 @@
 -- The replicas that a cluster's machines are: what each of them knows, and why one isn't open.
-use Rattle.std.specs.Prelude.{◌≡◌, ◌≢◌, ◌⊎◌, ◌≤◌, ℕ, ⊤, List, [], ◌∷◌, Some, count_by, nat_eq, false, ◌&&◌}
+use Rattle.std.specs.Prelude.{◌≡◌, ◌≢◌, ◌⊎◌, ◌≤◌, ℕ, ⊤, List, [], ◌∷◌, Some, None, count_by, nat_eq, false, ◌&&◌}
 use Rattle.std.specs.List.{All}
-use Rattle.transcripts.specs.Faults.{Fault, IsClosedByFault, WaitsForBoot}
+use Rattle.transcripts.specs.Faults.{Fault, IsClosedByFault}
+use Rattle.transcripts.specs.Waiting.{WaitsForBoot}
 use Rattle.transcripts.specs.Fates.{IsStoppedAt}
 use Rattle.m3_model.specs.Members.{IsIn}
 use Rattle.transcripts.specs.Record.{TurnPlace}
@@ -63,8 +64,8 @@ pub record HasReplica {D : Type 0} (state : D → DiskState) (Sent Sure : Point 
 
 -- its node is stopped, or a fault closed it; or it waits for a bootstrap
 abbrev pub IsShutFor : List Fault → TurnPlace → Placement → Slot → Standing → Type 0
-IsShutFor faults p place s standing.Down = IsStoppedAt p place s.node ⊎ IsClosedByFault faults p place s.shard s.node
-IsShutFor faults p place s standing.Boot = WaitsForBoot false p place s.shard s.node
+IsShutFor faults p place s standing.Down = IsStoppedAt p place s.node ⊎ IsClosedByFault faults None p place s.shard s.node
+IsShutFor faults p place s standing.Boot = WaitsForBoot None p place s.shard s.node
 IsShutFor faults p place s standing.Open = ⊤
 
 -- ---- faults of a slot

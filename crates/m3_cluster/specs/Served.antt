@@ -6,7 +6,7 @@ use Rattle.m3_model.specs.declared.answer.Answer.{Answer}
 use Rattle.m3_outside.specs.DiskState.{DiskState}
 use Rattle.m3_outside.specs.declared.disk.Disk.{Ghosts}
 use Rattle.m3_cluster.specs.Acts.{Answers, IsMade}
-use Rattle.m3_cluster.specs.Depots.{Depot}
+use Rattle.m3_outside.specs.Depots.{Depot}
 use Rattle.m3_cluster.specs.declared.cluster.Cluster.{Cluster}
 
 -- `init` takes disks, and no other act does

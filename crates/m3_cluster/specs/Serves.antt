@@ -1,20 +1,21 @@
 -- What the machines keep of the turns that were served.
-use Rattle.std.specs.Prelude.{◌≡◌, ℕ, ◌-◌, ◌^◌, ◌<◌, List, [], ◌∷◌, ◌++◌, length, Option, Some, None, IsSome, option_map, min, slice_get, slice_index, true, false}
+use Rattle.std.specs.Prelude.{◌≡◌, ℕ, suc, ◌-◌, ◌^◌, ◌<◌, ◌≤◌, List, [], ◌∷◌, ◌++◌, length, drop, Option, Some, None, IsTrue, IsSome, option_map, min, slice_get, slice_index, true, false}
 use Rattle.std.specs.List.{All}
 use Rattle.std.specs.Option.{option_map_or}
 use Rattle.std.specs.FinMap.{get}
 use Rattle.m3_outside.specs.declared.disk.Disk.{Ghosts}
 use Rattle.m3_model.specs.Ascends.{Ascends}
-use Rattle.transcripts.specs.Caused.{Caused, LateMessage, IsLateMessage, IsLateBefore}
+use Rattle.transcripts.specs.Caused.{Caused}
+use Rattle.transcripts.specs.Deliveries.{LateMessage, IsLateMessage, IsLateBefore, delivers_nothing, shard_of_message}
 use Rattle.placement_core.specs.NodeNames.{IsNamedBelow}
 use Rattle.transcripts.specs.Fates.{numbering_after, fate_in, is_stopped}
-use Rattle.transcripts.specs.Faults.{Fault, AreDifferent}
+use Rattle.transcripts.specs.Faults.{Fault, FaultKind, Taking, Failing, AreDifferent}
 use Rattle.m3_model.specs.Hash.{shard_of}
 use Rattle.transcripts.specs.Kept.{Kept}
 use Rattle.m3_model.specs.Members.{IsIn}
 use Rattle.transcripts.specs.Placements.{placement_after, seed_after}
 use Rattle.transcripts.specs.Points.{point_of, sent_point}
-use Rattle.transcripts.specs.Record.{InnerTurn, Life, TurnPlace, inner_turns}
+use Rattle.transcripts.specs.Record.{InnerTurn, Life, TurnPlace, IsTurnPlace, inner_turns, line_of}
 use Rattle.transcripts.specs.Rules.{rules_after, start_rules}
 use Rattle.m3_model.specs.declared.act.Act.TheVariants as act
 use Rattle.m3_model.specs.declared.act.Fate.{Fate}
@@ -36,8 +37,10 @@ use Rattle.net_plan.specs.declared.late_write.LateWrite.{LateWrite}
 use Rattle.placement_core.specs.Lawful.{IsLawful}
 use Rattle.placement_core.specs.Shards.{shard_at, counted}
 use Rattle.replica_machine.specs.Machines.{MachineState}
+use Rattle.session.specs.Slots.{slot_at}
 use Rattle.session.specs.declared.slot.Slot.{Slot}
-use Rattle.m3_cluster.specs.Depots.{Depot, place_of_slot}
+use Rattle.m3_outside.specs.Depots.{Depot}
+use Rattle.m3_cluster.specs.Depots.{count_at, place_of_slot}
 use Rattle.m3_cluster.specs.First.{slots_of}
 use Rattle.m3_cluster.specs.Replicas.{HasReplica, IsBare, IsShutFor, faults_at}
 use Rattle.m3_cluster.specs.Steps.{spaces_in}
@@ -109,14 +112,17 @@ pub record WasSent (spaces : List Space) (turns : List InnerTurn) (p : Point) : 
 
 -- the place of the next line's turn, for what is said of it before it is there
 abbrev pub next_place : List Turn → TurnPlace
-next_place lines = record { lines = lines; client = 0; earlier = []; beside = []; turn = record { act = act.Deliver; answer = answer.Memory } }
+next_place lines = record { lines = lines; line = line_of act.Deliver answer.Memory; client = 0; earlier = []; beside = []; turn = record { act = act.Deliver; answer = answer.Memory } }
 
 -- what the bag holds of a message that was made late
 pub record IsHeldBack {D : Type 0} {G : Ghosts D} (m : Members D G) (lines : List Turn) (message : LateMessage) (late : LateWrite) : Type 0 where
-  pub was_late : IsLateMessage None (next_place lines) m.net.state.place message
+  pub at : IsTurnPlace lines message.place
+  pub was_late : IsLateMessage None (next_place lines) message
+  pub used : message.used ≡ m.net.state.place
   pub node : late.node ≡ message.node
   pub counted : IsIn (counted_in m late.shard) late.node
   pub shard : late.shard ≡ shard_in m message.point.id
+  pub goes_to : late.shard ≡ shard_of_message None message
   pub version : late.version ≡ 1
   pub point : late.point ≡ message.point
 
@@ -129,7 +135,7 @@ AreHeldBack m lines _ _ = ⊥
 -- the bag holds messages that were made late and not delivered yet, in the order in which they were made late
 pub record HoldsLate {D : Type 0} {G : Ghosts D} (m : Members D G) (lines : List Turn) : Type 0 where
   pub messages : List LateMessage
-  pub in_order : Ascends (IsLateBefore m.net.state.place) messages
+  pub in_order : Ascends IsLateBefore messages
   pub held_back : AreHeldBack m lines messages m.net.bag
 
 -- What is so of the machine at a slot after these lines: it is a replica whose points were sent, and of which each point that its node acknowledged is sure; where it
@@ -160,17 +166,25 @@ pub record Stands {D : Type 0} {G : Ghosts D} (state : D → DiskState) (faults 
   pub members : (m : Members D G) → c.members ≡ Some m → StandsOn state faults lines m
   pub acked : (turn : InnerTurn) → IsIn (inner_turns lines) turn → (acks : List ℕ) → turn.answer ≡ answer.Acks acks → IsKept c turn acks
 
+-- ---- deliveries
+
+-- What is known of a late message that a turn delivered: it was made late in an earlier line, no line between them delivered any, and the turn's own line did.
+pub record WasDelivered (p : TurnPlace) (m : LateMessage) : Type 0 where
+  pub earlier : length m.place.lines < length p.lines
+  pub delivers : delivers_nothing p.line ≡ false
+  pub not_before : (line : Turn) → IsIn (drop (suc (length m.place.lines)) p.lines) line → IsTrue (delivers_nothing line)
+
+-- each line is of one act, and what its turn delivered was made late before
+pub record IsHistory (turns : List Turn) (delivered : TurnPlace → List LateMessage) : Type 0 where
+  pub lone : (p : TurnPlace) → IsTurnPlace turns p → (p.client ≡ 0) × (p.earlier ≡ [])
+  pub were : (p : TurnPlace) → IsTurnPlace turns p → (m : LateMessage) → IsIn (delivered p) m → WasDelivered p m
+
 -- ---- faults
 
--- the fault came in one of these lines, and is no damage
-pub record IsEarlier (lines : List Turn) (fault : Fault) : Type 0 where
+-- the fault of this kind came in one of these lines
+pub record IsEarlier (kind : FaultKind) (lines : List Turn) (fault : Fault) : Type 0 where
   pub line_low : fault.line < length lines
-  pub no_damage : fault.is_damage ≡ false
-
--- the count of a slot's disk: where a machine has it, that of the disk, and else the one in the slot
-abbrev pub count_at : {D : Type 0} → (D → DiskState) → Depot D → Option (MachineState D) → Slot → ℕ
-count_at state depot None s = depot.counted (place_of_slot s)
-count_at state depot (Some machine) s = (state machine.disk).faults
+  pub kind_is : fault.kind ≡ kind
 
 -- the machine at a slot, before `init` none
 abbrev pub machine_at : {D : Type 0} {G : Ghosts D} → Cluster D G → Slot → Option (MachineState D)
@@ -181,12 +195,15 @@ machine_at c s = by_members c.members s
     by_members (Some m) s = get m.net.machines s
 
 -- The faults since the run began, those of taking disks and those of the disks themselves: each in one of these lines, no two alike, and at most as many as the counts
--- rose: of taking, the count of all faults; of a slot's disk, the count of that disk.
+-- rose: of taking, the count of all faults; of a slot's disk, the count of that disk since it was taken. The disks that failed are those of machines.
 pub record AreCounted {D : Type 0} {G : Ghosts D} (state : D → DiskState) (first now : Depot D) (lines : List Turn) (c : Cluster D G) (taking failing : List Fault) : Type 0 where
   pub different : AreDifferent (taking ++ failing)
-  pub earlier : All (IsEarlier lines) (taking ++ failing)
+  pub taking_earlier : All (IsEarlier Taking lines) taking
+  pub failing_earlier : All (IsEarlier Failing lines) failing
   pub of_taking : RoseBy (length taking) first.faults now.faults
-  pub of_disks : (s : Slot) → RoseBy (faults_at s failing) (first.counted (place_of_slot s)) (count_at state now (machine_at c s) s)
+  pub later : (s : Slot) → first.counted (place_of_slot s) ≤ now.counted (place_of_slot s)
+  pub of_disks : (s : Slot) → RoseBy (faults_at s failing) (now.counted (place_of_slot s)) (count_at state now (machine_at c s) s)
+  pub manned : All (λ f. IsSome (machine_at c (slot_at f.node f.shard))) failing
 
 -- before `init` each disk is bare, and none has failed
 pub record IsUnmade {D : Type 0} (state : D → DiskState) (now : Depot D) (failing : List Fault) : Type 0 where
@@ -205,4 +222,5 @@ pub record Serves {D : Type 0} {G : Ghosts D} (state : D → DiskState) (first n
   pub unmade : c.members ≡ None → IsUnmade state now failing
   pub stands : Stands state (taking ++ failing) turns c
   pub kept : Kept (life_of turns)
-  pub caused : Caused (life_of turns) (taking ++ failing)
+  pub caused : Caused true (life_of turns) (taking ++ failing)
+  pub history : IsHistory turns caused.delivered

@@ -2,8 +2,8 @@
 use Rattle.std.specs.Prelude.{◌≡◌, ℕ, ℤ, ◌≤◌, ◌<◌, List, [], ◌∷◌, ◌++◌, length, Some, None, false, IsSome, replicate, ◌⊎◌, ⊤}
 use Rattle.m3_outside.specs.declared.disk.Disk.{Ghosts}
 use Rattle.m3_model.specs.Members.{IsIn}
-use Rattle.placement_plan.specs.First.{IsFirstPlacement}
-use Rattle.transcripts.specs.Refusals.{namespace_limit}
+use Rattle.placement_plan.specs.First.{IsFirstPlacement, IsInitial}
+use Rattle.m3_model.specs.declared.limits.TheConstants.{MOST_NAMESPACES}
 use Rattle.m3_model.specs.Rules.{namespace_place}
 use Rattle.m3_model.specs.declared.act.ReadLevel.{ReadLevel}
 use Rattle.m3_model.specs.declared.act.WriteLevel.{WriteLevel}
@@ -23,7 +23,7 @@ use Rattle.session.specs.declared.session_err.SessionErr.{SessionErr}
 use Rattle.session.specs.declared.session_err.SessionErr.TheVariants as err
 use Rattle.session.specs.declared.slot.Slot.{Slot}
 use Rattle.m3_outside.specs.DiskState.{DiskState}
-use Rattle.m3_cluster.specs.Depots.{Depot}
+use Rattle.m3_outside.specs.Depots.{Depot}
 use Rattle.m3_cluster.specs.First.{HasOpened, IsFirstBooted, slots_of}
 use Rattle.m3_cluster.specs.declared.calls.Range.{Range}
 use Rattle.m3_cluster.specs.declared.members.Members.{Members}
@@ -36,6 +36,7 @@ spaces_in m = m.net.state.rules.spaces
 -- the cluster that `init` makes of these nodes: at moment 0 without namespaces, with a machine over the disk of each slot; nothing is lost or late, and each
 -- node runs
 pub record IsFirst {D : Type 0} {G : Ghosts D} (state : D → DiskState) (rf shards seed : ℕ) (nodes : List (List ℕ × List ℕ)) (old new : Depot D) (m : Members D G) : Type 0 where
+  pub initial : IsInitial rf shards nodes m.net.state.place
   pub place : IsFirstPlacement rf shards nodes m.net.state.place
   pub lawful : IsLawful m.net.state.place
   pub rules : m.net.state.rules ≡ record { now = 0; spaces = [] }
@@ -62,9 +63,9 @@ with_space space state = record state { rules = record state.rules { spaces = st
 -- a namespace is made; one of a name that is there is out of order, and there is a limit to them
 abbrev pub IsNamed : {D : Type 0} {G : Ghosts D} → Members D G → Space → Answer → Members D G → Type 0
 IsNamed old space answer.Done new =
-    (namespace_place space.name (spaces_in old) ≡ None) × (length (spaces_in old) < namespace_limit) × (new.net.state ≡ with_space space old.net.state) × KeepsNet old new
+    (namespace_place space.name (spaces_in old) ≡ None) × (length (spaces_in old) < MOST_NAMESPACES) × (new.net.state ≡ with_space space old.net.state) × KeepsNet old new
 IsNamed old space answer.Order new = IsSome (namespace_place space.name (spaces_in old)) × (new ≡ old)
-IsNamed old space (answer.Limit limit) new = (namespace_place space.name (spaces_in old) ≡ None) × (namespace_limit ≤ length (spaces_in old)) × (limit ≡ namespace_limit) × (new ≡ old)
+IsNamed old space (answer.Limit limit) new = (namespace_place space.name (spaces_in old) ≡ None) × (MOST_NAMESPACES ≤ length (spaces_in old)) × (limit ≡ MOST_NAMESPACES) × (new ≡ old)
 IsNamed old space answer.Memory new = (new ≡ old)
 IsNamed old space _ new = ⊥
 

@@ -1,6 +1,6 @@
 //! Nodes that start again: restarts and bootstraps.
 ghost use Rattle.std.specs.Prelude.{◌≡◌, ◌<◌, ◌≤◌, ◌&&◌, nat_eq, map, Some, IfErr, IfNone, IfSome, OnOk};
-ghost use Rattle.transcripts.specs.Faults.{is_covering};
+ghost use Rattle.transcripts.specs.Waiting.{is_covering};
 ghost use Rattle.m3_outside.specs.DiskState.{DiskState};
 ghost use Rattle.m3_cluster.specs.Boots.{refused_answer, IsNumberOf, IsRestartTried, IsBootTried};
 ghost use Rattle.m3_cluster.specs.Chains.{TakesLinks, AreBooted, EndsBoots, IsUnbooted, IsUnrestarted, covered_slots, restart_at, slots_of_node};

@@ -6,17 +6,18 @@ ghost use Rattle.m3_model.specs.Calls.{is_call};
 ghost use Rattle.m3_model.specs.Limits.{IsInit, MeetsLimits, KeepsLimits};
 ghost use Rattle.m3_model.specs.NotYet.{fills_its_nodes, IsServedAct, IsServed};
 ghost use Rattle.transcripts.specs.Placements.{placement_after};
-ghost use Rattle.transcripts.specs.Record.{inner_turns};
+ghost use Rattle.transcripts.specs.Record.{IsAnsweredBy, inner_turns};
 ghost use Rattle.m3_outside.specs.DiskState.{DiskState};
 ghost use Rattle.m3_outside.specs.Slots.{Out};
 ghost use Rattle.m3_outside.specs.declared.slot.Slot.{Slot as Place};
 ghost use Rattle.session.specs.declared.slot.Slot.{Slot as AtSlot};
 ghost use Rattle.m3_cluster.specs.Acts.{Answers, IsMade, is_init};
-ghost use Rattle.m3_cluster.specs.Depots.{Depot, place_of_slot, OwnsDisks, TellAll};
-ghost use Rattle.m3_cluster.specs.Lending.{depot_by};
+ghost use Rattle.m3_outside.specs.Depots.{Depot, TellAll};
+ghost use Rattle.m3_cluster.specs.Depots.{place_of_slot, OwnsDisks, count_at};
+ghost use Rattle.m3_cluster.specs.Lending.{depot_by, RisesBy};
 ghost use Rattle.m3_cluster.specs.Replicas.{IsBare};
 ghost use Rattle.m3_cluster.specs.Served.{IsServedBy};
-ghost use Rattle.m3_cluster.specs.Serves.{Serves, place_of, count_at, machine_at};
+ghost use Rattle.m3_cluster.specs.Serves.{Serves, place_of, machine_at};
 
 use crate::calls::Range;
 use crate::first::first_members;
@@ -257,6 +258,7 @@ impl<D: Disk> Cluster<D> {
         requires served { IsServed request }
         requires owned { OwnsDisks self.old (X.held disks.old) }
         ensures owned { OwnsDisks self.new (X.held disks.new) }
+        ensures answered { IsAnsweredBy request result }
         ensures placed { placement_after (place_of self.old) (inner_turns (record { request = request; reply = result } ∷ [])) ≡ place_of self.new }
         ensures serves { TellAll D.state → (first : Depot D) (turns : List Turn)
             → Serves D.state first (record { held = X.held disks.old; counted = X.counted disks.old; faults = X.all_faults disks.old }) turns self.old
@@ -268,12 +270,14 @@ impl<D: Disk> Cluster<D> {
         }
     }
 
-    /// Gives all disks back. Takes no memory.
+    /// Gives all disks back. The count of all faults rises by as much as those of the disks rose since they were taken.
+    /// Takes no memory.
     pub fn close<X: Disks<D = D>>(self, disks: &mut X)
         requires owned { OwnsDisks self (X.held disks.old) }
         ensures none_out { (place : Place) → X.held disks.new place ≢ Out }
         ensures counted { (s : AtSlot) → X.counted disks.new (place_of_slot s)
             ≡ count_at D.state (record { held = X.held disks.old; counted = X.counted disks.old; faults = X.all_faults disks.old }) (machine_at self s) s }
+        ensures rose { RisesBy D.state (depot_by X.held X.counted X.all_faults disks.old) self.members (X.all_faults disks.new) }
         ensures later { X.all_faults disks.old ≤ X.all_faults disks.new }
     {
         let Cluster { members, .. } = self;

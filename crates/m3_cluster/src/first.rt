@@ -5,7 +5,7 @@ ghost use Rattle.m3_model.specs.NotYet.{fills_its_nodes};
 ghost use Rattle.m3_outside.specs.DiskState.{DiskState};
 ghost use Rattle.m3_outside.specs.Slots.{Out};
 ghost use Rattle.m3_outside.specs.declared.slot.Slot.{Slot as Place};
-ghost use Rattle.m3_cluster.specs.Depots.{Depot};
+ghost use Rattle.m3_outside.specs.Depots.{Depot};
 ghost use Rattle.m3_cluster.specs.Lending.{depot_by};
 ghost use Rattle.m3_cluster.specs.Plans.{IsPlan, IsDiskAnswer, IsRefusedInit};
 ghost use Rattle.m3_cluster.specs.Steps.{IsFirst};

@@ -5,7 +5,8 @@ ghost use Rattle.m3_outside.specs.DiskState.{DiskState};
 ghost use Rattle.m3_outside.specs.Slots.{Out};
 ghost use Rattle.replica_machine.specs.Machines.{MachineState};
 ghost use Rattle.session.specs.declared.slot.Slot.{Slot as AtSlot};
-ghost use Rattle.m3_cluster.specs.Depots.{Depot, place_of_slot};
+ghost use Rattle.m3_outside.specs.Depots.{Depot};
+ghost use Rattle.m3_cluster.specs.Depots.{place_of_slot};
 ghost use Rattle.m3_cluster.specs.First.{slots_of, AreApart};
 ghost use Rattle.m3_cluster.specs.Lending.{depot_by, IsFree, IsTaken, KeepsOthers, HasTaken, MayHaveTaken, AreFirstBooted, IsBootedOnce, AreBootedOnce, AreOpened, IsUnopened, HasGivenBack};
 

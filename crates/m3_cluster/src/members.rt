@@ -2,13 +2,11 @@ ghost use Rattle.std.specs.Prelude.{◌≡◌, ◌≤◌, ◌<◌, ◌^◌, leng
 ghost use Rattle.m3_model.specs.Rules.{namespace_place};
 
 use m3_model::answer::Answer;
+use m3_model::limits::MOST_NAMESPACES;
 use m3_model::rules::Space;
 use m3_outside::disk::Disk;
 use session::net::Net;
 use session::slot::Slot;
-
-/// How many namespaces there may be.
-const NAMESPACE_LIMIT: usize = 8;
 
 /// A cluster that stands: what its calls meet, the slots of its machines by shard, and which of its nodes are stopped.
 #[derive(Drop)]
@@ -23,7 +21,7 @@ pub struct Members<D: Disk> {
     ghost one_each: { length stopped.items ≡ length net.state.place.instances },
 }
 
-/// The place of a namespace, by its name. There are at most 8.
+/// The place of a namespace, by its name.
 pub(crate) fn namespace_place(spaces: &[Space], name: &str) -> Option<usize>
     ensures place { result ≡ namespace_place name.now spaces.now }
     ensures below { IfSome result (λ place. place < length spaces.now) }
@@ -48,9 +46,9 @@ impl<D: Disk> Members<D> {
         if namespace_place(spaces, space.name.as_str()).is_some() {
             return Answer::Order;
         }
-        if spaces.len() >= NAMESPACE_LIMIT {
+        if spaces.len() >= MOST_NAMESPACES {
             return Answer::Limit {
-                limit: NAMESPACE_LIMIT as u64,
+                limit: MOST_NAMESPACES as u64,
             };
         }
         if self.net.state.rules.spaces.push(space).is_err() {

@@ -14,7 +14,7 @@ use Rattle.m3_model.proofs.SplitLemmas.{split_push}
 use Rattle.m3_outside.specs.DiskState.{DiskState}
 use Rattle.m3_outside.specs.declared.disk.Disk.{Ghosts}
 use Rattle.m3_json.specs.Requests.{LineMeans}
-use Rattle.m3_cluster.specs.Depots.{Depot, TellAll}
+use Rattle.m3_outside.specs.Depots.{Depot, TellAll}
 use Rattle.m3_cluster.specs.Serves.{Serves, place_of}
 use Rattle.m3_program.specs.Exchanges.{Exchange, Outcome, Passed, Refused, Answered, AreExchanges, IsExchange, IsOutcome, IsRefusal, is_blank, turns_by, turns_of, known_place, reply_line}
 use Rattle.m3_program.specs.Streams.{Advances, Drops, Stage}

@@ -5,7 +5,8 @@ use Rattle.m3_outside.specs.DiskState.{DiskState}
 use Rattle.m3_outside.specs.declared.disk.Disk.{Ghosts}
 use Rattle.m3_outside.specs.declared.slot.Slot.{Slot}
 use Rattle.m3_outside.specs.Slots.{Held, Unused, Here, Out}
-use Rattle.m3_cluster.specs.Depots.{Depot, OwnedBy, OwnsDisks}
+use Rattle.m3_outside.specs.Depots.{Depot}
+use Rattle.m3_cluster.specs.Depots.{OwnedBy, OwnsDisks}
 use Rattle.m3_cluster.specs.Replicas.{IsBare}
 use Rattle.m3_cluster.specs.Serves.{Serves}
 use Rattle.m3_cluster.specs.declared.cluster.Cluster.{Cluster}

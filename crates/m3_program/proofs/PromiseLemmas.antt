@@ -10,7 +10,7 @@ use Rattle.m3_outside.specs.Causes.{RoseBy}
 use Rattle.m3_outside.specs.DiskState.{DiskState}
 use Rattle.m3_outside.specs.declared.disk.Disk.{Ghosts}
 use Rattle.m3_outside.specs.declared.slot.Slot.{Slot}
-use Rattle.m3_cluster.specs.Depots.{Depot}
+use Rattle.m3_outside.specs.Depots.{Depot}
 use Rattle.m3_cluster.specs.Serves.{Serves, IsEarlier}
 use Rattle.m3_program.specs.Exchanges.{Exchange, turns_of}
 use Rattle.m3_program.specs.Faults.{Counts, IsOfRun, counts_of, faults_of, one_for}

@@ -9,7 +9,7 @@ use Rattle.m3_model.proofs.MemberLemmas.{IsIn-append_cases}
 use Rattle.m3_model.proofs.SplitLemmas.{not_empty}
 use Rattle.m3_outside.specs.DiskState.{DiskState}
 use Rattle.m3_outside.specs.declared.disk.Disk.{Ghosts}
-use Rattle.m3_cluster.specs.Depots.{Depot}
+use Rattle.m3_outside.specs.Depots.{Depot}
 use Rattle.m3_program.specs.Exchanges.{Exchange, replies_text}
 use Rattle.m3_program.specs.Runs.{Course, IsNext, lines_of}
 use Rattle.m3_program.specs.Streams.{Stage, IsFresh, Advances, MayMean, PromisesSo, Drops, Halts, NoNewline, lines_text, StreamState, CutShort, Finished, TakesOn, Cuts}

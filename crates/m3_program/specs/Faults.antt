@@ -8,7 +8,7 @@ use Rattle.m3_outside.specs.Causes.{RoseBy}
 use Rattle.m3_outside.specs.DiskState.{DiskState, IsEmpty}
 use Rattle.m3_outside.specs.Slots.{Held, Unused, Here, Out}
 use Rattle.m3_outside.specs.declared.slot.Slot.{Slot}
-use Rattle.m3_cluster.specs.Depots.{Depot, TellAll}
+use Rattle.m3_outside.specs.Depots.{Depot, TellAll}
 
 -- the slot was never used, or the disk that lies there is empty
 abbrev pub IsUnwritten : {D : Type 0} → (D → DiskState) → Held D → Type 0

@@ -8,7 +8,7 @@ use Rattle.transcripts.specs.Kept.{Kept}
 use Rattle.transcripts.specs.Caused.{Caused}
 use Rattle.m3_outside.specs.DiskState.{DiskState}
 use Rattle.m3_json.specs.Requests.{LineMeans}
-use Rattle.m3_cluster.specs.Depots.{Depot}
+use Rattle.m3_outside.specs.Depots.{Depot}
 use Rattle.m3_program.specs.Exchanges.{Exchange, AreExchanges, turns_of, replies_text}
 use Rattle.m3_program.specs.Faults.{AreCauses, AreEmpty, Counts, counts_of}
 use Rattle.m3_program.specs.declared.status.Status.{Status}

@@ -8,9 +8,10 @@ use Rattle.m3_outside.specs.declared.disk.Disk.{Ghosts}
 use Rattle.m3_outside.specs.Slots.{Held}
 use Rattle.m3_outside.specs.declared.slot.Slot.{Slot}
 use Rattle.m3_json.specs.Requests.{LineMeans}
-use Rattle.m3_cluster.specs.Depots.{Depot}
+use Rattle.m3_outside.specs.Depots.{Depot}
 use Rattle.m3_cluster.specs.declared.cluster.Cluster.{Cluster}
-use Rattle.m3_cluster.specs.Serves.{Serves, count_at, machine_at, place_of}
+use Rattle.m3_cluster.specs.Serves.{Serves, machine_at, place_of}
+use Rattle.m3_cluster.specs.Depots.{count_at}
 use Rattle.m3_program.specs.Exchanges.{Exchange, Outcome, AreExchanges, known_place, turns_of, replies_text}
 use Rattle.m3_program.specs.Faults.{AreEmpty, Counts, counts_of}
 use Rattle.m3_program.specs.Runs.{Course, Promises, IsWrittenOf, record_of}

@@ -2,7 +2,8 @@ ghost use Rattle.std.specs.Prelude.{◌≡◌, ◌<◌, ◌≤◌, ◌+◌, ◌^
 ghost use Rattle.std.specs.Io.KnownBytes.{Appends, Consumes, IsAtEnd};
 ghost use Rattle.m3_outside.specs.Slots.{Out};
 ghost use Rattle.m3_outside.specs.declared.slot.Slot.{Slot};
-ghost use Rattle.m3_cluster.specs.Depots.{Depot, OwnsDisks};
+ghost use Rattle.m3_outside.specs.Depots.{Depot};
+ghost use Rattle.m3_cluster.specs.Depots.{OwnsDisks};
 ghost use Rattle.m3_program.specs.Words.{is_run};
 ghost use Rattle.m3_program.specs.Streams.{StreamState, TakesOn, Cuts, CutShort, Finished, IsFresh, counts_at, stage};
 ghost use Rattle.m3_program.specs.Causes.{EndsLine, EndsStep, EndsRun};

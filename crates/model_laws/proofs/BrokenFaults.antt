@@ -2,8 +2,12 @@
 use Rattle.std.proofs.Common.{◌≡◌, ◌<◌, ◌∙◌, length, ℕ, suc, true, false, List, [], ◌∷◌, refl, sym, subst, ap, inl, inr, arith}
 use Rattle.std.specs.Prelude.{Some, None, pos, codes, slice_get, drop, decimal, IsTrue}
 use Rattle.std.specs.List.{list_any}
-use Rattle.transcripts.specs.Caused.{Caused, IsUnmet, MayRefuse, MayUse, OnDisk, InFiles, IsShown, placement_at}
-use Rattle.transcripts.specs.Faults.{Fault, is_restart, waits_after}
+use Rattle.transcripts.specs.Caused.{Caused, OnDisk, InFiles}
+use Rattle.transcripts.specs.Levels.{MissesLevel}
+use Rattle.transcripts.specs.Reasons.{MayRefuse, IsShown}
+use Rattle.transcripts.specs.Placements.{MayUse, placement_at}
+use Rattle.transcripts.specs.Faults.{Fault, is_restart}
+use Rattle.transcripts.specs.Waiting.{waits_after}
 use Rattle.transcripts.specs.Fates.{OfNode, is_stopped}
 use Rattle.m3_model.specs.Levels.{needed_write}
 use Rattle.transcripts.specs.Record.{Life, inner_turns}

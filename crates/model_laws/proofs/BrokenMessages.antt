@@ -2,7 +2,10 @@
 use Rattle.std.proofs.Common.{◌≡◌, ◌≤◌, ◌∙◌, ℕ, true, false, List, [], ◌∷◌, length, refl, sym, subst, inl, inr, arith}
 use Rattle.std.specs.Prelude.{Option, Some, None, pos, codes}
 use Rattle.std.specs.declared.cmp.Ordering.TheVariants.{Less, Equal}
-use Rattle.transcripts.specs.Caused.{Caused, MayUse, IsAcked, IsUnmet, IsFoundFor, IsDelivered, LateMessage, IsLateMessage, IsLateBefore, AreOutcomes, placement_at, reached_of}
+use Rattle.transcripts.specs.Caused.{Caused}
+use Rattle.transcripts.specs.Placements.{MayUse, placement_at}
+use Rattle.transcripts.specs.Levels.{IsAcked, MissesLevel, IsFoundFor, reached_of}
+use Rattle.transcripts.specs.Deliveries.{IsDelivered, LateMessage, IsLateMessage, IsLateBefore, AreOutcomes}
 use Rattle.placement_core.specs.NodeNames.{IsNamedBelow}
 use Rattle.transcripts.specs.Fates.{reaches}
 use Rattle.m3_model.specs.Hash.{murmur3, shard_of}

@@ -3,7 +3,10 @@ use Rattle.std.proofs.Common.{◌≡◌, ◌≢◌, ◌+◌, ◌<◌, ◌≤◌,
 use Rattle.std.proofs.lemmas.Bool.Decides.{nat_tests}
 use Rattle.std.specs.Prelude.{Some, None, pos, slice_get, codes, option_map, count_by}
 use Rattle.std.specs.Option.{option_or}
-use Rattle.transcripts.specs.Caused.{Caused, CausedAt, IsDue, call_of, IsAcked, IsUnmet, MayRefuse, MayServe, TakesPoint, IsOutside, IsFoundFor}
+use Rattle.transcripts.specs.Caused.{Caused, CausedAt, IsDue}
+use Rattle.transcripts.specs.Calls.{call_of}
+use Rattle.transcripts.specs.Levels.{IsAcked, MissesLevel, IsFoundFor}
+use Rattle.transcripts.specs.Reasons.{MayRefuse, MayServe, TakesPoint, IsOutside}
 use Rattle.placement_core.specs.NodeNames.{IsNamedBelow}
 use Rattle.transcripts.specs.Fates.{reaches}
 use Rattle.transcripts.specs.Faults.{Fault, AreDifferent}

@@ -2,11 +2,14 @@
 use Rattle.std.proofs.Common.{ℕ, ◌≡◌, ◌∙◌, true, false, List, [], ◌∷◌, refl, sym, ap, inl, inr, arith}
 use Rattle.std.proofs.lemmas.Fmt.{decimal_digit}
 use Rattle.std.specs.Prelude.{Some, None, pos, codes}
-use Rattle.transcripts.specs.Caused.{Caused, call_of, IsAcked, IsUnmet, MayRefuse, MayServe, TakesPoint, placement_at}
+use Rattle.transcripts.specs.Caused.{Caused}
+use Rattle.transcripts.specs.Calls.{call_of}
+use Rattle.transcripts.specs.Levels.{IsAcked, MissesLevel}
+use Rattle.transcripts.specs.Reasons.{MayRefuse, MayServe, TakesPoint}
+use Rattle.transcripts.specs.Placements.{placement_at, seed_after}
 use Rattle.transcripts.specs.Faults.{Fault}
 use Rattle.transcripts.specs.Fates.{reaches}
 use Rattle.m3_model.specs.Levels.{needed_write}
-use Rattle.transcripts.specs.Placements.{seed_after}
 use Rattle.transcripts.specs.Record.{TurnPlace, inner_turns}
 use Rattle.transcripts.specs.Rules.{rules_at}
 use Rattle.m3_model.specs.declared.act.ReadLevel.TheVariants as read_level

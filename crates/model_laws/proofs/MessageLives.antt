@@ -1,14 +1,18 @@
 -- Why each answer has its cause where messages are lost or late and nodes are stopped.
 use Rattle.std.proofs.Common.{◌≡◌, ◌<◌, ◌≤◌, ◌+◌, ℕ, ℤ, Bool, true, false, List, [], ◌∷◌, length, refl, sym, subst, inl, inr, arith}
 use Rattle.std.specs.Prelude.{Some, None, map, pos, codes, slice_get, IsTrue}
-use Rattle.transcripts.specs.Caused.{Caused, call_of, IsAcked, IsUnmet, IsFoundFor, MayRefuse, MayServe, TakesPoint, LateMessage, IsLateMessage, IsLateBefore, IsDelivered, delivers_nothing, placement_at, reached_of}
+use Rattle.transcripts.specs.Caused.{Caused}
+use Rattle.transcripts.specs.Calls.{call_of}
+use Rattle.transcripts.specs.Levels.{IsAcked, MissesLevel, IsFoundFor, reached_of}
+use Rattle.transcripts.specs.Reasons.{MayRefuse, MayServe, TakesPoint}
+use Rattle.transcripts.specs.Deliveries.{LateMessage, IsLateMessage, IsLateBefore, IsDelivered, delivers_nothing}
+use Rattle.transcripts.specs.Placements.{placement_at, IsCounted, seed_after}
 use Rattle.placement_core.specs.NodeNames.{IsNamedBelow}
 use Rattle.transcripts.specs.Fates.{reaches, OfNode}
 use Rattle.m3_model.specs.Hash.{murmur3, shard_of}
 use Rattle.transcripts.specs.Faults.{Fault}
 use Rattle.m3_model.specs.Levels.{needed_write, needed_read}
 use Rattle.m3_model.specs.Members.{IsIn}
-use Rattle.transcripts.specs.Placements.{IsCounted, seed_after}
 use Rattle.transcripts.specs.Record.{TurnPlace, inner_turns}
 use Rattle.transcripts.specs.Rules.{rules_at}
 use Rattle.m3_model.specs.Rules.{InWindow}

@@ -1,7 +1,8 @@
 -- The rules, points and reads of the worked transcripts.
 use Rattle.std.proofs.Common.{arith, ◌≡◌, ◌<◌, ◌+◌, ◌≤◌, ℕ, ℤ, List, [], ◌∷◌, ◌++◌, refl, sym, ap, ap₂, ◌∙◌, subst, Bool, true, not, ◌&&◌}
 use Rattle.std.specs.Prelude.{Some, None, false, codes, slice_get, ⊤}
-use Rattle.transcripts.specs.Caused.{Call, IsOutside}
+use Rattle.transcripts.specs.Calls.{Call}
+use Rattle.transcripts.specs.Reasons.{IsOutside}
 use Rattle.m3_model.specs.declared.reason.Reason.{Reason}
 use Rattle.m3_model.specs.declared.reason.Reason.TheVariants as reason
 use Rattle.transcripts.specs.Record.{inner_turns}
@@ -11,7 +12,7 @@ use Rattle.transcripts.specs.Placements.{placement_after, seed_after}
 use Rattle.transcripts.specs.Points.{sent_at, acked_at}
 use Rattle.m3_model.specs.Reads.{Read, Found, read_of, IsSought}
 use Rattle.transcripts.specs.Kept.{Kept, KeepsPoints}
-use Rattle.transcripts.specs.Faults.{waits_after}
+use Rattle.transcripts.specs.Waiting.{waits_after}
 use Rattle.transcripts.specs.Fates.{numbering_after, call_number, fate_in, fate_at, is_stopped, is_reached, reaches}
 use Rattle.m3_model.specs.Delivery.{is_cut}
 use Rattle.std.specs.Option.{option_map_or}

@@ -1,7 +1,11 @@
 -- Why the answers without a cause are refused.
 use Rattle.std.proofs.Common.{◌≡◌, ◌≢◌, ◌≤◌, ◌<◌, ◌+◌, ℕ, ℤ, List, [], ◌∷◌, ◌++◌, length, refl, sym, subst, ◌∙◌, inl, inr, arith, true, false}
 use Rattle.std.specs.Prelude.{Some, None, pos, slice_get, codes}
-use Rattle.transcripts.specs.Caused.{Caused, IsOutside, IsDue, IsAcked, IsAsked, IsUnmet, MayRefuse, MayServe, MayUse, TakesPoint, call_of, placement_at}
+use Rattle.transcripts.specs.Caused.{Caused, IsDue}
+use Rattle.transcripts.specs.Reasons.{IsOutside, MayRefuse, MayServe, TakesPoint}
+use Rattle.transcripts.specs.Levels.{IsAcked, MissesLevel}
+use Rattle.transcripts.specs.Calls.{IsAskedOf, call_of}
+use Rattle.transcripts.specs.Placements.{MayUse, placement_at, IsCounted, counted_nodes}
 use Rattle.placement_core.specs.NodeNames.{IsNamedBelow}
 use Rattle.transcripts.specs.Refusals.{refusal_by}
 use Rattle.m3_model.specs.Hash.{murmur3, shard_of}
@@ -11,7 +15,6 @@ use Rattle.m3_model.specs.Rules.{IsPast, IsFuture}
 use Rattle.transcripts.specs.Record.{inner_turns}
 use Rattle.transcripts.specs.Fates.{is_stopped}
 use Rattle.transcripts.specs.Faults.{Fault}
-use Rattle.transcripts.specs.Placements.{IsCounted, counted_nodes}
 use Rattle.m3_model.specs.Tags.{IsBelow}
 use Rattle.m3_model.specs.Ascends.{Ascends}
 use Rattle.m3_model.specs.Levels.{needed_write, needed_read}

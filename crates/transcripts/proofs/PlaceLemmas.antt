@@ -8,7 +8,7 @@ use Rattle.m3_model.specs.declared.act.Act.{Act}
 use Rattle.m3_model.specs.declared.answer.Answer.{Answer}
 use Rattle.m3_model.specs.declared.turn.Request.TheVariants as request
 use Rattle.m3_model.specs.declared.turn.Reply.TheVariants as reply
-use Rattle.transcripts.specs.Record.{InnerTurn, Record, TurnPlace, IsTurnPlace, client_at, lists_of, joined, IsInLine, IsLastTurnPlace}
+use Rattle.transcripts.specs.Record.{InnerTurn, Record, TurnPlace, IsTurnPlace, client_at, lists_of, joined, IsInLine, IsLastTurnPlace, line_of}
 use Rattle.transcripts.specs.Kept.{KeptAt}
 
 -- what holds at the places of a run that goes on by one line: what held before, and what holds in the last line
@@ -29,6 +29,7 @@ kept_push past start turns line = at_push (KeptAt past start) turns line
 -- a line outside `par` has one deed, and nothing stands beside it
 pub record IsOnly (turns : List Turn) (d : InnerTurn) (s : TurnPlace) : Type 0 where
   pub lines_are : s.lines ≡ turns
+  pub line_is : s.line ≡ line_of d.act d.answer
   pub client_is : s.client ≡ 0
   pub earlier_is : s.earlier ≡ []
   pub beside_is : s.beside ≡ []
@@ -42,10 +43,6 @@ only_list : {X : Type 0} (one : X) (front : List X) (list : X) (back : List X) �
 only_list one [] list back e = let same : one ≡ list = cc in let rest : [] ≡ back = cc in (refl, sym same, sym rest)
 only_list one (w ∷ front) list back e = let rest : [] ≡ front ++ list ∷ back = cc in absurd (not_empty front list back rest)
 
--- the line of one act
-abbrev pub line_of : Act → Answer → Turn
-line_of a b = record { request = request.One a; reply = reply.One b }
-
 -- the only inner turn of a line outside `par`
 pub only_in_line : (a : Act) (b : Answer) (p : TurnPlace) → p.line ≡ line_of a b → IsInLine p → IsOnly p.lines (record { act = a; answer = b }) p
 only_in_line a b p line h =
@@ -55,6 +52,7 @@ only_in_line a b p line h =
     let turns_are = only_in d p.earlier p.turn h.later (sym lists.1) in
     record {
       lines_are = refl;
+      line_is = line;
       client_is = h.client_is ∙ ap (λ (l : Turn). client_at l.request (length h.front)) line;
       earlier_is = turns_are.0;
       beside_is = h.others ∙ ap (λ xs. joined xs ++ joined h.back) lists.0 ∙ ap joined lists.2;
@@ -65,4 +63,4 @@ only_in_line a b p line h =
 pub only_place : (turns : List Turn) (a : Act) (b : Answer) (p : TurnPlace) → IsLastTurnPlace turns (line_of a b) p → IsOnly turns (record { act = a; answer = b }) p
 only_place turns a b p h =
     let only = only_in_line a b p h.line_is h.stands in
-    record { lines_are = h.lines_are; client_is = only.client_is; earlier_is = only.earlier_is; beside_is = only.beside_is; turn_is = only.turn_is }
+    record { lines_are = h.lines_are; line_is = h.line_is; client_is = only.client_is; earlier_is = only.earlier_is; beside_is = only.beside_is; turn_is = only.turn_is }

@@ -34,8 +34,8 @@ pub record LateMessage : Type 0 where
   pub point : Point
 
 -- the shard to which the message goes
-abbrev pub shard_of_message : Option MetaState → TurnPlace → LateMessage → ℕ
-shard_of_message start p m = shard_of m.point.id (seed_at start p) (length m.used.shards)
+abbrev pub shard_of_message : Option MetaState → LateMessage → ℕ
+shard_of_message start m = shard_of m.point.id (seed_at start m.place) (length m.used.shards)
 
 -- a place in the line of another one: in another list, or earlier in its own
 pub record IsBeside (p q : TurnPlace) : Type 0 where
@@ -60,7 +60,7 @@ pub record IsLateMessage (start : Option MetaState) (p : TurnPlace) (m : LateMes
   pub call : Call
   pub of_call : call_of m.place.turn.act ≡ Some call
   pub may_use : MayUse start m.place call.version m.used
-  pub member : IsTrue (has_replica (Some m.used) (shard_of_message start p m) m.node)
+  pub member : IsTrue (has_replica (Some m.used) (shard_of_message start m) m.node)
   pub late : OfNode m.used m.node (λ name. fate_at m.place name ≡ Late)
   pub not_yet : (line : Turn) → IsIn (drop (suc (length m.place.lines)) p.lines) line → IsTrue (delivers_nothing line)
 
@@ -93,7 +93,7 @@ MayComeOf tells faults start p m shard (Some why) = MayFail tells faults start p
 pub record IsOutcomeOf (tells : Bool) (faults : List Fault) (start : Option MetaState) (p : TurnPlace) (m : LateMessage) (outcome : ℕ × ℕ × Option Reason) : Type 0 where
   pub message : IsLateMessage start p m
   pub node_is : outcome.0 ≡ m.node
-  pub shard_is : outcome.1 ≡ shard_of_message start p m
+  pub shard_is : outcome.1 ≡ shard_of_message start m
   pub came : MayComeOf tells faults start p m outcome.1 outcome.2
 
 -- one outcome of each of these messages

@@ -51,6 +51,10 @@ IsAnsweredBy (request.One act) (reply.Par for_clients for_workers) = ⊥
 IsAnsweredBy (request.Par clients workers) (reply.One answer) = RefusesLists answer
 IsAnsweredBy (request.Par clients workers) (reply.Par for_clients for_workers) = (map length for_clients ≡ map length clients) × (map length for_workers ≡ map length workers)
 
+-- a line outside `par`
+abbrev pub line_of : Act → Answer → Turn
+line_of a b = record { request = request.One a; reply = reply.One b }
+
 -- the lists of a line
 abbrev pub lists_of : Turn → List (List InnerTurn)
 lists_of turn = lists_by turn.request turn.reply

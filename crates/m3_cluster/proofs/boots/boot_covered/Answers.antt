@@ -1,6 +1,6 @@
 use Rattle.std.proofs.Common.{◌+◌, take, sym, subst, ◌∙◌}
 use Rattle.std.specs.Prelude.{nat_eq, ◌&&◌}
-use Rattle.transcripts.specs.Faults.{is_covering}
+use Rattle.transcripts.specs.Waiting.{is_covering}
 use Rattle.session.specs.declared.slot.Slot.{Slot}
 use Rattle.m3_cluster.specs.Chains.{AreBooted, IsUnbooted, covered_slots}
 use Rattle.m3_cluster.specs.declared.boots.Refused.{Refused}

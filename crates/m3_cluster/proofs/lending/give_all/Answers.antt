@@ -22,7 +22,7 @@ loop-slot-preserved g c =
           subst (λ disks. HasGivenBack g.D.Disk.state (take (c.loop-slot.slot-index + 1) c.args.slots.now) (depot_by g.X.Disks.held g.X.Disks.counted g.X.Disks.all_faults c.args.disks.now) c.args.machines.now (depot_by g.X.Disks.held g.X.Disks.counted g.X.Disks.all_faults disks) c.take.new.self) (sym w.disks-is)
           (given_by g.D.Disk.state c.args.slots.now c.loop-slot.slot-index _ w.place_of.result w.into_disk.result w.in-Some.machine (depot_by g.X.Disks.held g.X.Disks.counted g.X.Disks.all_faults c.args.disks.now) (depot_by g.X.Disks.held g.X.Disks.counted g.X.Disks.all_faults c.loop-slot.disks) (depot_by g.X.Disks.held g.X.Disks.counted g.X.Disks.all_faults w.give.new.self)
           c.args.machines.now c.loop-slot.machines c.take.new.self c.loop-slot-test.true c.loop-slot.invariant (sym w.in-Some.is ∙ c.take.ensures.taken) c.take.ensures.left w.place_of.ensures w.into_disk.ensures w.give.ensures.here w.give.ensures.others
-          w.give.ensures.counted w.give.ensures.counted_others w.give.ensures.cause.later)
+          w.give.ensures.counted w.give.ensures.counted_others w.give.ensures.cause.later w.give.ensures.rose)
       | in-None w ↦
           subst (λ disks. HasGivenBack g.D.Disk.state (take (c.loop-slot.slot-index + 1) c.args.slots.now) (depot_by g.X.Disks.held g.X.Disks.counted g.X.Disks.all_faults c.args.disks.now) c.args.machines.now (depot_by g.X.Disks.held g.X.Disks.counted g.X.Disks.all_faults disks) c.take.new.self) (sym w.disks-is)
           (given_none_at g.D.Disk.state c.args.slots.now c.loop-slot.slot-index _ (depot_by g.X.Disks.held g.X.Disks.counted g.X.Disks.all_faults c.args.disks.now) (depot_by g.X.Disks.held g.X.Disks.counted g.X.Disks.all_faults c.loop-slot.disks) c.args.machines.now c.loop-slot.machines c.take.new.self c.loop-slot-test.true
