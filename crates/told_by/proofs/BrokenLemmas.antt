@@ -7,7 +7,7 @@ use Rattle.m3_model.specs.declared.answer.Answer.TheVariants as answer
 use Rattle.m3_model.specs.declared.placement.Placement.{Placement}
 use Rattle.m3_model.specs.declared.point.Point.{Point}
 use Rattle.m3_model.specs.declared.turn.Turn.{Turn}
-use Rattle.transcripts.proofs.PlaceLemmas.{line_of}
+use Rattle.transcripts.specs.Record.{line_of}
 use Rattle.transcripts.specs.Calls.{call_of}
 use Rattle.transcripts.specs.Fates.{call_number}
 use Rattle.transcripts.specs.Rules.{rules_at}

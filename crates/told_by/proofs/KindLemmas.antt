@@ -1,5 +1,5 @@
 -- Each kind of line tells of its turn.
-use Rattle.transcripts.proofs.PlaceLemmas.{line_of}
+use Rattle.transcripts.specs.Record.{line_of}
 use Rattle.std.proofs.Common.{◌≡◌, ℕ, suc, ◌<◌, ◌≤◌, ◌+◌, List, [], ◌∷◌, ◌++◌, take, length, refl, sym, ap, ◌∙◌, subst, inl, inr, arith, length-append, append_assoc, true, false}
 use Rattle.std.specs.Prelude.{◌⊎◌, Option, Some, None}
 use Rattle.std.proofs.lemmas.Bool.{cases_lt}

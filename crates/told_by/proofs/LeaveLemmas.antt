@@ -1,5 +1,5 @@
 -- What a told run leaves is what the next run is to find.
-use Rattle.transcripts.proofs.PlaceLemmas.{line_of}
+use Rattle.transcripts.specs.Record.{line_of}
 use Rattle.std.proofs.Common.{◌≡◌, ℕ, suc, ◌<◌, ◌≤◌, List, [], ◌∷◌, ◌++◌, take, length, refl, sym, ap, ◌∙◌, subst, inl, inr, arith, append-nil, length-append, true}
 use Rattle.std.specs.Prelude.{◌⊎◌, Option, Some, None, fold}
 use Rattle.std.specs.List.{flat_map, filter_map}

@@ -8,7 +8,8 @@ use Rattle.std.proofs.Math.Dec.{ltb}
 use Rattle.std.proofs.lemmas.Bool.{cases_lt, lt-ltb, le-ltb}
 use Rattle.m3_model.proofs.SplitLemmas.{not_empty}
 use Rattle.m3_model.specs.Reads.{Found}
-use Rattle.transcripts.proofs.PlaceLemmas.{at_push, line_of}
+use Rattle.transcripts.proofs.PlaceLemmas.{at_push}
+use Rattle.transcripts.specs.Record.{line_of}
 use Rattle.transcripts.specs.Record.{TurnPlace, IsTurnPlace, IsLastTurnPlace}
 use Rattle.transcripts.specs.Rules.{rules_at, start_rules}
 use Rattle.m3_model.specs.declared.act.Act.TheVariants as act

@@ -2,7 +2,7 @@
 use Rattle.told_by.proofs.LineLemmas.{take_all, take_front}
 use Rattle.told_by.specs.Makes.{MayMake}
 use Rattle.told_by.specs.Hears.{HearsBy, InStretch}
-use Rattle.transcripts.proofs.PlaceLemmas.{line_of}
+use Rattle.transcripts.specs.Record.{line_of}
 use Rattle.std.proofs.Common.{◌≡◌, ℕ, zero, suc, ◌≤◌, ◌+◌, List, [], ◌∷◌, ◌++◌, take, length, refl, sym, ap, ◌∙◌, subst, inl, inr, arith, length-append, true}
 use Rattle.std.specs.Prelude.{Option, Some}
 use Rattle.m3_model.specs.Members.{IsIn}

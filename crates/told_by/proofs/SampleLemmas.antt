@@ -15,7 +15,7 @@ use Rattle.m3_model.specs.declared.point.Pick.TheVariants as pick
 use Rattle.m3_model.specs.declared.point.Series.{Series}
 use Rattle.m3_model.specs.declared.rules.MetaState.{MetaState}
 use Rattle.m3_model.specs.declared.turn.Turn.{Turn}
-use Rattle.transcripts.proofs.PlaceLemmas.{line_of}
+use Rattle.transcripts.specs.Record.{line_of}
 use Rattle.transcripts.specs.Record.{TurnPlace, inner_turns}
 use Rattle.cluster_core.proofs.HeldLemmas.{covers_here}
 use Rattle.cluster_core.specs.Lists.{At}

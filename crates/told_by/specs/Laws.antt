@@ -1,5 +1,5 @@
 -- What is so of all that is told.
-use Rattle.transcripts.proofs.PlaceLemmas.{line_of}
+use Rattle.transcripts.specs.Record.{line_of}
 use Rattle.std.specs.Prelude.{List, [], ◌∷◌, ◌++◌, ◌≡◌, ◌⊎◌, ◌+◌, length, ℕ, Option, Some, None, true}
 use Rattle.m3_model.specs.Members.{IsIn}
 use Rattle.transcripts.specs.Kept.{Kept}

@@ -1,5 +1,5 @@
 -- Lines outside `par`, one after the other: which events each kind of line adds. Between a turn's own events stand Asks and steps of replicas.
-use Rattle.transcripts.proofs.PlaceLemmas.{line_of}
+use Rattle.transcripts.specs.Record.{line_of}
 use Rattle.std.specs.Prelude.{◌≡◌, ◌⊎◌, ◌≤◌, ◌<◌, ◌+◌, ℕ, suc, ⊤, List, [], ◌∷◌, ◌++◌, length, take, Option, Some, None, true, false}
 use Rattle.m3_model.specs.Levels.{majority}
 use Rattle.m3_model.specs.Members.{IsIn}

@@ -77,7 +77,7 @@ pub record MayPutLate (start : Option MetaState) (p : TurnPlace) (node shard cli
   pub message : LateMessage
   pub is_late : IsLateMessage start p message
   pub node_is : node ≡ message.node
-  pub shard_is : shard ≡ shard_of_message start p message
+  pub shard_is : shard ≡ shard_of_message start message
   pub client_is : client ≡ message.place.client
   pub number_is : number ≡ call_number message.place
   pub rules_are : rules ≡ rules_at start p

@@ -1,5 +1,5 @@
 -- A short run with the list that tells of it: one node, one shard, a namespace, a write and a read.
-use Rattle.transcripts.proofs.PlaceLemmas.{line_of}
+use Rattle.transcripts.specs.Record.{line_of}
 use Rattle.std.specs.Prelude.{ℕ, pos, List, [], ◌∷◌, ◌++◌, None, true, false}
 use Rattle.m3_model.specs.declared.act.Act.{Act}
 use Rattle.m3_model.specs.declared.act.Act.TheVariants as act
