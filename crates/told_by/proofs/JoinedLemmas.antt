@@ -25,7 +25,7 @@ use Rattle.cluster_core.specs.declared.event.Event.TheVariants as event
 use Rattle.cluster_core.proofs.ListLemmas.{some_same, at_some, at_same, at_within}
 use Rattle.cluster_core.proofs.PlaceLemmas.{IsAt, at_fine, at_grows, at_place, at_sound, at_version}
 use Rattle.cluster_core.proofs.TraceLemmas.{lawful_place}
-use Rattle.told_by.specs.Joined.{Joined, PrintsMajority, TurnsAvailable}
+use Rattle.transcripts.specs.Joined.{Joined, PrintsMajority, TurnsAvailable}
 use Rattle.told_by.specs.Openings.{opening_length}
 use Rattle.told_by.specs.Placements.{PrintsPeers}
 use Rattle.told_by.specs.Told.{ToldBy}
@@ -163,7 +163,9 @@ module _ (start : Option MetaState) (turns : List Turn) (events : List Event) (t
               bootstrap = p.bootstrap;
               names = p.names;
               printed = p.printed;
-              enough = names_enough first was s to t.shard t.after i done f p;
+              distinct = (names_enough first was s to t.shard t.after i done f p).distinct;
+              within = (names_enough first was s to t.shard t.after i done f p).within;
+              enough = (names_enough first was s to t.shard t.after i done f p).enough;
             },
           )
       by_done None e =

@@ -17,7 +17,7 @@ use Rattle.cluster_core.specs.Core.{Opening, AgreesWith}
 use Rattle.cluster_core.specs.Legal.{Legal}
 use Rattle.cluster_core.specs.declared.event.Event.{Event}
 use Rattle.told_by.specs.Acks.{AreCounted}
-use Rattle.told_by.specs.Joined.{Joined}
+use Rattle.transcripts.specs.Joined.{Joined}
 use Rattle.told_by.specs.Leaves.{HoldsAgain, IsLeftState, MayBeOpen}
 use Rattle.told_by.specs.Lines.{AreFetched, AreSteps, AreWhole, IsCutShort, IsFetched, PrintsPlace}
 use Rattle.told_by.specs.Reads.{Asking, Fetched}

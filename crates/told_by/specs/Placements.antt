@@ -1,10 +1,9 @@
 -- What a list tells of placements: each printed one is a Place; and where a Place ends moves, its turn prints whom each joining node merged.
-use Rattle.std.specs.Prelude.{◌≡◌, ◌≤◌, ◌<◌, ℕ, List, Option, Some, take}
+use Rattle.std.specs.Prelude.{◌≡◌, ◌≤◌, ◌<◌, ℕ, List, Some, take}
 use Rattle.m3_model.specs.Members.{IsIn}
+use Rattle.transcripts.specs.Joined.{IsBootstrapOf}
 use Rattle.transcripts.specs.Placements.{printed}
 use Rattle.transcripts.specs.Record.{TurnPlace}
-use Rattle.m3_model.specs.declared.act.Act.TheVariants as act
-use Rattle.m3_model.specs.declared.answer.Answer.TheVariants as answer
 use Rattle.m3_model.specs.declared.placement.Assignment.{Assignment}
 use Rattle.m3_model.specs.declared.placement.Placement.{Placement}
 use Rattle.m3_model.specs.declared.placement.ShardState.TheVariants.{Initializing}
@@ -22,15 +21,6 @@ pub record HasPlace (events : List Event) (before : ℕ) (place : Placement) : T
   pub done : List (ℕ × ℕ)
   pub there : At events place_at (event.Place place done)
   pub in_time : place_at < before
-
--- a bootstrap that was answered ok
-pub record IsBootstrapOf (p : TurnPlace) (available : List (ℕ × List ℕ)) : Type 0 where
-  pub node : List ℕ
-  pub asked : Option ℕ
-  pub act_is : p.turn.act ≡ act.Bootstrap node asked
-  pub place : Placement
-  pub version : ℕ
-  pub answered : p.turn.answer ≡ answer.Available available place version
 
 -- where these events end with a move of the shard to the node still under way: the turn is a bootstrap, and prints with the shard a majority
 -- of the former replicas, each of which the node has streamed
