@@ -52,6 +52,7 @@ module _ (start : Option MetaState) (past : List Event) (Old New : ℕ → Event
     counted = h.counted;
     by_name = h.by_name;
     heard = λ r m. heard_on place s r.0 r.1 (h.heard r m);
+    took = λ some. let one = h.took some in (one.0, served_on place s one.0 one.1);
     served = λ n m none. served_on place s n (h.served n m none);
   }
 

@@ -85,6 +85,7 @@ pub record HearsShard (start : Option MetaState) (Here : ℕ → Event → Type 
   pub counted : (r : ℕ × Reason) → IsIn reasons r → IsCounted place shard r.0
   pub by_name : Ascends (λ a b. IsNamedBelow place a.0 b.0) reasons
   pub heard : (r : ℕ × Reason) → IsIn reasons r → IsHeard start Here p place shard r.0 r.1
+  pub took : 0 < got → (node : ℕ) × HasServed start Here p place shard node
   pub served : (node : ℕ) → IsCounted place shard node → ¬ IsIn (map (λ r. r.0) reasons) node → HasServed start Here p place shard node
 
 -- different nodes that count for the shard did as the call asks, at least so many

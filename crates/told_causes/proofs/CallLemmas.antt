@@ -1,8 +1,8 @@
 -- What the steps of a call say: why a replica refused it, and that what it took lies within its window.
 use Rattle.std.proofs.Common.{◌≡◌, ℕ, suc, ◌<◌, ◌≤◌, ◌+◌, List, [], ◌∷◌, take, length, refl, sym, ap, ◌∙◌, subst, inl, inr, arith, Bool, true, false, length-append}
-use Rattle.std.specs.Prelude.{◌⊎◌, Option, Some, None, nat_le, if◌then◌else◌, slice_get, map}
+use Rattle.std.specs.Prelude.{Option, Some, None, nat_le, if◌then◌else◌, slice_get}
 use Rattle.std.specs.Option.{option_or}
-use Rattle.std.proofs.lemmas.Bool.{cases_eq, leb-true}
+use Rattle.std.proofs.lemmas.Bool.{leb-true}
 use Rattle.m3_model.specs.Calls.{is_call}
 use Rattle.m3_model.specs.Members.{IsIn}
 use Rattle.m3_model.specs.Rules.{InWindow, IsPast, IsFuture}
@@ -44,7 +44,7 @@ use Rattle.transcripts.specs.Record.{TurnPlace, IsTurnPlace}
 use Rattle.transcripts.specs.Rules.{rules_at}
 use Rattle.told_by.specs.Hears.{HasServed, HearsAcks, HearsBy, IsHeard, IsOwnCall, IsServed}
 use Rattle.told_by.specs.Told.{ToldBy}
-use Rattle.told_causes.specs.Calls.{AcksAreSaid, IsExplained, IsSteadyNode, ReasonsAreSaid, ServedIsTaken, SilentIsSaid, Within}
+use Rattle.told_causes.specs.Calls.{AcksAreSaid, IsExplained, IsSteadyNode, ReasonsAreSaid, ServedIsTaken, Within}
 use Rattle.told_causes.specs.Faults.{fault_of, faults_told}
 use Rattle.told_causes.specs.Standing.{IsHaltAct}
 use Rattle.told_causes.proofs.DownLemmas.{down_cause, down_said}
@@ -211,26 +211,6 @@ reasons_said start turns events legal told p in_run calls place shard node stead
 
 pub taken_said : ServedIsTaken
 taken_said start turns events legal told p in_run place shard node h = served_taken start turns events legal told p in_run place shard node h
-
--- a number is among some, or not
-among_or_not : (ns : List ℕ) (n : ℕ) → IsIn ns n ⊎ (¬ IsIn ns n)
-among_or_not [] n = inr (λ h. h)
-among_or_not (m ∷ ns) n =
-    elim (cases_eq m n) as (λ _. IsIn (m ∷ ns) n ⊎ (¬ IsIn (m ∷ ns) n)) [
-      | inl same ↦ inl (inl same)
-      | inr other ↦ elim (among_or_not ns n) as (λ _. IsIn (m ∷ ns) n ⊎ (¬ IsIn (m ∷ ns) n)) [ inl later ↦ inl (inr later) | inr none ↦ inr (λ h. elim h as (λ _. ⊥) [ inl is ↦ omega (arith, is, other) | inr later ↦ none later ]) ]
-    ]
-
-pub silent_said : SilentIsSaid
-silent_said start turns events legal told p in_run calls reached place shard got reasons h each = record {
-  counted = h.counted;
-  by_name = h.by_name;
-  unreached = λ node counted cut. elim (among_or_not (map (λ (r : ℕ × Reason). r.0) reasons) node) as (λ _. IsIn (map (λ (r : ℕ × Reason). r.0) reasons) node) [
-    | inl among ↦ among
-    | inr none ↦ absurd (let bad : true ≡ false = sym (reached place shard node (h.served node counted none)) ∙ cut in cc)
-  ];
-  refused = λ r m. let known = each r m in reasons_said start turns events legal told p in_run calls place shard r.0 known.0 r.1 known.1 (h.heard r m);
-}
 
 pub acks_said : AcksAreSaid
 acks_said start turns events legal told p in_run reached ns id t v level version nodes acts answers =

@@ -4,3 +4,4 @@ pub mod RefusalLemmas
 pub mod HaltLemmas
 pub mod DownLemmas
 pub mod CallLemmas
+pub mod LevelLemmas

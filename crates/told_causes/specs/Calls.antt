@@ -1,9 +1,11 @@
 -- Why a call's answer is what it is: each reason that it names has its cause, and what replicas took lies within its window.
-use Rattle.std.specs.Prelude.{◌≡◌, ℕ, ⊤, List, length, Option, ℤ, true, IsTrue}
+use Rattle.std.specs.Prelude.{Bool, None, Some, ◌≡◌, ℕ, ⊤, List, length, Option, ℤ, true, IsTrue}
 use Rattle.m3_model.specs.Calls.{is_call}
-use Rattle.m3_model.specs.Members.{IsIn}
 use Rattle.m3_model.specs.declared.act.Act.TheVariants as act
+use Rattle.m3_model.specs.declared.act.ReadLevel.{ReadLevel}
 use Rattle.m3_model.specs.declared.act.WriteLevel.{WriteLevel}
+use Rattle.m3_model.specs.declared.point.Matcher.{Matcher}
+use Rattle.m3_model.specs.declared.point.Series.{Series}
 use Rattle.m3_model.specs.declared.answer.Answer.TheVariants as answer
 use Rattle.m3_model.specs.declared.placement.Placement.{Placement}
 use Rattle.m3_model.specs.declared.reason.Reason.{Reason}
@@ -13,7 +15,8 @@ use Rattle.m3_model.specs.declared.turn.Turn.{Turn}
 use Rattle.cluster_core.specs.Legal.{Legal}
 use Rattle.cluster_core.specs.declared.event.Event.{Event}
 use Rattle.transcripts.specs.Fates.{OfNode, reaches}
-use Rattle.transcripts.specs.Levels.{AreSilent, IsAcked}
+use Rattle.transcripts.specs.Levels.{AreSilent, IsAcked, IsFoundFor, MissesLevel}
+use Rattle.transcripts.specs.Placements.{IsCounted}
 use Rattle.transcripts.specs.Reasons.{MayRefuse, MayServe}
 use Rattle.transcripts.specs.Record.{TurnPlace, IsTurnPlace}
 use Rattle.transcripts.specs.Rules.{rules_at}
@@ -58,13 +61,44 @@ ServedIsTaken =
 abbrev pub ServedIsReached : Option MetaState → List Event → Spans → TurnPlace → Type 0
 ServedIsReached start events spans p = (place : Placement) (shard node : ℕ) → HasServed start (Within events spans p) p place shard node → reaches p place node ≡ true
 
+-- each reason that the turn hears of a counted replica is explained here
+abbrev pub AllAreExplained : (start : Option MetaState) (turns : List Turn) (events : List Event) → ToldBy start turns events → TurnPlace → Type 0
+AllAreExplained start turns events told p =
+    (place : Placement) (shard node : ℕ) (why : Reason) → IsCounted place shard node → IsHeard start (Within events told.spans p) p place shard node why → IsSteadyNode start turns events told p place shard node × IsExplained why
+
+-- What is known of a call: it is one of a run that a legal list tells of, its messages reach whoever did as it asks, and what it hears is explained.
+pub record IsKnownCall (start : Option MetaState) (turns : List Turn) (events : List Event) (told : ToldBy start turns events) (p : TurnPlace) : Type 0 where
+  pub legal : Legal true events
+  pub in_run : IsTurnPlace turns p
+  pub calls : IsTrue (is_call p.turn.act)
+  pub reached : ServedIsReached start events told.spans p
+  pub explained : AllAreExplained start turns events told p
+
 -- The counted replicas that a call names with their reasons are silent for these reasons.
 abbrev pub SilentIsSaid : Type 0
 SilentIsSaid =
-    (start : Option MetaState) (turns : List Turn) (events : List Event) → Legal true events → (told : ToldBy start turns events) → (p : TurnPlace) → IsTurnPlace turns p → IsTrue (is_call p.turn.act) → ServedIsReached start events told.spans p
+    (start : Option MetaState) (turns : List Turn) (events : List Event) (told : ToldBy start turns events) (p : TurnPlace) → IsKnownCall start turns events told p
     → (place : Placement) (shard got : ℕ) (reasons : List (ℕ × Reason)) → HearsShard start (Within events told.spans p) p place shard got reasons
-    → ((r : ℕ × Reason) → IsIn reasons r → IsSteadyNode start turns events told p place shard r.0 × IsExplained r.1)
     → AreSilent true (faults_told told.ends events (length turns)) start p place shard reasons
+
+-- A call that is refused for its level missed it.
+abbrev pub TooFewIsSaid : Type 0
+TooFewIsSaid =
+    (start : Option MetaState) (turns : List Turn) (events : List Event) (told : ToldBy start turns events) (p : TurnPlace) → IsKnownCall start turns events told p
+    → (got needed : ℕ) (reasons : List (ℕ × Reason)) (shard : ℕ) → p.turn.answer ≡ answer.Consistency got needed reasons shard → MissesLevel true (faults_told told.ends events (length turns)) start p got needed reasons shard
+
+-- A fetch and a match that are answered reached their level, and are short only where a majority is missing.
+abbrev pub FetchIsSaid : Type 0
+FetchIsSaid =
+    (start : Option MetaState) (turns : List Turn) (events : List Event) (told : ToldBy start turns events) (p : TurnPlace) → IsKnownCall start turns events told p
+    → (ns id : List ℕ) (from to : ℕ) (level : ReadLevel) (version : Option ℕ) (series : List Series) (short : Bool) → p.turn.act ≡ act.Fetch ns id from to level version → p.turn.answer ≡ answer.Found series short
+    → IsFoundFor true (faults_told told.ends events (length turns)) start p (Some id) level version short
+
+abbrev pub MatchIsSaid : Type 0
+MatchIsSaid =
+    (start : Option MetaState) (turns : List Turn) (events : List Event) (told : ToldBy start turns events) (p : TurnPlace) → IsKnownCall start turns events told p
+    → (ns : List ℕ) (wanted : List Matcher) (from to : ℕ) (level : ReadLevel) (version : Option ℕ) (series : List Series) (short : Bool) → p.turn.act ≡ act.Match ns wanted from to level version → p.turn.answer ≡ answer.Found series short
+    → IsFoundFor true (faults_told told.ends events (length turns)) start p None level version short
 
 -- An acknowledgement names counted nodes, each once, by name, and as many as the level needs; and the point lies within its window.
 abbrev pub AcksAreSaid : Type 0
