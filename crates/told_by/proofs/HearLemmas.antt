@@ -1,4 +1,5 @@
 -- What a turn hears and may make stays so where more happens within its stretch, or behind it.
+use Rattle.std.specs.Prelude.{[], ◌∷◌}
 use Rattle.std.proofs.Common.{ℕ, List, Bool}
 use Rattle.std.specs.Prelude.{Option, Some, None}
 use Rattle.m3_model.specs.declared.act.Act.{Act}
@@ -18,8 +19,9 @@ use Rattle.cluster_core.specs.declared.event.StepReply.{StepReply}
 use Rattle.cluster_core.specs.declared.event.StepReply.TheVariants as reply
 use Rattle.m3_model.specs.Levels.{majority}
 use Rattle.transcripts.specs.Calls.{Call}
+use Rattle.transcripts.specs.Deliveries.{LateMessage}
 use Rattle.transcripts.specs.Record.{TurnPlace}
-use Rattle.told_by.specs.Hears.{Happens, IsOwnCall, IsLatePut, IsSweepCall, IsStreamCall, IsRepairCall, IsRestartCall, IsJoinCall, IsBeginCall, HasEnough, HasServed, HasStep, HearsAcks, HearsBy, HearsFound, HearsOutcome, HearsReason, HearsRefused, HearsShard, HearsShort, HearsStatus, HearsTooFew, IsHeard}
+use Rattle.told_by.specs.Hears.{Happens, IsOwnCall, IsLatePut, IsSweepCall, IsStreamCall, IsRepairCall, IsRestartCall, IsJoinCall, IsBeginCall, HasEnough, HasServed, HasStep, HearsAcks, HearsBy, HearsFound, HearsLate, HearsOutcomes, HearsReason, HearsRefused, HearsShard, HearsShort, HearsStatus, HearsTooFew, IsHeard}
 use Rattle.told_by.specs.Makes.{MayMake}
 use Rattle.told_by.specs.Spans.{IsOfTurn}
 
@@ -99,11 +101,19 @@ module _ (start : Option MetaState) (past : List Event) (Old New : ℕ → Event
     not_short = λ e level s asked. enough_on h.place s (majority (h.place).rf) (h.not_short e level s asked);
   }
 
-  outcome_on : (x : ℕ × ℕ × Option Reason) → HearsOutcome start Old p x → HearsOutcome start New p x
-  outcome_on (n, s, None) h = step_on (IsLatePut start p n s) n s reply.Done h
-  outcome_on (n, s, Some reason.Memory) h = h
-  outcome_on (n, s, Some (reason.Corrupt damage)) h = (h.0, step_on (IsLatePut start p n s) n s (reply.Refused (reason.Corrupt damage)) h.1)
-  outcome_on (n, s, Some why) h = (h.0, h.1, happens_on (event.Step n s h.0 (reply.Refused why)) h.2)
+  late_on : (m : LateMessage) (s : ℕ) (o : Option Reason) → HearsLate start Old p m s o → HearsLate start New p m s o
+  late_on m s None h = step_on (IsLatePut start p m) m.node s reply.Done h
+  late_on m s (Some reason.Memory) h = h
+  late_on m s (Some (reason.Corrupt damage)) h = (h.0, step_on (IsLatePut start p m) m.node s (reply.Refused (reason.Corrupt damage)) h.1)
+  late_on m s (Some why) h = (h.0, h.1, happens_on (event.Step m.node s h.0 (reply.Refused why)) h.2)
+
+  outcomes_on : (messages : List LateMessage) (outcomes : List (ℕ × ℕ × Option Reason)) → HearsOutcomes start Old p messages outcomes → HearsOutcomes start New p messages outcomes
+  outcomes_on [] [] h = h
+  outcomes_on (m ∷ messages) (x ∷ outcomes) h =
+      let one = h.0 in
+      (record { message = one.message; node_is = one.node_is; shard_is = one.shard_is; heard = late_on m x.1 x.2 one.heard }, outcomes_on messages outcomes h.1)
+  outcomes_on [] (x ∷ outcomes) h = h
+  outcomes_on (m ∷ messages) [] h = h
 
   reason_on : (Kind : StepCall → Type 0) (n s : ℕ) (why : Reason) → HearsReason Old Kind n s why → HearsReason New Kind n s why
   reason_on Kind n s reason.Memory h = h
@@ -128,7 +138,7 @@ module _ (start : Option MetaState) (past : List Event) (Old New : ℕ → Event
   hears_on a (answer.Acks nodes) h = acks_on nodes h
   hears_on a (answer.Found series short) h = found_on short h
   hears_on a (answer.Consistency got needed reasons s) h = too_few_on got needed reasons s h
-  hears_on a (answer.Outcomes outcomes) h = λ x m. outcome_on x (h x m)
+  hears_on a (answer.Outcomes outcomes) h = record { messages = h.messages; in_order = h.in_order; each = outcomes_on h.messages outcomes h.each }
   hears_on a (answer.Swept done failed) h = λ x m. reason_on IsSweepCall x.0 x.1 x.2 (h x m)
   hears_on a (answer.Peers got needed reasons s) h = λ x m. reason_on IsStreamCall x.0 s x.1 (h x m)
   hears_on a (answer.Repaired shards) h = λ x m y k. reason_on IsRepairCall y.0 x.shard y.1 (h x m y k)

@@ -1,5 +1,5 @@
 -- What a turn hears from replicas: each reason in its answer, but for want of memory, is the answer of a step within its stretch, and each replica that it has to ask is asked.
-use Rattle.std.specs.Prelude.{◌≡◌, ◌≤◌, ◌<◌, ℕ, ⊤, List, length, map, take, Option, Some, None, slice_get, ◌⊎◌, Bool, true, false, IsTrue}
+use Rattle.std.specs.Prelude.{[], ◌∷◌, ◌≡◌, ◌≤◌, ◌<◌, ℕ, ⊤, List, length, map, take, Option, Some, None, slice_get, ◌⊎◌, Bool, true, false, IsTrue}
 use Rattle.m3_model.specs.Ascends.{Ascends}
 use Rattle.m3_model.specs.Levels.{majority}
 use Rattle.m3_model.specs.Members.{IsIn}
@@ -28,6 +28,7 @@ use Rattle.cluster_core.specs.declared.event.StepReply.{StepReply}
 use Rattle.cluster_core.specs.declared.event.StepReply.TheVariants as reply
 use Rattle.transcripts.specs.Calls.{Call, call_of, AsksShard}
 use Rattle.transcripts.specs.Caused.{is_write}
+use Rattle.transcripts.specs.Deliveries.{IsLateBefore, IsLateMessage, LateMessage, shard_of_message}
 use Rattle.transcripts.specs.Fates.{IsCutAt, call_number}
 use Rattle.transcripts.specs.Levels.{AreAnswers}
 use Rattle.transcripts.specs.Placements.{IsCounted, MayUse, has_replica}
@@ -36,7 +37,7 @@ use Rattle.transcripts.specs.Reasons.{IsShown}
 use Rattle.transcripts.specs.Record.{TurnPlace}
 use Rattle.transcripts.specs.Rules.{rules_at}
 use Rattle.transcripts.specs.Waiting.{is_covering}
-use Rattle.told_by.specs.Makes.{IsAssigned, IsCoveredSlot, IsNamedLast, MayPutLate}
+use Rattle.told_by.specs.Makes.{IsAssigned, IsCoveredSlot, IsNamedLast}
 use Rattle.told_by.specs.Spans.{Spans}
 
 -- ---- what happens within a stretch
@@ -147,17 +148,36 @@ pub record HearsFound (start : Option MetaState) (Here : ℕ → Event → Type 
 
 -- ---- late messages
 
--- a put of the late message, at the moment of the delivery
-abbrev pub IsLatePut : Option MetaState → TurnPlace → ℕ → ℕ → StepCall → Type 0
-IsLatePut start p node shard (call.Put client number rules version point) = MayPutLate start p node shard client number rules version point
-IsLatePut start p node shard _ = ⊥
+-- a put of the late message: as its call made it, by the rules of the delivery
+abbrev pub IsLatePut : Option MetaState → TurnPlace → LateMessage → StepCall → Type 0
+IsLatePut start p m (call.Put client number rules version point) = (client ≡ m.place.client) × (number ≡ call_number m.place) × (rules ≡ rules_at start p) × (version ≡ m.used.version) × (point ≡ m.point)
+IsLatePut start p m _ = ⊥
 
--- the outcome of a late message is the answer of its replica, or memory was wanted
-abbrev pub HearsOutcome : Option MetaState → (ℕ → Event → Type 0) → TurnPlace → ℕ × ℕ × Option Reason → Type 0
-HearsOutcome start Here p (node, shard, None) = HasStep Here (IsLatePut start p node shard) node shard reply.Done
-HearsOutcome start Here p (node, shard, Some reason.Memory) = ⊤
-HearsOutcome start Here p (node, shard, Some (reason.Corrupt damage)) = IsShown damage × HasStep Here (IsLatePut start p node shard) node shard (reply.Refused (reason.Corrupt damage))
-HearsOutcome start Here p (node, shard, Some why) = HasStep Here (IsLatePut start p node shard) node shard (reply.Refused why)
+-- what came of a late message is the answer of its replica to such a put, or memory was wanted
+abbrev pub HearsLate : Option MetaState → (ℕ → Event → Type 0) → TurnPlace → LateMessage → ℕ → Option Reason → Type 0
+HearsLate start Here p m shard None = HasStep Here (IsLatePut start p m) m.node shard reply.Done
+HearsLate start Here p m shard (Some reason.Memory) = ⊤
+HearsLate start Here p m shard (Some (reason.Corrupt damage)) = IsShown damage × HasStep Here (IsLatePut start p m) m.node shard (reply.Refused (reason.Corrupt damage))
+HearsLate start Here p m shard (Some why) = HasStep Here (IsLatePut start p m) m.node shard (reply.Refused why)
+
+-- an outcome is of this late message, and was heard so
+pub record HearsOutcome (start : Option MetaState) (Here : ℕ → Event → Type 0) (p : TurnPlace) (m : LateMessage) (outcome : ℕ × ℕ × Option Reason) : Type 0 where
+  pub message : IsLateMessage start p m
+  pub node_is : outcome.0 ≡ m.node
+  pub shard_is : outcome.1 ≡ shard_of_message start m
+  pub heard : HearsLate start Here p m outcome.1 outcome.2
+
+-- one outcome of each of these messages
+abbrev pub HearsOutcomes : Option MetaState → (ℕ → Event → Type 0) → TurnPlace → List LateMessage → List (ℕ × ℕ × Option Reason) → Type 0
+HearsOutcomes start Here p [] [] = ⊤
+HearsOutcomes start Here p (m ∷ messages) (outcome ∷ outcomes) = HearsOutcome start Here p m outcome × HearsOutcomes start Here p messages outcomes
+HearsOutcomes start Here p _ _ = ⊥
+
+-- a `deliver` hears one outcome of each late message that it delivers, in the order in which they were made late
+pub record HearsDelivered (start : Option MetaState) (Here : ℕ → Event → Type 0) (p : TurnPlace) (outcomes : List (ℕ × ℕ × Option Reason)) : Type 0 where
+  pub messages : List LateMessage
+  pub in_order : Ascends IsLateBefore messages
+  pub each : HearsOutcomes start Here p messages outcomes
 
 -- ---- slots
 
@@ -257,7 +277,7 @@ abbrev pub HearsBy : Option MetaState → List Event → (ℕ → Event → Type
 HearsBy start past Here p a (answer.Acks nodes) = HearsAcks start Here p nodes
 HearsBy start past Here p a (answer.Found series short) = HearsFound start Here p short
 HearsBy start past Here p a (answer.Consistency got needed reasons shard) = HearsTooFew start Here p got needed reasons shard
-HearsBy start past Here p a (answer.Outcomes outcomes) = (x : ℕ × ℕ × Option Reason) → IsIn outcomes x → HearsOutcome start Here p x
+HearsBy start past Here p a (answer.Outcomes outcomes) = HearsDelivered start Here p outcomes
 HearsBy start past Here p a (answer.Swept done failed) = (x : ℕ × ℕ × Reason) → IsIn failed x → HearsReason Here IsSweepCall x.0 x.1 x.2
 HearsBy start past Here p a (answer.Peers got needed reasons shard) = (x : ℕ × Reason) → IsIn reasons x → HearsReason Here IsStreamCall x.0 shard x.1
 HearsBy start past Here p a (answer.Repaired shards) = (x : RepairLine) → IsIn shards x → (y : ℕ × Reason) → IsIn x.failed y → HearsReason Here IsRepairCall y.0 x.shard y.1
