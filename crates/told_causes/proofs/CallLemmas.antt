@@ -80,7 +80,7 @@ outdated_not fence version why h e = by (nat_le fence version) e
     by false e = subst IsOfMoment (sym (some_same (reason.Stale fence) why e)) h
 
 -- a put that is refused for its moment is outside
-put_outside : (r : ReplicaState) (client number version : ℕ) (rules : Rules) (point : Point) (why : Reason) → IsOfMoment why → first_refusal r (call.Put client number rules version point) ≡ Some why → outside rules point ≡ Some why
+pub put_outside : (r : ReplicaState) (client number version : ℕ) (rules : Rules) (point : Point) (why : Reason) → IsOfMoment why → first_refusal r (call.Put client number rules version point) ≡ Some why → outside rules point ≡ Some why
 put_outside r client number version rules point why h e =
     elim (or_cases (shut r.standing) (option_or (unowned r.tenure version) (option_or (outdated r.fence version) (outside rules point))) why e) as (λ _. outside rules point ≡ Some why) [
       | inl bad ↦ absurd (shut_not r.standing why h bad)
@@ -100,7 +100,7 @@ read_not r version why h e =
       | inr rest ↦ elim (or_cases (unowned r.tenure version) (outdated r.fence version) why rest) as (λ _. ⊥) [ inl bad ↦ unowned_not r.tenure version why h bad | inr bad ↦ outdated_not r.fence version why h bad ]
     ]
 
-outside_past : (rules : Rules) (p : Point) (o : Option Space) → slice_get rules.spaces p.ns ≡ o → outside_of rules p o ≡ Some reason.Past → IsPast rules p
+pub outside_past : (rules : Rules) (p : Point) (o : Option Space) → slice_get rules.spaces p.ns ≡ o → outside_of rules p o ≡ Some reason.Past → IsPast rules p
 outside_past rules p None is e = cc
 outside_past rules p (Some space) is e = by (nat_le (p.t + space.past) rules.now) (nat_le (rules.now + space.future) p.t) refl e
   where
@@ -109,7 +109,7 @@ outside_past rules p (Some space) is e = by (nat_le (p.t + space.past) rules.now
     by false true low h = cc
     by false false low h = cc
 
-outside_future : (rules : Rules) (p : Point) (o : Option Space) → slice_get rules.spaces p.ns ≡ o → outside_of rules p o ≡ Some reason.Future → IsFuture rules p
+pub outside_future : (rules : Rules) (p : Point) (o : Option Space) → slice_get rules.spaces p.ns ≡ o → outside_of rules p o ≡ Some reason.Future → IsFuture rules p
 outside_future rules p None is e = cc
 outside_future rules p (Some space) is e = by (nat_le (p.t + space.past) rules.now) (nat_le (rules.now + space.future) p.t) refl e
   where
@@ -148,7 +148,7 @@ module _ (start : Option MetaState) (turns : List Turn) (events : List Event) (l
       by _ own e = absurd own
 
   -- a step that tells of a fault within the turn's stretch has it in the turn's line
-  fault_here : (i : ℕ) (e : Event) (fault : Fault) → (told.spans).from p ≤ i → i < (told.spans).to p → At events i e → fault.line ≡ length p.lines → fault_of (length p.lines) e ≡ Some fault → IsIn faults fault
+  pub fault_here : (i : ℕ) (e : Event) (fault : Fault) → (told.spans).from p ≤ i → i < (told.spans).to p → At events i e → fault.line ≡ length p.lines → fault_of (length p.lines) e ≡ Some fault → IsIn faults fault
   fault_here i e fault low high there line tells =
       let less : length p.lines < length turns = omega (arith, ap length in_run.in_run, length-append p.lines (p.line ∷ in_run.after)) in
       let begins = (told.lines).low p in_run in

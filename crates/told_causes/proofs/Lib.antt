@@ -5,3 +5,4 @@ pub mod HaltLemmas
 pub mod DownLemmas
 pub mod CallLemmas
 pub mod LevelLemmas
+pub mod DeliverLemmas

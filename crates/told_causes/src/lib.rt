@@ -2,5 +2,6 @@
 #![tactic(auto)]
 
 pub mod calls;
+pub mod deliveries;
 pub mod faults;
 pub mod standing;
