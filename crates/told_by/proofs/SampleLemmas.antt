@@ -133,8 +133,10 @@ told_write =
     line_told None second before_write (line_of written acked) of_write told_space
     (write_told None second before_write written acked of_write (record {
       makes = record {
-        makes = makes_each None second before_write written acked of_write
-            (λ past. tt, (λ past. record {
+        makes = makes_each None second before_write written acked of_write (
+          λ past. tt,
+          (
+            λ past. record {
               of_call = record { client_is = refl; number_is = refl; rules_are = refl };
               of_point = refl;
               send = 6;
@@ -143,7 +145,10 @@ told_write =
               is_place = record { place_at = 0; done = []; there = refl; version_is = refl };
               member = refl;
               delivered = record { instance_ = record { name = name; group = name; listed = true; drained = false }; stands = refl; holds = refl };
-            }, (λ past. tt, (λ past. took (take 9 (before_write ++ of_write)) refl refl, tt))));
+            },
+            (λ past. tt, (λ past. took (take 9 (before_write ++ of_write)) refl refl, tt)),
+          ),
+        );
         hears = record {
           call = record { id = Some name; version = None; needed = needed_write taking.Majority };
           of_call = refl;
@@ -235,8 +240,10 @@ sample_told =
     line_told None third before_read (line_of fetched found) of_read told_write
     (read_told None third before_read fetched found of_read (record {
       makes = record {
-        makes = makes_each None third before_read fetched found of_read
-            (λ past. tt, (λ past. record {
+        makes = makes_each None third before_read fetched found of_read (
+          λ past. tt,
+          (
+            λ past. record {
               of_call = record { client_is = refl; number_is = refl; rules_are = refl };
               began = 10;
               started = refl;
@@ -244,7 +251,10 @@ sample_told =
               is_place = record { place_at = 0; done = []; there = refl; version_is = refl };
               counted = inl refl;
               delivered = record { instance_ = record { name = name; group = name; listed = true; drained = false }; stands = refl; holds = refl };
-            }, (λ past. tt, (λ past. answered (take 13 (before_read ++ of_read)) refl refl, tt))));
+            },
+            (λ past. tt, (λ past. answered (take 13 (before_read ++ of_read)) refl refl, tt)),
+          ),
+        );
         hears = record {
           call = asking.call;
           of_call = refl;
@@ -271,13 +281,17 @@ sample_told =
       opened = omega arith;
       fetches = λ s. record { began = 10; ended = 13; nodes = 0 ∷ []; series = series };
       shards = 0 ∷ [];
-      adds = ([], record {
-        asked = sym (shard_zero name);
-        reads = event.Ask (asked.Step 0 0 read) ∷ event.Step 0 0 read (reply.Found series) ∷ [];
-        steps = ask_or_step (event.Ask (asked.Step 0 0 read) ∷ event.Step 0 0 read (reply.Found series) ∷ []) (tt, (tt, tt));
-        adds = refl;
-        began_is = refl;
-        ended_is = refl;
-      }, inl (λ e none. absurd none));
+      adds = (
+        [],
+        record {
+          asked = sym (shard_zero name);
+          reads = event.Ask (asked.Step 0 0 read) ∷ event.Step 0 0 read (reply.Found series) ∷ [];
+          steps = ask_or_step (event.Ask (asked.Step 0 0 read) ∷ event.Step 0 0 read (reply.Found series) ∷ []) (tt, (tt, tt));
+          adds = refl;
+          began_is = refl;
+          ended_is = refl;
+        },
+        inl (λ e none. absurd none),
+      );
       finds = finds;
     }))

@@ -26,7 +26,6 @@ use Rattle.cluster_core.specs.declared.event.StepReply.TheVariants as reply
 use Rattle.cluster_core.specs.declared.replica_state.ReplicaState.{ReplicaState}
 use Rattle.cluster_core.proofs.TraceLemmas.{lawful_step}
 use Rattle.transcripts.specs.Faults.{Fault, Failing, Damage}
-
 use Rattle.transcripts.specs.Record.{TurnPlace}
 use Rattle.transcripts.specs.Rules.{rules_at}
 use Rattle.told_by.specs.Hears.{HearsBy}

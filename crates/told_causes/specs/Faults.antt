@@ -9,7 +9,7 @@ use Rattle.cluster_core.specs.declared.event.Event.TheVariants as event
 use Rattle.cluster_core.specs.declared.event.StepReply.TheVariants as reply
 use Rattle.transcripts.specs.Faults.{AreDifferent, Fault, FaultKind, Taking, Failing, Damage}
 
--- the fault or the damage of an event in this line: a step was refused for its disk, or for its files
+-- the fault or the damage of an event in this line: a step was refused for its disk, or for damage that it found
 abbrev pub fault_of : ℕ → Event → Option Fault
 fault_of k (event.Step n s c (reply.Refused reason.Disk)) = Some (record { line = k; node = n; shard = s; kind = Failing })
 fault_of k (event.Step n s c (reply.Refused (reason.Corrupt damage))) = Some (record { line = k; node = n; shard = s; kind = Damage })
