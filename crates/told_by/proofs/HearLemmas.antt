@@ -46,7 +46,7 @@ module _ (start : Option MetaState) (past : List Event) (Old New : ℕ → Event
   heard_on place s n why h = (h.0, h.1, happens_on (event.Step n s h.0 (reply.Refused why)) h.2)
 
   served_on : (place : Placement) (s n : ℕ) → HasServed start Old p place s n → HasServed start New p place s n
-  served_on place s n h = (h.0, h.1, step_on (IsOwnCall start p place.version) n s h.0 h.2)
+  served_on place s n h = (h.0, h.1, step_on (IsOwnCall start p place.version) n s h.0 h.2, h.3)
 
   shard_on : (place : Placement) (s got : ℕ) (reasons : List (ℕ × Reason)) → HearsShard start Old p place s got reasons → HearsShard start New p place s got reasons
   shard_on place s got reasons h = record {

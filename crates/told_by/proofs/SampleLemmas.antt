@@ -189,7 +189,7 @@ told_write =
     served_here : (s : ℕ) → s ≡ shard_of name 0 1 → (node : ℕ) → IsIn (0 ∷ []) node → HasServed None (InStretch (before_write ++ of_write) 6 10) writing place s node
     served_here s is node (inl same) =
         subst (λ n. HasServed None (InStretch (before_write ++ of_write) 6 10) writing place n node) (sym (is ∙ shard_zero name))
-        (subst (λ n. HasServed None (InStretch (before_write ++ of_write) 6 10) writing place 0 n) same (reply.Done, tt, (put, (refl, refl, refl, refl, refl), (8, (omega arith, omega arith, refl)))))
+        (subst (λ n. HasServed None (InStretch (before_write ++ of_write) 6 10) writing place 0 n) same (reply.Done, tt, (put, (refl, refl, refl, refl, refl), (8, (omega arith, omega arith, refl))), record { instance_ = record { name = name; group = name; listed = true; drained = false }; stands = refl; holds = refl }))
     served_here s is node (inr none) = absurd none
 
 abbrev before_read : List Event
@@ -212,7 +212,7 @@ answered past started step version s by chosen from to there node (inr none) = a
 served_read : (s : ℕ) → s ≡ shard_of name 0 1 → (node : ℕ) → IsIn (0 ∷ []) node → HasServed None (InStretch (before_read ++ of_read) 10 14) reading place s node
 served_read s is node (inl same) =
     subst (λ n. HasServed None (InStretch (before_read ++ of_read) 10 14) reading place n node) (sym (is ∙ shard_zero name))
-    (subst (λ n. HasServed None (InStretch (before_read ++ of_read) 10 14) reading place 0 n) same (reply.Found series, tt, (read, (refl, refl, refl, refl, refl), (12, (omega arith, omega arith, refl)))))
+    (subst (λ n. HasServed None (InStretch (before_read ++ of_read) 10 14) reading place 0 n) same (reply.Found series, tt, (read, (refl, refl, refl, refl, refl), (12, (omega arith, omega arith, refl))), record { instance_ = record { name = name; group = name; listed = true; drained = false }; stands = refl; holds = refl }))
 served_read s is node (inr none) = absurd none
 
 finds : (one : Found) → found_of found ≡ Some one → Finds None reading asking (λ s. record { began = 10; ended = 13; nodes = 0 ∷ []; series = series }) (0 ∷ []) one

@@ -37,7 +37,7 @@ use Rattle.transcripts.specs.Reasons.{IsShown}
 use Rattle.transcripts.specs.Record.{TurnPlace}
 use Rattle.transcripts.specs.Rules.{rules_at}
 use Rattle.transcripts.specs.Waiting.{is_covering}
-use Rattle.told_by.specs.Makes.{IsAssigned, IsCoveredSlot, IsNamedLast}
+use Rattle.told_by.specs.Makes.{IsDeliveredTo, IsAssigned, IsCoveredSlot, IsNamedLast}
 use Rattle.told_by.specs.Spans.{Spans}
 
 -- ---- what happens within a stretch
@@ -76,9 +76,9 @@ IsHeard start Here p place shard node reason.Memory = ⊤
 IsHeard start Here p place shard node (reason.Corrupt damage) = IsShown damage × HasStep Here (IsOwnCall start p place.version) node shard (reply.Refused (reason.Corrupt damage))
 IsHeard start Here p place shard node why = HasStep Here (IsOwnCall start p place.version) node shard (reply.Refused why)
 
--- the replica did as this very call asks
+-- the call's message to the replica is delivered, and it did as this very call asks
 abbrev pub HasServed : Option MetaState → (ℕ → Event → Type 0) → TurnPlace → Placement → ℕ → ℕ → Type 0
-HasServed start Here p place shard node = (a : StepReply) × IsServed a × HasStep Here (IsOwnCall start p place.version) node shard a
+HasServed start Here p place shard node = (a : StepReply) × IsServed a × HasStep Here (IsOwnCall start p place.version) node shard a × IsDeliveredTo p place node
 
 -- of the nodes that count for a shard so many did as the call asks, and each other has its reason, by name
 pub record HearsShard (start : Option MetaState) (Here : ℕ → Event → Type 0) (p : TurnPlace) (place : Placement) (shard got : ℕ) (reasons : List (ℕ × Reason)) : Type 0 where

@@ -7,8 +7,8 @@ pub fn reasons_are_said()
     ensures { ReasonsAreSaid }
 {}
 
-/// A call that is refused for its level missed it, and a read that is answered reached it, where the call's messages
-/// reach whoever did as it asks and each reason that it hears is explained.
+/// A call that is refused for its level missed it, and a read that is answered reached it, where the nodes of
+/// those that did as it asks run and each reason that it hears is explained.
 pub fn levels_are_said()
     ensures silent { SilentIsSaid }
     ensures few { TooFewIsSaid }
