@@ -4,7 +4,7 @@ use Rattle.std.specs.Prelude.{Some, None, Ok}
 use Rattle.std.proofs.lemmas.List.Concat.{flat_map-append}
 use Rattle.std.proofs.lemmas.List.Sums.{fold-append}
 use Rattle.transcripts.specs.Placements.{later_placement, placement_after, printed}
-use Rattle.transcripts.specs.Record.{InnerTurn, inner_turns, joined, lists_of}
+use Rattle.transcripts.specs.Record.{InnerTurn, IsAnsweredBy, inner_turns, joined, lists_of}
 use Rattle.m3_model.specs.declared.answer.Answer.{Answer}
 use Rattle.m3_model.specs.declared.turn.Request.{Request}
 use Rattle.m3_model.specs.declared.turn.Reply.{Reply}
@@ -67,15 +67,15 @@ Follows {D} state old turn new = TellAll state → (first : Depot D) (turns : Li
 
 -- a line that makes a turn
 pub answers : {D : Type 0} {G : Ghosts D} (state : D → DiskState) (old new : Stage D G) (line text : List ℕ) (request : Request) (r : Reply) → is_blank line ≡ false → LineMeans line (Ok request) → text ≡ reply_line (place_of new.cluster) r
-    → placement_after (place_of old.cluster) (inner_turns (record { request = request; reply = r } ∷ [])) ≡ place_of new.cluster → Follows state old (record { request = request; reply = r }) new → Advances state old line text new
-answers state old new line text request r some means printed placed goes = λ first xs p.
+    → IsAnsweredBy request r → placement_after (place_of old.cluster) (inner_turns (record { request = request; reply = r } ∷ [])) ≡ place_of new.cluster → Follows state old (record { request = request; reply = r }) new → Advances state old line text new
+answers state old new line text request r some means printed answered placed goes = λ first xs p.
     let turn : Turn = record { request = request; reply = r } in
     let x : Exchange = record { line = line; outcome = Answered turn; text = text } in
     let known : known_place None (turns_of xs ++ turn ∷ []) ≡ place_of new.cluster = known_push (turns_of xs) turn ∙ ap (λ place. placement_after place (inner_turns (turn ∷ []))) p.place ∙ placed in
     let same : turns_of xs ++ turn ∷ [] ≡ turns_of (xs ++ x ∷ []) = sym (turns_of-push xs x) in (
       Answered turn,
       record {
-        each = exchanges_push xs x p.each (some, means, printed ∙ ap (λ place. reply_line place r) (sym known));
+        each = exchanges_push xs x p.each (some, means, answered, printed ∙ ap (λ place. reply_line place r) (sym known));
         place = subst (λ ts. known_place None ts ≡ place_of new.cluster) same known;
         serves = λ empty. subst (λ ts. Serves state first new.depot ts new.cluster) same (goes empty.tell first (turns_of xs) (p.serves empty));
       },

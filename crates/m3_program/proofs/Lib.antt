@@ -2,6 +2,7 @@ pub mod WrittenLemmas
 pub mod CauseLemmas
 pub mod LineLemmas
 pub mod FaultLemmas
+pub mod CountLemmas
 pub mod PromiseLemmas
 pub mod FreshLemmas
 pub mod ExchangeLemmas

@@ -1,36 +1,53 @@
 -- What a run promises, after the requests that it took.
-use Rattle.std.proofs.Common.{◌≡◌, ℕ, ◌+◌, ◌-◌, ◌≤◌, List, [], ◌∷◌, ◌++◌, length, length-append, sym, ap, ◌∙◌, subst, append_assoc, append-nil, arith}
-use Rattle.std.specs.Prelude.{Option, Some, None}
-use Rattle.std.proofs.lemmas.List.Elements.{All-weaker, All-nil}
-use Rattle.transcripts.specs.Record.{TurnPlace, IsTurnPlace}
+use Rattle.std.proofs.Common.{◌≡◌, ℕ, ◌+◌, ◌-◌, ◌<◌, ◌≤◌, List, [], ◌∷◌, ◌++◌, length, length-append, refl, sym, ap, ◌∙◌, subst, append_assoc, append-nil, arith, inl, inr, true}
+use Rattle.std.specs.Prelude.{◌⊎◌, Option, Some, None, IsSome}
+use Rattle.std.specs.FinMap.{get}
+use Rattle.std.specs.List.{All}
+use Rattle.std.proofs.lemmas.List.Elements.{All-nil}
+use Rattle.m3_model.specs.Members.{IsIn}
 use Rattle.m3_model.specs.declared.turn.Request.{Request}
 use Rattle.m3_model.specs.declared.turn.Turn.{Turn}
+use Rattle.m3_model.proofs.MemberLemmas.{IsIn-append_cases}
 use Rattle.m3_model.proofs.SplitLemmas.{not_empty}
-use Rattle.m3_outside.specs.Causes.{RoseBy}
+use Rattle.placement_core.proofs.ListLemmas.{All-from_each, each-from_All}
+use Rattle.transcripts.specs.Caused.{Caused}
+use Rattle.transcripts.specs.Faults.{Fault, FaultKind, Taking, Failing, Damage}
+use Rattle.transcripts.specs.Record.{Record, TurnPlace, IsTurnPlace}
+use Rattle.m3_outside.specs.Causes.{RoseBy, last_count}
 use Rattle.m3_outside.specs.DiskState.{DiskState}
 use Rattle.m3_outside.specs.declared.disk.Disk.{Ghosts}
-use Rattle.m3_outside.specs.declared.slot.Slot.{Slot}
+use Rattle.m3_outside.specs.declared.slot.Slot.{Slot as Place}
 use Rattle.m3_outside.specs.Depots.{Depot}
-use Rattle.m3_cluster.specs.Serves.{Serves, IsEarlier}
+use Rattle.session.specs.Slots.{slot_at}
+use Rattle.session.specs.declared.slot.Slot.{Slot}
+use Rattle.m3_cluster.specs.Depots.{count_at, place_of_slot, risen}
+use Rattle.m3_cluster.specs.First.{AreApart}
+use Rattle.m3_cluster.specs.Lending.{RisesBy}
+use Rattle.m3_cluster.specs.Replicas.{faults_at}
+use Rattle.m3_cluster.specs.Serves.{Serves, IsEarlier, life_of, machine_at}
+use Rattle.m3_cluster.specs.declared.members.Members.{Members}
+use Rattle.m3_cluster.proofs.ReplicaFaults.{machine_is}
+use Rattle.m3_cluster.proofs.SlotLists.{in_or_out, slots_apart}
 use Rattle.m3_program.specs.Exchanges.{Exchange, turns_of}
-use Rattle.m3_program.specs.Faults.{Counts, IsOfRun, counts_of, faults_of, one_for}
-use Rattle.m3_program.specs.Runs.{HasRun, Promises, record_of}
-use Rattle.m3_program.specs.Streams.{Progress, PromisesSo, Stage, counts_at}
-use Rattle.m3_program.specs.declared.status.Status.{Status}
+use Rattle.m3_program.specs.Faults.{AreCauses, Counts, IsOfRun, counts_of, one_for, times_failed, times_untaken}
+use Rattle.m3_program.specs.Runs.{Promises, record_of}
+use Rattle.m3_program.specs.Streams.{IsServed, Progress, PromisesSo, Stage}
+use Rattle.m3_program.proofs.CountLemmas.{AreFailing, AreTaking, failed_of, risen_many, untaken_of}
 
 -- a place in these turns is one in more of them
 pub place_longer : (turns more : List Turn) (p : TurnPlace) → IsTurnPlace turns p → IsTurnPlace (turns ++ more) p
-place_longer turns more p at = record {
-  line = at.line;
-  after = at.after ++ more;
-  front = at.front;
-  later = at.later;
-  back = at.back;
-  in_run = ap (λ ts. ts ++ more) at.in_run ∙ append_assoc p.lines (at.line ∷ at.after) more;
-  in_line = at.in_line;
-  others = at.others;
-  client_is = at.client_is;
-}
+place_longer turns more p at = record { after = at.after ++ more; in_run = ap (λ ts. ts ++ more) at.in_run ∙ append_assoc p.lines (p.line ∷ at.after) more; stands = at.stands }
+
+-- ---- while the disks are out
+
+-- after these exchanges, whatever request was taken and not served
+pub promised : {D : Type 0} {G : Ghosts D} (state : D → DiskState) (first : Depot D) (now : Stage D G) (xs : List Exchange) (unanswered : Option Request) → Progress state first xs now → PromisesSo state first now xs unanswered
+promised state first now xs unanswered p = λ empty. record { more = []; few = omega arith; serves = subst (λ ts. Serves state first now.depot ts now.cluster) (sym (append-nil (turns_of xs))) (p.serves empty) }
+
+-- after these exchanges and one more request that was served
+pub promised_more : {D : Type 0} {G : Ghosts D} (state : D → DiskState) (first : Depot D) (now : Stage D G) (xs : List Exchange) (turn : Turn) (request : Request) → Serves state first now.depot (turns_of xs ++ turn ∷ []) now.cluster
+    → IsServed state first now xs (Some request)
+promised_more state first now xs turn request s = record { more = turn ∷ []; few = omega arith; serves = s }
 
 -- ---- counts
 
@@ -38,66 +55,123 @@ place_longer turns more p at = record {
 pub rose_later : (n before mid now : ℕ) → RoseBy n before mid → mid ≤ now → RoseBy n before now
 rose_later n before mid now rose later = omega arith
 
+-- and since it was lower
+rose_earlier : (n before mid now : ℕ) → before ≤ mid → RoseBy n mid now → RoseBy n before now
+rose_earlier n before mid now earlier rose = omega arith
+
 -- a count rose by nothing
 pub rose_none : (n : ℕ) → RoseBy 0 n n
 rose_none n = omega arith
 
--- ---- promises
+-- a count below its last value rose by so much
+rose_by : (n before now : ℕ) → RoseBy n before now → now < last_count → n ≤ now - before
+rose_by n before now rose low = omega arith
 
--- what was served is promised, and of a further request that was taken the faults alone
-promised_of : {D : Type 0} {G : Ghosts D} (state : D → DiskState) (first : Depot D) (now : Stage D G) (xs : List Exchange) (more : List Turn) (unanswered : Option Request) → length more ≤ one_for unanswered
-    → Serves state first now.depot (turns_of xs ++ more) now.cluster → Promises (counts_of first) (counts_at state now) [] (record_of None xs unanswered)
-promised_of state first now xs more unanswered few s = record {
-  kept = λ p at. s.kept p (place_longer (turns_of xs) more p at);
-  taking = s.taking;
-  failing = s.failing;
-  counted = record {
-    of_run = All-weaker (IsEarlier (turns_of xs ++ more)) (IsOfRun (record_of None xs unanswered)) (λ f earlier. record {
-      in_run = let low = earlier.line_low in omega (arith, length-append (turns_of xs) more);
-      no_damage = earlier.no_damage;
-    }) (s.taking ++ s.failing) s.counted.earlier;
-    of_taking = s.counted.of_taking;
-    of_disks = λ slot. s.counted.of_disks (record { shard = slot.shard; node = slot.node });
-  };
-  caused = record { different = s.caused.different; each = λ p at. s.caused.each p (place_longer (turns_of xs) more p at) };
+-- ---- when the disks are given back
+
+-- what was caused in more turns is so in the first of them
+caused_front : (turns more : List Turn) (unanswered : Option Request) (faults : List Fault) → Caused true (life_of (turns ++ more)) faults → Caused true (record { past = []; present = record { start = None; turns = turns; unanswered = unanswered } }) faults
+caused_front turns more unanswered faults s = record {
+  different = s.different;
+  delivered = s.delivered;
+  each = λ p at. s.each p (place_longer turns more p at);
+  once = λ p q at there. s.once p q (place_longer turns more p at) (place_longer turns more q there);
+  whole = λ before line after e. s.whole before line (after ++ more) (ap (λ ts. ts ++ more) e ∙ append_assoc before (line ∷ after) more);
 }
 
--- after these exchanges, whatever request was taken and not served
-pub promised : {D : Type 0} {G : Ghosts D} (state : D → DiskState) (first : Depot D) (now : Stage D G) (xs : List Exchange) (unanswered : Option Request) → Progress state first xs now → PromisesSo state first now xs unanswered
-promised state first now xs unanswered p = λ empty.
-    promised_of state first now xs [] unanswered (omega arith) (subst (λ ts. Serves state first now.depot ts now.cluster) (sym (append-nil (turns_of xs))) (p.serves empty))
+-- What is known of the disks that are given back.
+pub record IsClosed {D : Type 0} {G : Ghosts D} (state : D → DiskState) (mid : Stage D G) (now : Counts) : Type 0 where
+  pub later : mid.depot.faults ≤ now.all
+  pub counted : (slot : Place) → now.of_disk slot ≡ count_at state mid.depot (machine_at mid.cluster (slot_at slot.node slot.shard)) (slot_at slot.node slot.shard)
+  pub rose : RisesBy state mid.depot mid.cluster.members now.all
 
--- after these exchanges and one more request that was served
-pub promised_more : {D : Type 0} {G : Ghosts D} (state : D → DiskState) (first : Depot D) (now : Stage D G) (xs : List Exchange) (turn : Turn) (request : Request) → Serves state first now.depot (turns_of xs ++ turn ∷ []) now.cluster
-    → Promises (counts_of first) (counts_at state now) [] (record_of None xs (Some request))
-promised_more state first now xs turn request s = promised_of state first now xs (turn ∷ []) (Some request) (omega arith) s
+-- the faults of disks are at most as many as the count of all faults rises
+failing_few : {D : Type 0} {G : Ghosts D} (state : D → DiskState) (first : Depot D) (mid : Stage D G) (now : Counts) (turns : List Turn) (s : Serves state first mid.depot turns mid.cluster) → IsClosed state mid now → now.all < last_count → ((slot : Place) → now.of_disk slot < last_count)
+    → mid.depot.faults + length s.failing ≤ now.all
+failing_few {D} {G} state first mid now turns s closed low each = by_members mid.cluster.members refl closed.rose
+  where
+    by_members : (o : Option (Members D G)) → mid.cluster.members ≡ o → RisesBy state mid.depot o now.all → mid.depot.faults + length s.failing ≤ now.all
+    by_members None is rose = let none : length s.failing ≡ 0 = ap length (s.unmade is).none in let later = closed.later in omega (arith, none, later)
+    by_members (Some m) is rose =
+        let well = (s.stands.members m is).well in
+        let apart : AreApart m.slots.items = subst AreApart (sym well.slots) (slots_apart m.net.state.place well.lawful) in
+        let listed : (f : Fault) → IsIn s.failing f → IsIn m.slots.items (slot_at f.node f.shard) = λ f i.
+        let manned = subst IsSome (machine_is mid.cluster m (slot_at f.node f.shard) is) (each-from_All (λ (g : Fault). IsSome (machine_at mid.cluster (slot_at g.node g.shard))) s.failing s.counted.manned f i) in
+        elim (in_or_out m.slots.items (slot_at f.node f.shard)) as (λ _. IsIn m.slots.items (slot_at f.node f.shard)) [
+          | inl among ↦ among
+          | inr out ↦ (let bad : IsSome None = subst IsSome (well.no_others (slot_at f.node f.shard) out) manned in absurd (cc))
+        ] in
+        let many = risen_many state mid.depot m.net.machines m.slots.items s.failing listed (λ slot.
+        let count = count_at state mid.depot (machine_at mid.cluster slot) slot in
+        let below : count < last_count = subst (λ n. n < last_count) (closed.counted (place_of_slot slot)) (each (place_of_slot slot)) in
+        let few = rose_by (faults_at slot s.failing) (mid.depot.counted (place_of_slot slot)) count (s.counted.of_disks slot) below in
+        subst (λ o. faults_at slot s.failing ≤ count_at state mid.depot o slot - mid.depot.counted (place_of_slot slot)) (machine_is mid.cluster m slot is) few) in
+        let rises = rose apart in
+        omega (arith, many, rises, low)
+
+-- no fault of either kind is a damage
+undamaged : (taking failing : List Fault) → AreTaking taking → AreFailing failing → (f : Fault) → IsIn (taking ++ failing) f → f.kind ≡ Damage → ⊥
+undamaged taking failing first second f i is =
+    elim (IsIn-append_cases taking failing f i) as (λ _. ⊥) [
+      | inl a ↦ (let bad : Taking ≡ Damage = sym (first f a) ∙ is in cc)
+      | inr b ↦ (let bad : Failing ≡ Damage = sym (second f b) ∙ is in cc)
+    ]
+
+-- what is promised once the disks are given back
+pub promised_closed : {D : Type 0} {G : Ghosts D} (state : D → DiskState) (first : Depot D) (mid : Stage D G) (now : Counts) (xs : List Exchange) (unanswered : Option Request) → IsClosed state mid now → IsServed state first mid xs unanswered
+    → Promises (counts_of first) now [] (record_of None xs unanswered)
+promised_closed {D} {G} state first mid now xs unanswered closed served = record {
+  kept = λ p at. s.kept p (place_longer (turns_of xs) served.more p at);
+  faults = faults;
+  counted = record {
+    of_run = All-from_each (IsOfRun (record_of None xs unanswered)) faults (λ f i. record { in_run = in_run f i; undamaged = undamaged s.taking s.failing taking failing f i });
+    of_taking = subst (λ n. RoseBy n first.faults now.all) (sym (untaken_of s.taking s.failing taking failing)) (rose_later (length s.taking) first.faults mid.depot.faults now.all s.counted.of_taking closed.later);
+    of_disks = λ slot.
+        let own = slot_at slot.node slot.shard in
+        subst (λ n. RoseBy n (first.counted slot) (now.of_disk slot)) (sym (failed_of slot s.taking s.failing taking failing))
+        (subst (RoseBy (faults_at own s.failing) (first.counted slot)) (sym (closed.counted slot))
+        (rose_earlier (faults_at own s.failing) (first.counted slot) (mid.depot.counted slot) (count_at state mid.depot (machine_at mid.cluster own) own) (s.counted.later own) (s.counted.of_disks own)));
+    of_all = λ low each.
+        let few = failing_few state first mid now (turns_of xs ++ served.more) s closed low each in
+        let rose = s.counted.of_taking in
+        let all = length-append s.taking s.failing in
+        omega (arith, few, rose, all, low);
+  };
+  caused = caused_front (turns_of xs) served.more unanswered faults s.caused;
+}
+  where
+    s : Serves state first mid.depot (turns_of xs ++ served.more) mid.cluster
+    s = served.serves
+
+    faults : List Fault
+    faults = s.taking ++ s.failing
+
+    taking : AreTaking s.taking
+    taking f i = (each-from_All (IsEarlier Taking (turns_of xs ++ served.more)) s.taking s.counted.taking_earlier f i).kind_is
+
+    failing : AreFailing s.failing
+    failing f i = (each-from_All (IsEarlier Failing (turns_of xs ++ served.more)) s.failing s.counted.failing_earlier f i).kind_is
+
+    early : (f : Fault) → f.line < length (turns_of xs ++ served.more) → f.line < length (turns_of xs) + one_for unanswered
+    early f low = let all = length-append (turns_of xs) served.more in let few = served.few in omega (arith, low, all, few)
+
+    in_run : (f : Fault) → IsIn faults f → f.line < length (turns_of xs) + one_for unanswered
+    in_run f i = elim (IsIn-append_cases s.taking s.failing f i) as (λ _. f.line < length (turns_of xs) + one_for unanswered) [
+      | inl a ↦ early f (each-from_All (IsEarlier Taking (turns_of xs ++ served.more)) s.taking s.counted.taking_earlier f a).line_low
+      | inr b ↦ early f (each-from_All (IsEarlier Failing (turns_of xs ++ served.more)) s.failing s.counted.failing_earlier f b).line_low
+    ]
 
 -- before the first request
 pub promised_nothing : (now : Counts) → Promises now now [] (record_of None [] None)
 promised_nothing now = record {
-  kept = λ p at. absurd (not_empty p.lines at.line at.after at.in_run);
-  taking = [];
-  failing = [];
-  counted = record { of_run = All-nil (IsOfRun (record_of None [] None)); of_taking = rose_none now.all; of_disks = λ slot. rose_none (now.of_disk slot) };
-  caused = record { different = tt; each = λ p at. absurd (not_empty p.lines at.line at.after at.in_run) };
-}
-
--- the disks are given back, and their faults are counted where they lie
-pub run_closes : {D : Type 0} (state : D → DiskState) (first : Depot D) (mid now : Counts) (ended : Status) (input left written : List ℕ) → mid.all ≤ now.all → ((slot : Slot) → now.of_disk slot ≡ mid.of_disk slot)
-    → HasRun state first mid [] None ended input left written → HasRun state first now [] None ended input left written
-run_closes state first mid now ended input left written later same h = record {
-  ran = h.ran;
-  promises = λ empty.
-      let p = h.promises empty in
-      record {
-        kept = p.kept;
-        taking = p.taking;
-        failing = p.failing;
-        counted = record {
-          of_run = p.counted.of_run;
-          of_taking = rose_later (length p.taking) first.faults mid.all now.all p.counted.of_taking later;
-          of_disks = λ slot. subst (RoseBy (faults_of slot p.failing) (first.counted slot)) (sym (same slot)) (p.counted.of_disks slot);
-        };
-        caused = p.caused;
-      };
+  kept = λ p at. absurd (not_empty p.lines p.line at.after at.in_run);
+  faults = [];
+  counted = record { of_run = All-nil (IsOfRun (record_of None [] None)); of_taking = rose_none now.all; of_disks = λ slot. rose_none (now.of_disk slot); of_all = λ low each. omega arith };
+  caused = record {
+    different = tt;
+    delivered = λ p. [];
+    each = λ p at. absurd (not_empty p.lines p.line at.after at.in_run);
+    once = λ p q at there a b i j same. absurd i;
+    whole = λ before line after e. absurd (not_empty before line after e);
+  };
 }

@@ -4,17 +4,18 @@ use Rattle.std.specs.Prelude.{Option, Some, None, ◌^◌}
 use Rattle.std.specs.Io.KnownBytes.{Appends, Consumes, IsAtEnd}
 use Rattle.m3_outside.specs.DiskState.{DiskState}
 use Rattle.m3_outside.specs.declared.disk.Disk.{Ghosts}
-use Rattle.m3_outside.specs.declared.slot.Slot.{Slot}
+use Rattle.m3_model.specs.declared.turn.Request.{Request}
 use Rattle.m3_model.proofs.SplitLemmas.{not_empty}
 use Rattle.m3_outside.specs.Depots.{Depot}
 use Rattle.m3_program.specs.declared.status.Status.{Status}
 use Rattle.m3_program.specs.declared.status.Status.TheVariants as status
 use Rattle.m3_program.specs.Causes.{EndsStep}
 use Rattle.m3_program.specs.Faults.{Counts, counts_of}
-use Rattle.m3_program.specs.Runs.{HasRun, lines_of}
-use Rattle.m3_program.specs.Streams.{Stage, IsFresh, StreamState, TakesOn, Cuts, CutShort, Finished, counts_at}
-use Rattle.m3_program.proofs.PromiseLemmas.{promised_nothing, run_closes}
-use Rattle.m3_program.proofs.StreamLemmas.{cut_here, stream_begins}
+use Rattle.m3_program.specs.Exchanges.{Exchange}
+use Rattle.m3_program.specs.Runs.{HasRun, Reads, lines_of}
+use Rattle.m3_program.specs.Streams.{Stage, IsFresh, StreamState, TakesOn, Cuts, CutShort, Halted, Finished, HasServed}
+use Rattle.m3_program.proofs.PromiseLemmas.{IsClosed, promised_closed, promised_nothing}
+use Rattle.m3_program.proofs.StreamLemmas.{cut_here, halted_of, stream_begins}
 
 -- these bytes were read, these are left, and these were written after what stood there
 pub record Heard {D : Type 0} {G : Ghosts D} (state : D → DiskState) (first : Depot D) (input before : List ℕ) (left written : Option (List ℕ)) (n : ℕ) (now : Stage D G) (line : List ℕ) : Type 0 where
@@ -30,14 +31,14 @@ pub record Heard {D : Type 0} {G : Ghosts D} (state : D → DiskState) (first : 
 abbrev pub Known : {D : Type 0} {G : Ghosts D} → (D → DiskState) → Depot D → Option (List ℕ) → Option (List ℕ) → Option (List ℕ) → Option (List ℕ) → ℕ → Stage D G → List ℕ → Type 0
 Known state first left0 written0 left written n now line = (input before : List ℕ) → left0 ≡ Some input → written0 ≡ Some before → Heard state first input before left written n now line
 
--- what a run tells at its end
-abbrev pub Told : {D : Type 0} → (D → DiskState) → Depot D → Counts → Status → List ℕ → List ℕ → Option (List ℕ) → Option (List ℕ) → Type 0
-Told state first now s input before left written = (rest told : List ℕ) × (left ≡ Some rest) × (written ≡ Some (before ++ told)) × HasRun state first now [] None s input rest told
+-- what a run tells at its end, before its disks are given back
+abbrev pub Told : {D : Type 0} {G : Ghosts D} → (D → DiskState) → Depot D → Stage D G → Status → List ℕ → List ℕ → Option (List ℕ) → Option (List ℕ) → Type 0
+Told state first now s input before left written = (rest told : List ℕ) × (left ≡ Some rest) × (written ≡ Some (before ++ told)) × HasServed state first now s input rest told
 
 -- a run that was cut short, before it is said by what
 abbrev pub Stopped : {D : Type 0} {G : Ghosts D} → (D → DiskState) → Depot D → Stage D G → List ℕ → List ℕ → Option (List ℕ) → Option (List ℕ) → Type 0
 Stopped state first now input before left written =
-    (rest told taken : List ℕ) × (left ≡ Some rest) × (written ≡ Some (before ++ told)) × (input ≡ taken ++ rest) × CutShort state first now input told
+    (rest told taken : List ℕ) × (left ≡ Some rest) × (written ≡ Some (before ++ told)) × (input ≡ taken ++ rest) × (length taken ≤ 2 ^ 32) × Halted state first now input taken told
 
 consumed : (rest : List ℕ) (a b : Option (List ℕ)) (piece : List ℕ) → a ≡ Some rest → Consumes a b piece → (after : List ℕ) × (b ≡ Some after) × (rest ≡ piece ++ after)
 consumed rest None b piece e h = cc
@@ -83,9 +84,9 @@ known_more state first left0 written0 l l2 w w2 n k m old new line line2 piece t
 
 -- it stopped within a piece
 pub known_cuts : {D : Type 0} {G : Ghosts D} (state : D → DiskState) (first : Depot D) (left0 written0 l l2 w w2 : Option (List ℕ)) (n : ℕ) (old new : Stage D G) (line piece part : List ℕ)
-    → Known state first left0 written0 l w n old line → Consumes l l2 piece → Appends w w2 part → Cuts state old line piece part new
+    → Known state first left0 written0 l w n old line → Consumes l l2 piece → n + length piece ≤ 2 ^ 32 → Appends w w2 part → Cuts state old line piece part new
     → (input before : List ℕ) → left0 ≡ Some input → written0 ≡ Some before → Stopped state first new input before l2 w2
-known_cuts state first left0 written0 l l2 w w2 n old new line piece part known took wrote cuts input before p q =
+known_cuts state first left0 written0 l l2 w w2 n old new line piece part known took few wrote cuts input before p q =
     let h = known input before p q in
     let after = consumed h.rest l l2 piece h.left_is took in
     let all : input ≡ (h.got ++ piece) ++ after.0 = h.parts ∙ ap (λ r. h.got ++ r) after.2 ∙ sym (append_assoc h.got piece after.0) in (
@@ -95,7 +96,8 @@ known_cuts state first left0 written0 l l2 w w2 n old new line piece part known 
       after.1,
       appended (before ++ h.told) w w2 part h.written_is wrote ∙ ap Some (append_assoc before h.told part),
       all,
-      subst (λ i. CutShort state first new i (h.told ++ part)) (sym all) (cuts first h.got h.told after.0 h.stream),
+      (let size = length-append h.got piece in let count = h.count in omega (arith, size, count, few)),
+      subst (λ i. Halted state first new i (h.got ++ piece) (h.told ++ part)) (sym all) (halted_of state first new (h.got ++ piece) (h.told ++ part) after.0 (cuts first h.got h.told h.stream)),
     )
 
 -- all that was taken is the input
@@ -104,10 +106,10 @@ heard_all state first input before l w n now line h ended = h.parts ∙ ap (λ r
 
 -- it stopped within the last line
 pub known_stops : {D : Type 0} {G : Ghosts D} (state : D → DiskState) (first : Depot D) (left0 written0 l w w2 : Option (List ℕ)) (n : ℕ) (old new : Stage D G) (line part : List ℕ)
-    → Known state first left0 written0 l w n old line → IsAtEnd l → Appends w w2 part
-    → ((first : Depot D) (taken told : List ℕ) → StreamState state first taken told old line → CutShort state first new taken (told ++ part))
+    → Known state first left0 written0 l w n old line → n ≤ 2 ^ 32 → IsAtEnd l → Appends w w2 part
+    → ((first : Depot D) (taken told : List ℕ) → StreamState state first taken told old line → Halted state first new taken taken (told ++ part))
     → (input before : List ℕ) → left0 ≡ Some input → written0 ≡ Some before → Stopped state first new input before l w2
-known_stops state first left0 written0 l w w2 n old new line part known ended wrote stops input before p q =
+known_stops state first left0 written0 l w w2 n old new line part known few ended wrote stops input before p q =
     let h = known input before p q in (
       h.rest,
       h.told ++ part,
@@ -115,45 +117,58 @@ known_stops state first left0 written0 l w w2 n old new line part known ended wr
       h.left_is,
       appended (before ++ h.told) w w2 part h.written_is wrote ∙ ap Some (append_assoc before h.told part),
       h.parts,
-      subst (λ i. CutShort state first new i (h.told ++ part)) (sym (heard_all state first input before l w n old line h ended)) (stops first h.got h.told h.stream),
+      (let count = h.count in omega (arith, count, few)),
+      subst (λ i. Halted state first new i h.got (h.told ++ part)) (sym (heard_all state first input before l w n old line h ended)) (stops first h.got h.told h.stream),
     )
+
+-- of the same bytes nothing is left
+later_none : {a b : List ℕ} (e : a ≡ b) (xs : List Exchange) (unanswered : Option Request) (r : Reads a xs unanswered) → r.later ≡ [] → (subst (λ bytes. Reads bytes xs unanswered) e r).later ≡ []
+later_none refl xs unanswered r none = none
 
 -- it came to the end
 pub known_finishes : {D : Type 0} {G : Ghosts D} (state : D → DiskState) (first : Depot D) (left0 written0 l w w2 : Option (List ℕ)) (n : ℕ) (old new : Stage D G) (line text : List ℕ)
     → Known state first left0 written0 l w n old line → n < 2 ^ 32 → IsAtEnd l → Appends w w2 text
     → ((first : Depot D) (taken told : List ℕ) → StreamState state first taken told old line → Finished state first new taken (told ++ text))
-    → (input before : List ℕ) → left0 ≡ Some input → written0 ≡ Some before → Told state first (counts_at state new) status.Done input before l w2
+    → (input before : List ℕ) → left0 ≡ Some input → written0 ≡ Some before → Told state first new status.Done input before l w2
 known_finishes state first left0 written0 l w w2 n old new line text known below ended wrote finishes input before p q =
     let h = known input before p q in
     let none = at_end l h.rest ended h.left_is in
-    let end = subst (λ i. Finished state first new i (h.told ++ text)) (sym (heard_all state first input before l w n old line h ended)) (finishes first h.got h.told h.stream) in (
+    let got : h.got ≡ input = sym (heard_all state first input before l w n old line h ended) in
+    let end = finishes first h.got h.told h.stream in (
       h.rest,
       h.told ++ text,
       h.left_is,
       appended (before ++ h.told) w w2 text h.written_is wrote ∙ ap Some (append_assoc before h.told text),
       record {
-        ran = record { taken = h.got; parts = h.parts; course = end.course; got_to = (end.all, end.written, none, let e = h.count in omega arith) };
+        ran = record {
+          taken = h.got;
+          parts = h.parts;
+          few = let count = h.count in omega (arith, count, below);
+          course = record { exchanges = end.course.exchanges; unanswered = end.course.unanswered; each = end.course.each; of_input = subst (λ i. Reads i end.course.exchanges end.course.unanswered) got end.course.of_input; of_taken = end.course.of_taken };
+          got_to = (later_none got end.course.exchanges end.course.unanswered end.course.of_input end.all, end.written, none, let count = h.count in omega (arith, count, below));
+        };
         promises = end.promises;
       },
     )
 
 -- it took as much as may be taken
 pub known_limit : {D : Type 0} {G : Ghosts D} (state : D → DiskState) (first : Depot D) (left0 written0 l w : Option (List ℕ)) (n : ℕ) (now : Stage D G) (line : List ℕ) → Known state first left0 written0 l w n now line → n ≡ 2 ^ 32
-    → (input before : List ℕ) → left0 ≡ Some input → written0 ≡ Some before → Told state first (counts_at state now) status.TooLong input before l w
+    → (input before : List ℕ) → left0 ≡ Some input → written0 ≡ Some before → Told state first now status.TooLong input before l w
 known_limit state first left0 written0 l w n now line known full input before p q =
     let h = known input before p q in
-    let cut : CutShort state first now input h.told =
-    subst (λ i. CutShort state first now i h.told) (sym h.parts) (subst (CutShort state first now (h.got ++ h.rest)) (append-nil h.told) (cut_here state first h.got h.told h.rest now line h.stream)) in (
+    let cut : CutShort state first now h.got h.told =
+    subst (λ taken. CutShort state first now taken h.told) (append-nil h.got) (subst (CutShort state first now (h.got ++ [])) (append-nil h.told) (cut_here state first h.got h.told [] now line h.stream)) in
+    let end : Halted state first now input h.got h.told = subst (λ i. Halted state first now i h.got h.told) (sym h.parts) (halted_of state first now h.got h.told h.rest cut) in (
       h.rest,
       h.told,
       h.left_is,
       h.written_is,
-      record { ran = record { taken = h.got; parts = h.parts; course = cut.course; got_to = (cut.written, h.count ∙ full) }; promises = cut.promises },
+      record { ran = record { taken = h.got; parts = h.parts; few = let count = h.count in omega (arith, count, full); course = end.course; got_to = (end.written, h.count ∙ full) }; promises = end.promises },
     )
 
 -- no line was read
 pub told_of_usage : {D : Type 0} (state : D → DiskState) (first : Depot D) (left written : Option (List ℕ)) (input before : List ℕ) → left ≡ Some input → written ≡ Some before
-    → Told state first (counts_of first) status.Usage input before left written
+    → (rest told : List ℕ) × (left ≡ Some rest) × (written ≡ Some (before ++ told)) × HasRun state first (counts_of first) [] None status.Usage input rest told
 told_of_usage state first left written input before p q = (
   input,
   [],
@@ -163,7 +178,14 @@ told_of_usage state first left written input before p q = (
     ran = record {
       taken = [];
       parts = refl;
-      course = record { exchanges = []; unanswered = None; later = lines_of input; lines_are = refl; each = λ earlier x after e. absurd (not_empty earlier x after e); next = tt };
+      few = omega arith;
+      course = record {
+        exchanges = [];
+        unanswered = None;
+        each = λ earlier x after e. absurd (not_empty earlier x after e);
+        of_input = record { later = lines_of input; lines_are = refl; next = tt };
+        of_taken = record { later = []; lines_are = refl; next = tt };
+      };
       got_to = (refl, refl);
     };
     promises = λ empty. promised_nothing (counts_of first);
@@ -171,17 +193,18 @@ told_of_usage state first left written input before p q = (
 )
 
 pub step_told : {D : Type 0} {G : Ghosts D} (state : D → DiskState) (first : Depot D) (now : Stage D G) (s : Status) (a b x y u v : ℕ) → EndsStep s a b x y u v
-    → (input before : List ℕ) (left written : Option (List ℕ)) → Stopped state first now input before left written → Told state first (counts_at state now) s input before left written
-step_told state first now status.ReadFault a b x y u v k input before left written (rest, told, taken, l, w, parts, cut) =
-    (rest, told, l, w, record { ran = record { taken = taken; parts = parts; course = cut.course; got_to = cut.written }; promises = cut.promises })
-step_told state first now status.WriteFault a b x y u v k input before left written (rest, told, taken, l, w, parts, cut) =
-    (rest, told, l, w, record { ran = record { taken = taken; parts = parts; course = cut.course; got_to = cut.written }; promises = cut.promises })
-step_told state first now status.Memory a b x y u v k input before left written (rest, told, taken, l, w, parts, cut) =
-    (rest, told, l, w, record { ran = record { taken = taken; parts = parts; course = cut.course; got_to = cut.written }; promises = cut.promises })
+    → (input before : List ℕ) (left written : Option (List ℕ)) → Stopped state first now input before left written → Told state first now s input before left written
+step_told state first now status.ReadFault a b x y u v k input before left written (rest, told, taken, l, w, parts, few, cut) =
+    (rest, told, l, w, record { ran = record { taken = taken; parts = parts; few = few; course = cut.course; got_to = cut.written }; promises = cut.promises })
+step_told state first now status.WriteFault a b x y u v k input before left written (rest, told, taken, l, w, parts, few, cut) =
+    (rest, told, l, w, record { ran = record { taken = taken; parts = parts; few = few; course = cut.course; got_to = cut.written }; promises = cut.promises })
+step_told state first now status.Memory a b x y u v k input before left written (rest, told, taken, l, w, parts, few, cut) =
+    (rest, told, l, w, record { ran = record { taken = taken; parts = parts; few = few; course = cut.course; got_to = cut.written }; promises = cut.promises })
 step_told state first now _ a b x y u v k input before left written h = absurd k
 
 -- the disks are given back
-pub told_closes : {D : Type 0} {G : Ghosts D} (state : D → DiskState) (first : Depot D) (mid : Stage D G) (last : Counts) (s : Status) → mid.depot.faults ≤ last.all → ((slot : Slot) → last.of_disk slot ≡ (counts_at state mid).of_disk slot)
-    → (input before : List ℕ) (left written : Option (List ℕ)) → Told state first (counts_at state mid) s input before left written → Told state first last s input before left written
-told_closes state first mid last s later same input before left written (rest, told, l, w, run) =
-    (rest, told, l, w, run_closes state first (counts_at state mid) last s input rest told later same run)
+pub told_closes : {D : Type 0} {G : Ghosts D} (state : D → DiskState) (first : Depot D) (mid : Stage D G) (last : Counts) (s : Status) → IsClosed state mid last
+    → (input before : List ℕ) (left written : Option (List ℕ)) → Told state first mid s input before left written
+    → (rest told : List ℕ) × (left ≡ Some rest) × (written ≡ Some (before ++ told)) × HasRun state first last [] None s input rest told
+told_closes state first mid last s closed input before left written (rest, told, l, w, run) =
+    (rest, told, l, w, record { ran = run.ran; promises = λ empty. promised_closed state first mid last run.ran.course.exchanges run.ran.course.unanswered closed (run.promises empty) })

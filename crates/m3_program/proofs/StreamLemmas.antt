@@ -10,9 +10,9 @@ use Rattle.m3_model.proofs.SplitLemmas.{not_empty}
 use Rattle.m3_outside.specs.DiskState.{DiskState}
 use Rattle.m3_outside.specs.declared.disk.Disk.{Ghosts}
 use Rattle.m3_outside.specs.Depots.{Depot}
-use Rattle.m3_program.specs.Exchanges.{Exchange, replies_text}
-use Rattle.m3_program.specs.Runs.{Course, IsNext, lines_of}
-use Rattle.m3_program.specs.Streams.{Stage, IsFresh, Advances, MayMean, PromisesSo, Drops, Halts, NoNewline, lines_text, StreamState, CutShort, Finished, TakesOn, Cuts}
+use Rattle.m3_program.specs.Exchanges.{AreExchanges, Exchange, Outcome, replies_text}
+use Rattle.m3_program.specs.Runs.{Course, IsNext, IsWrittenOf, Reads, lines_of}
+use Rattle.m3_program.specs.Streams.{Stage, IsFresh, Advances, MayMean, PromisesSo, Drops, Halts, NoNewline, lines_text, StreamState, CutShort, Halted, Finished, TakesOn, Cuts}
 use Rattle.m3_program.proofs.LineLemmas.{lines_of-line, lines_of-last, lines_of-lines}
 use Rattle.m3_program.proofs.PromiseLemmas.{promised}
 
@@ -28,30 +28,55 @@ lines_push xs x = flat_map-append (λ (y : Exchange). y.line ++ 10 ∷ []) xs (x
 replies_push : (xs : List Exchange) (x : Exchange) → replies_text (xs ++ x ∷ []) ≡ replies_text xs ++ x.text
 replies_push xs x = flat_map-append (λ (y : Exchange). y.text) xs (x ∷ []) ∙ ap (λ l. replies_text xs ++ l) (append-nil x.text)
 
--- the course of a run that ends where these bytes were read, whatever comes after them
-abbrev pub course_at : {D : Type 0} {G : Ghosts D} (state : D → DiskState) (first : Depot D) (taken told tail : List ℕ) (now : Stage D G) (line : List ℕ) (unanswered : Option Request) → StreamState state first taken told now line
-    → IsNext unanswered (lines_of (line ++ tail)) → Course None (taken ++ tail)
-course_at state first taken told tail now line unanswered t next = record {
-  exchanges = t.exchanges;
-  unanswered = unanswered;
+-- what was read, whatever comes after it
+reads_at : {D : Type 0} {G : Ghosts D} (state : D → DiskState) (first : Depot D) (taken told tail : List ℕ) (now : Stage D G) (line : List ℕ) (unanswered : Option Request) → (t : StreamState state first taken told now line)
+    → IsNext unanswered (lines_of (line ++ tail)) → Reads (taken ++ tail) t.exchanges unanswered
+reads_at state first taken told tail now line unanswered t next = record {
   later = lines_of (line ++ tail);
   lines_are = ap (λ xs. lines_of (xs ++ tail)) t.read ∙ ap lines_of (append_assoc (lines_text t.exchanges) line tail) ∙ lines_of-lines t.exchanges (line ++ tail) t.whole;
-  each = t.progress.each;
   next = next;
 }
 
 -- nothing more is written, and this request was taken at most
-cut_at : {D : Type 0} {G : Ghosts D} (state : D → DiskState) (first : Depot D) (taken told tail : List ℕ) (old new : Stage D G) (line : List ℕ) (unanswered : Option Request) (t : StreamState state first taken told old line)
-    → IsNext unanswered (lines_of (line ++ tail)) → PromisesSo state first new t.exchanges unanswered → CutShort state first new (taken ++ tail) (told ++ [])
-cut_at state first taken told tail old new line unanswered t next promises = record {
-  course = course_at state first taken told tail old line unanswered t next;
+cut_at : {D : Type 0} {G : Ghosts D} (state : D → DiskState) (first : Depot D) (taken told piece : List ℕ) (old new : Stage D G) (line : List ℕ) (unanswered : Option Request) (t : StreamState state first taken told old line)
+    → ((left : List ℕ) → IsNext unanswered (lines_of (line ++ (piece ++ left)))) → PromisesSo state first new t.exchanges unanswered → CutShort state first new (taken ++ piece) (told ++ [])
+cut_at state first taken told piece old new line unanswered t next promises = record {
+  exchanges = t.exchanges;
+  unanswered = unanswered;
+  each = t.progress.each;
+  reads = λ left. subst (λ bytes. Reads bytes t.exchanges unanswered) (sym (append_assoc taken piece left)) (reads_at state first taken told (piece ++ left) old line unanswered t (next left));
   promises = promises;
   written = ([], append-nil (told ++ []) ∙ append-nil told ∙ t.written);
 }
 
 -- nothing more is done
-pub cut_here : {D : Type 0} {G : Ghosts D} (state : D → DiskState) (first : Depot D) (taken told tail : List ℕ) (now : Stage D G) (line : List ℕ) → StreamState state first taken told now line → CutShort state first now (taken ++ tail) (told ++ [])
-cut_here state first taken told tail now line t = cut_at state first taken told tail now now line None t tt (promised state first now t.exchanges None t.progress)
+pub cut_here : {D : Type 0} {G : Ghosts D} (state : D → DiskState) (first : Depot D) (taken told piece : List ℕ) (now : Stage D G) (line : List ℕ) → StreamState state first taken told now line → CutShort state first now (taken ++ piece) (told ++ [])
+cut_here state first taken told piece now line t = cut_at state first taken told piece now now line None t (λ left. tt) (promised state first now t.exchanges None t.progress)
+
+-- a run that was cut short, with what is left of its input
+pub halted_of : {D : Type 0} {G : Ghosts D} (state : D → DiskState) (first : Depot D) (now : Stage D G) (taken told left : List ℕ) → CutShort state first now taken told → Halted state first now (taken ++ left) taken told
+halted_of state first now taken told left cut = record {
+  course = record {
+    exchanges = cut.exchanges;
+    unanswered = cut.unanswered;
+    each = cut.each;
+    of_input = cut.reads left;
+    of_taken = subst (λ bytes. Reads bytes cut.exchanges cut.unanswered) (append-nil taken) (cut.reads []);
+  };
+  promises = cut.promises;
+  written = cut.written;
+}
+
+-- it took more, and did nothing with it
+cut_more : {D : Type 0} {G : Ghosts D} (state : D → DiskState) (first : Depot D) (now : Stage D G) (taken more told : List ℕ) → CutShort state first now taken told → CutShort state first now (taken ++ more) told
+cut_more state first now taken more told cut = record {
+  exchanges = cut.exchanges;
+  unanswered = cut.unanswered;
+  each = cut.each;
+  reads = λ left. subst (λ bytes. Reads bytes cut.exchanges cut.unanswered) (sym (append_assoc taken more left)) (cut.reads (more ++ left));
+  promises = cut.promises;
+  written = cut.written;
+}
 
 next_is : (unanswered : Option Request) (line : List ℕ) (lines : List (List ℕ)) → MayMean line unanswered → IsNext unanswered (line ∷ lines)
 next_is None line lines h = tt
@@ -93,30 +118,34 @@ takes_line state old new line rest text whole line2 none is empty goes = λ firs
       written = ap (λ l. l ++ text) t.written ∙ sym (replies_push t.exchanges x);
     }
 
--- the course of a run of which the last line was answered
-abbrev pub answered_course : {D : Type 0} {G : Ghosts D} (state : D → DiskState) (first : Depot D) (taken told input : List ℕ) (old new : Stage D G) (line whole text : List ℕ) (later : List (List ℕ))
-    → (t : StreamState state first taken told old line) → (goes : Advances state old whole text new) → lines_of input ≡ map (λ x. x.line) t.exchanges ++ whole ∷ later → Course None input
-answered_course state first taken told input old new line whole text later t goes lines =
-    let next = goes first t.exchanges t.progress in
-    let x : Exchange = record { line = whole; outcome = next.0; text = text } in
-    record {
-      exchanges = t.exchanges ++ x ∷ [];
-      unanswered = None;
-      later = later;
-      lines_are = lines ∙ sym (append_assoc (map (λ y. y.line) t.exchanges) (whole ∷ []) later) ∙ ap (λ ls. ls ++ later) (sym (map-append (λ (y : Exchange). y.line) t.exchanges (x ∷ [])));
-      each = next.1.each;
-      next = tt;
-    }
+-- what was read, with the line that was answered last
+answered_reads : (input : List ℕ) (xs : List Exchange) (x : Exchange) (later : List (List ℕ)) → lines_of input ≡ map (λ y. y.line) xs ++ x.line ∷ later → Reads input (xs ++ x ∷ []) None
+answered_reads input xs x later lines = record {
+  later = later;
+  lines_are = lines ∙ sym (append_assoc (map (λ y. y.line) xs) (x.line ∷ []) later) ∙ ap (λ ls. ls ++ later) (sym (map-append (λ (y : Exchange). y.line) xs (x ∷ [])));
+  next = tt;
+}
 
-cut_in_reply : {D : Type 0} {G : Ghosts D} (state : D → DiskState) (first : Depot D) (taken told input : List ℕ) (old new : Stage D G) (line whole part rest : List ℕ) (later : List (List ℕ))
-    → (t : StreamState state first taken told old line) → (goes : Advances state old whole (part ++ rest) new) → lines_of input ≡ map (λ x. x.line) t.exchanges ++ whole ∷ later → CutShort state first new input (told ++ part)
-cut_in_reply state first taken told input old new line whole part rest later t goes lines =
+-- a front of its reply is written
+front_written : (told part rest line : List ℕ) (xs : List Exchange) (outcome : Outcome) → told ≡ replies_text xs → IsWrittenOf (told ++ part) (xs ++ record { line = line; outcome = outcome; text = part ++ rest } ∷ [])
+front_written told part rest line xs outcome written =
+    (rest, append_assoc told part rest ∙ ap (λ l. l ++ (part ++ rest)) written ∙ sym (replies_push xs (record { line = line; outcome = outcome; text = part ++ rest })))
+
+cut_in_reply : {D : Type 0} {G : Ghosts D} (state : D → DiskState) (first : Depot D) (taken told piece : List ℕ) (old new : Stage D G) (line whole part rest : List ℕ) (t : StreamState state first taken told old line) → Advances state old whole (part ++ rest) new
+    → ((left : List ℕ) → lines_of (line ++ (piece ++ left)) ≡ whole ∷ lines_of left) → CutShort state first new (taken ++ piece) (told ++ part)
+cut_in_reply state first taken told piece old new line whole part rest t goes lines =
     let next = goes first t.exchanges t.progress in
     let x : Exchange = record { line = whole; outcome = next.0; text = part ++ rest } in
     record {
-      course = answered_course state first taken told input old new line whole (part ++ rest) later t goes lines;
+      exchanges = t.exchanges ++ x ∷ [];
+      unanswered = None;
+      each = next.1.each;
+      reads = λ left.
+          let read = reads_at state first taken told (piece ++ left) old line None t tt in
+          answered_reads ((taken ++ piece) ++ left) t.exchanges x (lines_of left)
+          (ap lines_of (append_assoc taken piece left) ∙ read.lines_are ∙ ap (λ ls. map (λ (y : Exchange). y.line) t.exchanges ++ ls) (lines left));
       promises = promised state first new (t.exchanges ++ x ∷ []) None next.1;
-      written = (rest, append_assoc told part rest ∙ ap (λ l. l ++ (part ++ rest)) t.written ∙ sym (replies_push t.exchanges x));
+      written = front_written told part rest whole t.exchanges next.0 t.written;
     }
 
 -- a line that ends, in the input
@@ -128,28 +157,24 @@ line_in state first taken told left now line rest whole none is t =
 
 -- a line ends, and gets no reply
 drops_line : {D : Type 0} {G : Ghosts D} (state : D → DiskState) (old new : Stage D G) (line rest whole : List ℕ) → NoNewline rest → whole ≡ line ++ rest → Drops state old whole new
-    → (first : Depot D) (taken told left : List ℕ) → StreamState state first taken told old line → CutShort state first new (taken ++ ((rest ++ 10 ∷ []) ++ left)) (told ++ [])
-drops_line state old new line rest whole none is drops first taken told left t =
+    → (first : Depot D) (taken told : List ℕ) → StreamState state first taken told old line → CutShort state first new (taken ++ (rest ++ 10 ∷ [])) (told ++ [])
+drops_line state old new line rest whole none is drops first taken told t =
     let d = drops first t.exchanges t.progress in
-    let here = line_in state first taken told left old line rest whole none is t in
-    cut_at state first taken told ((rest ++ 10 ∷ []) ++ left) old new line d.unanswered t (subst (IsNext d.unanswered) (sym here) (next_is d.unanswered whole (lines_of left) d.means)) d.promises
+    cut_at state first taken told (rest ++ 10 ∷ []) old new line d.unanswered t
+    (λ left. subst (IsNext d.unanswered) (sym (line_in state first taken told left old line rest whole none is t)) (next_is d.unanswered whole (lines_of left) d.means)) d.promises
 
 -- a line ends, and its reply isn't written whole
 pub cuts_line : {D : Type 0} {G : Ghosts D} (state : D → DiskState) (old new : Stage D G) (line rest part whole : List ℕ) → NoNewline rest → whole ≡ line ++ rest → Halts state old whole part new
     → Cuts state old line (rest ++ 10 ∷ []) part new
-cuts_line state old new line rest part whole none is h = λ first taken told left t.
-    let input_is : taken ++ ((rest ++ 10 ∷ []) ++ left) ≡ (taken ++ (rest ++ 10 ∷ [])) ++ left = sym (append_assoc taken (rest ++ 10 ∷ []) left) in
-    let here = line_in state first taken told left old line rest whole none is t in
-    subst (λ i. CutShort state first new i (told ++ part)) input_is (elim h as (λ _. CutShort state first new (taken ++ ((rest ++ 10 ∷ []) ++ left)) (told ++ part)) [
-      | inl silent ↦ subst (λ p. CutShort state first new (taken ++ ((rest ++ 10 ∷ []) ++ left)) (told ++ p)) (sym silent.0) (drops_line state old new line rest whole none is silent.1 first taken told left t)
-      | inr some ↦ cut_in_reply state first taken told (taken ++ ((rest ++ 10 ∷ []) ++ left)) old new line whole part some.0 (lines_of left) t some.1
-          ((course_at state first taken told ((rest ++ 10 ∷ []) ++ left) old line None t tt).lines_are ∙ ap (λ ls. map (λ x. x.line) t.exchanges ++ ls) here)
-    ])
+cuts_line state old new line rest part whole none is h = λ first taken told t.
+    elim h as (λ _. CutShort state first new (taken ++ (rest ++ 10 ∷ [])) (told ++ part)) [
+      | inl silent ↦ subst (λ p. CutShort state first new (taken ++ (rest ++ 10 ∷ [])) (told ++ p)) (sym silent.0) (drops_line state old new line rest whole none is silent.1 first taken told t)
+      | inr some ↦ cut_in_reply state first taken told (rest ++ 10 ∷ []) old new line whole part some.0 t some.1 (λ left. line_in state first taken told left old line rest whole none is t)
+    ]
 
 -- memory was wanted for a piece
 pub cuts_silently : {D : Type 0} {G : Ghosts D} (state : D → DiskState) (now : Stage D G) (line piece : List ℕ) → Cuts state now line piece [] now
-cuts_silently state now line piece = λ first taken told left t.
-    subst (λ i. CutShort state first now i (told ++ [])) (sym (append_assoc taken piece left)) (cut_here state first taken told (piece ++ left) now line t)
+cuts_silently state now line piece = λ first taken told t. cut_here state first taken told piece now line t
 
 -- one piece after the other
 pub takes_both : {D : Type 0} {G : Ghosts D} (state : D → DiskState) (a b c : Stage D G) (line line2 line3 piece piece2 text text2 : List ℕ) → TakesOn state a line piece text b line2 → TakesOn state b line2 piece2 text2 c line3
@@ -162,11 +187,10 @@ takes_both state a b c line line2 line3 piece piece2 text text2 f g = λ first t
 -- a piece, and then one in which it is cut short, and what wasn't looked at
 pub cuts_after : {D : Type 0} {G : Ghosts D} (state : D → DiskState) (a b c : Stage D G) (line line2 piece piece2 more text part : List ℕ) → TakesOn state a line piece text b line2 → Cuts state b line2 piece2 part c
     → Cuts state a line (piece ++ (piece2 ++ more)) (text ++ part) c
-cuts_after state a b c line line2 piece piece2 more text part f g = λ first taken told left t.
-    let next = g first (taken ++ piece) (told ++ text) (more ++ left) (f first taken told t) in
-    let bytes : ((taken ++ piece) ++ piece2) ++ (more ++ left) ≡ (taken ++ (piece ++ (piece2 ++ more))) ++ left =
-    sym (append_assoc ((taken ++ piece) ++ piece2) more left) ∙ ap (λ l. l ++ left) (append_assoc (taken ++ piece) piece2 more ∙ append_assoc taken piece (piece2 ++ more)) in
-    subst (λ i. CutShort state first c i (told ++ (text ++ part))) bytes (subst (CutShort state first c (((taken ++ piece) ++ piece2) ++ (more ++ left))) (append_assoc told text part) next)
+cuts_after state a b c line line2 piece piece2 more text part f g = λ first taken told t.
+    let next = cut_more state first c ((taken ++ piece) ++ piece2) more ((told ++ text) ++ part) (g first (taken ++ piece) (told ++ text) (f first taken told t)) in
+    let bytes : ((taken ++ piece) ++ piece2) ++ more ≡ taken ++ (piece ++ (piece2 ++ more)) = append_assoc (taken ++ piece) piece2 more ∙ append_assoc taken piece (piece2 ++ more) in
+    subst (λ x. CutShort state first c x (told ++ (text ++ part))) bytes (subst (CutShort state first c (((taken ++ piece) ++ piece2) ++ more)) (append_assoc told text part) next)
 
 -- before anything is read
 pub stream_begins : {D : Type 0} {G : Ghosts D} (state : D → DiskState) (now : Stage D G) → IsFresh state now.cluster → StreamState state now.depot [] [] now []
@@ -179,18 +203,16 @@ stream_begins state now fresh = record {
   written = refl;
 }
 
+-- the course of a run that took all of its input
+whole_course : (input : List ℕ) (xs : List Exchange) (unanswered : Option Request) → AreExchanges None xs → Reads input xs unanswered → Course None input input
+whole_course input xs unanswered each reads = record { exchanges = xs; unanswered = unanswered; each = each; of_input = reads; of_taken = reads }
+
 -- the input ends with a newline, or is empty
 pub finish_empty : {D : Type 0} {G : Ghosts D} (state : D → DiskState) (now : Stage D G) (line : List ℕ) → line ≡ [] → (first : Depot D) (taken told : List ℕ) → StreamState state first taken told now line → Finished state first now taken (told ++ [])
 finish_empty state now line empty first taken told t =
     record {
-      course = record {
-        exchanges = t.exchanges;
-        unanswered = None;
-        later = [];
-        lines_are = ap lines_of (t.read ∙ ap (λ l. lines_text t.exchanges ++ l) empty) ∙ lines_of-lines t.exchanges [] t.whole;
-        each = t.progress.each;
-        next = tt;
-      };
+      course = whole_course taken t.exchanges None t.progress.each
+          (record { later = []; lines_are = ap lines_of (t.read ∙ ap (λ l. lines_text t.exchanges ++ l) empty) ∙ lines_of-lines t.exchanges [] t.whole; next = tt });
       promises = promised state first now t.exchanges None t.progress;
       all = refl;
       written = append-nil told ∙ t.written;
@@ -200,14 +222,21 @@ last_in : {D : Type 0} {G : Ghosts D} (state : D → DiskState) (first : Depot D
     → lines_of taken ≡ map (λ x. x.line) t.exchanges ++ line ∷ []
 last_in state first taken told now line some t = ap lines_of t.read ∙ lines_of-lines t.exchanges line t.whole ∙ ap (λ ls. map (λ x. x.line) t.exchanges ++ ls) (lines_of-last line t.no_end some)
 
--- the last line has no newline
+-- the course with the last line, which has no newline
+last_course : {D : Type 0} {G : Ghosts D} (state : D → DiskState) (first : Depot D) (taken told : List ℕ) (old new : Stage D G) (line text : List ℕ) → 0 < length line → (t : StreamState state first taken told old line) → (goes : Advances state old line text new) → Course None taken taken
+last_course state first taken told old new line text some t goes =
+    let next = goes first t.exchanges t.progress in
+    let x : Exchange = record { line = line; outcome = next.0; text = text } in
+    whole_course taken (t.exchanges ++ x ∷ []) None next.1.each (answered_reads taken t.exchanges x [] (last_in state first taken told old line some t))
+
+-- it is answered
 pub finish_line : {D : Type 0} {G : Ghosts D} (state : D → DiskState) (old new : Stage D G) (line text : List ℕ) → 0 < length line → Advances state old line text new
     → (first : Depot D) (taken told : List ℕ) → StreamState state first taken told old line → Finished state first new taken (told ++ text)
 finish_line state old new line text some goes first taken told t =
     let next = goes first t.exchanges t.progress in
     let x : Exchange = record { line = line; outcome = next.0; text = text } in
     record {
-      course = answered_course state first taken told taken old new line line text [] t goes (last_in state first taken told old line some t);
+      course = last_course state first taken told old new line text some t goes;
       promises = promised state first new (t.exchanges ++ x ∷ []) None next.1;
       all = refl;
       written = ap (λ l. l ++ text) t.written ∙ sym (replies_push t.exchanges x);
@@ -215,26 +244,31 @@ finish_line state old new line text some goes first taken told t =
 
 -- it gets no reply
 drops_last : {D : Type 0} {G : Ghosts D} (state : D → DiskState) (old new : Stage D G) (line : List ℕ) → 0 < length line → Drops state old line new
-    → (first : Depot D) (taken told : List ℕ) → StreamState state first taken told old line → CutShort state first new taken (told ++ [])
+    → (first : Depot D) (taken told : List ℕ) → StreamState state first taken told old line → Halted state first new taken taken (told ++ [])
 drops_last state old new line some drops first taken told t =
     let d = drops first t.exchanges t.progress in
     record {
-      course = record {
-        exchanges = t.exchanges;
-        unanswered = d.unanswered;
-        later = line ∷ [];
-        lines_are = last_in state first taken told old line some t;
-        each = t.progress.each;
-        next = next_is d.unanswered line [] d.means;
-      };
+      course = whole_course taken t.exchanges d.unanswered t.progress.each (record { later = line ∷ []; lines_are = last_in state first taken told old line some t; next = next_is d.unanswered line [] d.means });
       promises = d.promises;
       written = ([], append-nil (told ++ []) ∙ append-nil told ∙ t.written);
     }
 
+-- its reply is written in part
+cut_in_last : {D : Type 0} {G : Ghosts D} (state : D → DiskState) (old new : Stage D G) (line part rest : List ℕ) → 0 < length line → Advances state old line (part ++ rest) new
+    → (first : Depot D) (taken told : List ℕ) → StreamState state first taken told old line → Halted state first new taken taken (told ++ part)
+cut_in_last state old new line part rest some goes first taken told t =
+    let next = goes first t.exchanges t.progress in
+    let x : Exchange = record { line = line; outcome = next.0; text = part ++ rest } in
+    record {
+      course = last_course state first taken told old new line (part ++ rest) some t goes;
+      promises = promised state first new (t.exchanges ++ x ∷ []) None next.1;
+      written = front_written told part rest line t.exchanges next.0 t.written;
+    }
+
 pub finish_cut : {D : Type 0} {G : Ghosts D} (state : D → DiskState) (old new : Stage D G) (line part : List ℕ) → 0 < length line → Halts state old line part new
-    → (first : Depot D) (taken told : List ℕ) → StreamState state first taken told old line → CutShort state first new taken (told ++ part)
+    → (first : Depot D) (taken told : List ℕ) → StreamState state first taken told old line → Halted state first new taken taken (told ++ part)
 finish_cut state old new line part some h first taken told t =
-    elim h as (λ _. CutShort state first new taken (told ++ part)) [
-      | inl silent ↦ subst (λ p. CutShort state first new taken (told ++ p)) (sym silent.0) (drops_last state old new line some silent.1 first taken told t)
-      | inr more ↦ cut_in_reply state first taken told taken old new line line part more.0 [] t more.1 (last_in state first taken told old line some t)
+    elim h as (λ _. Halted state first new taken taken (told ++ part)) [
+      | inl silent ↦ subst (λ p. Halted state first new taken taken (told ++ p)) (sym silent.0) (drops_last state old new line some silent.1 first taken told t)
+      | inr more ↦ cut_in_last state old new line part more.0 some more.1 first taken told t
     ]

@@ -8,7 +8,7 @@ use Rattle.m3_model.specs.declared.answer.Answer.TheVariants as answer
 use Rattle.m3_model.specs.declared.turn.Reply.{Reply}
 use Rattle.m3_model.specs.declared.turn.Reply.TheVariants as reply
 use Rattle.m3_model.specs.declared.turn.Turn.{Turn}
-use Rattle.transcripts.specs.Record.{inner_turns}
+use Rattle.transcripts.specs.Record.{IsAnsweredBy, inner_turns}
 use Rattle.transcripts.specs.Placements.{placement_after, start_placement}
 use Rattle.m3_json.specs.declared.fault.LineErr.TheVariants as fault
 use Rattle.m3_json.specs.Requests.{LineMeans}
@@ -56,12 +56,12 @@ IsRefusal line answer.Form = LineMeans line (Err fault.Form)
 IsRefusal line answer.Later = LineMeans line (Err fault.Later)
 IsRefusal line _ = ⊥
 
--- a blank line is passed over; another one is refused, or is a request that is answered after the turns before it
+-- a blank line is passed over; another one is refused, or is a request that is answered in its own shape, after the turns before it
 abbrev pub IsOutcome : Option MetaState → List Turn → List ℕ → Outcome → List ℕ → Type 0
 IsOutcome start turns line Passed text = (is_blank line ≡ true) × (text ≡ [])
 IsOutcome start turns line (Refused refusal) text = (is_blank line ≡ false) × IsRefusal line refusal × (text ≡ reply_line (known_place start turns) (reply.One refusal))
 IsOutcome start turns line (Answered turn) text =
-    (is_blank line ≡ false) × LineMeans line (Ok turn.request) × (text ≡ reply_line (known_place start (turns ++ turn ∷ [])) turn.reply)
+    (is_blank line ≡ false) × LineMeans line (Ok turn.request) × IsAnsweredBy turn.request turn.reply × (text ≡ reply_line (known_place start (turns ++ turn ∷ [])) turn.reply)
 
 abbrev pub IsExchange : Option MetaState → List Turn → Exchange → Type 0
 IsExchange start turns x = IsOutcome start turns x.line x.outcome x.text

@@ -1,5 +1,5 @@
 -- What counts that stay constant tell of a run.
-use Rattle.std.specs.Prelude.{◌≡◌, List, [], ◌++◌}
+use Rattle.std.specs.Prelude.{◌≡◌, List, []}
 use Rattle.transcripts.specs.Faults.{Fault}
 use Rattle.transcripts.specs.Record.{Record}
 use Rattle.m3_outside.specs.Laws.{IsConstant}
@@ -13,4 +13,4 @@ pub record AreConstant (before now : Counts) : Type 0 where
 
 -- no fault is a cause in a run in which no count rises
 abbrev pub ConstantMeansNoFault : Type 0
-ConstantMeansNoFault = (run : Record) (before now : Counts) (taking failing : List Fault) → AreCauses run before now taking failing → AreConstant before now → taking ++ failing ≡ []
+ConstantMeansNoFault = (run : Record) (before now : Counts) (faults : List Fault) → AreCauses run before now faults → AreConstant before now → faults ≡ []

@@ -1,10 +1,10 @@
 -- The faults that are causes in a run, and the counts of the disks that show them.
-use Rattle.std.specs.Prelude.{◌≡◌, ℕ, ◌+◌, ◌<◌, ⊤, List, ◌++◌, length, Option, Some, None, false, ◌&&◌, nat_eq, count_by}
+use Rattle.std.specs.Prelude.{◌≡◌, ℕ, ◌+◌, ◌<◌, ◌≤◌, ⊤, List, length, Option, Some, None, Bool, true, false, ◌&&◌, nat_eq, count_by}
 use Rattle.std.specs.List.{All}
-use Rattle.transcripts.specs.Faults.{Fault}
+use Rattle.transcripts.specs.Faults.{Fault, FaultKind, Taking, Failing, Damage}
 use Rattle.transcripts.specs.Record.{Record}
 use Rattle.m3_model.specs.declared.turn.Request.{Request}
-use Rattle.m3_outside.specs.Causes.{RoseBy}
+use Rattle.m3_outside.specs.Causes.{RoseBy, last_count}
 use Rattle.m3_outside.specs.DiskState.{DiskState, IsEmpty}
 use Rattle.m3_outside.specs.Slots.{Held, Unused, Here, Out}
 use Rattle.m3_outside.specs.declared.slot.Slot.{Slot}
@@ -30,9 +30,21 @@ pub record Counts : Type 0 where
 abbrev pub counts_of : {D : Type 0} → Depot D → Counts
 counts_of depot = record { all = depot.faults; of_disk = depot.counted }
 
--- how many of these faults are of the slot's disk
-abbrev pub faults_of : Slot → List Fault → ℕ
-faults_of slot faults = count_by (λ f. nat_eq f.node slot.node && nat_eq f.shard slot.shard) faults
+abbrev pub is_taking : FaultKind → Bool
+is_taking Taking = true
+is_taking _ = false
+
+abbrev pub is_failing : FaultKind → Bool
+is_failing Failing = true
+is_failing _ = false
+
+-- how often a disk couldn't be taken, of these faults
+abbrev pub times_untaken : List Fault → ℕ
+times_untaken faults = count_by (λ f. is_taking f.kind) faults
+
+-- how often the disk of this slot failed, of these faults
+abbrev pub times_failed : Slot → List Fault → ℕ
+times_failed slot faults = count_by (λ f. is_failing f.kind && (nat_eq f.node slot.node && nat_eq f.shard slot.shard)) faults
 
 -- one where there is a request, else none
 abbrev pub one_for : Option Request → ℕ
@@ -46,11 +58,12 @@ requests_taken run = length run.turns + one_for run.unanswered
 -- the fault came with one of the requests that the run took, and is no damage
 pub record IsOfRun (run : Record) (fault : Fault) : Type 0 where
   pub in_run : fault.line < requests_taken run
-  pub no_damage : fault.is_damage ≡ false
+  pub undamaged : ¬ (fault.kind ≡ Damage)
 
--- The faults that may be causes in a run, those of taking disks and those of the disks themselves: each is of the run, and they are at most as many as the
--- counts rose: of taking, the count of all faults; of a slot's disk, the count of that disk.
-pub record AreCauses (run : Record) (before now : Counts) (taking failing : List Fault) : Type 0 where
-  pub of_run : All (IsOfRun run) (taking ++ failing)
-  pub of_taking : RoseBy (length taking) before.all now.all
-  pub of_disks : (slot : Slot) → RoseBy (faults_of slot failing) (before.of_disk slot) (now.of_disk slot)
+-- The faults that may be causes in a run of disks that tell: each is of the run. Those of taking disks are at most as many as the count of all faults rose, those
+-- of a slot's disk at most as many as its count rose; and where no count ends at its last value, all of them are at most as many as the count of all rose.
+pub record AreCauses (run : Record) (before now : Counts) (faults : List Fault) : Type 0 where
+  pub of_run : All (IsOfRun run) faults
+  pub of_taking : RoseBy (times_untaken faults) before.all now.all
+  pub of_disks : (slot : Slot) → RoseBy (times_failed slot faults) (before.of_disk slot) (now.of_disk slot)
+  pub of_all : now.all < last_count → ((slot : Slot) → now.of_disk slot < last_count) → before.all + length faults ≤ now.all

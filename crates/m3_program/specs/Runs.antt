@@ -1,5 +1,5 @@
 -- What a run promises of its input and its output.
-use Rattle.std.specs.Prelude.{◌≡◌, ℕ, ◌<◌, ◌^◌, List, [], ◌∷◌, ◌++◌, map, length, Option, Some, None, Ok, if◌then◌else◌, ◌==◌}
+use Rattle.std.specs.Prelude.{◌≡◌, ℕ, ◌<◌, ◌≤◌, ◌^◌, List, [], ◌∷◌, ◌++◌, map, length, Option, Some, None, Ok, if◌then◌else◌, ◌==◌, true}
 use Rattle.m3_model.specs.declared.rules.MetaState.{MetaState}
 use Rattle.m3_model.specs.declared.turn.Request.{Request}
 use Rattle.transcripts.specs.Faults.{Fault}
@@ -30,14 +30,19 @@ IsNext None lines = Unit {0}
 IsNext (Some request) [] = ⊥
 IsNext (Some request) (line ∷ lines) = LineMeans line (Ok request)
 
--- The course of a run that opened with this state: what came of the lines of its input, as far as it got.
-pub record Course (start : Option MetaState) (input : List ℕ) : Type 0 where
+-- These are the first lines of some bytes, and what came of them; the next line is the request that was taken and got no reply, if there is one.
+pub record Reads (bytes : List ℕ) (xs : List Exchange) (unanswered : Option Request) : Type 0 where
+  pub later : List (List ℕ)
+  pub lines_are : lines_of bytes ≡ map (λ x. x.line) xs ++ later
+  pub next : IsNext unanswered later
+
+-- The course of a run that opened with this state and took these bytes of its input: what came of the lines of what it took, as far as it got.
+pub record Course (start : Option MetaState) (input taken : List ℕ) : Type 0 where
   pub exchanges : List Exchange
   pub unanswered : Option Request
-  pub later : List (List ℕ)
-  pub lines_are : lines_of input ≡ map (λ x. x.line) exchanges ++ later
   pub each : AreExchanges start exchanges
-  pub next : IsNext unanswered later
+  pub of_input : Reads input exchanges unanswered
+  pub of_taken : Reads taken exchanges unanswered
 
 -- the record of the run
 abbrev pub record_of : (start : Option MetaState) → List Exchange → Option Request → Record
@@ -46,10 +51,9 @@ record_of start xs unanswered = record { start = start; turns = turns_of xs; una
 -- What holds of a run's record after the earlier runs on the same disks: what its reads keep, and that its answers are caused, over faults that the counts show.
 pub record Promises (before now : Counts) (past : List Record) (present : Record) : Type 0 where
   pub kept : Kept (record { past = past; present = present })
-  pub taking : List Fault
-  pub failing : List Fault
-  pub counted : AreCauses present before now taking failing
-  pub caused : Caused (record { past = past; present = present }) (taking ++ failing)
+  pub faults : List Fault
+  pub counted : AreCauses present before now faults
+  pub caused : Caused true (record { past = past; present = present }) faults
 
 -- what was written is a front of all that was to be written
 abbrev pub IsWrittenOf : List ℕ → List Exchange → Type 0
@@ -65,12 +69,13 @@ GotTo status.Memory taken left written xs later = IsWrittenOf written xs
 GotTo status.Usage taken left written xs later = (taken ≡ []) × (written ≡ [])
 GotTo _ taken left written xs later = ⊥
 
--- What a run did that took this input from a source and wrote this to a sink, over any disks.
+-- What a run did that took at most so much of this input from a source, left the rest, and wrote this to a sink, over any disks.
 pub record Ran (start : Option MetaState) (ended : Status) (input left written : List ℕ) : Type 0 where
   pub taken : List ℕ
   pub parts : input ≡ taken ++ left
-  pub course : Course start input
-  pub got_to : GotTo ended taken left written course.exchanges course.later
+  pub few : length taken ≤ 2 ^ 32
+  pub course : Course start input taken
+  pub got_to : GotTo ended taken left written course.exchanges course.of_input.later
 
 -- The same over disks that were so when the run began and whose faults are counted so now, and what it promises where they tell what they hold and were empty.
 pub record HasRun {D : Type 0} (state : D → DiskState) (first : Depot D) (now : Counts) (past : List Record) (start : Option MetaState) (ended : Status) (input left written : List ℕ) : Type 0 where

@@ -1,8 +1,9 @@
 -- How far reading and writing have come, within a run.
-use Rattle.std.specs.Prelude.{◌≡◌, ℕ, List, [], ◌∷◌, ◌++◌, Option, None, Some, Ok, ◌⊎◌}
+use Rattle.std.specs.Prelude.{◌≡◌, ◌≤◌, ℕ, length, List, [], ◌∷◌, ◌++◌, Option, None, Some, Ok, ◌⊎◌}
 use Rattle.std.specs.List.{flat_map}
 use Rattle.m3_model.specs.Members.{IsIn}
 use Rattle.m3_model.specs.declared.turn.Request.{Request}
+use Rattle.m3_model.specs.declared.turn.Turn.{Turn}
 use Rattle.m3_outside.specs.DiskState.{DiskState}
 use Rattle.m3_outside.specs.declared.disk.Disk.{Ghosts}
 use Rattle.m3_outside.specs.Slots.{Held}
@@ -10,11 +11,11 @@ use Rattle.m3_outside.specs.declared.slot.Slot.{Slot}
 use Rattle.m3_json.specs.Requests.{LineMeans}
 use Rattle.m3_outside.specs.Depots.{Depot}
 use Rattle.m3_cluster.specs.declared.cluster.Cluster.{Cluster}
-use Rattle.m3_cluster.specs.Serves.{Serves, machine_at, place_of}
-use Rattle.m3_cluster.specs.Depots.{count_at}
+use Rattle.m3_cluster.specs.Serves.{Serves, place_of}
 use Rattle.m3_program.specs.Exchanges.{Exchange, Outcome, AreExchanges, known_place, turns_of, replies_text}
-use Rattle.m3_program.specs.Faults.{AreEmpty, Counts, counts_of}
-use Rattle.m3_program.specs.Runs.{Course, Promises, IsWrittenOf, record_of}
+use Rattle.m3_program.specs.Faults.{AreEmpty, one_for}
+use Rattle.m3_program.specs.Runs.{Course, IsWrittenOf, Ran, Reads}
+use Rattle.m3_program.specs.declared.status.Status.{Status}
 
 -- ---- how a run stands
 
@@ -25,13 +26,6 @@ pub record Stage (D : Type 0) (G : Ghosts D) : Type 0 where
 
 abbrev pub stage : {D : Type 0} {G : Ghosts D} → Cluster D G → (Slot → Held D) → (Slot → ℕ) → ℕ → Stage D G
 stage cluster held counted faults = record { cluster = cluster; depot = record { held = held; counted = counted; faults = faults } }
-
--- how many faults of a slot's disk are counted now; a disk that the cluster has counts its own
-abbrev pub count_now : {D : Type 0} {G : Ghosts D} → (D → DiskState) → Stage D G → Slot → ℕ
-count_now state now slot = count_at state now.depot (machine_at now.cluster (record { shard = slot.shard; node = slot.node })) (record { shard = slot.shard; node = slot.node })
-
-abbrev pub counts_at : {D : Type 0} {G : Ghosts D} → (D → DiskState) → Stage D G → Counts
-counts_at state now = record { all = now.depot.faults; of_disk = count_now state now }
 
 -- no request was served yet: no placement was printed, and where the disks are empty there is nothing that was to be kept
 pub record IsFresh {D : Type 0} {G : Ghosts D} (state : D → DiskState) (c : Cluster D G) : Type 0 where
@@ -44,9 +38,15 @@ pub record Progress {D : Type 0} {G : Ghosts D} (state : D → DiskState) (first
   pub place : known_place None (turns_of xs) ≡ place_of now.cluster
   pub serves : AreEmpty state first.held → Serves state first now.depot (turns_of xs) now.cluster
 
--- what the run promises after these exchanges, and with this request taken
+-- the turns of these exchanges were served, and one more at most, of the request that was taken and got no reply
+pub record IsServed {D : Type 0} {G : Ghosts D} (state : D → DiskState) (first : Depot D) (now : Stage D G) (xs : List Exchange) (unanswered : Option Request) : Type 0 where
+  pub more : List Turn
+  pub few : length more ≤ one_for unanswered
+  pub serves : Serves state first now.depot (turns_of xs ++ more) now.cluster
+
+-- so it is where the disks tell and were empty
 abbrev pub PromisesSo : {D : Type 0} {G : Ghosts D} → (D → DiskState) → Depot D → Stage D G → List Exchange → Option Request → Type 0
-PromisesSo state first now xs unanswered = AreEmpty state first.held → Promises (counts_of first) (counts_at state now) [] (record_of None xs unanswered)
+PromisesSo state first now xs unanswered = AreEmpty state first.held → IsServed state first now xs unanswered
 
 -- ---- one line
 
@@ -91,25 +91,38 @@ pub record StreamState {D : Type 0} {G : Ghosts D} (state : D → DiskState) (fi
   pub no_end : NoNewline line
   pub written : told ≡ replies_text exchanges
 
--- The run was cut short: what is written is a front of the replies to lines of the input.
-pub record CutShort {D : Type 0} {G : Ghosts D} (state : D → DiskState) (first : Depot D) (now : Stage D G) (input told : List ℕ) : Type 0 where
-  pub course : Course None input
+-- The run is cut short, whatever is left of its input: what is written is a front of the replies to lines of what it took.
+pub record CutShort {D : Type 0} {G : Ghosts D} (state : D → DiskState) (first : Depot D) (now : Stage D G) (taken told : List ℕ) : Type 0 where
+  pub exchanges : List Exchange
+  pub unanswered : Option Request
+  pub each : AreExchanges None exchanges
+  pub reads : (left : List ℕ) → Reads (taken ++ left) exchanges unanswered
+  pub promises : PromisesSo state first now exchanges unanswered
+  pub written : IsWrittenOf told exchanges
+
+-- The run ended before all replies were written.
+pub record Halted {D : Type 0} {G : Ghosts D} (state : D → DiskState) (first : Depot D) (now : Stage D G) (input taken told : List ℕ) : Type 0 where
+  pub course : Course None input taken
   pub promises : PromisesSo state first now course.exchanges course.unanswered
   pub written : IsWrittenOf told course.exchanges
 
 -- The run came to the end of its input: all replies are written.
 pub record Finished {D : Type 0} {G : Ghosts D} (state : D → DiskState) (first : Depot D) (now : Stage D G) (input told : List ℕ) : Type 0 where
-  pub course : Course None input
+  pub course : Course None input input
   pub promises : PromisesSo state first now course.exchanges course.unanswered
-  pub all : course.later ≡ []
+  pub all : course.of_input.later ≡ []
   pub written : told ≡ replies_text course.exchanges
+
+-- What a run did over disks that were so when it began and are so now, before they are given back.
+pub record HasServed {D : Type 0} {G : Ghosts D} (state : D → DiskState) (first : Depot D) (now : Stage D G) (ended : Status) (input left written : List ℕ) : Type 0 where
+  pub ran : Ran None ended input left written
+  pub promises : PromisesSo state first now ran.course.exchanges ran.course.unanswered
 
 -- reading goes on by a piece
 abbrev pub TakesOn : {D : Type 0} {G : Ghosts D} → (D → DiskState) → Stage D G → List ℕ → List ℕ → List ℕ → Stage D G → List ℕ → Type 0
 TakesOn {D} state old line piece text new line2 =
     (first : Depot D) (taken told : List ℕ) → StreamState state first taken told old line → StreamState state first (taken ++ piece) (told ++ text) new line2
 
--- it is cut short within a piece, whatever is left after it
+-- it is cut short within a piece
 abbrev pub Cuts : {D : Type 0} {G : Ghosts D} → (D → DiskState) → Stage D G → List ℕ → List ℕ → List ℕ → Stage D G → Type 0
-Cuts {D} state old line piece part new =
-    (first : Depot D) (taken told left : List ℕ) → StreamState state first taken told old line → CutShort state first new ((taken ++ piece) ++ left) (told ++ part)
+Cuts {D} state old line piece part new = (first : Depot D) (taken told : List ℕ) → StreamState state first taken told old line → CutShort state first new (taken ++ piece) (told ++ part)

@@ -5,7 +5,7 @@ ghost use Rattle.m3_outside.specs.declared.slot.Slot.{Slot};
 ghost use Rattle.m3_outside.specs.Depots.{Depot};
 ghost use Rattle.m3_cluster.specs.Depots.{OwnsDisks};
 ghost use Rattle.m3_program.specs.Words.{is_run};
-ghost use Rattle.m3_program.specs.Streams.{StreamState, TakesOn, Cuts, CutShort, Finished, IsFresh, counts_at, stage};
+ghost use Rattle.m3_program.specs.Streams.{StreamState, TakesOn, Cuts, Halted, Finished, HasServed, IsFresh, stage};
 ghost use Rattle.m3_program.specs.Causes.{EndsLine, EndsStep, EndsRun};
 ghost use Rattle.m3_program.specs.Runs.{HasRun};
 
@@ -41,7 +41,7 @@ fn serve_read<S: Source, K: Sink, X: Disks>(
         × TakesOn X.D.state (stage cluster.old (X.held disks.old) (X.counted disks.old) (X.all_faults disks.old)) line.old.items piece text
         (stage cluster.new (X.held disks.new) (X.counted disks.new) (X.all_faults disks.new)) line.new.items
         × (n ≡ 0 → 0 < length buf.old → IsAtEnd (S.left source.new))) }
-    ensures err { OnErr result ((piece part : List ℕ) × Consumes (S.left source.old) (S.left source.new) piece
+    ensures err { OnErr result ((piece part : List ℕ) × Consumes (S.left source.old) (S.left source.new) piece × (length piece ≤ length buf.old)
         × Appends (K.written out.old) (K.written out.new) part
         × Cuts X.D.state (stage cluster.old (X.held disks.old) (X.counted disks.old) (X.all_faults disks.old)) line.old.items piece part
         (stage cluster.new (X.held disks.new) (X.counted disks.new) (X.all_faults disks.new))) }
@@ -72,7 +72,7 @@ fn serve_last<K: Sink, X: Disks>(
         → Finished X.D.state first (stage cluster.new (X.held disks.new) (X.counted disks.new) (X.all_faults disks.new)) taken (told ++ text))) }
     ensures err { OnErr result ((part : List ℕ) × Appends (K.written out.old) (K.written out.new) part
         × ((first : Depot X.D) (taken told : List ℕ) → StreamState X.D.state first taken told (stage cluster.old (X.held disks.old) (X.counted disks.old) (X.all_faults disks.old)) line.now
-        → CutShort X.D.state first (stage cluster.new (X.held disks.new) (X.counted disks.new) (X.all_faults disks.new)) taken (told ++ part))) }
+        → Halted X.D.state first (stage cluster.new (X.held disks.new) (X.counted disks.new) (X.all_faults disks.new)) taken taken (told ++ part))) }
     ensures owned { OwnsDisks cluster.new (X.held disks.new) }
     ensures later { (K.faulted out.old ≤ K.faulted out.new) × (K.stalled out.old ≤ K.stalled out.new) }
     ensures cause { IfErr result (λ s. EndsLine s (K.faulted out.old) (K.faulted out.new) (K.stalled out.old) (K.stalled out.new)) }
@@ -106,8 +106,8 @@ fn serve_all<S: Source, K: Sink, X: Disks>(
     requires owned { OwnsDisks cluster.old (X.held disks.old) }
     ensures told { (input before : List ℕ) → S.left source.old ≡ Some input → K.written out.old ≡ Some before
         → (left written : List ℕ) × (S.left source.new ≡ Some left) × (K.written out.new ≡ Some (before ++ written))
-        × HasRun X.D.state (record { held = X.held disks.old; counted = X.counted disks.old; faults = X.all_faults disks.old })
-        (counts_at X.D.state (stage cluster.new (X.held disks.new) (X.counted disks.new) (X.all_faults disks.new))) [] None result input left written }
+        × HasServed X.D.state (record { held = X.held disks.old; counted = X.counted disks.old; faults = X.all_faults disks.old })
+        (stage cluster.new (X.held disks.new) (X.counted disks.new) (X.all_faults disks.new)) result input left written }
     ensures owned { OwnsDisks cluster.new (X.held disks.new) }
     ensures cause { EndsRun true result (S.faulted source.old) (S.faulted source.new) (K.faulted out.old) (K.faulted out.new) (K.stalled out.old) (K.stalled out.new) }
 {

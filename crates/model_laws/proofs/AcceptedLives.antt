@@ -5,6 +5,7 @@ use Rattle.std.proofs.lemmas.Int.{ints}
 use Rattle.transcripts.specs.Kept.{Kept}
 use Rattle.model_laws.specs.Building.{life_of}
 use Rattle.model_laws.specs.Accepted.{write_then_read, three_values, two_ranges, until_expiry, after_cut, write_beside, edge_writes, unmet_then_read}
+use Rattle.model_laws.specs.Refused.{own_write, own_later_write}
 use Rattle.model_laws.proofs.EachLemmas.{◌also◌}
 use Rattle.model_laws.proofs.PlaceLemmas.{kept_by_places, no_read, only}
 use Rattle.model_laws.proofs.ReadLemmas.{kept_each, ordered_point, ordered_pair, ordered_none, covered_by}
@@ -164,4 +165,34 @@ unmet_then_read-not_found =
     also only (no_read _ _ _ refl)
     also only (no_read _ _ _ refl)
     also only (kept_each _ _ _ _ _ refl refl tt tt ordered_none)
+    also tt)
+
+-- a client's own writes, before and after its fetch
+pub own_write-found : Kept (life_of (own_write ((100, pos 5) ∷ [])))
+own_write-found =
+    kept_by_places (life_of (own_write ((100, pos 5) ∷ []))) (
+    only (no_read _ _ _ refl)
+    also only (no_read _ _ _ refl)
+    also only (no_read _ _ _ refl)
+    also (
+    (no_read _ _ _ refl
+    also kept_each _ _ _ _ _ refl refl
+    ((λ s. covered_by _ _ (pos 5) (omega (arith, ints)) (inl refl)) also tt)
+    ((inl refl, sought 100 0 200 100 (pos 5) (omega arith) (omega arith) (omega arith)) also tt)
+    (ordered_point _ _ _)
+    also tt)
+    also tt)
+    also tt)
+
+pub own_later_write-nothing : Kept (life_of (own_later_write []))
+own_later_write-nothing =
+    kept_by_places (life_of (own_later_write [])) (
+    only (no_read _ _ _ refl)
+    also only (no_read _ _ _ refl)
+    also only (no_read _ _ _ refl)
+    also (
+    (kept_each _ _ _ _ _ refl refl tt tt ordered_none
+    also no_read _ _ _ refl
+    also tt)
+    also tt)
     also tt)

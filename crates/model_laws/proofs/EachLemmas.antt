@@ -1,5 +1,5 @@
 -- Facts of each element of a list that is written out.
-use Rattle.std.proofs.Common.{◌≡◌, ◌≢◌, ◌∙◌, sym, true, false, nat_eq, ℕ, List, [], ◌∷◌, refl, subst, ap, inl, inr}
+use Rattle.std.proofs.Common.{◌≡◌, ◌≢◌, ◌∙◌, sym, Bool, true, false, nat_eq, ℕ, List, [], ◌∷◌, refl, subst, ap, inl, inr, ◌&&◌}
 use Rattle.std.specs.Prelude.{Some}
 use Rattle.std.specs.Cmp.Lexicographic.{pointwise}
 use Rattle.m3_model.specs.Ascends.{Ascends}
@@ -40,3 +40,7 @@ pub texts_differ : (a b : List ℕ) → pointwise nat_eq a a ≡ true → pointw
 texts_differ a b same other e =
     let clash : true ≡ false = sym same ∙ ap (pointwise nat_eq a) e ∙ other in
     cc
+
+pub and_parts : (a b : Bool) → a && b ≡ true → (a ≡ true) × (b ≡ true)
+and_parts true b e = (refl, e)
+and_parts false b e = cc

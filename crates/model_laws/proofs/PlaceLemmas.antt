@@ -1,20 +1,31 @@
 -- All places of a run, one after the other, in place of a claim about any place.
-use Rattle.std.proofs.Common.{◌≡◌, List, [], ◌∷◌, ◌++◌, length, refl, sym, ap, ◌∙◌, subst, append_assoc}
+use Rattle.std.proofs.Common.{◌≡◌, ◌≢◌, Bool, true, false, List, [], ◌∷◌, ◌++◌, length, refl, sym, ap, ◌∙◌, subst, inl, inr, append_assoc}
 use Rattle.std.specs.Prelude.{Option, Some, None}
-use Rattle.transcripts.specs.Record.{Record, Life, TurnPlace, IsTurnPlace, client_at, lists_of, joined}
+use Rattle.std.specs.List.{list_all}
+use Rattle.m3_model.specs.Members.{IsIn}
+use Rattle.transcripts.specs.Record.{Record, Life, InnerTurn, TurnPlace, IsTurnPlace, IsInLine, IsAfter, AreSomeOf, client_at, lists_of, joined, inner_turns}
 use Rattle.transcripts.specs.Rules.{rules_at}
+use Rattle.transcripts.specs.Placements.{MayStand, placement_after, start_placement}
 use Rattle.transcripts.specs.Points.{sent_at, acked_at}
 use Rattle.m3_model.specs.Reads.{Read, Found, read_of, found_of}
 use Rattle.transcripts.specs.Kept.{Kept, KeptAt, KeepsRead, KeepsPoints}
-use Rattle.transcripts.specs.Caused.{Caused, CausedAt}
+use Rattle.transcripts.specs.Caused.{Caused, CausedAt, IsDueBy, IsRefusedWhole, refusal_after}
+use Rattle.transcripts.specs.Deliveries.{LateMessage, IsSameMessage, IsSamePlace}
 use Rattle.transcripts.specs.Faults.{Fault, AreDifferent}
 use Rattle.m3_model.specs.declared.rules.MetaState.{MetaState}
+use Rattle.m3_model.specs.declared.placement.Placement.{Placement}
 use Rattle.m3_model.specs.declared.turn.Turn.{Turn}
+use Rattle.m3_model.specs.declared.turn.Request.{Request}
+use Rattle.m3_model.specs.declared.turn.Request.TheVariants as request
+use Rattle.m3_model.specs.declared.turn.Reply.{Reply}
+use Rattle.m3_model.specs.declared.turn.Reply.TheVariants as reply
 use Rattle.m3_model.specs.declared.act.Act.{Act}
 use Rattle.m3_model.specs.declared.answer.Answer.{Answer}
+use Rattle.m3_model.specs.declared.answer.Answer.TheVariants as answer
 use Rattle.m3_model.proofs.SplitLemmas.{not_empty}
-use Rattle.model_laws.proofs.EachLemmas.{same_of_some}
-use Rattle.model_laws.specs.Building.{line}
+use Rattle.model_laws.proofs.EachLemmas.{same_of_some, and_parts}
+pub use Rattle.model_laws.specs.Building.{place_after}
+use Rattle.model_laws.specs.Building.{line, life_of}
 
 -- a fact of each element with what stands before and behind it
 abbrev pub EachSplit : {X : Type 0} → (List X → X → List X → Type 0) → List X → List X → Type 0
@@ -36,39 +47,137 @@ each_split Q front (x ∷ xs) (y ∷ ys) z zs each e =
     let rest : xs ≡ ys ++ z ∷ zs = cc in
     subst (λ ws. Q ws z zs) (append_assoc front (x ∷ []) ys ∙ ap (λ w. front ++ w ∷ ys) same) (each_split Q (front ++ x ∷ []) xs ys z zs each.1 rest)
 
+-- the place of a turn in a line
+abbrev pub place_in : List Turn → Turn → List (List InnerTurn) → List (List InnerTurn) → List InnerTurn → InnerTurn → TurnPlace
+place_in lines line front back earlier turn = record { lines = lines; line = line; client = client_at line.request (length front); earlier = earlier; beside = joined front ++ joined back; turn = turn }
+
 -- a fact of each place of one line
 abbrev pub EachInLine : (TurnPlace → Type 0) → List Turn → Turn → Type 0
-EachInLine P lines line =
-    EachSplit (λ front list back. EachSplit (λ earlier turn later. P (record { lines = lines; client = client_at line.request (length front); earlier = earlier; beside = joined front ++ joined back; turn = turn })) [] list) [] (lists_of line)
+EachInLine P lines line = EachSplit (λ front list back. EachSplit (λ earlier turn later. P (place_in lines line front back earlier turn)) [] list) [] (lists_of line)
 
 -- a fact of each place of a run
 abbrev pub EachInRun : (TurnPlace → Type 0) → List Turn → Type 0
 EachInRun P turns = EachSplit (λ lines line after. EachInLine P lines line) [] turns
 
+pub each_in_line : (P : TurnPlace → Type 0) (p : TurnPlace) → EachInLine P p.lines p.line → IsInLine p → P p
+each_in_line P p each s =
+    let in_list = each_split (λ front list back. EachSplit (λ earlier turn later. P (place_in p.lines p.line front back earlier turn)) [] list) [] (lists_of p.line) s.front (p.earlier ++ p.turn ∷ s.later) s.back each s.in_line in
+    let here = each_split (λ earlier turn later. P (place_in p.lines p.line s.front s.back earlier turn)) [] (p.earlier ++ p.turn ∷ s.later) p.earlier p.turn s.later in_list refl in
+    subst (λ client. P (record { lines = p.lines; line = p.line; client = client; earlier = p.earlier; beside = p.beside; turn = p.turn })) (sym s.client_is)
+    (subst (λ beside. P (record { lines = p.lines; line = p.line; client = client_at p.line.request (length s.front); earlier = p.earlier; beside = beside; turn = p.turn })) (sym s.others) here)
+
 pub each_place : (P : TurnPlace → Type 0) (turns : List Turn) → EachInRun P turns → (p : TurnPlace) → IsTurnPlace turns p → P p
-each_place P turns each p h =
-    let in_line : EachInLine P p.lines h.line = each_split (λ lines line after. EachInLine P lines line) [] turns p.lines h.line h.after each h.in_run in
-    let in_list = each_split (λ front list back. EachSplit (λ earlier turn later. P (record { lines = p.lines; client = client_at h.line.request (length front); earlier = earlier; beside = joined front ++ joined back; turn = turn })) [] list) [] (lists_of h.line) h.front (p.earlier ++ p.turn ∷ h.later) h.back in_line h.in_line in
-    let here = each_split (λ earlier turn later. P (record { lines = p.lines; client = client_at h.line.request (length h.front); earlier = earlier; beside = joined h.front ++ joined h.back; turn = turn })) [] (p.earlier ++ p.turn ∷ h.later) p.earlier p.turn h.later in_list refl in
-    subst (λ client. P (record { lines = p.lines; client = client; earlier = p.earlier; beside = p.beside; turn = p.turn })) (sym h.client_is)
-    (subst (λ beside. P (record { lines = p.lines; client = client_at h.line.request (length h.front); earlier = p.earlier; beside = beside; turn = p.turn })) (sym h.others) here)
+each_place P turns each p h = each_in_line P p (each_split (λ lines line after. EachInLine P lines line) [] turns p.lines p.line h.after each h.in_run) h.stands
 
 pub kept_by_places : (life : Life) → EachInRun (KeptAt life.past life.present.start) life.present.turns → Kept life
 kept_by_places life each = each_place (KeptAt life.past life.present.start) life.present.turns each
 
-pub caused_by_places : (faults : List Fault) (life : Life) → AreDifferent faults → EachInRun (CausedAt faults life.present.start) life.present.turns → Caused life faults
-caused_by_places faults life different each = record { different = different; each = each_place (CausedAt faults life.present.start) life.present.turns each }
+-- the line isn't refused as a whole with `order`
+abbrev pub is_not_whole : Turn → Bool
+is_not_whole line = told line.request line.reply
+  where
+    told : Request → Reply → Bool
+    told (request.Par clients workers) (reply.One answer.Order) = false
+    told _ _ = true
+
+not_whole : (start : Option MetaState) (before : List Turn) (asked : Request) (replied : Reply) → is_not_whole (record { request = asked; reply = replied }) ≡ true → IsRefusedWhole start before asked replied
+not_whole start before (request.Par clients workers) (reply.One answer.Order) e = cc
+not_whole start before (request.Par clients workers) (reply.One _) e = tt
+not_whole start before (request.Par clients workers) (reply.Par for_clients for_workers) e = tt
+not_whole start before (request.One a) replied e = tt
+
+-- none of these lines is
+none_whole : (start : Option MetaState) (front turns : List Turn) → list_all is_not_whole turns ≡ true → EachSplit (λ before line after. IsRefusedWhole start before line.request line.reply) front turns
+none_whole start front [] each = tt
+none_whole start front (line ∷ turns) each =
+    let both = and_parts (is_not_whole line) (list_all is_not_whole turns) each in
+    (not_whole start front line.request line.reply both.0, none_whole start (front ++ line ∷ []) turns both.1)
+
+-- which late messages are delivered where, and where they are
+abbrev pub DeliversOnce : List Turn → (TurnPlace → List LateMessage) → Type 0
+DeliversOnce turns delivered = (p q : TurnPlace) → IsTurnPlace turns p → IsTurnPlace turns q → (a b : LateMessage) → IsIn (delivered p) a → IsIn (delivered q) b → IsSameMessage a b → IsSamePlace p q
+
+pub caused_over : (tells : Bool) (faults : List Fault) (life : Life) (delivered : TurnPlace → List LateMessage) → AreDifferent faults → EachSplit (λ before line after. IsRefusedWhole life.present.start before line.request line.reply) [] life.present.turns
+    → DeliversOnce life.present.turns delivered → EachInRun (λ p. CausedAt tells faults life.past life.present.start (delivered p) p) life.present.turns → Caused tells life faults
+caused_over tells faults life delivered different whole once each = record {
+  different = different;
+  delivered = delivered;
+  each = each_place (λ p. CausedAt tells faults life.past life.present.start (delivered p) p) life.present.turns each;
+  once = once;
+  whole = λ before line after e. each_split (λ front x back. IsRefusedWhole life.present.start front x.request x.reply) [] life.present.turns before line after whole e;
+}
+
+-- where no line is refused as a whole with `order`
+pub caused_with : (tells : Bool) (faults : List Fault) (life : Life) (delivered : TurnPlace → List LateMessage) → AreDifferent faults → list_all is_not_whole life.present.turns ≡ true → DeliversOnce life.present.turns delivered
+    → EachInRun (λ p. CausedAt tells faults life.past life.present.start (delivered p) p) life.present.turns → Caused tells life faults
+caused_with tells faults life delivered different single once each = caused_over tells faults life delivered different (none_whole life.present.start [] life.present.turns single) once each
+
+-- where no late messages are delivered
+pub caused_by_places : (tells : Bool) (faults : List Fault) (life : Life) → AreDifferent faults → list_all is_not_whole life.present.turns ≡ true → EachInRun (CausedAt tells faults life.past life.present.start []) life.present.turns → Caused tells life faults
+caused_by_places tells faults life different single each = caused_with tells faults life (λ p. []) different single (λ p q of_p of_q a b in_p in_q same. absurd in_p) each
 
 -- the only one of its kind, as the act of a line outside `par`
 pub only : {A : Type 0} → A → (A × Unit {0}) × Unit {0}
 only a = ((a, tt), tt)
 
--- the place of an act outside `par`
-abbrev pub place_after : List Turn → Act → Answer → TurnPlace
-place_after lines a b = record { lines = lines; client = 0; earlier = []; beside = []; turn = record { act = a; answer = b } }
+pub only_in_line : (lines : List Turn) (a : Act) (b : Answer) → IsInLine (place_after lines a b)
+only_in_line lines a b = record { front = []; later = []; back = []; in_line = refl; others = refl; client_is = refl }
 
 pub place_after-stands : (lines : List Turn) (a : Act) (b : Answer) (after : List Turn) → IsTurnPlace (lines ++ line a b ∷ after) (place_after lines a b)
-place_after-stands lines a b after = record { line = line a b; after = after; front = []; later = []; back = []; in_run = refl; in_line = refl; others = refl; client_is = refl }
+place_after-stands lines a b after = record { after = after; in_run = refl; stands = only_in_line lines a b }
+
+-- outside `par` an answer is given after all lines before
+pub only_after : (lines : List Turn) (a : Act) (b : Answer) (turns : List InnerTurn) → IsAfter (place_after lines a b) turns → turns ≡ inner_turns lines
+only_after lines a b turns after = after.are ∙ ap (λ xs. inner_turns lines ++ xs) (none_of after.others after.some_of) ∙ append_nil (inner_turns lines)
+  where
+    none_of : (others : List InnerTurn) → AreSomeOf others [] → others ≡ []
+    none_of [] some = refl
+    none_of (x ∷ others) some = absurd some
+
+pub after_all : (lines : List Turn) (a : Act) (b : Answer) → IsAfter (place_after lines a b) (inner_turns lines)
+after_all lines a b = record { others = []; some_of = tt; are = sym (append_nil (inner_turns lines)) }
+
+-- an answer that is due after all that is before it has its cause
+pub due_beside : (tells : Bool) (faults : List Fault) (messages : List LateMessage) (p : TurnPlace) → IsDueBy tells faults None messages p (refusal_after None p (inner_turns p.lines ++ (p.earlier ++ []))) → CausedAt tells faults [] None messages p
+due_beside tells faults messages p here = inr (inr (inner_turns p.lines ++ (p.earlier ++ []), record { others = []; some_of = tt; are = refl }, here))
+
+-- an answer that is due outside `par` has its cause
+pub due_from : (tells : Bool) (faults : List Fault) (past : List Record) (start : Option MetaState) (messages : List LateMessage) (lines : List Turn) (a : Act) (b : Answer)
+    → IsDueBy tells faults start messages (place_after lines a b) (refusal_after start (place_after lines a b) (inner_turns lines)) → CausedAt tells faults past start messages (place_after lines a b)
+due_from tells faults past start messages lines a b here = inr (inr (inner_turns lines, after_all lines a b, here))
+
+pub due : (tells : Bool) (faults : List Fault) (messages : List LateMessage) (lines : List Turn) (a : Act) (b : Answer)
+    → IsDueBy tells faults None messages (place_after lines a b) (refusal_after None (place_after lines a b) (inner_turns lines)) → CausedAt tells faults [] None messages (place_after lines a b)
+due tells faults messages lines a b here = due_from tells faults [] None messages lines a b here
+
+-- an answer that isn't want of memory, and doesn't say that the list of events is full, is the one that is due
+pub due_here : (tells : Bool) (faults : List Fault) (past : List Record) (start : Option MetaState) (messages : List LateMessage) (lines : List Turn) (a : Act) (b : Answer) → b ≢ answer.Memory → b ≢ answer.Full
+    → CausedAt tells faults past start messages (place_after lines a b) → IsDueBy tells faults start messages (place_after lines a b) (refusal_after start (place_after lines a b) (inner_turns lines))
+due_here tells faults past start messages lines a b not_memory not_full here =
+    let p = place_after lines a b in
+    elim here as (λ _. IsDueBy tells faults start messages p (refusal_after start p (inner_turns lines))) [
+      | inl e ↦ absurd (not_memory e)
+      | inr told ↦ elim told as (λ _. IsDueBy tells faults start messages p (refusal_after start p (inner_turns lines))) [
+        | inl full ↦ absurd (not_full full.0)
+        | inr is_due ↦ subst (λ turns. IsDueBy tells faults start messages p (refusal_after start p turns)) (only_after lines a b is_due.0 is_due.1) is_due.2
+      ]
+    ]
+
+pub due_after : {tells : Bool} {faults : List Fault} (lines : List Turn) (a : Act) (b : Answer) (after : List Turn) → b ≢ answer.Memory → b ≢ answer.Full → (caused : Caused tells (life_of (lines ++ line a b ∷ after)) faults)
+    → IsDueBy tells faults None (caused.delivered (place_after lines a b)) (place_after lines a b) (refusal_after None (place_after lines a b) (inner_turns lines))
+due_after {tells} {faults} lines a b after not_memory not_full caused =
+    due_here tells faults [] None (caused.delivered (place_after lines a b)) lines a b not_memory not_full (caused.each (place_after lines a b) (place_after-stands lines a b after))
+
+-- the placement that stands after the lines before is the one that a request outside `par` meets
+pub stands_then : (lines : List Turn) (a : Act) (b : Answer) (x : Placement) → placement_after None (inner_turns lines) ≡ Some x → MayStand None (place_after lines a b) x
+stands_then lines a b x stood = (inner_turns lines, after_all lines a b, stood)
+
+-- and no other one
+pub used_from : (start : Option MetaState) (lines : List Turn) (a : Act) (b : Answer) (x used : Placement) → placement_after (start_placement start) (inner_turns lines) ≡ Some x → MayStand start (place_after lines a b) used → x ≡ used
+used_from start lines a b x used stood may = same_of_some x used (sym stood ∙ subst (λ turns. placement_after (start_placement start) turns ≡ Some used) (only_after lines a b may.0 may.1) may.2)
+
+pub only_used : (lines : List Turn) (a : Act) (b : Answer) (x used : Placement) → placement_after None (inner_turns lines) ≡ Some x → MayStand None (place_after lines a b) used → x ≡ used
+only_used lines a b x used stood may = used_from None lines a b x used stood may
 
 -- what finds nothing keeps all
 pub no_read : (past : List Record) (start : Option MetaState) (p : TurnPlace) → found_of p.turn.answer ≡ None → KeptAt past start p

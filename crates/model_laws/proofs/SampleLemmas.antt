@@ -12,7 +12,7 @@ use Rattle.transcripts.specs.Placements.{placement_after, seed_after}
 use Rattle.transcripts.specs.Points.{sent_at, acked_at}
 use Rattle.m3_model.specs.Reads.{Read, Found, read_of, IsSought}
 use Rattle.transcripts.specs.Kept.{Kept, KeepsPoints}
-use Rattle.transcripts.specs.Waiting.{waits_after}
+use Rattle.transcripts.specs.Waiting.{Replica, waiting_after}
 use Rattle.transcripts.specs.Fates.{numbering_after, call_number, fate_in, fate_at, is_stopped, is_reached, reaches}
 use Rattle.m3_model.specs.Delivery.{is_cut}
 use Rattle.std.specs.Option.{option_map_or}
@@ -27,12 +27,16 @@ use Rattle.m3_model.specs.declared.rules.Rules.{Rules}
 use Rattle.m3_model.specs.declared.act.ReadLevel.TheVariants as read_level
 use Rattle.m3_model.specs.declared.turn.Turn.{Turn}
 use Rattle.model_laws.specs.Building.{space, place, line, fetch, matching, found, life_of}
-use Rattle.model_laws.proofs.EachLemmas.{same_of_some}
+use Rattle.model_laws.proofs.EachLemmas.{Each, same_of_some}
 use Rattle.model_laws.proofs.PlaceLemmas.{place_after, place_after-stands, points_kept}
 
 -- the rules with the one namespace at a moment
 abbrev pub rules_when : ℕ → Rules
 rules_when now = record { now = now; spaces = space ∷ [] }
+
+-- the replica of a node, which has this name, for the only shard
+abbrev pub of_shard : ℕ → List ℕ → Replica
+of_shard node name = record { shard = 0; node = node; name = name }
 
 -- the cluster stands after these lines, with these rules
 pub record StandsAt (lines : List Turn) (rules : Rules) : Type 0 where
@@ -41,10 +45,10 @@ pub record StandsAt (lines : List Turn) (rules : Rules) : Type 0 where
   pub seed_is : seed_after None (inner_turns lines) ≡ 0
   pub no_fates : (numbering_after 0 lines).fates ≡ []
   pub none_stopped : (name : List ℕ) → is_stopped (inner_turns lines) name ≡ false
-  pub none_waits : (name : List ℕ) (shard : ℕ) → waits_after false (inner_turns lines) name shard ≡ false
+  pub none_waits : (name : List ℕ) → Each (λ node. (waiting_after (of_shard node name) None lines).waits ≡ false) (0 ∷ 1 ∷ 2 ∷ [])
 
 pub stands : {lines : List Turn} {rules : Rules} → placement_after None (inner_turns lines) ≡ Some place → rules_after (start_rules None) (inner_turns lines) ≡ rules → seed_after None (inner_turns lines) ≡ 0
-    → (numbering_after 0 lines).fates ≡ [] → ((name : List ℕ) → is_stopped (inner_turns lines) name ≡ false) → ((name : List ℕ) (shard : ℕ) → waits_after false (inner_turns lines) name shard ≡ false) → StandsAt lines rules
+    → (numbering_after 0 lines).fates ≡ [] → ((name : List ℕ) → is_stopped (inner_turns lines) name ≡ false) → ((name : List ℕ) → Each (λ node. (waiting_after (of_shard node name) None lines).waits ≡ false) (0 ∷ 1 ∷ 2 ∷ [])) → StandsAt lines rules
 stands place_is rules_is seed_is no_fates none_stopped none_waits = record { place_is = place_is; rules_is = rules_is; seed_is = seed_is; no_fates = no_fates; none_stopped = none_stopped; none_waits = none_waits }
 
 -- nothing is lost or late then

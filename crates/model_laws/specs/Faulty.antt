@@ -1,6 +1,7 @@
 -- Transcripts with disks that fail, nodes that are restarted and replicas that bootstrap: some whose answers have their causes, and some that are broken in one way.
-use Rattle.std.specs.Prelude.{ℕ, ℤ, List, [], ◌∷◌, Some, None, true, false, pos, codes}
-use Rattle.transcripts.specs.Faults.{Fault}
+use Rattle.std.specs.Prelude.{ℕ, ℤ, List, [], ◌∷◌, Some, None, pos, codes}
+use Rattle.transcripts.specs.Faults.{Fault, Taking, Failing}
+use Rattle.transcripts.specs.Faults as faults
 use Rattle.m3_model.specs.declared.act.Act.{Act}
 use Rattle.m3_model.specs.declared.act.Act.TheVariants as act
 use Rattle.m3_model.specs.declared.act.WriteLevel.TheVariants as write_level
@@ -10,16 +11,20 @@ use Rattle.m3_model.specs.declared.reason.Damage.{Damage}
 use Rattle.m3_model.specs.declared.reason.Reason.{Reason}
 use Rattle.m3_model.specs.declared.reason.Reason.TheVariants as reason
 use Rattle.m3_model.specs.declared.turn.Turn.{Turn}
-use Rattle.model_laws.specs.Building.{begun, line, init, made, read, acks, place}
+use Rattle.model_laws.specs.Building.{begun, line, init, made, named, moved, write, unmet, read, acks, place}
 use Rattle.model_laws.specs.Messages.{stopped}
 
 -- the disk of this node's replica of the only shard fails in the line that so many stand before
 abbrev pub fails : ℕ → ℕ → Fault
-fails lines node = record { line = lines; node = node; shard = 0; is_damage = false }
+fails lines node = record { line = lines; node = node; shard = 0; kind = Failing }
+
+-- it can't be taken then
+abbrev pub untaken : ℕ → ℕ → Fault
+untaken lines node = record { line = lines; node = node; shard = 0; kind = Taking }
 
 -- its files are found damaged then
 abbrev pub damages : ℕ → ℕ → Fault
-damages lines node = record { line = lines; node = node; shard = 0; is_damage = true }
+damages lines node = record { line = lines; node = node; shard = 0; kind = faults.Damage }
 
 -- a write of `hello` into `m` that all three nodes have to take
 abbrev pub write_all : ℕ → ℤ → Act
@@ -149,3 +154,25 @@ bootstrapped_missing = begun 100 (line (act.Bootstrap (codes "c") (Some 1)) (ans
 -- a node that was restarted, though it wasn't stopped
 abbrev pub restarted_running : List Turn
 restarted_running = begun 100 (c_restarted ∷ [])
+
+-- ---- kinds of faults
+
+-- a write that the disks of a and c failed at
+abbrev pub two_failed : List Turn
+two_failed = begun 100 (line (write 100 (pos 5)) (unmet 1 ((0, reason.Disk) ∷ (2, reason.Disk) ∷ [])) ∷ [])
+
+-- a write (line 3) that c alone didn't take, since it is down
+abbrev pub c_down : List Turn
+c_down = begun 100 (without_c reason.Down ∷ [])
+
+-- an `init` (line 0) that couldn't take the disk of c, one (line 1) that made the cluster, and a write that c didn't take, since it is down
+abbrev pub made_then_down : List Turn
+made_then_down = init (answer.Disk (codes "c") 0) ∷ made ∷ named ∷ moved 100 ∷ without_c reason.Down ∷ []
+
+-- a replica that waits for a bootstrap, though one of its shard was answered ok
+abbrev pub boot_covered : List Turn
+boot_covered = begun 100 (stopped (codes "c") ∷ c_restarted ∷ line (act.Bootstrap (codes "c") (Some 0)) (answer.Available [] place 1) ∷ without_c reason.Boot ∷ [])
+
+-- the same where a's was answered ok instead
+abbrev pub boot_of_another : List Turn
+boot_of_another = begun 100 (stopped (codes "c") ∷ c_restarted ∷ line (act.Bootstrap (codes "a") (Some 0)) (answer.Available [] place 1) ∷ without_c reason.Boot ∷ [])

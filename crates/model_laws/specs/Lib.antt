@@ -5,3 +5,6 @@ pub mod Uncaused
 pub mod General
 pub mod Messages
 pub mod Faulty
+pub mod Shapes
+pub mod Versions
+pub mod Untold

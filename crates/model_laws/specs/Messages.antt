@@ -1,5 +1,10 @@
 -- Transcripts with fates of messages and stopped nodes: some whose answers have their causes, and some that are broken in one way.
-use Rattle.std.specs.Prelude.{ℕ, List, [], ◌∷◌, None, true, false, pos, codes}
+use Rattle.std.specs.Prelude.{ℕ, List, [], ◌∷◌, Option, None, true, false, pos, codes}
+use Rattle.transcripts.specs.Record.{TurnPlace}
+use Rattle.m3_model.specs.declared.answer.Answer.{Answer}
+use Rattle.m3_model.specs.declared.reason.Reason.{Reason}
+use Rattle.m3_model.specs.declared.turn.Request.TheVariants as request
+use Rattle.m3_model.specs.declared.turn.Reply.TheVariants as reply
 use Rattle.m3_model.specs.declared.act.Act.{Act}
 use Rattle.m3_model.specs.declared.act.Act.TheVariants as act
 use Rattle.m3_model.specs.declared.act.Fate.{Fate}
@@ -8,7 +13,7 @@ use Rattle.m3_model.specs.declared.act.ReadLevel.TheVariants as read_level
 use Rattle.m3_model.specs.declared.answer.Answer.TheVariants as answer
 use Rattle.m3_model.specs.declared.reason.Reason.TheVariants as reason
 use Rattle.m3_model.specs.declared.turn.Turn.{Turn}
-use Rattle.model_laws.specs.Building.{begun, at_moment, wrote, read, line, write, fetch, acks, unmet, by_each, series_of}
+use Rattle.model_laws.specs.Building.{begun, at_moment, wrote, read, line, write, fetch, acks, unmet, by_each, series_of, place_after}
 
 -- an accepted list of fates
 abbrev pub fated : List (ℕ × ℕ × List ℕ × Fate) → Turn
@@ -106,3 +111,54 @@ delivered_twice =
 -- the fate of a node that isn't there
 abbrev pub fate_of_nobody : List Turn
 fate_of_nobody = begun 100 (fated ((0, 0, codes "x", Lose) ∷ []) ∷ [])
+
+-- ---- late messages, beside each other and of nobody
+
+-- the late message to b came, and nothing else
+abbrev pub b_came : List (ℕ × ℕ × Option Reason)
+b_came = (1, 0, None) ∷ []
+
+-- a message to b is late, the write reaches the others, and then this line
+abbrev pub then_b_late : Turn → List Turn
+then_b_late next = begun 100 (b_then_c_late ∷ without_b ∷ next ∷ [])
+
+-- two workers deliver side by side, and this comes of it
+abbrev pub delivered_beside : List (ℕ × ℕ × Option Reason) → List (ℕ × ℕ × Option Reason) → Turn
+delivered_beside first second = record {
+  request = request.Par [] ((act.Deliver ∷ []) ∷ (act.Deliver ∷ []) ∷ []);
+  reply = reply.Par [] ((answer.Outcomes first ∷ []) ∷ (answer.Outcomes second ∷ []) ∷ []);
+}
+
+-- one worker delivers twice, and this comes of it
+abbrev pub delivered_again : List (ℕ × ℕ × Option Reason) → List (ℕ × ℕ × Option Reason) → Turn
+delivered_again first second = record { request = request.Par [] ((act.Deliver ∷ act.Deliver ∷ []) ∷ []); reply = reply.Par [] ((answer.Outcomes first ∷ answer.Outcomes second ∷ []) ∷ []) }
+
+-- a delivery with what came of it
+abbrev pub delivered : List (ℕ × ℕ × Option Reason) → Turn
+delivered outcomes = line act.Deliver (answer.Outcomes outcomes)
+
+-- a message to b, though none was late
+abbrev pub delivered_of_nobody : List Turn
+delivered_of_nobody = begun 100 (wrote 100 (pos 5) ∷ delivered b_came ∷ [])
+
+-- the late message in two lines
+abbrev pub delivered_in_two_lines : List Turn
+delivered_in_two_lines = begun 100 (b_then_c_late ∷ without_b ∷ delivered b_came ∷ delivered b_came ∷ [])
+
+-- b was stopped before its late message came, of which this came
+abbrev pub delivered_to_stopped : Option Reason → List Turn
+delivered_to_stopped came = begun 100 (b_then_c_late ∷ without_b ∷ stopped (codes "b") ∷ delivered ((1, 0, came) ∷ []) ∷ [])
+
+-- ---- calls
+
+-- the messages of the first call to c are lost
+abbrev pub c_lost : List Turn
+c_lost = begun 100 (fated ((0, 0, codes "c", Lose) ∷ []) ∷ [])
+
+-- and then this act
+abbrev pub after_c_lost : Act → Answer → TurnPlace
+after_c_lost a b = place_after c_lost a b
+
+-- a tick that c was cut off from
+abbrev pub tick_cut : List Turn
+tick_cut = begun 100 (fated ((0, 0, codes "c", Lose) ∷ []) ∷ line act.Tick (unmet 1 ((1, reason.Memory) ∷ (2, reason.Cut) ∷ [])) ∷ [])

@@ -1,6 +1,9 @@
 -- Transcripts that are not kept, each broken in one way.
-use Rattle.std.specs.Prelude.{List, [], ◌∷◌, None, true, false, pos, codes}
+use Rattle.std.specs.Prelude.{ℕ, ℤ, List, [], ◌∷◌, None, true, false, pos, codes}
+use Rattle.m3_model.specs.declared.act.Act.{Act}
 use Rattle.m3_model.specs.declared.act.Act.TheVariants as act
+use Rattle.m3_model.specs.declared.turn.Request.TheVariants as request
+use Rattle.m3_model.specs.declared.turn.Reply.TheVariants as reply
 use Rattle.m3_model.specs.declared.act.WriteLevel.TheVariants as write_level
 use Rattle.m3_model.specs.declared.answer.Answer.{Answer}
 use Rattle.m3_model.specs.declared.turn.Turn.{Turn}
@@ -69,3 +72,16 @@ with_unknown_namespace = begun 100 (line (fetch_in (codes "n") 0 200) (found [])
 -- a write that got this answer, and a fetch that finds its point
 abbrev pub with_point_answered : Answer → List Turn
 with_point_answered b = begun 100 (line (write 100 (pos 5)) b ∷ read 0 200 ((100, pos 5) ∷ []) ∷ [])
+
+-- one client does these two acts one after the other, with these answers
+abbrev pub one_client : Act → Answer → Act → Answer → List Turn
+one_client a b next then =
+    begun 100 (record { request = request.Par ((a ∷ next ∷ []) ∷ []) []; reply = reply.Par ((b ∷ then ∷ []) ∷ []) [] } ∷ [])
+
+-- a client writes, and its fetch after it finds these points
+abbrev pub own_write : List (ℕ × ℤ) → List Turn
+own_write points = one_client (write 100 (pos 5)) (acks (0 ∷ 1 ∷ 2 ∷ [])) (fetch 0 200) (found (series_of points))
+
+-- a client's fetch finds these points, and it writes after it
+abbrev pub own_later_write : List (ℕ × ℤ) → List Turn
+own_later_write points = one_client (fetch 0 200) (found (series_of points)) (write 100 (pos 5)) (acks (0 ∷ 1 ∷ 2 ∷ []))

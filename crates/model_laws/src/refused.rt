@@ -1,9 +1,10 @@
 //! Transcripts that are not kept.
-ghost use Rattle.std.specs.Prelude.{codes};
+ghost use Rattle.std.specs.Prelude.{[], ◌∷◌, codes, pos, true};
+ghost use Rattle.transcripts.specs.Caused.{Caused};
 ghost use Rattle.transcripts.specs.Kept.{Kept};
 ghost use Rattle.m3_model.specs.declared.answer.Answer.TheVariants as answer;
 ghost use Rattle.model_laws.specs.Building.{life_of};
-ghost use Rattle.model_laws.specs.Refused.{without_the_point, with_lower_value, with_other_point, with_higher_value, with_later_first, with_point_twice, with_empty_series, without_kept_point, with_expired_point, with_point_at_end, with_other_series, without_untagged, with_other_tags, with_unknown_namespace, with_point_answered};
+ghost use Rattle.model_laws.specs.Refused.{without_the_point, with_lower_value, with_other_point, with_higher_value, with_later_first, with_point_twice, with_empty_series, without_kept_point, with_expired_point, with_point_at_end, with_other_series, without_untagged, with_other_tags, with_unknown_namespace, with_point_answered, own_write, own_later_write};
 
 /// An acknowledged point is missing.
 pub fn dropped_point()
@@ -77,7 +78,15 @@ pub fn unknown_namespace_read()
 
 /// A point is read whose only write was put off, or was refused for its place among the lines or for a name.
 pub fn later_write_read()
-    ensures later { ¬ Kept (life_of (with_point_answered answer.Later)) }
+    ensures later { ¬ Caused true (life_of (with_point_answered answer.Later)) [] }
     ensures order { ¬ Kept (life_of (with_point_answered answer.Order)) }
     ensures unknown { ¬ Kept (life_of (with_point_answered (answer.Unknown (codes "m")))) }
+{}
+
+/// A client's fetch misses what it wrote before, or finds what it writes later.
+pub fn own_write_missed()
+    ensures found { Kept (life_of (own_write ((100, pos 5) ∷ []))) }
+    ensures missed { ¬ Kept (life_of (own_write [])) }
+    ensures nothing { Kept (life_of (own_later_write [])) }
+    ensures later { ¬ Kept (life_of (own_later_write ((100, pos 5) ∷ []))) }
 {}

@@ -67,12 +67,13 @@ pub record MissesLevel (tells : Bool) (faults : List Fault) (start : Option Meta
 
 -- ---- short
 
--- fewer than a majority of the replicas of a shard answered, and the others have their reasons
+-- some replicas of a shard answered, but fewer than a majority, and the others have their reasons
 pub record IsShort (tells : Bool) (faults : List Fault) (start : Option MetaState) (p : TurnPlace) (place : Placement) (shard : ℕ) : Type 0 where
   pub reasons : List (ℕ × Reason)
   pub silent : AreSilent tells faults start p place shard reasons
   pub got : ℕ
   pub others : AreAnswers place shard got reasons
+  pub some : 0 < got
   pub fewer : got < majority place.rf
 
 -- a read is answered where its messages reach enough replicas of each shard that it asks; only an unstrict one may be short, which fewer than a majority of

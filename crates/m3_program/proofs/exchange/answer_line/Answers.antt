@@ -20,7 +20,7 @@ returns-in-Ok-clause-ok g c =
     let old : Stage g.row.X-D.Denot g.X.D.Disk = stage c.args.cluster.now (g.X.Disks.held c.args.disks.now) (g.X.Disks.counted c.args.disks.now) (g.X.Disks.all_faults c.args.disks.now) in
     let new : Stage g.row.X-D.Denot g.X.D.Disk = stage c.serve-reply.new.self (g.X.Disks.held c.serve-reply.new.disks) (g.X.Disks.counted c.serve-reply.new.disks) (g.X.Disks.all_faults c.serve-reply.new.disks) in
     IfOk-weaker c.line_of.result _ _ (λ v e. answers g.X.D.Disk.state old new c.args.line.now v.items c.in-Ok.request c.serve-reply.result (sym c.is_blank.ensures ∙ c.if-is_blank.false) c.in-Ok.ensures.ok
-    (e ∙ ap (λ place. reply_line place c.serve-reply.result) c.place.ensures) c.serve-reply.ensures.placed c.serve-reply.ensures.serves) c.line_of.ensures
+    (e ∙ ap (λ place. reply_line place c.serve-reply.result) c.place.ensures) c.serve-reply.ensures.answered c.serve-reply.ensures.placed c.serve-reply.ensures.serves) c.line_of.ensures
 
 pub returns-in-Ok-clause-err : goal.returns-in-Ok-clause-err
 returns-in-Ok-clause-err g c =

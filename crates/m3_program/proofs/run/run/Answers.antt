@@ -17,6 +17,6 @@ pub returns-clause-told : goal.returns-clause-told
 returns-clause-told g c = λ input before p q.
     let mid : Stage g.row.X-D.Denot g.X.D.Disk = stage c.serve_all-status.new.cluster (g.X.Disks.held c.serve_all-status.new.disks) (g.X.Disks.counted c.serve_all-status.new.disks) (g.X.Disks.all_faults c.serve_all-status.new.disks) in
     told_closes g.X.D.Disk.state (record { held = g.X.Disks.held c.args.disks.now; counted = g.X.Disks.counted c.args.disks.now; faults = g.X.Disks.all_faults c.args.disks.now }) mid
-    (record { all = g.X.Disks.all_faults c.close.new.disks; of_disk = g.X.Disks.counted c.close.new.disks }) c.serve_all-status.result c.close.ensures.later
-    (λ slot. c.close.ensures.counted (record { shard = slot.shard; node = slot.node })) input before (g.S.Source.left c.serve_all-status.new.source) (g.K.Sink.written c.serve_all-status.new.out)
+    (record { all = g.X.Disks.all_faults c.close.new.disks; of_disk = g.X.Disks.counted c.close.new.disks }) c.serve_all-status.result
+    (record { later = c.close.ensures.later; counted = λ slot. c.close.ensures.counted (record { shard = slot.shard; node = slot.node }); rose = c.close.ensures.rose }) input before (g.S.Source.left c.serve_all-status.new.source) (g.K.Sink.written c.serve_all-status.new.out)
     (c.serve_all-status.ensures.told input before p q)

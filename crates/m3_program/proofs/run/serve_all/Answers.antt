@@ -25,7 +25,7 @@ returns-in-Err-clause-told g c = λ input before p q.
     let w = c.in-Err.ensures.err in
     step_told g.X.D.Disk.state first.depot new c.in-Err.status _ _ _ _ _ _ c.in-Err.ensures.cause input before (g.S.Source.left c.serve_read.new.source) (g.K.Sink.written c.serve_read.new.out)
     (known_cuts g.X.D.Disk.state first.depot (g.S.Source.left c.args.source.now) (g.K.Sink.written c.args.out.now) (g.S.Source.left c.loop-taken.source) (g.S.Source.left c.serve_read.new.source)
-    (g.K.Sink.written c.loop-taken.out) (g.K.Sink.written c.serve_read.new.out) c.loop-taken.taken old new c.loop-taken.line.items w.0 w.1 c.loop-taken.invariant.known w.2 w.3 w.4 input before p q)
+    (g.K.Sink.written c.loop-taken.out) (g.K.Sink.written c.serve_read.new.out) c.loop-taken.taken old new c.loop-taken.line.items w.0 w.1 c.loop-taken.invariant.known w.2 (let room = c.room_after-room.ensures.limit in let size = w.3 in let part = length-take c.room_after-room.result c.loop-taken.buf in omega arith) w.4 w.5 input before p q)
 
 pub returns-in-Err-clause-cause : goal.returns-in-Err-clause-cause
 returns-in-Err-clause-cause g c = step_ends_run c.in-Err.status _ _ _ _ _ _ _ _ _ c.loop-taken.invariant.reads c.loop-taken.invariant.faults c.loop-taken.invariant.stalls c.in-Err.ensures.cause
@@ -77,7 +77,7 @@ returns-in-Ok-eq0-clause-told g c = λ input before p q.
           let f = v.in-Err-serve_last.ensures.err in
           rw v.result-is (step_told g.X.D.Disk.state first.depot new v.in-Err-serve_last.status 0 0 _ _ _ _ (line_ends_step v.in-Err-serve_last.status 0 0 _ _ _ _ v.in-Err-serve_last.ensures.cause) input before (g.S.Source.left c.serve_read.new.source) (g.K.Sink.written c.serve_last.new.out)
           (known_stops g.X.D.Disk.state first.depot (g.S.Source.left c.args.source.now) (g.K.Sink.written c.args.out.now) (g.S.Source.left c.serve_read.new.source) (g.K.Sink.written c.serve_read.new.out) (g.K.Sink.written c.serve_last.new.out)
-          _ mid new c.serve_read.new.line.items f.0 known ended f.1 (λ first taken told t. f.2 first taken told (subst (λ l. StreamState g.X.D.Disk.state first taken told mid l) (sym c.as_slice.ensures.value) t)) input before p q))
+          _ mid new c.serve_read.new.line.items f.0 known (let zero = c.in-Ok-eq0.field-0-test in let below = c.loop-taken.invariant.below in omega arith) ended f.1 (λ first taken told t. f.2 first taken told (subst (λ l. StreamState g.X.D.Disk.state first taken told mid l) (sym c.as_slice.ensures.value) t)) input before p q))
     ]
 
 pub returns-in-Ok-eq0-clause-cause : goal.returns-in-Ok-eq0-clause-cause
