@@ -88,7 +88,7 @@ module _ (start : Option MetaState) (past : List Event) (Old New : ℕ → Event
   }
 
   short_on : (call : Call) (place : Placement) → HearsShort start Old p call place → HearsShort start New p call place
-  short_on call place h = record { shard = h.shard; asked = h.asked; got = h.got; reasons = h.reasons; hears = shard_on place h.shard h.got h.reasons h.hears; fewer = h.fewer }
+  short_on call place h = record { shard = h.shard; asked = h.asked; got = h.got; reasons = h.reasons; hears = shard_on place h.shard h.got h.reasons h.hears; some = h.some; fewer = h.fewer }
 
   found_on : (short : Bool) → HearsFound start Old p short → HearsFound start New p short
   found_on short h = record {

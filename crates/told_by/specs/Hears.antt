@@ -121,13 +121,14 @@ pub record HearsTooFew (start : Option MetaState) (Here : ℕ → Event → Type
   pub hears : HearsShard start Here p place shard got reasons
   pub first : (lower : ℕ) → lower < shard → AsksShard start p place call.id lower → HasEnough start Here p place lower needed
 
--- fewer than a majority of some shard answered, and the others have their reasons
+-- some nodes of a shard answered, but fewer than a majority, and the others have their reasons
 pub record HearsShort (start : Option MetaState) (Here : ℕ → Event → Type 0) (p : TurnPlace) (call : Call) (place : Placement) : Type 0 where
   pub shard : ℕ
   pub asked : AsksShard start p place call.id shard
   pub got : ℕ
   pub reasons : List (ℕ × Reason)
   pub hears : HearsShard start Here p place shard got reasons
+  pub some : 0 < got
   pub fewer : got < majority place.rf
 
 -- a read at the level that wants one replica and says whether a majority answered

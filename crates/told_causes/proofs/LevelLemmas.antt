@@ -85,7 +85,7 @@ found_said start turns events told p known id level version series short calls s
       may_be_short = λ e.
           let both = h.is_short e in
           let s = both.1 in
-          (strict both.0, (s.shard, subst (λ (c : Call). AsksShard start p h.place c.id s.shard) (sym is) s.asked, record { reasons = s.reasons; silent = silent_said start turns events told p known h.place s.shard s.got s.reasons s.hears; got = s.got; others = (s.hears).others; fewer = s.fewer }));
+          (strict both.0, (s.shard, subst (λ (c : Call). AsksShard start p h.place c.id s.shard) (sym is) s.asked, record { reasons = s.reasons; silent = silent_said start turns events told p known h.place s.shard s.got s.reasons s.hears; got = s.got; others = (s.hears).others; some = s.some; fewer = s.fewer }));
       not_short = λ e want shard asked. enough_reached start turns events told p known.runs h.place shard (majority (h.place).rf) (h.not_short e (unstrict want) shard (here shard asked));
     }
 
