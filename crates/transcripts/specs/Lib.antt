@@ -10,5 +10,6 @@ pub mod Refusals
 pub mod Reasons
 pub mod Levels
 pub mod Deliveries
+pub mod Joined
 pub mod Kept
 pub mod Caused

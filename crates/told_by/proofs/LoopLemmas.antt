@@ -1,0 +1,88 @@
+-- Fetches one after the other, and placements that are printed.
+use Rattle.told_by.proofs.LineLemmas.{take_all}
+use Rattle.std.proofs.Common.{◌≡◌, ℕ, suc, ◌≤◌, ◌+◌, List, [], ◌∷◌, ◌++◌, length, refl, sym, ap, ◌∙◌, subst, inl, inr, arith, append_assoc, length-append, true}
+use Rattle.std.specs.Prelude.{◌⊎◌, Option, Some}
+use Rattle.m3_model.specs.Members.{IsIn}
+use Rattle.transcripts.specs.Placements.{printed}
+use Rattle.transcripts.specs.Record.{TurnPlace}
+use Rattle.m3_model.specs.declared.answer.Answer.{Answer}
+use Rattle.m3_model.specs.declared.placement.Placement.{Placement}
+use Rattle.m3_model.specs.declared.rules.MetaState.{MetaState}
+use Rattle.m3_model.specs.declared.turn.Turn.{Turn}
+use Rattle.cluster_core.specs.Earlier.{last_place}
+use Rattle.cluster_core.specs.Legal.{Legal}
+use Rattle.cluster_core.specs.Lists.{At}
+use Rattle.cluster_core.specs.declared.event.Event.{Event}
+use Rattle.cluster_core.specs.declared.event.Event.TheVariants as event
+use Rattle.cluster_core.proofs.ListLemmas.{at_append, at_some, at_within}
+use Rattle.cluster_core.proofs.PlaceLemmas.{at_grows, at_place}
+use Rattle.told_by.specs.Lines.{AreFetched, AreSteps, AreWhole, IsCutShort, IsFetched, PrintsPlace, start_of}
+use Rattle.told_by.specs.Reads.{Asking, Fetched}
+use Rattle.told_by.specs.Told.{ToldBy}
+use Rattle.told_by.proofs.LeaveLemmas.{place_there}
+use Rattle.told_by.proofs.OpeningLemmas.{first_event, place_fine}
+
+module _ (start : Option MetaState) (p : TurnPlace) (a : Asking) where
+  -- a fetch with more behind it
+  behind : (place s : ℕ) (f : Fetched) (more rest own : List Event) → IsFetched start p a place s f more rest → IsFetched start p a place s f (more ++ own) (rest ++ own)
+  behind place s f more rest own h = record {
+    asked = h.asked;
+    reads = h.reads;
+    steps = h.steps;
+    adds = ap (λ es. es ++ own) h.adds ∙ ap (λ es. start_of start p a s ∷ es) (append_assoc h.reads (event.FetchDone place f.nodes f.series ∷ rest) own);
+    began_is = h.began_is;
+    ended_is = h.ended_is;
+  }
+
+  -- the next fetch begins where this one, with what follows, ends
+  size : (place s : ℕ) (f : Fetched) (more rest : List Event) → IsFetched start p a place s f more rest → suc f.ended + length rest ≡ place + length more
+  size place s f more rest h = omega (arith, h.ended_is, ap length h.adds, length-append h.reads (event.FetchDone place f.nodes f.series ∷ rest))
+
+  pub fetches_add : (fetches : ℕ → Fetched) (place : ℕ) (shards : List ℕ) (so_far : List Event) (s : ℕ) (own : List Event)
+      → AreWhole start p a fetches place shards so_far → IsFetched start p a (place + length so_far) s (fetches s) own [] → AreWhole start p a fetches place (shards ++ s ∷ []) (so_far ++ own)
+  fetches_add fetches place [] so_far s own h f =
+      let here : place + length so_far ≡ place = omega (arith, ap length h) in
+      let one : IsFetched start p a place s (fetches s) own [] = subst (λ n. IsFetched start p a n s (fetches s) own []) here f in
+      ([], subst (λ es. IsFetched start p a place s (fetches s) (es ++ own) []) (sym h) one, refl)
+  fetches_add fetches place (t ∷ shards) so_far s own h f = (
+    h.0 ++ own,
+    behind place t (fetches t) so_far h.0 own h.1,
+    fetches_add fetches (suc (fetches t).ended) shards h.0 s own h.2 (subst (λ n. IsFetched start p a n s (fetches s) own []) (sym (size place t (fetches t) so_far h.0 h.1)) f),
+  )
+
+  pub fetches_end : (fetches : ℕ → Fetched) (place : ℕ) (shards : List ℕ) (so_far own : List Event)
+      → AreWhole start p a fetches place shards so_far → AreSteps own ⊎ IsCutShort start p a own → AreFetched start p a fetches place shards (so_far ++ own)
+  fetches_end fetches place [] so_far own h rest = subst (λ es. AreSteps (es ++ own) ⊎ IsCutShort start p a (es ++ own)) (sym h) rest
+  fetches_end fetches place (t ∷ shards) so_far own h rest = (h.0 ++ own, behind place t (fetches t) so_far h.0 own h.1, fetches_end fetches (suc (fetches t).ended) shards h.0 own h.2 rest)
+
+  pub fetches_stay : (fetches others : ℕ → Fetched) (place : ℕ) (shards : List ℕ) (so_far : List Event)
+      → ((s : ℕ) → IsIn shards s → fetches s ≡ others s) → AreWhole start p a fetches place shards so_far → AreWhole start p a others place shards so_far
+  fetches_stay fetches others place [] so_far same h = h
+  fetches_stay fetches others place (t ∷ shards) so_far same h = (
+    h.0,
+    subst (λ f. IsFetched start p a place t f so_far h.0) (same t (inl refl)) h.1,
+    subst (λ (f : Fetched). AreWhole start p a others (suc f.ended) shards h.0) (same t (inl refl)) (fetches_stay fetches others (suc (fetches t).ended) shards h.0 (λ s m. same s (inr m)) h.2),
+  )
+
+-- the last Place has the greatest version
+last_greatest : (events : List Event) → Legal true events → (i : ℕ) (p last : Placement) (done : List (ℕ × ℕ)) → At events i (event.Place p done) → last_place events ≡ Some last → p.version ≤ last.version
+last_greatest events legal i p last done there is =
+    let first = first_event events legal i (event.Place p done) there in
+    let limits = (first.lawful).limits in
+    let fine = place_fine events legal first.place first.there i p done there in
+    let shard = at_some p.shards 0 (omega (arith, limits.some_shards, fine.count)) in
+    let l = place_there events last is in
+    let fine_last = place_fine events legal first.place first.there l.0 last l.1 l.2 in
+    let last_shard = at_some last.shards 0 (omega (arith, limits.some_shards, fine_last.count)) in
+    let bound = at_within events i (event.Place p done) there in
+    at_grows events legal first.place [] first.there 0 (suc i) (length events) p.version last.version shard.0 last_shard.0 (omega arith) (at_place events legal first.place [] first.there i 0 p done shard.0 there shard.1) (omega arith) (omega arith)
+    (record { place = last; last = ap last_place (take_all events) ∙ is; version_is = refl; shard_is = last_shard.1 })
+
+pub last_prints : (start : Option MetaState) (turns : List Turn) (events : List Event) (b : Answer) (more : List Event) → Legal true (events ++ more) → ToldBy start turns events
+    → ((place : Placement) → printed b ≡ Some place → last_place (events ++ more) ≡ Some place) → PrintsPlace turns (events ++ more) b
+last_prints start turns events b more legal told is_last = record {
+  is_place = λ place is. let l = place_there (events ++ more) place (is_last place is) in record { place_at = l.0; done = l.1; there = l.2; in_time = at_within (events ++ more) l.0 (event.Place place l.1) l.2 };
+  not_earlier = λ p h was is of_was of_is.
+      let q = (told.tells).placements.is_place p h was of_was in
+      last_greatest (events ++ more) legal q.place_at was is q.done (at_append events more q.place_at (event.Place was q.done) q.there) (is_last is of_is);
+}

@@ -1,0 +1,20 @@
+use Rattle.told_by.proofs.BrokenLemmas.{lost_send, never_placed, nobody_asks, nobody_sends, nobody_stops, other_puts}
+use Rattle.told_by.proofs.sample.broken_lists_are_refused.Goals as goal
+
+pub returns-clause-nobody_sent : goal.returns-clause-nobody_sent
+returns-clause-nobody_sent c = nobody_sends
+
+pub returns-clause-lost_send : goal.returns-clause-lost_send
+returns-clause-lost_send c = lost_send
+
+pub returns-clause-nobody_stopped : goal.returns-clause-nobody_stopped
+returns-clause-nobody_stopped c = nobody_stops
+
+pub returns-clause-never_placed : goal.returns-clause-never_placed
+returns-clause-never_placed c = never_placed
+
+pub returns-clause-other_put : goal.returns-clause-other_put
+returns-clause-other_put c = other_puts
+
+pub returns-clause-nobody_asked : goal.returns-clause-nobody_asked
+returns-clause-nobody_asked c = nobody_asks

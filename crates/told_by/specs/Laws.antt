@@ -1,0 +1,103 @@
+-- What is so of all that is told.
+use Rattle.transcripts.specs.Record.{line_of}
+use Rattle.std.specs.Prelude.{List, [], ◌∷◌, ◌++◌, ◌≡◌, ◌⊎◌, ◌+◌, length, ℕ, Option, Some, None, true}
+use Rattle.m3_model.specs.Members.{IsIn}
+use Rattle.transcripts.specs.Kept.{Kept}
+use Rattle.transcripts.specs.Placements.{printed}
+use Rattle.transcripts.specs.Record.{Life, Record, TurnPlace, IsTurnPlace}
+use Rattle.m3_model.specs.declared.placement.Placement.{Placement}
+use Rattle.cluster_core.specs.Earlier.{last_place}
+use Rattle.m3_model.specs.declared.act.Act.{Act}
+use Rattle.m3_model.specs.declared.answer.Answer.{Answer}
+use Rattle.m3_model.specs.declared.answer.Answer.TheVariants as answer
+use Rattle.m3_model.specs.declared.rules.MetaState.{MetaState}
+use Rattle.m3_model.specs.declared.turn.Request.{Request}
+use Rattle.m3_model.specs.declared.turn.Turn.{Turn}
+use Rattle.cluster_core.specs.Core.{Opening, AgreesWith}
+use Rattle.cluster_core.specs.Legal.{Legal}
+use Rattle.cluster_core.specs.declared.event.Event.{Event}
+use Rattle.told_by.specs.Acks.{AreCounted}
+use Rattle.transcripts.specs.Joined.{Joined}
+use Rattle.told_by.specs.Leaves.{HoldsAgain, IsLeftState, MayBeOpen}
+use Rattle.told_by.specs.Lines.{AreFetched, AreSteps, AreWhole, IsCutShort, IsFetched, PrintsPlace}
+use Rattle.told_by.specs.Reads.{Asking, Fetched}
+use Rattle.told_by.specs.Lists.{IsListPlace, MadeBy, TellsCalls, TellsLists, call_makers, call_spans}
+use Rattle.told_by.specs.Openings.{OpeningStands}
+use Rattle.told_by.specs.Told.{Tells, ToldBy, TellsLine}
+
+-- Where a legal list tells of the present run's turns, and its replicas began with what the earlier runs left, the life is kept.
+abbrev pub IsKeptWhereTold : Type 0
+IsKeptWhereTold =
+    (life : Life) (events : List Event) (opening : Opening) → Legal true events → AgreesWith events opening → OpeningStands life.past life.present.start opening
+    → ToldBy life.present.start life.present.turns events → Kept life
+
+-- A run that has done nothing is told by the events that open it: none, where it found nothing.
+abbrev pub IsToldAtFirst : Type 0
+IsToldAtFirst = ToldBy None [] []
+
+-- A line whose events are added at the end leaves the run told.
+abbrev pub IsToldLineByLine : Type 0
+IsToldLineByLine =
+    (start : Option MetaState) (turns : List Turn) (events : List Event) (line : Turn) (more : List Event)
+    → ToldBy start turns events → TellsLine start turns events line more → ToldBy start (turns ++ line ∷ []) (events ++ more)
+
+-- Empty disks stand for the empty life.
+abbrev pub EmptyDisksStand : Type 0
+EmptyDisksStand = OpeningStands [] None (λ n s. [])
+
+-- What a kind of line adds tells of it.
+abbrev pub LinesTell : (Option MetaState → List Turn → List Event → Act → Answer → List Event → Type 0) → Type 0
+LinesTell Kind = (start : Option MetaState) (turns : List Turn) (events : List Event) (a : Act) (b : Answer) (more : List Event) → Kind start turns events a b more → TellsLine start turns events (line_of a b) more
+
+-- Where a legal list tells of the present run's turns, the life is joined.
+abbrev pub IsJoinedWhereTold : Type 0
+IsJoinedWhereTold = (life : Life) (events : List Event) → Legal true events → ToldBy life.present.start life.present.turns events → Joined life
+
+-- And each acknowledgement names nodes that count.
+abbrev pub AcksCountWhereTold : Type 0
+AcksCountWhereTold =
+    (start : Option MetaState) (turns : List Turn) (events : List Event) → Legal true events → ToldBy start turns events
+    → (p : TurnPlace) → IsTurnPlace turns p → (nodes : List ℕ) → p.turn.answer ≡ answer.Acks nodes → AreCounted start p nodes
+
+-- A run that is told leaves what the next one is to find, also where its last request was taken and got no answer.
+abbrev pub StandsAgain : Type 0
+StandsAgain =
+    (past : List Record) (start : Option MetaState) (turns : List Turn) (unanswered : Option Request) (events more : List Event) (opening : Opening) (left : MetaState) (next : Opening)
+    → Legal true (events ++ more) → AgreesWith (events ++ more) opening → OpeningStands past start opening → ToldBy start turns events → ((e : Event) → IsIn more e → MayBeOpen unanswered left.rules e)
+    → IsLeftState start turns (events ++ more) left → HoldsAgain (events ++ more) opening left next
+    → OpeningStands (past ++ record { start = start; turns = turns; unanswered = unanswered } ∷ []) (Some left) next
+
+-- A line of several lists, each told by its own events, is told.
+abbrev pub ListsTell : Type 0
+ListsTell =
+    (start : Option MetaState) (turns : List Turn) (events : List Event) (line : Turn) (more : List Event) → TellsLists start turns events line more → TellsLine start turns events line more
+
+-- One more shard's fetch behind those so far.
+abbrev pub FetchesAdd : Type 0
+FetchesAdd =
+    (start : Option MetaState) (p : TurnPlace) (a : Asking) (fetches : ℕ → Fetched) (place : ℕ) (shards : List ℕ) (so_far : List Event) (s : ℕ) (own : List Event)
+    → AreWhole start p a fetches place shards so_far → IsFetched start p a (place + length so_far) s (fetches s) own [] → AreWhole start p a fetches place (shards ++ s ∷ []) (so_far ++ own)
+
+-- And then nothing more, or one that is cut short.
+abbrev pub FetchesEnd : Type 0
+FetchesEnd =
+    (start : Option MetaState) (p : TurnPlace) (a : Asking) (fetches : ℕ → Fetched) (place : ℕ) (shards : List ℕ) (so_far own : List Event)
+    → AreWhole start p a fetches place shards so_far → AreSteps own ⊎ IsCutShort start p a own → AreFetched start p a fetches place shards (so_far ++ own)
+
+-- Only the fetches of these shards matter.
+abbrev pub FetchesStay : Type 0
+FetchesStay =
+    (start : Option MetaState) (p : TurnPlace) (a : Asking) (fetches others : ℕ → Fetched) (place : ℕ) (shards : List ℕ) (so_far : List Event)
+    → ((s : ℕ) → IsIn shards s → fetches s ≡ others s) → AreWhole start p a fetches place shards so_far → AreWhole start p a others place shards so_far
+
+-- A line that prints the last Place of a legal list prints none before one that was printed.
+abbrev pub LastPlacePrints : Type 0
+LastPlacePrints =
+    (start : Option MetaState) (turns : List Turn) (events : List Event) (b : Answer) (more : List Event) → Legal true (events ++ more) → ToldBy start turns events
+    → ((place : Placement) → printed b ≡ Some place → last_place (events ++ more) ≡ Some place) → PrintsPlace turns (events ++ more) b
+
+-- A list whose calls are told one after the other is told.
+abbrev pub CallsTell : Type 0
+CallsTell =
+    (start : Option MetaState) (turns : List Turn) (events : List Event) (line : Turn) (more : List Event) (list_of : ℕ → ℕ) (list : ℕ) → (calls : TellsCalls start turns events line more list_of list)
+    → Tells start (turns ++ line ∷ []) (IsListPlace turns line list) (length events) (MadeBy events list_of list) (events ++ more) (call_spans calls.spans) (call_makers calls.number_of calls.makers)

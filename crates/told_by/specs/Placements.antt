@@ -1,0 +1,49 @@
+-- What a list tells of placements: each printed one is a Place; and where a Place ends moves, its turn prints whom each joining node merged.
+use Rattle.std.specs.Prelude.{◌≡◌, ◌≤◌, ◌<◌, ℕ, List, Some, take}
+use Rattle.m3_model.specs.Members.{IsIn}
+use Rattle.transcripts.specs.Joined.{IsBootstrapOf}
+use Rattle.transcripts.specs.Placements.{printed}
+use Rattle.transcripts.specs.Record.{TurnPlace}
+use Rattle.m3_model.specs.declared.placement.Assignment.{Assignment}
+use Rattle.m3_model.specs.declared.placement.Placement.{Placement}
+use Rattle.m3_model.specs.declared.placement.ShardState.TheVariants.{Initializing}
+use Rattle.placement_core.specs.Shards.{Shard, former}
+use Rattle.cluster_core.specs.Earlier.{last_place}
+use Rattle.cluster_core.specs.Joins.{HasStreamed}
+use Rattle.cluster_core.specs.Lists.{At, IsMajority}
+use Rattle.cluster_core.specs.declared.event.Event.{Event}
+use Rattle.cluster_core.specs.declared.event.Event.TheVariants as event
+use Rattle.told_by.specs.Spans.{Spans, IsEarlier}
+
+-- the placement is a Place before the end of the turn
+pub record HasPlace (events : List Event) (before : ℕ) (place : Placement) : Type 0 where
+  pub place_at : ℕ
+  pub done : List (ℕ × ℕ)
+  pub there : At events place_at (event.Place place done)
+  pub in_time : place_at < before
+
+-- where these events end with a move of the shard to the node still under way: the turn is a bootstrap, and prints with the shard a majority
+-- of the former replicas, each of which the node has streamed
+pub record PrintsPeers (past : List Event) (p : TurnPlace) (s y : ℕ) : Type 0 where
+  pub available : List (ℕ × List ℕ)
+  pub bootstrap : IsBootstrapOf p available
+  pub names : List ℕ
+  pub printed : IsIn available (s, names)
+  pub last : Placement
+  pub last_is : last_place past ≡ Some last
+  pub shard : Shard
+  pub shard_is : At last.shards s shard
+  pub enough : IsMajority last.rf (former shard) names
+  pub joining : Assignment
+  pub joins : IsIn shard joining
+  pub to_node : joining.node ≡ y
+  pub is_joining : joining.state ≡ Initializing
+  pub streamed : (q : ℕ) → IsIn names q → HasStreamed s y joining.tenure q past
+
+pub record TellsPlacements (Here : TurnPlace → Type 0) (Mine : ℕ → Type 0) (events : List Event) (spans : Spans) (makers : ℕ → TurnPlace) : Type 0 where
+  -- each printed placement
+  pub is_place : (p : TurnPlace) → Here p → (place : Placement) → printed p.turn.answer ≡ Some place → HasPlace events (spans.to p) place
+  -- none is earlier than one that a turn before printed: the versions of Places ascend
+  pub not_earlier : (p q : TurnPlace) → Here p → Here q → IsEarlier p q → (was is : Placement) → printed p.turn.answer ≡ Some was → printed q.turn.answer ≡ Some is → was.version ≤ is.version
+  -- each move that a Place ends
+  pub each_end : (i : ℕ) (place : Placement) (done : List (ℕ × ℕ)) → Mine i → 2 ≤ i → At events i (event.Place place done) → (d : ℕ × ℕ) → IsIn done d → PrintsPeers (take i events) (makers i) d.0 d.1

@@ -1,0 +1,27 @@
+//! What is so of all that is told by a list of events.
+ghost use Rattle.told_by.specs.Laws.{IsKeptWhereTold, IsToldAtFirst, IsToldLineByLine, EmptyDisksStand, IsJoinedWhereTold, AcksCountWhereTold, StandsAgain};
+
+/// Where a legal list of events tells of a run's turns, each answered read of the run holds what was acknowledged
+/// before, and nothing unwritten.
+pub fn told_is_kept()
+    ensures { IsKeptWhereTold }
+{}
+
+/// In such a run each node that turned available was joined by a bootstrap that prints a majority of the former
+/// replicas, and each acknowledgement names nodes that count.
+pub fn told_is_joined()
+    ensures joined { IsJoinedWhereTold }
+    ensures acks { AcksCountWhereTold }
+{}
+
+/// A run is told line by line: it begins with nothing told, and each line's events are added at the end.
+pub fn told_line_by_line()
+    ensures first { IsToldAtFirst }
+    ensures line { IsToldLineByLine }
+    ensures empty { EmptyDisksStand }
+{}
+
+/// What such a run leaves is what the next run on the same disks is to find.
+pub fn told_run_leaves()
+    ensures { StandsAgain }
+{}

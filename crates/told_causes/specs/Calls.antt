@@ -1,0 +1,107 @@
+-- Why a call's answer is what it is: each reason that it names has its cause, and what replicas took lies within its window.
+use Rattle.std.specs.Prelude.{false, Bool, None, Some, ◌≡◌, ℕ, ⊤, List, length, Option, ℤ, true, IsTrue}
+use Rattle.m3_model.specs.Calls.{is_call}
+use Rattle.m3_model.specs.declared.act.Act.TheVariants as act
+use Rattle.m3_model.specs.declared.act.ReadLevel.{ReadLevel}
+use Rattle.m3_model.specs.declared.act.WriteLevel.{WriteLevel}
+use Rattle.m3_model.specs.declared.point.Matcher.{Matcher}
+use Rattle.m3_model.specs.declared.point.Series.{Series}
+use Rattle.m3_model.specs.declared.answer.Answer.TheVariants as answer
+use Rattle.m3_model.specs.declared.placement.Placement.{Placement}
+use Rattle.m3_model.specs.declared.reason.Reason.{Reason}
+use Rattle.m3_model.specs.declared.reason.Reason.TheVariants as reason
+use Rattle.m3_model.specs.declared.rules.MetaState.{MetaState}
+use Rattle.m3_model.specs.declared.turn.Turn.{Turn}
+use Rattle.cluster_core.specs.Legal.{Legal}
+use Rattle.cluster_core.specs.declared.event.Event.{Event}
+use Rattle.transcripts.specs.Fates.{OfNode, is_stopped}
+use Rattle.transcripts.specs.Levels.{AreSilent, IsAcked, IsFoundFor, MissesLevel}
+use Rattle.transcripts.specs.Placements.{IsCounted}
+use Rattle.transcripts.specs.Reasons.{MayRefuse, MayServe}
+use Rattle.transcripts.specs.Record.{TurnPlace, IsTurnPlace, inner_turns}
+use Rattle.transcripts.specs.Rules.{rules_at}
+use Rattle.told_by.specs.Hears.{HasServed, HearsShard, InStretch, IsHeard, IsNamedBy}
+use Rattle.told_by.specs.Spans.{Spans}
+use Rattle.told_by.specs.Told.{ToldBy}
+use Rattle.told_causes.specs.Faults.{faults_told}
+use Rattle.told_causes.specs.Standing.{StaysThere}
+
+-- a reason that is explained here: all but that a replica waits for a bootstrap, doesn't own its shard, or is fenced above the version
+abbrev pub IsExplained : Reason → Type 0
+IsExplained reason.Boot = ⊥
+IsExplained reason.NotOwned = ⊥
+IsExplained (reason.Stale fence) = ⊥
+IsExplained _ = ⊤
+
+-- what happens within the turn's stretch
+abbrev pub Within : List Event → Spans → TurnPlace → ℕ → Event → Type 0
+Within events spans p = InStretch events (spans.from p) (spans.to p)
+
+-- the node has one name in all placements, and its replica of the shard stays where it is after each of its faults
+pub record IsSteadyNode (start : Option MetaState) (turns : List Turn) (events : List Event) (told : ToldBy start turns events) (p : TurnPlace) (place : Placement) (shard node : ℕ) : Type 0 where
+  pub name : List ℕ
+  pub named : OfNode place node (λ own. own ≡ name)
+  pub everywhere : IsNamedBy events node name
+  pub stays : StaysThere (faults_told told.ends events (length turns)) start p node shard
+
+-- Each reason that a call names for a replica, of those that are explained here, has its cause.
+abbrev pub ReasonsAreSaid : Type 0
+ReasonsAreSaid =
+    (start : Option MetaState) (turns : List Turn) (events : List Event) → Legal true events → (told : ToldBy start turns events) → (p : TurnPlace) → IsTurnPlace turns p → IsTrue (is_call p.turn.act)
+    → (place : Placement) (shard node : ℕ) → IsSteadyNode start turns events told p place shard node → (why : Reason) → IsExplained why
+    → IsHeard start (Within events told.spans p) p place shard node why → MayRefuse true (faults_told told.ends events (length turns)) start p place shard node why
+
+-- Where a replica did as a write asks, the write's point is one that is taken at this moment.
+abbrev pub ServedIsTaken : Type 0
+ServedIsTaken =
+    (start : Option MetaState) (turns : List Turn) (events : List Event) → Legal true events → (told : ToldBy start turns events) → (p : TurnPlace) → IsTurnPlace turns p
+    → (place : Placement) (shard node : ℕ) → HasServed start (Within events told.spans p) p place shard node → MayServe (rules_at start p) p.turn.act
+
+-- the nodes of replicas that did as the call asks aren't stopped
+abbrev pub ServedRuns : Option MetaState → List Event → Spans → TurnPlace → Type 0
+ServedRuns start events spans p = (place : Placement) (shard node : ℕ) → HasServed start (Within events spans p) p place shard node → OfNode place node (λ name. is_stopped (inner_turns p.lines) name ≡ false)
+
+-- each reason that the turn hears of a counted replica is explained here
+abbrev pub AllAreExplained : (start : Option MetaState) (turns : List Turn) (events : List Event) → ToldBy start turns events → TurnPlace → Type 0
+AllAreExplained start turns events told p =
+    (place : Placement) (shard node : ℕ) (why : Reason) → IsCounted place shard node → IsHeard start (Within events told.spans p) p place shard node why → IsSteadyNode start turns events told p place shard node × IsExplained why
+
+-- What is known of a call: it is one of a run that a legal list tells of, the nodes of those that did as it asks run, and what it hears is explained.
+pub record IsKnownCall (start : Option MetaState) (turns : List Turn) (events : List Event) (told : ToldBy start turns events) (p : TurnPlace) : Type 0 where
+  pub legal : Legal true events
+  pub in_run : IsTurnPlace turns p
+  pub calls : IsTrue (is_call p.turn.act)
+  pub runs : ServedRuns start events told.spans p
+  pub explained : AllAreExplained start turns events told p
+
+-- The counted replicas that a call names with their reasons are silent for these reasons.
+abbrev pub SilentIsSaid : Type 0
+SilentIsSaid =
+    (start : Option MetaState) (turns : List Turn) (events : List Event) (told : ToldBy start turns events) (p : TurnPlace) → IsKnownCall start turns events told p
+    → (place : Placement) (shard got : ℕ) (reasons : List (ℕ × Reason)) → HearsShard start (Within events told.spans p) p place shard got reasons
+    → AreSilent true (faults_told told.ends events (length turns)) start p place shard reasons
+
+-- A call that is refused for its level missed it.
+abbrev pub TooFewIsSaid : Type 0
+TooFewIsSaid =
+    (start : Option MetaState) (turns : List Turn) (events : List Event) (told : ToldBy start turns events) (p : TurnPlace) → IsKnownCall start turns events told p
+    → (got needed : ℕ) (reasons : List (ℕ × Reason)) (shard : ℕ) → p.turn.answer ≡ answer.Consistency got needed reasons shard → MissesLevel true (faults_told told.ends events (length turns)) start p got needed reasons shard
+
+-- A fetch and a match that are answered reached their level, and are short only where a majority is missing.
+abbrev pub FetchIsSaid : Type 0
+FetchIsSaid =
+    (start : Option MetaState) (turns : List Turn) (events : List Event) (told : ToldBy start turns events) (p : TurnPlace) → IsKnownCall start turns events told p
+    → (ns id : List ℕ) (from to : ℕ) (level : ReadLevel) (version : Option ℕ) (series : List Series) (short : Bool) → p.turn.act ≡ act.Fetch ns id from to level version → p.turn.answer ≡ answer.Found series short
+    → IsFoundFor true (faults_told told.ends events (length turns)) start p (Some id) level version short
+
+abbrev pub MatchIsSaid : Type 0
+MatchIsSaid =
+    (start : Option MetaState) (turns : List Turn) (events : List Event) (told : ToldBy start turns events) (p : TurnPlace) → IsKnownCall start turns events told p
+    → (ns : List ℕ) (wanted : List Matcher) (from to : ℕ) (level : ReadLevel) (version : Option ℕ) (series : List Series) (short : Bool) → p.turn.act ≡ act.Match ns wanted from to level version → p.turn.answer ≡ answer.Found series short
+    → IsFoundFor true (faults_told told.ends events (length turns)) start p None level version short
+
+-- An acknowledgement names counted nodes, each once, by name, and as many as the level needs; and the point lies within its window.
+abbrev pub AcksAreSaid : Type 0
+AcksAreSaid =
+    (start : Option MetaState) (turns : List Turn) (events : List Event) → Legal true events → (told : ToldBy start turns events) → (p : TurnPlace) → IsTurnPlace turns p → ServedRuns start events told.spans p
+    → (ns id : List ℕ) (t : ℕ) (v : ℤ) (level : WriteLevel) (version : Option ℕ) (nodes : List ℕ) → p.turn.act ≡ act.Write ns id t v level version → p.turn.answer ≡ answer.Acks nodes → IsAcked start p id level version nodes

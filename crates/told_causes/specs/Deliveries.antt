@@ -1,0 +1,30 @@
+-- Why a late message came to what it did.
+use Rattle.std.specs.Prelude.{◌≡◌, ℕ, List, length, Option, Some, None, true, false}
+use Rattle.m3_model.specs.declared.act.Act.TheVariants as act
+use Rattle.m3_model.specs.declared.answer.Answer.TheVariants as answer
+use Rattle.m3_model.specs.declared.reason.Reason.{Reason}
+use Rattle.m3_model.specs.declared.rules.MetaState.{MetaState}
+use Rattle.m3_model.specs.declared.turn.Turn.{Turn}
+use Rattle.cluster_core.specs.Legal.{Legal}
+use Rattle.cluster_core.specs.declared.event.Event.{Event}
+use Rattle.transcripts.specs.Deliveries.{IsDelivered, LateMessage}
+use Rattle.transcripts.specs.Fates.{OfNode, is_stopped}
+use Rattle.transcripts.specs.Record.{TurnPlace, IsTurnPlace, inner_turns}
+use Rattle.told_by.specs.Hears.{HearsLate}
+use Rattle.told_by.specs.Told.{ToldBy}
+use Rattle.told_causes.specs.Calls.{IsExplained, IsSteadyNode, Within}
+use Rattle.told_causes.specs.Faults.{faults_told}
+
+-- What is known of a `deliver`: it is of a run that a legal list tells of, the nodes that took a message aren't stopped, and what it hears is explained.
+pub record IsKnownDelivery (start : Option MetaState) (turns : List Turn) (events : List Event) (told : ToldBy start turns events) (p : TurnPlace) : Type 0 where
+  pub legal : Legal true events
+  pub in_run : IsTurnPlace turns p
+  pub delivers : p.turn.act ≡ act.Deliver
+  pub runs : (m : LateMessage) (shard : ℕ) → HearsLate start (Within events told.spans p) p m shard None → OfNode m.used m.node (λ name. is_stopped (inner_turns p.lines) name ≡ false)
+  pub explained : (m : LateMessage) (shard : ℕ) (why : Reason) → HearsLate start (Within events told.spans p) p m shard (Some why) → IsSteadyNode start turns events told p m.used shard m.node × IsExplained why
+
+-- The outcomes of a `deliver` are those of late messages, each with its cause.
+abbrev pub OutcomesAreSaid : Type 0
+OutcomesAreSaid =
+    (start : Option MetaState) (turns : List Turn) (events : List Event) (told : ToldBy start turns events) (p : TurnPlace) → IsKnownDelivery start turns events told p
+    → (outcomes : List (ℕ × ℕ × Option Reason)) → p.turn.answer ≡ answer.Outcomes outcomes → (messages : List LateMessage) × IsDelivered true (faults_told told.ends events (length turns)) start p messages outcomes

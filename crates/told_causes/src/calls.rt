@@ -1,0 +1,23 @@
+//! Why a call's answer is what it is.
+ghost use Rattle.told_causes.specs.Calls.{ReasonsAreSaid, ServedIsTaken, SilentIsSaid, AcksAreSaid, TooFewIsSaid, FetchIsSaid, MatchIsSaid};
+
+/// Each reason that a call names for a replica has its cause: a fate, a stop or a fault, a window, a disk or damage of
+/// this very line. Not said here of replicas that wait for a bootstrap, don't own their shard, or are fenced.
+pub fn reasons_are_said()
+    ensures { ReasonsAreSaid }
+{}
+
+/// A call that is refused for its level missed it, and a read that is answered reached it, where the nodes of
+/// those that did as it asks run and each reason that it hears is explained.
+pub fn levels_are_said()
+    ensures silent { SilentIsSaid }
+    ensures few { TooFewIsSaid }
+    ensures fetched { FetchIsSaid }
+    ensures matched { MatchIsSaid }
+{}
+
+/// An acknowledgement is of counted nodes, as many as the level needs, of a point within its window.
+pub fn acks_are_said()
+    ensures served { ServedIsTaken }
+    ensures acks { AcksAreSaid }
+{}

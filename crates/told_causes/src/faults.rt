@@ -1,0 +1,11 @@
+//! The faults of disks and the damages that a list tells of.
+ghost use Rattle.told_causes.specs.Faults.{FaultsAreDifferent, FaultsAreSteps, StepsAreFaults, FaultsAreFew};
+
+/// The faults of a list are those of its refused steps: no two are alike, each is of a step that was refused in its
+/// line, each such step has its fault, and there are no more of them than such steps.
+pub fn faults_are_steps()
+    ensures different { FaultsAreDifferent }
+    ensures steps { FaultsAreSteps }
+    ensures told { StepsAreFaults }
+    ensures few { FaultsAreFew }
+{}

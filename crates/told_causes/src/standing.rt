@@ -1,0 +1,9 @@
+//! Why replicas are closed.
+ghost use Rattle.told_causes.specs.Standing.{DownHasCause, DownIsSaid};
+
+/// A replica that refuses a call as closed is of a node that is stopped, or a fault of its own closed it and its node
+/// wasn't restarted since; and so a transcript says of it.
+pub fn down_has_cause()
+    ensures cause { DownHasCause }
+    ensures said { DownIsSaid }
+{}

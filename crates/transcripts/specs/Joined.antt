@@ -1,0 +1,54 @@
+-- Joined: whoever turns Available has merged a majority of the former replicas, and the turn that did it prints them.
+use Rattle.std.specs.Prelude.{◌≡◌, ◌≢◌, ◌≤◌, ℕ, suc, List, length, Option, Some, slice_get}
+use Rattle.m3_model.specs.Ascends.{Ascends}
+use Rattle.m3_model.specs.Levels.{majority}
+use Rattle.m3_model.specs.Members.{IsIn}
+use Rattle.m3_model.specs.declared.act.Act.TheVariants as act
+use Rattle.m3_model.specs.declared.answer.Answer.TheVariants as answer
+use Rattle.m3_model.specs.declared.placement.Assignment.{Assignment}
+use Rattle.m3_model.specs.declared.placement.Placement.{Placement}
+use Rattle.m3_model.specs.declared.placement.ShardState.TheVariants.{Initializing, Available}
+use Rattle.placement_core.specs.Shards.{Shard, former}
+use Rattle.transcripts.specs.Placements.{placements}
+use Rattle.transcripts.specs.Record.{Life, TurnPlace, IsTurnPlace, inner_turns}
+
+-- the node is Initializing in the shard in one placement, and Available in the next
+pub record TurnsAvailable (was next : Placement) (number node : ℕ) : Type 0 where
+  pub follows : next.version ≡ suc was.version
+  pub shard : Shard
+  pub shard_is : slice_get was.shards number ≡ Some shard
+  pub joining : Assignment
+  pub joins : IsIn shard joining
+  pub of_node : joining.node ≡ node
+  pub is_joining : joining.state ≡ Initializing
+  pub after : Shard
+  pub after_is : slice_get next.shards number ≡ Some after
+  pub joined : Assignment
+  pub stands : IsIn after joined
+  pub to_node : joined.node ≡ node
+  pub is_available : joined.state ≡ Available
+
+-- a bootstrap that was answered ok, with the shards that turned available and their peers
+pub record IsBootstrapOf (p : TurnPlace) (available : List (ℕ × List ℕ)) : Type 0 where
+  pub node : List ℕ
+  pub asked : Option ℕ
+  pub act_is : p.turn.act ≡ act.Bootstrap node asked
+  pub place : Placement
+  pub version : ℕ
+  pub answered : p.turn.answer ≡ answer.Available available place version
+
+-- the turn is a bootstrap that prints with the shard different former replicas, at least a majority
+pub record PrintsMajority (p : TurnPlace) (rf number : ℕ) (shard : Shard) : Type 0 where
+  pub available : List (ℕ × List ℕ)
+  pub bootstrap : IsBootstrapOf p available
+  pub names : List ℕ
+  pub printed : IsIn available (number, names)
+  pub distinct : Ascends ◌≢◌ names
+  pub within : (node : ℕ) → IsIn names node → IsIn (former shard) node
+  pub enough : majority rf ≤ length names
+
+-- of two placements of the present run, one the next of the other: each node that turned Available was joined by a turn that prints a majority
+abbrev pub Joined : Life → Type 0
+Joined life =
+    (was next : Placement) → IsIn (placements life.present.start (inner_turns life.present.turns)) was → IsIn (placements life.present.start (inner_turns life.present.turns)) next
+    → (number node : ℕ) → (turns : TurnsAvailable was next number node) → (p : TurnPlace) × IsTurnPlace life.present.turns p × PrintsMajority p was.rf number turns.shard
