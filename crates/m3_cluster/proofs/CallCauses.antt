@@ -320,6 +320,7 @@ found_due {D} {G} {state} {faults} {lines} {c} {m} h more among a b calls id w l
             silent = silent_due heard (λ n x none. cc) (refusing (found.told k)) refl;
             got = length (answering (found.told k));
             others = others_due heard (length (answering (found.told k))) (refusing (found.told k)) refl refl;
+            some = let least = subst (λ l. needed_read l place.rf ≤ length (answering (found.told k))) why.0 (found.enough k why.1.1 why.1.2) in omega (arith, least);
             fewer = why.1.3;
           }));
       not_short = λ whole is k asks.

@@ -82,7 +82,7 @@ found_more tells faults more among start p id level version short h = record {
   may_be_short = λ is.
       let why = h.may_be_short is in
       let own = why.1.2 in
-      (why.0, (why.1.0, why.1.1, record { reasons = own.reasons; silent = silent_more tells faults more among start p h.place why.1.0 own.reasons own.silent; got = own.got; others = own.others; fewer = own.fewer }));
+      (why.0, (why.1.0, why.1.1, record { reasons = own.reasons; silent = silent_more tells faults more among start p h.place why.1.0 own.reasons own.silent; got = own.got; others = own.others; some = own.some; fewer = own.fewer }));
   not_short = h.not_short;
 }
 
