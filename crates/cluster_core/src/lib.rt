@@ -3,6 +3,7 @@
 
 pub mod event;
 pub mod laws;
+pub mod passes;
 pub mod replica_state;
 #[cfg(test)]
 mod tests;
