@@ -29,7 +29,8 @@ use Rattle.cluster_core.specs.Lists.{At, AfterSome}
 use Rattle.cluster_core.specs.declared.replica_state.ReplicaState.{ReplicaState}
 use Rattle.cluster_core.specs.Replicas.{replica, fresh, after, step_of}
 use Rattle.cluster_core.specs.Legal.{Legal, Lawful, LawfulAt, JoinedThere, JoinedAt, AcksSend, EachAnswered, EndsFetch}
-use Rattle.cluster_core.specs.Makers.{Made, entries, replica_seat, IsMaker, IsLawfulLog}
+use Rattle.event_book.specs.declared.view.Made.{Made}
+use Rattle.cluster_core.specs.Makers.{entries, replica_seat, IsMaker, IsLawfulLog}
 use Rattle.cluster_core.proofs.ListLemmas.{some_same, at_within, at_in, in_at, at_append, any_at, at_any}
 
 append_at : {X : Type 0} (xs ys : List X) (i : ℕ) (x : X) → At (xs ++ ys) i x → At xs i x ⊎ IsIn ys x
@@ -213,13 +214,13 @@ module _ (past more : List Event) where
 
 -- ---- lists of events with their makers
 
-at_push : {X : Type 0} (xs : List X) (y : X) (i : ℕ) (x : X) → At (xs ++ y ∷ []) i x → At xs i x ⊎ ((i ≡ length xs) × (y ≡ x))
+pub at_push : {X : Type 0} (xs : List X) (y : X) (i : ℕ) (x : X) → At (xs ++ y ∷ []) i x → At xs i x ⊎ ((i ≡ length xs) × (y ≡ x))
 at_push [] y zero x e = inr (refl, some_same y x e)
 at_push [] y (suc i) x e = cc
 at_push (z ∷ xs) y zero x e = inl e
 at_push (z ∷ xs) y (suc i) x e = elim (at_push xs y i x e) as (λ _. At xs i x ⊎ ((suc i ≡ suc (length xs)) × (y ≡ x))) [ inl h ↦ inl h | inr h ↦ inr (ap suc h.0, h.1) ]
 
-at_last : {X : Type 0} (xs : List X) (y : X) → At (xs ++ y ∷ []) (length xs) y
+pub at_last : {X : Type 0} (xs : List X) (y : X) → At (xs ++ y ∷ []) (length xs) y
 at_last [] y = refl
 at_last (z ∷ xs) y = at_last xs y
 
@@ -258,20 +259,20 @@ akin_by (event.Place p done) (event.Place p' done') by by' h k akin = k ∙ sym 
 akin_by (event.Clock rules) (event.Clock rules') by by' h k akin = k ∙ sym h
 akin_by _ _ by by' h k akin = absurd akin
 
-entries_append : (xs ys : List Made) → entries (xs ++ ys) ≡ entries xs ++ entries ys
+pub entries_append : (xs ys : List (Made Event)) → entries (xs ++ ys) ≡ entries xs ++ entries ys
 entries_append [] ys = refl
 entries_append (x ∷ xs) ys = ap (λ es. x.entry ∷ es) (entries_append xs ys)
 
-entries_in : (xs : List Made) (e : Event) → IsIn (entries xs) e → (x : Made) × IsIn xs x × (x.entry ≡ e)
+entries_in : (xs : List (Made Event)) (e : Event) → IsIn (entries xs) e → (x : Made Event) × IsIn xs x × (x.entry ≡ e)
 entries_in [] e h = absurd h
-entries_in (x ∷ xs) e h = elim h as (λ _. (y : Made) × ((x ≡ y) ⊎ IsIn xs y) × (y.entry ≡ e)) [ inl s ↦ (x, inl refl, s) | inr r ↦ let l = entries_in xs e r in (l.0, inr l.1, l.2) ]
+entries_in (x ∷ xs) e h = elim h as (λ _. (y : Made Event) × ((x ≡ y) ⊎ IsIn xs y) × (y.entry ≡ e)) [ inl s ↦ (x, inl refl, s) | inr r ↦ let l = entries_in xs e r in (l.0, inr l.1, l.2) ]
 
 in_right : {X : Type 0} (xs ys : List X) (x : X) → IsIn ys x → IsIn (xs ++ ys) x
 in_right [] ys x h = h
 in_right (z ∷ xs) ys x h = inr (in_right xs ys x h)
 
 -- lawful after one list, lawful after each longer one with the same events of its maker
-pub extended : (tells : Bool) (log more : List Made) (m : Made) → IsLawfulLog tells (log ++ m ∷ []) → IsLawfulLog tells (log ++ more) → ((x : Made) → IsIn more x → x.by ≡ m.by → ⊥) → IsLawfulLog tells ((log ++ more) ++ m ∷ [])
+pub extended : (tells : Bool) (log more : List (Made Event)) (m : Made Event) → IsLawfulLog tells (log ++ m ∷ []) → IsLawfulLog tells (log ++ more) → ((x : Made Event) → IsIn more x → x.by ≡ m.by → ⊥) → IsLawfulLog tells ((log ++ more) ++ m ∷ [])
 extended tells log more m a b apart =
     let law : LawfulAt tells (length (entries log)) (entries log) m.entry = legal_last tells (entries log) m.entry (subst (Legal tells) (entries_append log (m ∷ [])) a.legal) in
     let mine : IsMaker m.entry m.by = a.makers (length log) m (at_last log m) in

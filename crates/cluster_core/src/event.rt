@@ -1,4 +1,5 @@
 //! What happens in a cluster, as far as its points, its placement and its moments go.
+use event_book::Entries;
 use m3_model::placement::Placement;
 use m3_model::point::{Key, Page, Pick, Point, Series};
 use m3_model::reason::Reason;
@@ -144,4 +145,13 @@ pub enum Event {
         call: StepCall,
         reply: StepReply,
     },
+}
+
+/// A book of events takes the lists that are legal by whether its name says that the disks tell, each event made by one who may.
+impl Entries for Event {
+    ghost use Rattle.cluster_core.specs.Makers.{IsLawfulLog, starts_lawful};
+
+    ghost lawful = { IsLawfulLog };
+
+    ghost starts = { starts_lawful };
 }

@@ -2,7 +2,7 @@
 ghost use Rattle.std.specs.Prelude.{true};
 ghost use Rattle.cluster_core.specs.Core.{KeepsPoints};
 ghost use Rattle.cluster_core.specs.Legal.{Legal};
-ghost use Rattle.cluster_core.specs.Makers.{StaysLawful, FollowsFromItsSeat};
+ghost use Rattle.cluster_core.specs.Makers.{StaysLawful, FollowsFromItsSeat, AddsWhatIsLawful};
 ghost use Rattle.cluster_core.specs.Shown.{FoundShows, PageShows};
 
 use crate::event::Event;
@@ -15,10 +15,12 @@ pub fn reads_keep(_events: &Seq<Event>)
 {}
 
 /// What one maker may add depends on its own events, and on the existence and the number of earlier ones: what others add
-/// leaves it lawful. The state of a replica follows from what its own seat made.
+/// leaves it lawful, so that a seat may add what is lawful after the list that it has seen. The state of a replica follows from what its
+/// own seat made.
 pub fn others_leave_lawful()
     ensures stays { StaysLawful }
     ensures own { FollowsFromItsSeat }
+    ensures may_add { AddsWhatIsLawful }
 {}
 
 /// A replica may answer what a content answers that shows it.

@@ -3,4 +3,5 @@
 
 pub mod event;
 pub mod laws;
+pub mod passes;
 pub mod replica_state;

@@ -1,0 +1,11 @@
+pub mod Prefixes
+pub mod Members
+pub mod Naming
+pub mod Looking
+pub mod Adding
+pub mod Appending
+pub mod Passing
+pub mod Splitting
+pub mod Ending
+pub mod Opening
+pub mod Seated
