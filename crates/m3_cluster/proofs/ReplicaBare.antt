@@ -10,8 +10,8 @@ use Rattle.m3_outside.specs.DiskState.{DiskState, EachImage, IsEmpty}
 use Rattle.m3_outside.specs.Files.{Files}
 use Rattle.m3_outside.specs.Slots.{Held, Unused, Here, Out, MayGive}
 use Rattle.placement_core.proofs.ListLemmas.{All-from_each, each-from_All, Any-from_IsIn, IsIn-from_Any}
-use Rattle.shard_store.specs.Held.{Held as FilesHold}
-use Rattle.shard_store.proofs.HeldLemmas.{no_files_hold_nothing}
+use Rattle.shard_files.specs.Held.{Held as FilesHold}
+use Rattle.shard_files.proofs.HeldLemmas.{no_files_hold_nothing}
 use Rattle.cluster_core.specs.Replicas.{IsGone}
 use Rattle.cluster_core.specs.declared.event.StepReply.{StepReply}
 use Rattle.cluster_core.specs.declared.replica_state.ReplicaState.{ReplicaState}

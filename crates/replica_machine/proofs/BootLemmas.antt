@@ -18,13 +18,13 @@ use Rattle.m3_outside.specs.DiskState.{DiskState, Told, EachImage, StepOf}
 use Rattle.m3_outside.specs.declared.disk_err.DiskErr.{DiskErr}
 use Rattle.m3_outside.specs.declared.disk_err.DiskErr.TheVariants as refused
 use Rattle.placement_core.proofs.ListLemmas.{All-from_each, each-from_All, Any-from_IsIn}
-use Rattle.shard_store.specs.Held.{Held}
-use Rattle.shard_store.specs.Gains.{nothing, a_tenure, Gains, MayGain, Brings}
+use Rattle.shard_files.specs.Held.{Held}
+use Rattle.shard_files.specs.Gains.{nothing, a_tenure, Gains, MayGain, Brings}
 use Rattle.shard_store.specs.Stores.{StoreState}
-use Rattle.shard_store.proofs.GainLemmas.{covers_itself}
-use Rattle.shard_store.proofs.HeldLemmas.{held_is_one}
+use Rattle.shard_files.proofs.GainLemmas.{covers_itself}
+use Rattle.shard_files.proofs.HeldLemmas.{held_is_one}
 use Rattle.shard_store.proofs.LogStepLemmas.{counts_both, counts_for, counts_same}
-use Rattle.shard_store.proofs.ContentLemmas.{content_holds, content_source}
+use Rattle.shard_files.proofs.ContentLemmas.{content_holds, content_source}
 use Rattle.cluster_core.specs.Refusals.{closed, first_refusal}
 use Rattle.cluster_core.specs.Replicas.{IsGone}
 use Rattle.cluster_core.specs.Rows.{NoneHigher, MayBeHigher, IsBegan, LawfulStep}

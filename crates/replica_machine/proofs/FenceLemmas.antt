@@ -11,7 +11,7 @@ use Rattle.m3_outside.specs.Causes.{CountsFaults}
 use Rattle.m3_outside.specs.DiskState.{DiskState}
 use Rattle.m3_outside.specs.declared.disk_err.DiskErr.{DiskErr}
 use Rattle.m3_outside.specs.declared.disk_err.DiskErr.TheVariants as refused
-use Rattle.shard_store.specs.Gains.{a_fence, Brings}
+use Rattle.shard_files.specs.Gains.{a_fence, Brings}
 use Rattle.shard_store.specs.Stores.{StoreState}
 use Rattle.shard_store.proofs.LogStepLemmas.{on_ok_as, counts_same}
 use Rattle.cluster_core.specs.Refusals.{shut, unowned, first_refusal}

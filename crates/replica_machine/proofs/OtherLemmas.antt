@@ -18,9 +18,9 @@ use Rattle.m3_outside.specs.DiskCalls.{Restarts}
 use Rattle.m3_outside.specs.declared.disk_err.DiskErr.{DiskErr}
 use Rattle.m3_outside.specs.declared.disk_err.DiskErr.TheVariants as refused
 use Rattle.m3_outside.proofs.Moments.{step_as}
-use Rattle.shard_store.specs.Gains.{nothing, Gains}
+use Rattle.shard_files.specs.Gains.{nothing, Gains}
 use Rattle.shard_store.specs.Stores.{StoreState, closed_over}
-use Rattle.shard_store.proofs.GainLemmas.{gains_nothing}
+use Rattle.shard_files.proofs.GainLemmas.{gains_nothing}
 use Rattle.shard_store.proofs.LogStepLemmas.{counts_for, counts_same}
 use Rattle.cluster_core.specs.Replicas.{fresh}
 use Rattle.cluster_core.specs.Rows.{open_fence}

@@ -10,7 +10,7 @@ use Rattle.m3_model.proofs.JoinLemmas.{raised_holds, raised_keeps, raised_source
 use Rattle.m3_model.proofs.MemberLemmas.{IsIn-append_left, IsIn-append_cases, IsIn-push}
 use Rattle.m3_outside.specs.Files.{Files}
 use Rattle.m3_outside.specs.DiskState.{DiskState, EachImage, StepOf}
-use Rattle.shard_store.specs.Gains.{nothing, a_point, a_fence, Gains}
+use Rattle.shard_files.specs.Gains.{nothing, a_point, a_fence, Gains}
 use Rattle.cluster_core.specs.Replicas.{Shows, greater}
 use Rattle.cluster_core.specs.Rows.{IsServing}
 use Rattle.cluster_core.specs.declared.replica_state.ReplicaState.{ReplicaState}

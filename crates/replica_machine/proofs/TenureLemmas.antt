@@ -9,10 +9,10 @@ use Rattle.m3_model.specs.declared.replica.Standing.TheVariants as standing
 use Rattle.m3_model.proofs.MemberLemmas.{IsIn-append_left, IsIn-append_right, IsIn-append_cases, IsIn-push}
 use Rattle.m3_outside.specs.Files.{Files}
 use Rattle.placement_core.proofs.ListLemmas.{All-from_each, each-from_All, Any-from_IsIn, IsIn-from_Any}
-use Rattle.shard_store.specs.Held.{Held}
-use Rattle.shard_store.specs.Gains.{a_tenure, Gains, MayGain}
-use Rattle.shard_store.proofs.GainLemmas.{covers_itself, covers_then}
-use Rattle.shard_store.proofs.HeldLemmas.{held_is_one}
+use Rattle.shard_files.specs.Held.{Held}
+use Rattle.shard_files.specs.Gains.{a_tenure, Gains, MayGain}
+use Rattle.shard_files.proofs.GainLemmas.{covers_itself, covers_then}
+use Rattle.shard_files.proofs.HeldLemmas.{held_is_one}
 use Rattle.cluster_core.specs.Replicas.{greater, IsGone}
 use Rattle.cluster_core.specs.Rows.{IsLoaded}
 use Rattle.cluster_core.specs.declared.replica_state.ReplicaState.{ReplicaState}

@@ -21,7 +21,7 @@ use Rattle.m3_outside.specs.Files.{Files}
 use Rattle.m3_outside.specs.DiskState.{DiskState, EachImage}
 use Rattle.m3_outside.specs.declared.disk_err.DiskErr.{DiskErr}
 use Rattle.m3_outside.specs.declared.disk_err.DiskErr.TheVariants as refused
-use Rattle.shard_store.specs.Held.{Held}
+use Rattle.shard_files.specs.Held.{Held}
 use Rattle.shard_store.specs.Stores.{StoreState, closed_over}
 use Rattle.cluster_core.specs.Refusals.{shut, unowned, outdated, first_refusal}
 use Rattle.cluster_core.specs.Replicas.{Shows, IsGone, fresh}

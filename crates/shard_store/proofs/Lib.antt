@@ -5,13 +5,7 @@ pub mod SelectionLemmas
 pub mod IndexLemmas
 pub mod CandidateLemmas
 pub mod AnswerLemmas
-pub mod SpellingLemmas
-pub mod HeldLemmas
-pub mod DamageLemmas
-pub mod PlaceLemmas
-pub mod AmountLemmas
-pub mod GainLemmas
-pub mod EntryLemmas
+pub mod JoinLemmas
+pub mod KeptLemmas
 pub mod LogStepLemmas
 pub mod SyncLemmas
-pub mod ContentLemmas

@@ -9,17 +9,18 @@ use Rattle.m3_outside.specs.declared.disk_err.DiskErr.TheVariants.{Memory, Faile
 use Rattle.m3_outside.proofs.Moments.{step_as, elapses_as, elapses_then}
 use Rattle.commit_log.specs.Segment.{segment, MayAdd, Adds}
 use Rattle.commit_log.specs.LogEnd.{LogEnd, NoneAbove, NoneFrom, Stands, MayBegin}
-use Rattle.shard_store.specs.declared.entries.LogEntry.{LogEntry}
-use Rattle.shard_store.specs.Entries.{IsEntry}
-use Rattle.shard_store.specs.Held.{Held}
-use Rattle.shard_store.specs.Gains.{Gain, nothing, Gains, MayGain, Brings}
-use Rattle.shard_store.specs.LogSteps.{gain_in}
+use Rattle.shard_files.specs.declared.entries.LogEntry.{LogEntry}
+use Rattle.shard_files.specs.Entries.{IsEntry}
+use Rattle.shard_files.specs.Held.{Held}
+use Rattle.shard_files.specs.Gains.{Gain, nothing, Gains, MayGain, Brings}
+use Rattle.shard_files.specs.LogSteps.{gain_in}
 use Rattle.shard_store.specs.Stores.{HoldsAtLeast, IsKeptOn}
 use Rattle.wire_bytes.specs.Entries.{IsBounded, ArePoints}
 use Rattle.m3_model.specs.Members.{IsIn}
 use Rattle.m3_model.specs.declared.point.Point.{Point}
-use Rattle.shard_store.proofs.GainLemmas.{gains_nothing, there_already, all_is_part, nothing_is_part, nothing_then_all, nothing_then_part, kept_by_part}
-use Rattle.shard_store.proofs.EntryLemmas.{added, may_be_added, begun_gains, fresh_gains}
+use Rattle.shard_files.proofs.GainLemmas.{gains_nothing, all_is_part, nothing_is_part, nothing_then_all, nothing_then_part}
+use Rattle.shard_store.proofs.KeptLemmas.{there_already, kept_by_part}
+use Rattle.shard_files.proofs.EntryLemmas.{added, may_be_added, begun_gains, fresh_gains}
 
 -- no image has a segment above the log's end
 above_all : (log : LogEnd) (d : DiskState) → IsLawful d → Stands log d → d.tells ≡ true → (c : Files) → d.images c → NoneAbove log.number c

@@ -7,7 +7,7 @@ use Rattle.m3_model.specs.declared.point.Point.{Point}
 use Rattle.m3_outside.specs.Files.{Files}
 use Rattle.m3_outside.specs.DiskState.{DiskState, EachImage}
 use Rattle.commit_log.specs.LogEnd.{LogEnd, Stands}
-use Rattle.shard_store.specs.Held.{Held}
+use Rattle.shard_files.specs.Held.{Held}
 
 -- What a store is: its disk, whether its points are in memory, and then these, joined, with the greatest tenure and the greatest fence or tenure of
 -- its files. A closed one has none of them.

@@ -1,6 +1,6 @@
 ghost use Rattle.std.specs.Prelude.{◌≡◌, IfOk, OnOk, OnErr};
 ghost use Rattle.std.specs.FinMap as finite;
-ghost use Rattle.m3_model.specs.Contents.{raised};
+ghost use Rattle.m3_model.specs.Contents.{raised, content_of};
 ghost use Rattle.m3_model.specs.Answers.{IsAnswer};
 
 use crate::candidates::{candidates, names};
@@ -99,4 +99,15 @@ impl HeldPoints {
             }
         }
     }
+}
+
+/// The points joined, in memory: of several of one key the higher value. Each costs logarithmic time.
+pub fn hold(alloc: Global, points: &[Point]) -> Result<HeldPoints, Memory>
+    ensures { IfOk result (λ held. held ≡ content_of points.now) }
+{
+    let mut held = HeldPoints::new(alloc);
+    for point in points {
+        held.put(point)?;
+    }
+    Ok(held)
 }

@@ -1,11 +1,8 @@
 //! The points of one shard that one replica holds, and what it answers a read with.
 #![tactic(auto)]
 
-pub mod amount;
 mod candidates;
-pub mod entries;
 pub mod held;
-pub mod laws;
 mod listing;
 pub mod load;
 mod log_step;

@@ -5,12 +5,12 @@ ghost use Rattle.m3_outside.specs.DiskState.{DiskState, Told, EachImage, Elapses
 ghost use Rattle.m3_outside.specs.Files.{Files};
 ghost use Rattle.m3_outside.specs.declared.disk_err.DiskErr.TheVariants.{Failed as DiskFailed};
 ghost use Rattle.commit_log.specs.LogEnd.{LogEnd, NoneFrom, Stands, IsReadyFor};
-ghost use Rattle.shard_store.specs.Entries.{IsEntry};
-ghost use Rattle.shard_store.specs.Gains.{Gains, MayGain, Brings, nothing};
-ghost use Rattle.shard_store.specs.Held.{tenure_in, fence_in};
+ghost use Rattle.shard_files.specs.Entries.{IsEntry};
+ghost use Rattle.shard_files.specs.Gains.{Gains, MayGain, Brings, nothing};
+ghost use Rattle.shard_files.specs.Held.{tenure_in, fence_in};
 ghost use Rattle.shard_store.specs.Stores.{HoldsAtLeast, IsKeptOn};
-ghost use Rattle.shard_store.specs.declared.entries.LogEntry.{LogEntry as Entry};
-ghost use Rattle.shard_store.specs.LogSteps.{gain_in};
+ghost use Rattle.shard_files.specs.declared.entries.LogEntry.{LogEntry as Entry};
+ghost use Rattle.shard_files.specs.LogSteps.{gain_in};
 
 use commit_log::Log;
 use m3_outside::disk::Disk;

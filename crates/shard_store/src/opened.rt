@@ -2,7 +2,7 @@ ghost use Rattle.std.specs.Prelude.{◌≡◌, ◌⊎◌, max, OnOk, OnErr, IsEr
 ghost use Rattle.m3_model.specs.Contents.{raised};
 ghost use Rattle.m3_outside.specs.declared.disk_err.DiskErr.TheVariants.{Memory as WantOfMemory};
 ghost use Rattle.wire_bytes.specs.Entries.{IsBounded};
-ghost use Rattle.shard_store.specs.Gains.{Brings, a_point, a_fence, a_tenure};
+ghost use Rattle.shard_files.specs.Gains.{Brings, a_point, a_fence, a_tenure};
 ghost use Rattle.shard_store.specs.Stores.{IsKeptOn};
 
 use crate::held::HeldPoints;

@@ -1,8 +1,8 @@
-use crate::entries::{LogEntry, read_entry};
 use crate::held::HeldPoints;
 use m3_model::point::{Matcher, Pick, Point};
 use m3_model::seq::Seq;
 use m3_model::text::Text;
+use shard_files::entries::{LogEntry, read_entry};
 use std::alloc::Global;
 use std::test::Fail;
 

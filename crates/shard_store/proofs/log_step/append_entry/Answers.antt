@@ -1,5 +1,5 @@
-use Rattle.shard_store.specs.LogSteps.{gain_in}
-use Rattle.shard_store.proofs.GainLemmas.{kept_by_part}
+use Rattle.shard_files.specs.LogSteps.{gain_in}
+use Rattle.shard_store.proofs.KeptLemmas.{kept_by_part}
 use Rattle.shard_store.proofs.LogStepLemmas.{kept_as, on_ok_as, append_elapses, append_added}
 use Rattle.shard_store.proofs.log_step.append_entry.Goals as goal
 

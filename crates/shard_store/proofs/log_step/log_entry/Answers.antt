@@ -2,9 +2,9 @@ use Rattle.std.proofs.Common.{◌∙◌, refl, sym, subst, arith}
 use Rattle.std.specs.Prelude.{⊤, IsErr, IsErrOf}
 use Rattle.m3_outside.specs.Causes.{CountsFaults}
 use Rattle.m3_outside.specs.declared.disk_err.DiskErr.TheVariants.{Failed as DiskFailed}
-use Rattle.shard_store.specs.LogSteps.{gain_in}
-use Rattle.shard_store.proofs.GainLemmas.{kept_by_all}
-use Rattle.shard_store.proofs.HeldLemmas.{tenure_is_fence}
+use Rattle.shard_files.specs.LogSteps.{gain_in}
+use Rattle.shard_store.proofs.KeptLemmas.{kept_by_all}
+use Rattle.shard_files.proofs.HeldLemmas.{tenure_is_fence}
 use Rattle.shard_store.proofs.LogStepLemmas.{kept_as, err_is, brings_nothing, brings_fault, brings_all, after_nothing, steps_after_nothing, counts_both, counts_for}
 use Rattle.shard_store.proofs.log_step.log_entry.Goals as goal
 

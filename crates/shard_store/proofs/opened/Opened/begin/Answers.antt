@@ -1,8 +1,8 @@
 use Rattle.std.proofs.Common.{max, ◌++◌, List, ℕ, ◌∙◌, ap, sym, arith}
 use Rattle.wire_bytes.specs.Entries.{tenure_entry}
 use Rattle.m3_outside.specs.declared.disk_err.DiskErr.TheVariants.{Memory}
-use Rattle.shard_store.specs.Gains.{a_tenure}
-use Rattle.shard_store.specs.declared.entries.LogEntry.TheVariants as entry
+use Rattle.shard_files.specs.Gains.{a_tenure}
+use Rattle.shard_files.specs.declared.entries.LogEntry.TheVariants as entry
 use Rattle.shard_store.proofs.LogStepLemmas.{err_is, brings_none, brings_there, brings_as, kept_for}
 use Rattle.shard_store.proofs.opened.Opened.begin.Goals as goal
 

@@ -3,8 +3,8 @@ use Rattle.std.specs.Prelude.{⊤, IsErr, IsErrOf}
 use Rattle.wire_bytes.specs.Entries.{points_entry}
 use Rattle.m3_outside.specs.Causes.{CountsFaults}
 use Rattle.m3_outside.specs.declared.disk_err.DiskErr.TheVariants.{Memory, Failed as DiskFailed}
-use Rattle.shard_store.specs.Gains.{a_point}
-use Rattle.shard_store.specs.declared.entries.LogEntry.TheVariants as entry
+use Rattle.shard_files.specs.Gains.{a_point}
+use Rattle.shard_files.specs.declared.entries.LogEntry.TheVariants as entry
 use Rattle.shard_store.proofs.LogStepLemmas.{one_bounded, not_failed, err_is, brings_none, brings_nothing, brings_fault, brings_all, after_nothing, steps_after_nothing, counts_both, counts_for}
 use Rattle.shard_store.proofs.opened.Opened.put.Goals as goal
 

@@ -2,7 +2,7 @@ use Rattle.std.proofs.Common.{ap, sym, subst}
 use Rattle.std.specs.Prelude.{IsErrOf}
 use Rattle.m3_outside.specs.DiskState.{EachImage}
 use Rattle.m3_outside.specs.declared.disk_err.DiskErr.TheVariants.{Memory, Failed as DiskFailed}
-use Rattle.shard_store.specs.Gains.{Brings, nothing}
+use Rattle.shard_files.specs.Gains.{Brings, nothing}
 use Rattle.shard_store.specs.Stores.{HoldsAtLeast}
 use Rattle.shard_store.proofs.LogStepLemmas.{err_is, brings_none, brings_nothing, brings_nothing_more, only_held, counts_for, err_to}
 use Rattle.shard_store.proofs.store.Store.open.Goals as goal
