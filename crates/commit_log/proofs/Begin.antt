@@ -5,12 +5,11 @@ use Rattle.std.specs.FinMap.{get}
 use Rattle.m3_outside.specs.declared.file_name.FileName.{FileName}
 use Rattle.m3_outside.specs.declared.disk_err.DiskErr.{DiskErr}
 use Rattle.m3_outside.specs.declared.disk_err.DiskErr.TheVariants.{Memory, Failed as DiskFailed}
-use Rattle.m3_outside.specs.Causes.{CountsFaults}
 use Rattle.m3_outside.specs.Files.{Files, Stays, files_with_zeros}
 use Rattle.m3_outside.specs.DiskState.{DiskState, Elapses, Becomes, Told}
 use Rattle.m3_outside.specs.DiskCalls.{Creates, LeavesFiles, Reserves}
 use Rattle.m3_outside.proofs.Names.{get_here, get_apart}
-use Rattle.m3_outside.proofs.Moments.{elapses_as, elapses_then}
+use Rattle.m3_outside.proofs.Moments.{elapses_as, elapses_then, becomes_both, becomes_stays}
 use Rattle.commit_log.specs.Segment.{segment, IsAtRest}
 use Rattle.commit_log.specs.LogEnd.{LogEnd, NoneFrom, NoneAbove, Stands, IsReadyFor, MayBegin, BeganOrNot}
 
@@ -70,22 +69,6 @@ stands_stays log failed a b leaves st =
       within = st.within;
     }
 
--- one change and then another
-pub becomes_both : (f g h : Files → Files) (a b c : DiskState) → ((x y : Files) → y ≡ f x → g y ≡ h x) → Becomes f a b → Becomes g b c → Becomes h a c
-becomes_both f g h a b c both one two = record {
-  files = two.files ∙ both a.files b.files one.files;
-  images = λ x image.
-      let last = two.images x image in
-      let first = one.images last.before last.was in
-      record { before = first.before; was = first.was; stepped = last.stepped ∙ both first.before last.before first.stepped };
-}
-
-pub becomes_stays : (failed : Type 0) (a b : DiskState) → LeavesFiles failed a b → a.tells ≡ true → Becomes (λ files. files) a b
-becomes_stays failed a b leaves t = record { files = leaves.files t; images = (leaves.proceeds.told t).images }
-
-pub same_becomes : (a : DiskState) → Becomes (λ files. files) a a
-same_becomes a = record { files = refl; images = λ c image. record { before = c; was = image; stepped = refl } }
-
 -- a segment is there or not, and then nothing changed
 pub began_then_stays : (number : ℕ) (failed : Type 0) (a b c : DiskState) → BeganOrNot number a b → LeavesFiles failed b c → b.tells ≡ true → BeganOrNot number a c
 began_then_stays number failed a b c one leaves t =
@@ -108,17 +91,6 @@ begun_then_stays number a b c one two = elapses_then a b c (λ x y image step. s
 
 pub stays_begun : (number : ℕ) (a b : DiskState) → Elapses Stays a b → Elapses (MayBegin number) a b
 stays_begun number a b one = elapses_as a b (λ x y image same. inl same) one
-
--- one count after another
-pub counts_then : (failed : Type 0) (a b c : ℕ) → CountsFaults ⊥ a b → CountsFaults failed b c → CountsFaults failed a c
-counts_then failed a b c one two = record {
-  later = omega (arith, one.later, two.later);
-  stays = λ e. two.stays (one.stays e);
-  rose = λ f. let r = two.rose f in omega (arith, one.later, r);
-}
-
-pub counts_none : (failed : Type 0) (a b : ℕ) → (failed → ⊥) → CountsFaults failed a b → CountsFaults ⊥ a b
-counts_none failed a b never one = record { later = one.later; stays = one.stays; rose = λ f. absurd f }
 
 -- a log's end that has room is ready once calls are reserved
 pub ready_after : (log : LogEnd) (n : ℕ) (r : Result ⊤ DiskErr) (a b : DiskState) → Reserves 5 r a b → Stands log a → log.clean ≡ true → log.at + 5 + n ≤ 65536 → OnOk r (IsReadyFor log n b)

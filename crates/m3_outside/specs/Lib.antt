@@ -7,3 +7,4 @@ pub mod DiskState
 pub mod DiskCalls
 pub mod Slots
 pub mod DiskLaws
+pub mod Removal

@@ -14,5 +14,6 @@ mod schedule;
 pub mod sink;
 pub mod slot;
 pub mod source;
+pub mod take_away;
 #[cfg(test)]
 mod tests;

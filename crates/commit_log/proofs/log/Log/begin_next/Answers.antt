@@ -1,5 +1,6 @@
 use Rattle.std.proofs.Common.{◌≡◌, ◌+◌, inl, ap, arith}
-use Rattle.commit_log.proofs.Begin.{begun_stands, failed_above, none_from_next, elapses_none, same_becomes}
+use Rattle.m3_outside.proofs.Moments.{same_becomes}
+use Rattle.commit_log.proofs.Begin.{begun_stands, failed_above, none_from_next, elapses_none}
 use Rattle.commit_log.proofs.log.Log.begin_next.Goals as goal
 
 pub returns-in_default-clause-any_moment : goal.returns-in_default-clause-any_moment
