@@ -13,13 +13,14 @@ use Rattle.wire_bytes.specs.declared.entry_read.EntryAt.{EntryAt}
 use Rattle.wire_bytes.specs.declared.entry_read.EntryAt.TheVariants as found
 use Rattle.wire_bytes.proofs.FieldLemmas.{begins_goes, begins_take, one_stands, stands_both}
 use Rattle.wire_bytes.proofs.PointLemmas.{point_ends}
+use Rattle.wire_bytes.proofs.VolumeLemmas.{point_bytes_are, points_front}
 use Rattle.wire_bytes.proofs.EntryLemmas.{entry_ends, points_more, bounded_more, stands_none}
 use Rattle.shard_files.specs.declared.entries.LogEntry.{LogEntry}
 use Rattle.shard_files.specs.declared.entries.LogEntry.TheVariants as entry
 use Rattle.shard_files.specs.declared.entries.EntryErr.{EntryErr}
 use Rattle.shard_files.specs.declared.entries.EntryErr.TheVariants as refused
 use Rattle.shard_files.specs.Entries.{spelled, IsEntry, AreEntries, BreaksAt, MayBreak, FirstBreaks, OneMayBreak, HasPoint, HavePoints, end_of, in_chunk}
-use Rattle.shard_files.proofs.SpellingLemmas.{point_bytes_are, points_front, within_more}
+use Rattle.shard_files.proofs.SpellingLemmas.{within_more}
 
 -- two fields that stand one after the other
 pub stands_apart : (a b bytes : List ℕ) (at next : ℕ) → Stands (a ++ b) bytes at next → Stands a bytes at (at + length a) × Stands b bytes (at + length a) next
