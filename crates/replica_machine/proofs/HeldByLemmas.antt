@@ -11,7 +11,7 @@ use Rattle.m3_outside.specs.Files.{Files}
 use Rattle.placement_core.proofs.ListLemmas.{All-from_each, each-from_All, Any-from_IsIn, IsIn-from_Any}
 use Rattle.shard_files.specs.Held.{Held}
 use Rattle.shard_files.specs.Gains.{Gain, nothing, a_point, a_fence, Grows, Gains, MayGain}
-use Rattle.shard_files.proofs.GainLemmas.{covers_then}
+use Rattle.shard_files.proofs.GainLemmas.{covers_itself, covers_then}
 use Rattle.cluster_core.specs.Replicas.{greater, IsGone}
 use Rattle.cluster_core.specs.declared.replica_state.ReplicaState.{ReplicaState}
 use Rattle.replica_machine.specs.Machines.{IsHeldBy}
@@ -44,7 +44,7 @@ module _ (r q : ReplicaState) (gain : Gain) (moves : MovesOn r q gain) (x y : Fi
     source = All-from_each (λ p. IsIn q.sure p ⊎ IsIn q.doubt p) points (λ p m.
         ⊎_elim (λ (old : IsIn h.points p). moves.kept p (each-from_All (λ p. IsIn r.sure p ⊎ IsIn r.doubt p) h.points h.source p old)) (λ (new : IsIn gain.points p). moves.gained p new) (grows.nothing_else p m));
     all_there = All-from_each (λ p. ¬ IsGone q p → Covers points p) q.sure (λ p m stays.
-        ⊎_elim (λ (old : IsIn r.sure p). covers_then h.points points p (each-from_All (λ p. ¬ IsGone r p → Covers h.points p) r.sure h.all_there p old (moves.gone p stays)) grows.stays) (λ (new : Covers points p). new) (there p m));
+        ⊎_elim (λ (old : IsIn r.sure p). covers_then h.points points p (each-from_All (λ p. ¬ IsGone r p → Covers h.points p) r.sure h.all_there p old (moves.gone p stays)) (λ q n. covers_itself points q (grows.stays q n))) (λ (new : Covers points p). new) (there p m));
     none_higher = none_higher;
     known = known;
     fence_is = fence_is;

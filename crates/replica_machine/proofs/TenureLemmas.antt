@@ -79,7 +79,7 @@ held_began r t fence points tenure_found fence_found x y held low fence_is none_
       held = all.held;
       source = All-from_each (λ p. IsIn (r.sure ++ points) p ⊎ ⊥) all.points (λ p m. ⊎_elim (λ (old : IsIn points p). inl (IsIn-append_right r.sure points p old)) (λ (none : ⊥). absurd none) (all.grows.nothing_else p m));
       all_there = All-from_each (λ p. ¬ IsGone r p → Covers all.points p) (r.sure ++ points) (λ p m stays.
-          covers_then points all.points p (⊎_elim (λ (old : IsIn r.sure p). there p old stays) (λ (new : IsIn points p). covers_itself points p new) (IsIn-append_cases r.sure points p m)) all.grows.stays);
+          covers_then points all.points p (⊎_elim (λ (old : IsIn r.sure p). there p old stays) (λ (new : IsIn points p). covers_itself points p new) (IsIn-append_cases r.sure points p m)) (λ q n. covers_itself all.points q (all.grows.stays q n)));
       none_higher = All-from_each (λ b. b ≤ max tenure_found t) (r.begun ++ t ∷ []) (λ b m.
           ⊎_elim (λ (old : IsIn r.begun b). let le = none_higher b old in omega (arith, le)) (λ (new : (t ≡ b) ⊎ ⊥). ⊎_elim (λ (same : t ≡ b). omega (arith, same)) (λ (none : ⊥). absurd none) new) (IsIn-append_cases r.begun (t ∷ []) b m));
       known = inl (subst (IsIn (r.begun ++ t ∷ [])) tenure_is (IsIn-push r.begun t));

@@ -99,5 +99,5 @@ grown_is_joined before now gain grows =
     let s = split_of before gain.points now grows.nothing_else in
     let same : content_of now ≡ content_of (before ++ s.part) = same_content now (before ++ s.part)
     (λ p m. covers_itself (before ++ s.part) p (⊎_elim (λ (old : IsIn before p). IsIn-append_left before s.part p old) (λ (new : IsIn s.part p). IsIn-append_right before s.part p new) (s.all p m)))
-    (λ p m. ⊎_elim (λ (old : IsIn before p). grows.stays p old) (λ (new : IsIn s.part p). covers_itself now p (s.of_now p new)) (IsIn-append_cases before s.part p m)) in
+    (λ p m. ⊎_elim (λ (old : IsIn before p). covers_itself now p (grows.stays p old)) (λ (new : IsIn s.part p). covers_itself now p (s.of_now p new)) (IsIn-append_cases before s.part p m)) in
     record { part = s.part; of_gain = s.of_gain; joined = same ∙ fold-append raised map.empty before s.part }

@@ -45,7 +45,7 @@ with_one_more before tenure fence x y e held more =
       };
       grows = record {
         nothing_else = λ p m. IsIn-append_cases before (points_in e) p m;
-        stays = λ p m. covers_itself (before ++ points_in e) p (IsIn-append_left before (points_in e) p m);
+        stays = λ p m. IsIn-append_left before (points_in e) p m;
       };
       comes = λ p m. covers_itself (before ++ points_in e) p (IsIn-append_right before (points_in e) p m);
     }
@@ -62,7 +62,7 @@ module _ (e : LogEntry) (bytes : List ℕ) (is : IsEntry bytes e) (number : ℕ)
         tenure_now = tenure;
         fence_now = fence;
         held = record { entries = held.entries; holds = same; amount = held.amount };
-        grows = record { nothing_else = λ p m. inl m; stays = λ p m. covers_itself before p m };
+        grows = record { nothing_else = λ p m. inl m; stays = λ p m. m };
         numbers = inl (refl, refl);
       } in part)
       (λ (more : HoldsEntries (held.entries ++ e ∷ []) y).

@@ -23,13 +23,13 @@ covers_then ps qs p c there = let d = there (record p { v = c.value }) c.stands 
 
 -- a list grows by what is a part of it
 pub grows_itself : (ps : List Point) (gain : Gain) → Grows ps gain ps
-grows_itself ps gain = record { nothing_else = λ p m. inl m; stays = λ p m. covers_itself ps p m }
+grows_itself ps gain = record { nothing_else = λ p m. inl m; stays = λ p m. m }
 
 -- first by nothing, and then by a gain
 grows_then : (ps qs rs : List Point) (gain : Gain) → Grows ps nothing qs → Grows qs gain rs → Grows ps gain rs
 grows_then ps qs rs gain one two = record {
   nothing_else = λ p m. ⊎_elim (λ (q : IsIn qs p). ⊎_elim (λ (r : IsIn ps p). inl r) (λ (none : ⊥). absurd none) (one.nothing_else p q)) (λ (g : IsIn gain.points p). inr g) (two.nothing_else p m);
-  stays = λ p m. covers_then qs rs p (one.stays p m) two.stays;
+  stays = λ p m. two.stays p (one.stays p m);
 }
 
 module _ (gain : Gain) (x y : Files) where
