@@ -1,11 +1,3 @@
-pub mod Retained
-pub mod ListLemmas
-pub mod TagLemmas
-pub mod SelectionLemmas
-pub mod IndexLemmas
-pub mod CandidateLemmas
-pub mod AnswerLemmas
-pub mod JoinLemmas
 pub mod KeptLemmas
 pub mod LogStepLemmas
 pub mod SyncLemmas

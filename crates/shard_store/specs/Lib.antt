@@ -1,5 +1,2 @@
-pub mod Matched
-pub mod Selected
-pub mod Indexed
 pub mod Stores
 pub mod StoreParts
