@@ -1,6 +1,6 @@
 -- A begin is a step of the core.
 use Rattle.std.proofs.Common.{◌≡◌, ◌<◌, ◌≤◌, inl, inr, ⊎_elim, ℕ, max, List, [], ◌∷◌, ◌++◌, refl, sym, ap, subst, ◌∙◌, arith, true, Some, None, Result, Ok, Err, All}
-use Rattle.std.specs.Prelude.{⊤, ◌≢◌, ◌⊎◌, Option}
+use Rattle.std.specs.Prelude.{⊤, ◌≢◌, ◌⊎◌, Option, IsErrOf}
 use Rattle.std.proofs.lemmas.Bool.{OnTrue_from}
 use Rattle.m3_model.specs.Contents.{content_of, point_at}
 use Rattle.m3_model.specs.Members.{IsIn}
@@ -20,7 +20,7 @@ use Rattle.m3_outside.specs.declared.disk_err.DiskErr.TheVariants as refused
 use Rattle.placement_core.proofs.ListLemmas.{All-from_each, each-from_All, Any-from_IsIn}
 use Rattle.shard_files.specs.Held.{Held}
 use Rattle.shard_files.specs.Gains.{nothing, a_tenure, Gains, MayGain, Brings}
-use Rattle.shard_store.specs.Stores.{StoreState}
+use Rattle.shard_store.specs.Stores.{StoreState, closed_over}
 use Rattle.shard_files.proofs.GainLemmas.{covers_itself}
 use Rattle.shard_files.proofs.HeldLemmas.{held_is_one}
 use Rattle.shard_store.proofs.LogStepLemmas.{counts_both, counts_for, counts_same}
@@ -40,7 +40,7 @@ use Rattle.replica_machine.specs.declared.machine.Began.{Began}
 use Rattle.replica_machine.proofs.DiskLemmas.{each_step, brings_ok, brings_err}
 use Rattle.replica_machine.proofs.HeldByLemmas.{held_nothing, greater_is_max}
 use Rattle.replica_machine.proofs.ReasonLemmas.{own_reason}
-use Rattle.replica_machine.proofs.StepLemmas.{machine_of, stands_at, kept_machine, shut_follows}
+use Rattle.replica_machine.proofs.StepLemmas.{machine_of, settled_is, failed_is, stands_at, kept_machine, shut_follows}
 use Rattle.replica_machine.proofs.TenureLemmas.{held_tried, held_began, held_again, loaded_covers, loaded}
 
 empty_or : (xs : List ℕ) → (xs ≡ []) ⊎ (xs ≢ [])
@@ -251,6 +251,15 @@ module _ {D : Type 0} (state : D → DiskState) (s : Standing) (tenure : Option 
       → (let said : Result ⊤ DiskErr = Err e in Brings (a_tenure t) said (state before.disk) (state now.disk)) → BeginLeft state old t why new
   begin_left_of up high e why new moved is left brings =
       begin_left state old t now.disk up high e why new is (left ∙ ap (left_by e) (ap (machine_of s tenure begun) moved ∙ ap (λ (m : MachineState D). record m { disk = now.disk }) view))
+      (subst (λ (d : D). let said : Result ⊤ DiskErr = Err e in Brings (a_tenure t) said (state d) (state now.disk)) disk_is brings)
+
+  -- of an open machine, whose store a fault closed
+  pub again_left : closed old.standing ≡ None → old.begun ≤ t → (e : DiskErr) (now_s : Standing) (why : Reason) → (let said : Result ⊤ DiskErr = Err e in IsErrOf said refused.Memory → now ≡ record before { disk = now.disk })
+      → (let said : Result ⊤ DiskErr = Err e in IsErrOf said refused.Failed → now ≡ closed_over now.disk) → why ≡ reason_of e → (e ≡ refused.Failed → now_s ≡ standing.Down) → ((e ≡ refused.Failed → ⊥) → now_s ≡ s)
+      → (let said : Result ⊤ DiskErr = Err e in Brings (a_tenure t) said (state before.disk) (state now.disk)) → BeginLeft state old t why (machine_of now_s tenure begun now)
+  again_left up high e now_s why memory fault is down stays brings =
+      let left = settled_is s tenure begun before now now_s (Err e) memory fault (λ f. down (failed_is e f)) (λ fine. stays (λ f. fine (ap Err f))) in
+      begin_left state old t now.disk up high e why (machine_of now_s tenure begun now) is (left ∙ ap (λ (m : MachineState D). left_by e (record m { disk = now.disk })) view)
       (subst (λ (d : D). let said : Result ⊤ DiskErr = Err e in Brings (a_tenure t) said (state d) (state now.disk)) disk_is brings)
 
 -- what an open machine's begin answers and leaves

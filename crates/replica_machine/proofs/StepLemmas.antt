@@ -1,6 +1,6 @@
 -- What calls leave of a machine is what they leave of its replica.
-use Rattle.std.proofs.Common.{◌≡◌, inl, inr, ℕ, ◌≤◌, max, true, [], ◌∷◌, ◌++◌, refl, sym, ap, subst, ◌∙◌, Option, None}
-use Rattle.std.specs.Prelude.{◌≢◌}
+use Rattle.std.proofs.Common.{◌≡◌, inl, inr, ℕ, ◌≤◌, max, true, [], ◌∷◌, ◌++◌, refl, sym, ap, subst, ◌∙◌, Option, None, Result, Ok, Err}
+use Rattle.std.specs.Prelude.{⊤, ◌≢◌, OnOk, IsErrOf}
 use Rattle.m3_model.specs.Contents.{Contents, Holds, raised, point_at}
 use Rattle.m3_model.specs.Members.{IsIn}
 use Rattle.m3_model.specs.declared.point.Point.{Point}
@@ -14,8 +14,10 @@ use Rattle.shard_files.specs.Gains.{nothing, a_point, a_fence, Gains}
 use Rattle.cluster_core.specs.Replicas.{Shows, greater}
 use Rattle.cluster_core.specs.Rows.{IsServing}
 use Rattle.cluster_core.specs.declared.replica_state.ReplicaState.{ReplicaState}
-use Rattle.shard_store.specs.Stores.{StoreState}
-use Rattle.replica_machine.specs.Machines.{MachineState, IsStoreOf, IsMachineOf, IsHeldBy, IsGreatest, shut_machine, unserved}
+use Rattle.m3_outside.specs.declared.disk_err.DiskErr.{DiskErr}
+use Rattle.m3_outside.specs.declared.disk_err.DiskErr.TheVariants as refused
+use Rattle.shard_store.specs.Stores.{StoreState, closed_over}
+use Rattle.replica_machine.specs.Machines.{MachineState, IsStoreOf, IsMachineOf, IsHeldBy, IsGreatest, shut_machine, settled, unserved}
 use Rattle.replica_machine.proofs.DiskLemmas.{each_step}
 use Rattle.replica_machine.proofs.HeldByLemmas.{StandsElse, held_nothing, held_point, held_fence, greater_is_max}
 use Rattle.replica_machine.proofs.RefusalLemmas.{IsUp, up}
@@ -122,3 +124,26 @@ store_stays s store is_open open_ = subst (λ (x : Standing). IsStoreOf x store)
 -- a machine by its own fields and its store
 abbrev pub machine_of : {D : Type 0} → Standing → Option ℕ → ℕ → StoreState D → MachineState D
 machine_of s tenure begun store = record { standing = s; tenure = tenure; begun = begun; fence = store.fence; content = store.content; disk = store.disk }
+
+pub failed_is : (e : DiskErr) → (let said : Result ⊤ DiskErr = Err e in IsErrOf said refused.Failed) → e ≡ refused.Failed
+failed_is e f = cc
+
+-- ---- what a store's call leaves of an open machine, which a fault takes down
+
+module _ {D : Type 0} (s : Standing) (tenure : Option ℕ) (begun : ℕ) (before now : StoreState D) where
+  -- the machine with what the call did, or as it was where it was refused
+  abbrev pub middle : MachineState D → Result ⊤ DiskErr → MachineState D
+  middle old (Ok u) = machine_of s tenure begun now
+  middle old (Err why) = record old { disk = now.disk }
+
+  pub settled_is : (now_s : Standing) (said : Result ⊤ DiskErr) → (IsErrOf said refused.Memory → now ≡ record before { disk = now.disk }) → (IsErrOf said refused.Failed → now ≡ closed_over now.disk) → (IsErrOf said refused.Failed → now_s ≡ standing.Down)
+      → ((IsErrOf said refused.Failed → ⊥) → now_s ≡ s) → machine_of now_s tenure begun now ≡ settled said (middle (machine_of s tenure begun before) said)
+  settled_is now_s (Ok u) memory fault down stays = ap (λ (x : Standing). machine_of x tenure begun now) (stays (λ f. cc))
+  settled_is now_s (Err refused.Memory) memory fault down stays = ap (λ (x : Standing). machine_of x tenure begun now) (stays (λ f. cc)) ∙ ap (machine_of s tenure begun) (memory refl)
+  settled_is now_s (Err refused.Failed) memory fault down stays = ap (λ (x : Standing). machine_of x tenure begun now) (down refl) ∙ ap (machine_of standing.Down tenure begun) (fault refl)
+
+  pub store_after : (now_s : Standing) (said : Result ⊤ DiskErr) → s ≡ standing.Open → before.open_ ≡ true → OnOk said (now.open_ ≡ true) → (IsErrOf said refused.Memory → now ≡ record before { disk = now.disk }) → (IsErrOf said refused.Failed → now ≡ closed_over now.disk)
+      → (IsErrOf said refused.Failed → now_s ≡ standing.Down) → ((IsErrOf said refused.Failed → ⊥) → now_s ≡ s) → IsStoreOf now_s now
+  store_after now_s (Ok u) is_open opened ok memory fault down stays = store_stays now_s now (stays (λ f. cc) ∙ is_open) ok
+  store_after now_s (Err refused.Memory) is_open opened ok memory fault down stays = store_stays now_s now (stays (λ f. cc) ∙ is_open) (ap (λ (x : StoreState D). x.open_) (memory refl) ∙ opened)
+  store_after now_s (Err refused.Failed) is_open opened ok memory fault down stays = subst (λ (x : Standing). IsStoreOf x now) (sym (down refl)) (fault refl)

@@ -15,7 +15,7 @@ ghost use Rattle.replica_machine.specs.Boots.{BeganFrom, BeganAgain, HoldsHigher
 ghost use Rattle.replica_machine.specs.Steps.{reply_by, IsStep, BringsTo};
 
 use crate::damage::damaged_segment;
-use crate::machine::{Began, Machine};
+use crate::machine::{Began, Machine, fall};
 use crate::opening::open_store;
 use m3_model::reason::Reason;
 use m3_model::replica::Standing;
@@ -92,7 +92,7 @@ impl<D: Disk> Machine<D> {
         ensures step { IsStep D.state self.old (call.Begin tenure) (reply_by (λ began. reply.Began began.fence began.points) result) self.new }
     {
         if let Err(why) = self.store.begin(tenure) {
-            return Err(self.refused(why));
+            return Err(fall(&mut self.standing, why));
         }
         self.tenure = Some(tenure);
         self.begun = tenure;
