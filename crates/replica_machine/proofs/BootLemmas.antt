@@ -62,6 +62,9 @@ module _ {D : Type 0} (state : D → DiskState) (old : MachineState D) (t : ℕ)
   not_closed : (r : ReplicaState) → IsMachineOf state r old → closed old.standing ≡ None → first_refusal r (call.Begin t) ≡ None
   not_closed r h up = ap closed (sym h.stands) ∙ up
 
+  all_below : (r : ReplicaState) → IsMachineOf state r old → old.begun ≤ t → (fence : ℕ) → t ≤ fence → All (λ one. one ≤ fence) (r.begun ++ t ∷ [])
+  all_below r h high fence le = All-from_each (λ one. one ≤ fence) (r.begun ++ t ∷ []) (λ b m. let low = each-from_All (λ one. one ≤ t) (r.begun ++ t ∷ []) (all_begun r h high) b m in omega (arith, low, le))
+
   -- ---- refused
 
   pub begin_down : old.standing ≡ standing.Down → IsStep state old (call.Begin t) (reply.Refused reason.Down) old
@@ -85,7 +88,7 @@ module _ {D : Type 0} (state : D → DiskState) (old : MachineState D) (t : ℕ)
       lawful = λ r h past n s given. record { uses = refl; taken = (not_closed r h up, OnTrue_from (state old.disk).tells (NoneHigher r t) (λ e. none_higher r h high)); clock = tt; there = tt };
       follows = λ r h.
           let q : ReplicaState = record r { standing = standing.Down; doubt_fences = r.doubt_fences ++ t ∷ []; tried = r.tried ++ t ∷ [] } in
-          shut_follows state r q old standing.Down d (λ e. cc) refl refl refl h (λ b. each_step (state old.disk) (state d) (IsHeldBy r) (IsHeldBy q) same steps (λ x y may held. held_tried r t x y may held) (h.files b));
+          shut_follows state r q old standing.Down d (λ e. cc) refl refl refl refl h (λ b. each_step (state old.disk) (state d) (IsHeldBy r) (IsHeldBy q) same steps (λ x y may held. held_tried r t x y may held) (h.files b));
       faults = counts_for _ _ _ _ (λ e. fault) counts;
     }
 
@@ -95,7 +98,7 @@ module _ {D : Type 0} (state : D → DiskState) (old : MachineState D) (t : ℕ)
       lawful = λ r h past n s given. record { reads = refl; taken = (not_closed r h up, OnTrue_from (state old.disk).tells (NoneHigher r t) (λ e. none_higher r h high)); clock = tt };
       follows = λ r h.
           let q : ReplicaState = record r { standing = standing.Down } in
-          shut_follows state r q old standing.Down d (λ e. cc) refl refl refl h (λ b. each_step (state old.disk) (state d) (IsHeldBy r) (IsHeldBy q) same steps (λ x y gains held. held_nothing r q (stands_at r standing.Down) x y gains held) (h.files b));
+          shut_follows state r q old standing.Down d (λ e. cc) refl refl refl refl h (λ b. each_step (state old.disk) (state d) (IsHeldBy r) (IsHeldBy q) same steps (λ x y gains held. held_nothing r q (stands_at r standing.Down) x y gains held) (h.files b));
       faults = counts_for _ _ _ _ (λ e. absurd (cc)) counts;
     }
 
@@ -113,7 +116,7 @@ module _ {D : Type 0} (state : D → DiskState) (old : MachineState D) (t : ℕ)
             let one_t = one.1 in
             let above = now.higher in
             let lt : t < was.tenure = omega (arith, one_t, above) in
-            ⊎_elim (λ (m : IsIn r.begun was.tenure). inl (Any-from_IsIn (λ begun. t < begun) r.begun was.tenure m lt)) (λ (m : IsIn r.tried was.tenure). inr (inl (Any-from_IsIn (λ tried. t < tried) r.tried was.tenure m lt))) was.known)
+            ⊎_elim (λ (m : IsIn r.begun was.tenure). inl (Any-from_IsIn (λ begun. t < begun) r.begun was.tenure m lt)) (λ (m : IsIn r.tried was.tenure × IsIn r.doubt_fences was.tenure). inr (inl (Any-from_IsIn (λ tried. t < tried) r.tried was.tenure m.0 lt))) was.known)
             (empty_or r.begun)),
       );
       follows = λ r h. kept_machine state r old d same steps h;
@@ -144,6 +147,7 @@ module _ {D : Type 0} (state : D → DiskState) (old : MachineState D) (t : ℕ)
           follows = λ r h. record {
             stands = refl;
             begun = record { none_higher = all_begun r h high; one_of = inr (IsIn-push r.begun t) };
+            below = all_below r h high fence (omega (arith, fence_is));
             empty = λ e. absurd (some_there r.begun t e);
             open_ = λ o. record {
               begun = some_there r.begun t;
@@ -186,6 +190,7 @@ module _ {D : Type 0} (state : D → DiskState) (old : MachineState D) (t : ℕ)
             record {
               stands = is_open;
               begun = record { none_higher = all_begun r h high; one_of = inr (IsIn-push r.begun t) };
+              below = all_below r h high fence (omega (arith, fence_is));
               empty = λ e. absurd (some_there r.begun t e);
               open_ = λ o. record {
                 begun = some_there r.begun t;

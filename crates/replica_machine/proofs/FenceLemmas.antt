@@ -1,5 +1,5 @@
 -- A fence is a step of the core.
-use Rattle.std.proofs.Common.{◌≡◌, ℕ, max, [], ◌∷◌, ◌++◌, refl, sym, ap, subst, ◌∙◌, Some, None, Result, Ok, Err, ◌≤◌, Bool, true, false, cond}
+use Rattle.std.proofs.Common.{◌≡◌, inl, inr, ⊎_elim, ℕ, max, [], ◌∷◌, ◌++◌, refl, sym, ap, subst, ◌∙◌, Some, None, Result, Ok, Err, ◌≤◌, Bool, true, false, cond}
 use Rattle.std.specs.Prelude.{⊤, ◌≢◌, Option, nat_le, OnOk, IfErr, IsErrOf}
 use Rattle.std.specs.Option.{option_or}
 use Rattle.std.proofs.lemmas.Bool.{leb-true}
@@ -7,6 +7,8 @@ use Rattle.m3_model.specs.declared.reason.Reason.{Reason}
 use Rattle.m3_model.specs.declared.reason.Reason.TheVariants as reason
 use Rattle.m3_model.specs.declared.replica.Standing.{Standing}
 use Rattle.m3_model.specs.declared.replica.Standing.TheVariants as standing
+use Rattle.m3_model.specs.Members.{IsIn}
+use Rattle.m3_model.proofs.MemberLemmas.{IsIn-append_left}
 use Rattle.m3_outside.specs.Causes.{CountsFaults}
 use Rattle.m3_outside.proofs.Moments.{same_becomes}
 use Rattle.m3_outside.specs.DiskState.{DiskState, Becomes}
@@ -129,9 +131,9 @@ module _ {D : Type 0} (state : D → DiskState) (old : MachineState D) (version 
           let q : ReplicaState = record r { standing = standing.Down; doubt_fences = r.doubt_fences ++ version ∷ [] } in
           let all = h.open_ (owning old.standing old.tenure version first).open_ in
           subst (λ (m : MachineState D). IsMachineOf state q m) (ap (λ (m : MachineState D). shut_machine standing.Down m mid.disk) (sym by.err))
-          (shut_follows state r q old standing.Down mid.disk (λ e. cc) refl refl refl h
+          (shut_follows state r q old standing.Down mid.disk (λ e. cc) refl refl refl refl h
           (λ b. each_step (state old.disk) (state mid.disk) (IsHeldBy r) (IsHeldBy q) by.disk.tells (λ t. (by.disk.any_moment t).images)
-          (λ x y may held. held_fence_doubt r version all.sure_fences q refl refl refl (record { kept = λ o m. m; gained = λ o m. absurd m; gone = λ o stays. stays }) (λ t a. a) (λ t a. a) x y may held) (h.files b)));
+          (λ x y may held. held_fence_doubt r version all.sure_fences q refl refl refl (record { kept = λ o m. m; gained = λ o m. absurd m; gone = λ o stays. stays }) (λ t a. a) (λ t a. ⊎_elim (λ (m : IsIn r.begun t). inl m) (λ (m : IsIn r.tried t × IsIn r.doubt_fences t). inr (m.0, IsIn-append_left r.doubt_fences (version ∷ []) t m.1)) a) x y may held) (h.files b)));
       faults = answer_counts (Err refused.Failed) by;
     }
     fence_step (Err refused.Memory) by = record {

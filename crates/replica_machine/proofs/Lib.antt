@@ -11,3 +11,4 @@ pub mod TenureLemmas
 pub mod BootLemmas
 pub mod BeginLemmas
 pub mod PartLemmas
+pub mod NumberLemmas

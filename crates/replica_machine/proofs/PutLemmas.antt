@@ -114,7 +114,7 @@ module _ {D : Type 0} (state : D → DiskState) (old : MachineState D) (version 
       follows = λ r h.
           let q : ReplicaState = record r { standing = standing.Down; doubt = r.doubt ++ p ∷ [] } in
           subst (λ (m : MachineState D). IsMachineOf state q m) (ap (λ (m : MachineState D). shut_machine standing.Down m mid.disk) (sym by.fault))
-          (shut_follows state r q old standing.Down mid.disk (λ e. cc) refl refl refl h
+          (shut_follows state r q old standing.Down mid.disk (λ e. cc) refl refl refl refl h
           (λ b. each_step (state old.disk) (state mid.disk) (IsHeldBy r) (IsHeldBy q) by.disk.tells (λ t. (by.disk.any_moment t).images)
           (λ x y may held. held_doubt r q p refl refl refl (record { begun = λ t all. all; known = λ t is. is; fence = λ t f is. is }) x y may held) (h.files b)));
       faults = answer_counts (Err refused.Failed) by;

@@ -1,5 +1,5 @@
 -- What calls leave of a machine is what they leave of its replica.
-use Rattle.std.proofs.Common.{◌≡◌, inl, inr, ℕ, ◌≤◌, max, true, [], ◌∷◌, ◌++◌, refl, sym, ap, subst, ◌∙◌, Option, None, Result, Ok, Err}
+use Rattle.std.proofs.Common.{◌≡◌, inl, inr, ℕ, ◌≤◌, max, true, List, [], ◌∷◌, ◌++◌, refl, sym, ap, subst, ◌∙◌, Option, None, Result, Ok, Err, All, arith}
 use Rattle.std.specs.Prelude.{⊤, ◌≢◌, OnOk, IsErrOf}
 use Rattle.m3_model.specs.Contents.{Contents, Holds, raised, point_at}
 use Rattle.m3_model.specs.Members.{IsIn}
@@ -10,6 +10,7 @@ use Rattle.m3_model.proofs.JoinLemmas.{raised_holds, raised_keeps, raised_source
 use Rattle.m3_model.proofs.MemberLemmas.{IsIn-append_left, IsIn-append_cases, IsIn-push}
 use Rattle.m3_outside.specs.Files.{Files}
 use Rattle.m3_outside.specs.DiskState.{DiskState, EachImage, StepOf}
+use Rattle.placement_core.proofs.ListLemmas.{All-from_each, each-from_All}
 use Rattle.shard_files.specs.Gains.{nothing, a_point, a_fence, Gains}
 use Rattle.cluster_core.specs.Replicas.{Shows, greater}
 use Rattle.cluster_core.specs.Rows.{IsServing}
@@ -50,17 +51,19 @@ module _ {D : Type 0} (state : D → DiskState) where
   kept_machine r old d same steps h = record {
     stands = h.stands;
     begun = h.begun;
+    below = h.below;
     empty = h.empty;
     open_ = λ o. let a = h.open_ o in record { begun = a.begun; tenure = a.tenure; fence = a.fence; sure = a.sure; sure_fences = a.sure_fences; shows = λ t. a.shows (sym same ∙ t) };
     files = λ b. each_step (state old.disk) (state d) (IsHeldBy r) (IsHeldBy r) same steps (λ x y gains held. held_nothing r r (stands_same r) x y gains held) (h.files b);
   }
 
   -- a machine that isn't open any more
-  pub shut_follows : (r q : ReplicaState) (old : MachineState D) (s : Standing) (d : D) → s ≢ standing.Open → q.standing ≡ s → q.begun ≡ r.begun → q.sure ≡ r.sure → IsMachineOf state r old → (r.begun ≢ [] → EachImage (state d) (IsHeldBy q))
+  pub shut_follows : (r q : ReplicaState) (old : MachineState D) (s : Standing) (d : D) → s ≢ standing.Open → q.standing ≡ s → q.begun ≡ r.begun → q.fence ≡ r.fence → q.sure ≡ r.sure → IsMachineOf state r old → (r.begun ≢ [] → EachImage (state d) (IsHeldBy q))
       → IsMachineOf state q (shut_machine s old d)
-  shut_follows r q old s d not stands begun sure h files = record {
+  shut_follows r q old s d not stands begun fence sure h files = record {
     stands = sym stands;
     begun = subst (IsGreatest old.begun) (sym begun) h.begun;
+    below = subst (λ (l : List ℕ). All (λ b. b ≤ q.fence) l) (sym begun) (subst (λ (f : ℕ). All (λ b. b ≤ f) r.begun) (sym fence) h.below);
     empty = λ e. sure ∙ h.empty (sym begun ∙ e);
     open_ = λ o. absurd (not o);
     files = λ b. files (λ e. b (begun ∙ e));
@@ -75,6 +78,7 @@ module _ {D : Type 0} (state : D → DiskState) where
       record {
         stands = h.stands;
         begun = h.begun;
+        below = h.below;
         empty = λ e. absurd (a.begun e);
         open_ = λ o. record { begun = a.begun; tenure = a.tenure; fence = a.fence; sure = a.sure; sure_fences = a.sure_fences; shows = λ t. shows_raised r old.content p (a.shows (sym same ∙ t)) };
         files = λ b. each_step (state old.disk) (state d) (IsHeldBy r) (IsHeldBy (record r { sure = r.sure ++ p ∷ [] })) same steps (λ x y gains held. held_point r p x y gains held) (h.files b);
@@ -89,6 +93,7 @@ module _ {D : Type 0} (state : D → DiskState) where
       record {
         stands = h.stands;
         begun = h.begun;
+        below = All-from_each (λ b. b ≤ greater r.fence version) r.begun (λ b m. let le = each-from_All (λ b. b ≤ r.fence) r.begun h.below b m in let up = greater_is_max r.fence version in omega (arith, le, up));
         empty = h.empty;
         open_ = λ o. record {
           begun = a.begun;

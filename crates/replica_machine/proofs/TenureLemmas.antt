@@ -16,7 +16,7 @@ use Rattle.shard_files.proofs.HeldLemmas.{held_is_one}
 use Rattle.cluster_core.specs.Replicas.{greater, IsGone}
 use Rattle.cluster_core.specs.Rows.{IsLoaded}
 use Rattle.cluster_core.specs.declared.replica_state.ReplicaState.{ReplicaState}
-use Rattle.replica_machine.specs.Machines.{IsHeldBy}
+use Rattle.replica_machine.specs.Machines.{MayHaveTenure, IsHeldBy}
 use Rattle.replica_machine.proofs.HeldByLemmas.{MayHaveFence, MovesOn, held_after, greater_is_max, only_fence}
 
 -- ---- a tenure that was to begin
@@ -24,9 +24,9 @@ use Rattle.replica_machine.proofs.HeldByLemmas.{MayHaveFence, MovesOn, held_afte
 abbrev tried : ReplicaState → ℕ → ReplicaState
 tried r t = record r { standing = standing.Down; doubt_fences = r.doubt_fences ++ t ∷ []; tried = r.tried ++ t ∷ [] }
 
-still_known : (r : ReplicaState) (t u : ℕ) → IsIn r.begun u ⊎ IsIn r.tried u → IsIn r.begun u ⊎ IsIn (r.tried ++ t ∷ []) u
+still_known : (r : ReplicaState) (t u : ℕ) → MayHaveTenure r u → MayHaveTenure (tried r t) u
 still_known r t u (inl begun) = inl begun
-still_known r t u (inr was) = inr (IsIn-append_left r.tried (t ∷ []) u was)
+still_known r t u (inr was) = inr (IsIn-append_left r.tried (t ∷ []) u was.0, IsIn-append_left r.doubt_fences (t ∷ []) u was.1)
 
 still_fenced : (r : ReplicaState) (t u f : ℕ) → MayHaveFence r u f → MayHaveFence (tried r t) u f
 still_fenced r t u f (inl is) = inl is
@@ -34,10 +34,10 @@ still_fenced r t u f (inr any) =
     let d = IsIn-from_Any (λ doubtful. f ≡ max doubtful (max u r.fence)) r.doubt_fences any in
     inr (Any-from_IsIn (λ doubtful. f ≡ max doubtful (max u r.fence)) (r.doubt_fences ++ t ∷ []) d.0 (IsIn-append_left r.doubt_fences (t ∷ []) d.0 d.1) d.2)
 
-up_known : (r : ReplicaState) (t u : ℕ) → IsIn r.begun u ⊎ IsIn r.tried u → IsIn r.begun (max u t) ⊎ IsIn (r.tried ++ t ∷ []) (max u t)
+up_known : (r : ReplicaState) (t u : ℕ) → MayHaveTenure r u → MayHaveTenure (tried r t) (max u t)
 up_known r t u known =
-    ⊎_elim (λ (lt : u < t). let is : t ≡ max u t = omega (arith, lt) in inr (subst (IsIn (r.tried ++ t ∷ [])) is (IsIn-push r.tried t)))
-    (λ (ge : t ≤ u). let is : u ≡ max u t = omega (arith, ge) in subst (λ (n : ℕ). IsIn r.begun n ⊎ IsIn (r.tried ++ t ∷ []) n) is (still_known r t u known)) (cases_lt u t)
+    ⊎_elim (λ (lt : u < t). let is : t ≡ max u t = omega (arith, lt) in inr (subst (IsIn (r.tried ++ t ∷ [])) is (IsIn-push r.tried t), subst (IsIn (r.doubt_fences ++ t ∷ [])) is (IsIn-push r.doubt_fences t)))
+    (λ (ge : t ≤ u). let is : u ≡ max u t = omega (arith, ge) in subst (MayHaveTenure (tried r t)) is (still_known r t u known)) (cases_lt u t)
 
 up_fenced : (r : ReplicaState) (t u f : ℕ) → MayHaveFence r u f → MayHaveFence r (max u t) (max f t)
 up_fenced r t u f (inl is) = let up : max f t ≡ max (max u t) r.fence = omega (arith, is) in inl up
@@ -105,7 +105,7 @@ held_again r t fence no_doubt none fence_is none_higher x y gains h =
     (⊎_elim (λ (lt : h.tenure < t). let up : t ≡ max h.tenure t = omega (arith, lt) in inl (subst (IsIn (r.begun ++ t ∷ [])) up (IsIn-push r.begun t)))
     (λ (ge : t ≤ h.tenure).
     let up : h.tenure ≡ max h.tenure t = omega (arith, ge) in
-    subst (λ (n : ℕ). IsIn (r.begun ++ t ∷ []) n ⊎ IsIn r.tried n) up (⊎_elim (λ (begun : IsIn r.begun h.tenure). inl (IsIn-append_left r.begun (t ∷ []) h.tenure begun)) (λ (was : IsIn r.tried h.tenure). inr was) h.known)) (cases_lt h.tenure t))
+    subst (MayHaveTenure q) up (⊎_elim (λ (begun : IsIn r.begun h.tenure). inl (IsIn-append_left r.begun (t ∷ []) h.tenure begun)) (λ (was : IsIn r.tried h.tenure × IsIn r.doubt_fences h.tenure). absurd (subst (λ (l : List ℕ). IsIn l h.tenure) none was.1)) h.known)) (cases_lt h.tenure t))
     (inl is)
 
 -- ---- what the core says of a Began
