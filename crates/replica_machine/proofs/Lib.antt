@@ -12,3 +12,4 @@ pub mod BootLemmas
 pub mod BeginLemmas
 pub mod PartLemmas
 pub mod NumberLemmas
+pub mod OpeningLemmas

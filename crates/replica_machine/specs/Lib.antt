@@ -3,3 +3,4 @@ pub mod Steps
 pub mod Damages
 pub mod Boots
 pub mod MachineLaws
+pub mod Openings
