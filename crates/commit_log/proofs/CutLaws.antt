@@ -7,7 +7,6 @@ use Rattle.std.specs.FinMap.{get}
 use Rattle.m3_model.specs.Members.{IsIn}
 use Rattle.m3_model.specs.Ascends.{Ascends}
 use Rattle.m3_model.proofs.MemberLemmas.{IsIn-append_left, IsIn-append_right, IsIn-append_cases, map-IsIn}
-use Rattle.m3_outside.specs.declared.file_name.FileName.{FileName}
 use Rattle.m3_outside.specs.Files.{Files}
 use Rattle.m3_outside.specs.DiskState.{DiskState, IsLawful, StepOf, Elapses}
 use Rattle.m3_outside.specs.Removal.{without_files, MayTakeAway, HasTakenAway}
@@ -17,7 +16,7 @@ use Rattle.commit_log.specs.LogEnd.{LogEnd, NoneAbove, Stands}
 use Rattle.commit_log.specs.Contents.{numbers, PartsHold}
 use Rattle.commit_log.specs.Cutting.{numbers_below, numbers_from, segments_below}
 use Rattle.commit_log.specs.LogLaws.{IsLog, IsCutAt, LeavesEnd, CutLeavesEnd}
-use Rattle.commit_log.proofs.CutLemmas.{IsCut, by_numbers, named_in}
+use Rattle.commit_log.proofs.CutLemmas.{by_numbers, named_in}
 use Rattle.commit_log.proofs.Numbers.{in_there, there_in, ascend, same_members, in_below}
 use Rattle.commit_log.proofs.Parts.{parts_split, parts_join, parts_same}
 use Rattle.commit_log.proofs.LogLemmas.{since_begin}
