@@ -1,12 +1,12 @@
 -- The files that count, by their names.
-use Rattle.std.proofs.Common.{◌≡◌, inl, inr, ⊎_elim, ℕ, List, [], ◌∷◌, ◌++◌, map, refl, sym, ap, subst, ◌∙◌, Bool, true, false, cond, ◌&&◌, Some, None, Option}
+use Rattle.std.proofs.Common.{◌≡◌, inl, inr, ℕ, List, [], ◌∷◌, ◌++◌, map, refl, sym, ap, ◌∙◌, Bool, true, false, cond, ◌&&◌, Some, None, Option}
 use Rattle.std.specs.Prelude.{filter}
 use Rattle.std.specs.FinMap.{get, keys, entries}
 use Rattle.std.specs.declared.cmp.Ordering.TheVariants.{Less}
 use Rattle.m3_model.specs.Members.{IsIn}
 use Rattle.m3_model.specs.Ascends.{Ascends}
 use Rattle.m3_model.proofs.FindLemmas.{get-IsIn, IsIn-get, entries_ascend}
-use Rattle.m3_model.proofs.MemberLemmas.{IsIn-map, map-IsIn, IsIn-append_left, IsIn-push}
+use Rattle.m3_model.proofs.MemberLemmas.{IsIn-map, map-IsIn, IsIn-push}
 use Rattle.m3_outside.specs.declared.file_name.FileName.{FileName}
 use Rattle.m3_outside.specs.Files.{Files, IsPresent, name_cmp}
 use Rattle.m3_outside.proofs.Names.{name_total, name_same}

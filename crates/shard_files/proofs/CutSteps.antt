@@ -1,8 +1,6 @@
 -- A log that is cut: what files hold then.
-use Rattle.std.proofs.Common.{◌≡◌, inl, inr, ⊎_elim, ℕ, ◌+◌, ◌<◌, ◌≤◌, max, List, [], ◌∷◌, ◌++◌, map, refl, sym, ap, subst, ◌∙◌, arith, append_assoc}
+use Rattle.std.proofs.Common.{◌≡◌, ⊎_elim, ℕ, ◌≤◌, List, [], ◌∷◌, ◌++◌, map, refl, sym, ap, subst, ◌∙◌, arith, append_assoc}
 use Rattle.std.specs.FinMap.{get}
-use Rattle.m3_model.specs.Answers.{HasPoint}
-use Rattle.m3_model.specs.Contents.{Contents}
 use Rattle.m3_model.specs.Members.{IsIn}
 use Rattle.m3_model.specs.declared.point.Point.{Point}
 use Rattle.m3_model.proofs.MemberLemmas.{IsIn-append_left, IsIn-append_right, IsIn-append_cases, IsIn-map}
@@ -18,11 +16,10 @@ use Rattle.commit_log.proofs.Parts.{parts_split}
 use Rattle.commit_log.proofs.CutLaws.{halves, cut_end}
 use Rattle.shard_files.specs.declared.entries.LogEntry.{LogEntry}
 use Rattle.shard_files.specs.Entries.{spelled, AreWithin}
-use Rattle.shard_files.specs.Held.{HoldsEntries, points_in, tenure_in, fence_in, points_of, tenure_of, fence_of}
-use Rattle.shard_files.specs.FilesHold.{volume_points, points_in_newest, HoldWhole}
-use Rattle.shard_files.specs.Keeps.{Keeps}
+use Rattle.shard_files.specs.Held.{HoldsEntries, points_in, points_of, tenure_of, fence_of}
+use Rattle.shard_files.specs.FilesHold.{volume_points, points_in_newest}
 use Rattle.shard_files.specs.FileLaws.{SameKinds}
-use Rattle.shard_files.specs.StepLaws.{MayBeCut, CutKeeps}
+use Rattle.shard_files.specs.StepLaws.{CutKeeps}
 use Rattle.shard_files.proofs.PartLemmas.{volumes_as, newest_as, whole_as}
 
 -- entries whose chunks are two parts

@@ -1,23 +1,21 @@
 -- What files hold, whole, and what the calls of a log do to it.
-use Rattle.std.proofs.Common.{◌≡◌, ◌⊎◌, inl, inr, ⊎_elim, ℕ, zero, suc, ◌+◌, ◌<◌, ◌≤◌, max, List, [], ◌∷◌, ◌++◌, map, refl, sym, ap, subst, ◌∙◌, arith, length, append_assoc, Bool, true, Some, None, Option}
+use Rattle.std.proofs.Common.{◌≡◌, ◌⊎◌, inl, inr, ℕ, zero, suc, ◌+◌, ◌≤◌, max, List, [], ◌∷◌, ◌++◌, map, refl, sym, ap, subst, ◌∙◌, arith, length, append_assoc, Bool, Some, None}
 use Rattle.std.specs.Prelude.{filter}
 use Rattle.std.specs.FinMap.{get, empty, entries, len-entries, len-empty}
-use Rattle.std.proofs.lemmas.Bool.{cases_eq}
 use Rattle.m3_model.specs.Members.{IsIn}
 use Rattle.m3_model.specs.declared.point.Point.{Point}
 use Rattle.m3_model.proofs.MemberLemmas.{IsIn-append_left, IsIn-append_right, IsIn-append_cases}
 use Rattle.m3_outside.specs.declared.file_name.FileName.{FileName}
-use Rattle.m3_outside.specs.Files.{Files, files_with_zeros, name_cmp}
+use Rattle.m3_outside.specs.Files.{Files, name_cmp}
 use Rattle.m3_outside.proofs.Names.{get_apart}
 use Rattle.commit_log.specs.Segment.{segment, MayAdd, Adds, OthersStay}
-use Rattle.commit_log.specs.LogEnd.{NoneAbove, NoneFrom, MayBegin}
+use Rattle.commit_log.specs.LogEnd.{NoneFrom, MayBegin}
 use Rattle.shard_files.specs.declared.entries.LogEntry.{LogEntry}
-use Rattle.shard_files.specs.Entries.{IsEntry, spelled}
-use Rattle.shard_files.specs.Held.{HoldsEntries, points_in, tenure_in, fence_in, points_of, tenure_of, fence_of}
-use Rattle.shard_files.specs.Gains.{Gain, nothing, HoldsAllBy, HoldsPartBy, GainsBy, MayGainBy}
+use Rattle.shard_files.specs.Held.{HoldsEntries, points_in, tenure_in, fence_in, points_of}
+use Rattle.shard_files.specs.Gains.{nothing, HoldsAllBy, HoldsPartBy}
 use Rattle.shard_files.specs.LogSteps.{gain_in}
-use Rattle.shard_files.specs.Parts.{counts, counted, is_volume_checkpoint, is_snapshot_checkpoint, AreKnown, AreWhole}
-use Rattle.shard_files.specs.FilesHold.{Counted, HoldParts, file_points, file_tenure, file_fence, volume_points, points_in_newest, tenure_in_newest, fence_in_newest, FilesHold, HoldWhole}
+use Rattle.shard_files.specs.Parts.{counts, counted, is_volume_checkpoint, is_snapshot_checkpoint, AreKnown}
+use Rattle.shard_files.specs.FilesHold.{Counted, file_points, file_tenure, file_fence, volume_points, points_in_newest, tenure_in_newest, fence_in_newest, HoldWhole}
 use Rattle.shard_files.specs.FileLaws.{FilesHoldOne, FilesHoldOrdered, SameKinds, AppendKeepsOthers, AppendBrings}
 use Rattle.shard_files.proofs.HeldLemmas.{entries_are_one, one_more, tenures_are_fences, no_files_no_entries, adds_entry, may_add_entry, begun_entries}
 use Rattle.shard_files.proofs.GainLemmas.{covers_itself}

@@ -1,9 +1,7 @@
 -- Calls that rearrange, one after another, and what a stop within one leaves.
-use Rattle.std.proofs.Common.{◌≡◌, inl, inr, ⊎_elim, arith}
-use Rattle.m3_model.specs.Contents.{Contents}
-use Rattle.m3_outside.specs.Files.{Files}
+use Rattle.std.proofs.Common.{⊎_elim, arith}
 use Rattle.m3_outside.specs.DiskState.{DiskState, StepOf, IsLawful}
-use Rattle.shard_files.specs.Keeps.{HoldsKept, Keeps, KeepsThen, WasKept, StopKeeps}
+use Rattle.shard_files.specs.Keeps.{Keeps, KeepsThen, WasKept, StopKeeps}
 
 pub keeps_then : KeepsThen
 keeps_then kept x y z one two before tenure fence whole =

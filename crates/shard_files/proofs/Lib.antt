@@ -15,3 +15,5 @@ pub mod SnapshotSteps
 pub mod CutSteps
 pub mod KeepLemmas
 pub mod RefusedLemmas
+pub mod FirstDamageLemmas
+pub mod AloneLemmas

@@ -1,7 +1,6 @@
 -- The numbers of what comes next, and which files are taken away.
-use Rattle.std.proofs.Common.{◌≡◌, ◌⊎◌, rules, inl, inr, ⊎_elim, ℕ, suc, ◌+◌, ◌<◌, ◌≤◌, max, List, [], ◌∷◌, ◌++◌, map, refl, sym, ap, subst, ◌∙◌, arith, Bool, true, false, cond, ◌&&◌, Some, None, Option}
+use Rattle.std.proofs.Common.{◌≡◌, ◌⊎◌, rules, inl, inr, ⊎_elim, ℕ, ◌<◌, List, [], ◌∷◌, ◌++◌, map, refl, sym, ap, ◌∙◌, arith, Bool, true, cond, ◌&&◌, Some, None, Option}
 use Rattle.std.specs.Prelude.{◌==◌, is_some, filter, nat_le, nat_lt}
-use Rattle.std.proofs.lemmas.Bool.{eqb-true}
 use Rattle.std.specs.FinMap.{get, keys}
 use Rattle.m3_model.specs.Members.{IsIn}
 use Rattle.m3_model.proofs.MemberLemmas.{IsIn-append_left, IsIn-append_right, map-IsIn}
@@ -11,11 +10,10 @@ use Rattle.m3_outside.specs.DiskState.{HaveSameNames}
 use Rattle.commit_log.specs.Contents.{next_after, numbers_of}
 use Rattle.commit_log.specs.Segment.{segment}
 use Rattle.wire_bytes.specs.Volumes.{Part, Info, Summaries, Index, Data, Bloom, Digests, Checkpoint}
-use Rattle.shard_files.specs.Parts.{kind_of, part_name, part_of, is_open, is_snapshot_checkpoint, counted_snapshots, snapshot_data, snapshot_checkpoint}
-use Rattle.shard_files.specs.Steps.{those_there, is_part, next_volume, volume_after, files_of_volume, parts_there, is_snapshot_file, next_snapshot, IsOfSnapshot, is_older, snapshots_below}
+use Rattle.shard_files.specs.Parts.{kind_of, part_name, is_open, is_snapshot_checkpoint, snapshot_data, snapshot_checkpoint}
+use Rattle.shard_files.specs.Steps.{is_part, next_volume, files_of_volume, is_snapshot_file, next_snapshot, is_older}
 use Rattle.shard_files.specs.StepLaws.{NextVolumeIsNew, NextSnapshotIsNew, TakenByNames}
 use Rattle.shard_files.proofs.CountedLemmas.{filter-IsIn, there_key, key_there, keys_ascend, same_names, counted_asked, counted_open}
-use Rattle.shard_files.proofs.PartLemmas.{kind_low, kind_high}
 
 eq_itself : (n : ℕ) → (n == n) ≡ true
 eq_itself n = search rules

@@ -1,5 +1,5 @@
 -- Volumes, snapshots and the log, each by its files.
-use Rattle.std.proofs.Common.{◌≡◌, inl, inr, ⊎_elim, ℕ, ◌+◌, ◌≤◌, List, [], ◌∷◌, ◌++◌, map, refl, sym, ap, subst, ◌∙◌, arith, Bool, true, ◌&&◌, Some, None, Option}
+use Rattle.std.proofs.Common.{◌≡◌, ℕ, ◌≤◌, List, [], ◌∷◌, ◌++◌, map, refl, sym, ap, subst, ◌∙◌, arith, true, ◌&&◌, Some, None, Option}
 use Rattle.std.specs.Prelude.{◌==◌}
 use Rattle.std.proofs.lemmas.Bool.{eqb-true}
 use Rattle.std.specs.FinMap.{get}
@@ -11,13 +11,13 @@ use Rattle.commit_log.specs.Segment.{segment}
 use Rattle.commit_log.specs.Contents.{numbers, PartsHold}
 use Rattle.commit_log.proofs.Numbers.{in_there, there_in, ascend, same_members}
 use Rattle.commit_log.proofs.Parts.{parts_same}
-use Rattle.wire_bytes.specs.Volumes.{VolumeHead, Part, Info, Summaries, Index, Data, Bloom, Digests, Checkpoint, part_bytes, checkpoint_bytes}
+use Rattle.wire_bytes.specs.Volumes.{VolumeHead, Part, Info, Summaries, Index, Data, Bloom, Digests, Checkpoint, part_bytes}
 use Rattle.wire_bytes.specs.Snapshots.{Snapshot, snapshot_bytes}
 use Rattle.wire_bytes.proofs.VolumeLemmas.{volumes_are_one, snapshots_are_one}
 use Rattle.shard_files.specs.declared.entries.LogEntry.{LogEntry}
 use Rattle.shard_files.specs.Entries.{spelled}
 use Rattle.shard_files.specs.Held.{HoldsEntries}
-use Rattle.shard_files.specs.Parts.{is_open, kind_of, part_of, VolumeHolds, KnownVolume, IsKnown, AreKnown, VolumesAre, is_volume_checkpoint, counted_volumes, snapshot_data, snapshot_checkpoint, SnapshotHolds, is_snapshot_checkpoint, counted_snapshots, IsNewest, NewestIs, IsWhole, AreWhole}
+use Rattle.shard_files.specs.Parts.{kind_of, part_of, VolumeHolds, KnownVolume, IsKnown, AreKnown, VolumesAre, is_volume_checkpoint, counted_volumes, snapshot_data, snapshot_checkpoint, SnapshotHolds, is_snapshot_checkpoint, counted_snapshots, NewestIs, AreWhole}
 use Rattle.shard_files.specs.FileLaws.{SameKinds, CountedByCheckpoints, EachByItsFiles}
 use Rattle.shard_files.proofs.CountedLemmas.{both, counted_same}
 

@@ -1,14 +1,11 @@
 -- Files that hold nothing, since what counts lacks one of its files.
-use Rattle.std.proofs.Common.{◌≡◌, ⊎_elim, inl, inr, ℕ, List, [], ◌∷◌, ◌++◌, refl, sym, ap, subst, ◌∙◌, true, false, Some, None}
+use Rattle.std.proofs.Common.{◌≡◌, refl, sym, ap, ◌∙◌, true, false, None}
 use Rattle.std.specs.FinMap.{get}
-use Rattle.m3_model.specs.Members.{IsIn}
-use Rattle.m3_model.specs.declared.point.Point.{Point}
 use Rattle.m3_outside.specs.declared.file_name.FileName.{FileName}
-use Rattle.m3_outside.specs.Files.{Files, IsAbsent, files_without}
+use Rattle.m3_outside.specs.Files.{files_without}
 use Rattle.m3_outside.proofs.Names.{get_gone, get_stays}
 use Rattle.wire_bytes.specs.Volumes.{Part, Info, Summaries, Index, Data, Bloom, Digests, Checkpoint}
-use Rattle.shard_files.specs.Parts.{is_open, part_name, part_of, kind_of, KnownVolume, IsKnown, AreKnown, is_volume_checkpoint, counted_volumes, is_snapshot_checkpoint, counted_snapshots, snapshot_data, snapshot_checkpoint}
-use Rattle.shard_files.specs.FilesHold.{FilesHold, AreSound}
+use Rattle.shard_files.specs.Parts.{is_open, part_name, part_of, kind_of, is_volume_checkpoint, counted_volumes, is_snapshot_checkpoint, snapshot_data, snapshot_checkpoint}
 use Rattle.shard_files.specs.StepLaws.{ClosedIsUncounted, VolumeNeedsItsFiles, CheckpointGoesFirst, SnapshotNeedsItsData}
 use Rattle.shard_files.proofs.CountedLemmas.{counted_open, is_counted}
 use Rattle.shard_files.proofs.VolumeSteps.{of_name, same_volume}

@@ -1,26 +1,25 @@
 -- A snapshot that is saved, and older ones that are taken away.
-use Rattle.std.proofs.Common.{◌≡◌, ◌⊎◌, rules, inl, inr, ⊎_elim, ℕ, ◌+◌, ◌<◌, ◌≤◌, max, List, [], ◌∷◌, ◌++◌, map, refl, sym, ap, subst, ◌∙◌, arith, Bool, true, false, cond, ◌&&◌, Some, None, Option}
-use Rattle.std.specs.Prelude.{is_some, filter, nat_lt, ◌==◌}
+use Rattle.std.proofs.Common.{◌≡◌, ◌⊎◌, rules, inl, inr, ⊎_elim, ℕ, ◌<◌, ◌≤◌, List, [], ◌∷◌, ◌++◌, refl, sym, ap, subst, ◌∙◌, arith, true, false, cond, ◌&&◌, Some, None, Option}
+use Rattle.std.specs.Prelude.{filter, nat_lt, ◌==◌}
 use Rattle.std.specs.Cmp.{nat_cmp_is}
-use Rattle.std.proofs.lemmas.Bool.{eqb-true, ltb-true, le-ltb}
+use Rattle.std.proofs.lemmas.Bool.{eqb-true, ltb-true}
 use Rattle.std.proofs.lemmas.List.Elements.{filter-append}
 use Rattle.std.specs.declared.cmp.Ordering.TheVariants.{Less}
 use Rattle.std.specs.FinMap.{get, keys}
-use Rattle.m3_model.specs.Answers.{HasPoint}
 use Rattle.m3_model.specs.Ascends.{Ascends}
 use Rattle.m3_model.specs.Contents.{Contents}
 use Rattle.m3_model.specs.Members.{IsIn}
 use Rattle.m3_model.specs.declared.point.Point.{Point}
 use Rattle.m3_model.proofs.MemberLemmas.{IsIn-append_left, IsIn-append_right, IsIn-append_cases, IsIn-push}
 use Rattle.m3_outside.specs.declared.file_name.FileName.{FileName}
-use Rattle.m3_outside.specs.Files.{Files, IsAbsent, name_cmp}
-use Rattle.m3_outside.specs.Removal.{without_files, MayTakeAway}
+use Rattle.m3_outside.specs.Files.{Files}
+use Rattle.m3_outside.specs.Removal.{MayTakeAway}
 use Rattle.m3_outside.proofs.Names.{name_is}
 use Rattle.m3_outside.proofs.Removal.{gone_none, left_same}
 use Rattle.wire_bytes.specs.Snapshots.{Snapshot}
-use Rattle.shard_files.specs.Held.{points_of, tenure_of, fence_of}
+use Rattle.shard_files.specs.Held.{points_of}
 use Rattle.shard_files.specs.Parts.{is_open, snapshot_data, snapshot_checkpoint, SnapshotHolds, is_snapshot_checkpoint, counted_snapshots, IsNewest, NewestIs, IsWhole, AreWhole}
-use Rattle.shard_files.specs.FilesHold.{Counted, HoldParts, volume_points, points_in_newest, HoldWhole}
+use Rattle.shard_files.specs.FilesHold.{volume_points, points_in_newest, HoldWhole}
 use Rattle.shard_files.specs.Keeps.{HoldsKept, Keeps}
 use Rattle.shard_files.specs.Steps.{IsOfSnapshot, MaySave, is_snapshot_file, is_older, snapshots_below}
 use Rattle.shard_files.specs.FileLaws.{SameKinds}

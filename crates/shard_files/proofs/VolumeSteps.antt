@@ -1,13 +1,13 @@
 -- A volume that is written, and one that is taken away.
-use Rattle.std.proofs.Common.{◌≡◌, ◌⊎◌, inl, inr, ⊎_elim, ℕ, ◌+◌, ◌<◌, ◌≤◌, List, [], ◌∷◌, ◌++◌, map, refl, sym, ap, subst, ◌∙◌, arith, Bool, true, false, cond, Some, None, Option}
-use Rattle.std.specs.Prelude.{flat_map, is_some, filter}
+use Rattle.std.proofs.Common.{◌≡◌, ◌⊎◌, inl, inr, ⊎_elim, ℕ, ◌<◌, ◌≤◌, List, [], ◌∷◌, ◌++◌, map, refl, sym, ap, subst, ◌∙◌, arith, true, false, cond, Some, None, Option}
+use Rattle.std.specs.Prelude.{is_some, filter}
 use Rattle.std.specs.FinMap.{get}
 use Rattle.m3_model.specs.Answers.{HasPoint}
 use Rattle.m3_model.specs.Contents.{Contents}
 use Rattle.m3_model.specs.Members.{IsIn}
 use Rattle.m3_model.specs.declared.point.Point.{Point}
 use Rattle.m3_model.specs.declared.point.Series.{Series}
-use Rattle.m3_model.proofs.MemberLemmas.{IsIn-append_left, IsIn-append_right, IsIn-append_cases, IsIn-map, map-IsIn}
+use Rattle.m3_model.proofs.MemberLemmas.{IsIn-append_left, IsIn-append_right, IsIn-append_cases, IsIn-map}
 use Rattle.m3_outside.specs.declared.file_name.FileName.{FileName}
 use Rattle.m3_outside.specs.Files.{Files, IsAbsent}
 use Rattle.m3_outside.specs.Removal.{without_files, MayTakeAway}
@@ -16,11 +16,11 @@ use Rattle.m3_outside.proofs.Removal.{none_stays, gone_none, left_same}
 use Rattle.wire_bytes.specs.Volumes.{VolumeHead, Part, Info, Summaries, Index, Data, Bloom, Digests, Checkpoint}
 use Rattle.shard_files.specs.Held.{points_of}
 use Rattle.shard_files.specs.Parts.{is_open, kind_of, part_name, part_of, VolumeHolds, KnownVolume, IsKnown, AreKnown, VolumesAre, is_volume_checkpoint, counted_volumes}
-use Rattle.shard_files.specs.FilesHold.{Counted, HoldParts, points_known, volume_points, points_in_newest, HoldWhole}
+use Rattle.shard_files.specs.FilesHold.{points_known, volume_points, points_in_newest, HoldWhole}
 use Rattle.shard_files.specs.Keeps.{HoldsKept, Keeps}
-use Rattle.shard_files.specs.Steps.{IsPartOf, MayWrite, files_of_volume, parts_there}
+use Rattle.shard_files.specs.Steps.{MayWrite, files_of_volume, parts_there}
 use Rattle.shard_files.specs.FileLaws.{SameKinds}
-use Rattle.shard_files.specs.StepLaws.{MayBeWritten, WriteKeeps, IsElsewhere, MayBeTaken, TakeKeeps}
+use Rattle.shard_files.specs.StepLaws.{MayBeWritten, WriteKeeps, MayBeTaken, TakeKeeps}
 use Rattle.shard_files.proofs.CountedLemmas.{counted_asked, counted_open, is_counted, IsIn-filter}
 use Rattle.shard_files.proofs.PartLemmas.{kind_low, kind_high, volume_kind, newest_as, whole_as, log_as, one_known}
 
@@ -98,7 +98,7 @@ module _ (kept : Contents) (x y : Files) (log : SameKinds 0 0 x y) (snapshots : 
 
 -- ---- names of one volume's files
 
-checkpoint_kind : (part : Part) → kind_of part ≡ 7 → part ≡ Checkpoint
+pub checkpoint_kind : (part : Part) → kind_of part ≡ 7 → part ≡ Checkpoint
 checkpoint_kind Info e = absurd (omega (arith, e))
 checkpoint_kind Summaries e = absurd (omega (arith, e))
 checkpoint_kind Index e = absurd (omega (arith, e))

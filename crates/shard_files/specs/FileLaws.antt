@@ -1,19 +1,22 @@
 -- What files hold is one thing, and a matter of few files.
-use Rattle.std.specs.Prelude.{◌≡◌, ◌≤◌, ◌+◌, ℕ, true, List, [], Option}
+use Rattle.std.specs.Prelude.{◌≡◌, ◌≤◌, max, ℕ, true, List, Option}
 use Rattle.std.specs.FinMap.{get}
 use Rattle.m3_model.specs.declared.point.Point.{Point}
-use Rattle.m3_outside.specs.Files.{Files}
+use Rattle.m3_model.specs.declared.point.Series.{Series}
+use Rattle.m3_outside.specs.Files.{Files, IsAbsent}
 use Rattle.m3_outside.specs.declared.file_name.FileName.{FileName}
 use Rattle.commit_log.specs.LogEnd.{NoneAbove, NoneFrom, MayBegin}
 use Rattle.commit_log.specs.Segment.{segment, MayAdd, Adds}
 use Rattle.wire_bytes.specs.Snapshots.{Snapshot}
+use Rattle.wire_bytes.specs.Volumes.{VolumeHead, points_of_rows}
 use Rattle.shard_files.specs.declared.entries.LogEntry.{LogEntry}
 use Rattle.shard_files.specs.Entries.{IsEntry}
 use Rattle.shard_files.specs.Held.{HoldsEntries}
 use Rattle.shard_files.specs.Gains.{nothing, GainsBy, MayGainBy}
 use Rattle.shard_files.specs.LogSteps.{gain_in}
-use Rattle.shard_files.specs.Parts.{KnownVolume, VolumesAre, NewestIs, AreWhole, counted_volumes, counted_snapshots, is_volume_checkpoint, is_snapshot_checkpoint}
+use Rattle.shard_files.specs.Parts.{VolumeHolds, KnownVolume, VolumesAre, SnapshotHolds, NewestIs, AreWhole, counted_volumes, counted_snapshots, is_volume_checkpoint, is_snapshot_checkpoint}
 use Rattle.shard_files.specs.FilesHold.{FilesHold, HoldWhole}
+use Rattle.shard_files.specs.Steps.{IsPartOf, IsOfSnapshot}
 
 -- files hold one list of points, one tenure and one fence
 abbrev pub FilesHoldOne : Type 0
@@ -50,3 +53,11 @@ pub record AppendBrings : Type 0 where
   pub all : (e : LogEntry) (bytes : List ℕ) (number : ℕ) (x y : Files) → IsEntry bytes e → NoneAbove number x → Adds (segment number) bytes x y → GainsBy HoldWhole (gain_in e) x y
   pub part : (e : LogEntry) (bytes : List ℕ) (number : ℕ) (x y : Files) → IsEntry bytes e → NoneAbove number x → MayAdd (segment number) bytes x y → MayGainBy HoldWhole (gain_in e) x y
   pub begins : (number : ℕ) (x y : Files) → NoneFrom number x → MayBegin number x y → GainsBy HoldWhole nothing x y
+
+-- files that are those of one volume alone hold its points
+abbrev pub VolumeIsHeld : Type 0
+VolumeIsHeld = (v : VolumeHead) (rows : List Series) (files : Files) → VolumeHolds v rows files → ((name : FileName) → ¬ IsPartOf v name → IsAbsent name files) → HoldWhole (points_of_rows v.ns rows) 0 0 files
+
+-- files that are those of one snapshot alone hold what it has; its tenure is a fence too
+abbrev pub SnapshotIsHeld : Type 0
+SnapshotIsHeld = (s : Snapshot) (files : Files) → SnapshotHolds s files → ((name : FileName) → ¬ IsOfSnapshot s.number name → IsAbsent name files) → HoldWhole s.points s.tenure (max s.fence s.tenure) files

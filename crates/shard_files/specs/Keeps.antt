@@ -6,7 +6,7 @@ use Rattle.m3_model.specs.Members.{IsIn}
 use Rattle.m3_model.specs.declared.point.Point.{Point}
 use Rattle.m3_outside.specs.Causes.{CountsFaults}
 use Rattle.m3_outside.specs.Files.{Files}
-use Rattle.m3_outside.specs.DiskState.{DiskState, EachImage, StepOf, Elapses}
+use Rattle.m3_outside.specs.DiskState.{DiskState, EachImage, Elapses}
 use Rattle.shard_files.specs.FilesHold.{FilesHold, HoldWhole, AreSound}
 
 -- No file point comes, and each point of the content that is to be kept is there.

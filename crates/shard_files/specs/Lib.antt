@@ -10,3 +10,4 @@ pub mod Keeps
 pub mod Steps
 pub mod FileLaws
 pub mod StepLaws
+pub mod Damage

@@ -2,7 +2,8 @@
 ghost use Rattle.std.specs.Prelude.{[]};
 ghost use Rattle.std.specs.FinMap.{empty};
 ghost use Rattle.shard_files.specs.FilesHold.{HoldWhole};
-ghost use Rattle.shard_files.specs.FileLaws.{FilesHoldOne, FilesHoldOrdered, CountedByCheckpoints, EachByItsFiles, AppendKeepsOthers, AppendBrings};
+ghost use Rattle.shard_files.specs.FileLaws.{FilesHoldOne, FilesHoldOrdered, VolumeIsHeld, SnapshotIsHeld, CountedByCheckpoints, EachByItsFiles, AppendKeepsOthers, AppendBrings};
+ghost use Rattle.shard_files.specs.Damage.{DamagedHoldNothing, DamageIsOne, ToldDigestsDiffer};
 ghost use Rattle.shard_files.specs.Keeps.{KeepsThen, StopKeeps};
 ghost use Rattle.shard_files.specs.StepLaws.{WriteKeeps, NextVolumeIsNew, TakeKeeps, SaveKeeps, NextSnapshotIsNew, CutKeeps, ClearKeeps, TakenByNames, ClosedIsUncounted, VolumeNeedsItsFiles, CheckpointGoesFirst, SnapshotNeedsItsData};
 
@@ -21,6 +22,16 @@ pub fn files_hold_ordered()
 /// Where there are no files, nothing is held.
 pub fn no_files_hold_whole_nothing()
     ensures { HoldWhole [] 0 0 empty }
+{}
+
+/// Files that are those of one volume alone hold its points.
+pub fn volume_is_held()
+    ensures { VolumeIsHeld }
+{}
+
+/// Files that are those of one snapshot alone hold its points, its tenure and its fence.
+pub fn snapshot_is_held()
+    ensures { SnapshotIsHeld }
 {}
 
 /// Which volumes and which snapshots count is a matter of the checkpoints alone.
@@ -116,4 +127,19 @@ pub fn checkpoint_goes_first()
 /// Files aren't sound in which a snapshot counts, also an older one, that lacks its data.
 pub fn snapshot_needs_its_data()
     ensures { SnapshotNeedsItsData }
+{}
+
+/// Files with damage hold nothing.
+pub fn damaged_hold_nothing()
+    ensures { DamagedHoldNothing }
+{}
+
+/// Files have at most one first damage.
+pub fn damage_is_one()
+    ensures { DamageIsOne }
+{}
+
+/// Where digests are told of a file, the one that is found is that of its bytes, and they differ.
+pub fn told_digests_differ()
+    ensures { ToldDigestsDiffer }
 {}
