@@ -17,3 +17,4 @@ pub mod KeepLemmas
 pub mod RefusedLemmas
 pub mod FirstDamageLemmas
 pub mod AloneLemmas
+pub mod DiskSteps

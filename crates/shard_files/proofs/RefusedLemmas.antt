@@ -1,12 +1,12 @@
 -- Files that hold nothing, since what counts lacks one of its files.
-use Rattle.std.proofs.Common.{◌≡◌, refl, sym, ap, ◌∙◌, true, false, None}
+use Rattle.std.proofs.Common.{◌≡◌, inl, inr, refl, sym, ap, ◌∙◌, true, false, None}
 use Rattle.std.specs.FinMap.{get}
 use Rattle.m3_outside.specs.declared.file_name.FileName.{FileName}
 use Rattle.m3_outside.specs.Files.{files_without}
 use Rattle.m3_outside.proofs.Names.{get_gone, get_stays}
 use Rattle.wire_bytes.specs.Volumes.{Part, Info, Summaries, Index, Data, Bloom, Digests, Checkpoint}
 use Rattle.shard_files.specs.Parts.{is_open, part_name, part_of, kind_of, is_volume_checkpoint, counted_volumes, is_snapshot_checkpoint, snapshot_data, snapshot_checkpoint}
-use Rattle.shard_files.specs.StepLaws.{ClosedIsUncounted, VolumeNeedsItsFiles, CheckpointGoesFirst, SnapshotNeedsItsData}
+use Rattle.shard_files.specs.StepLaws.{DoneIsStep, ClosedIsUncounted, VolumeNeedsItsFiles, CheckpointGoesFirst, SnapshotNeedsItsData}
 use Rattle.shard_files.proofs.CountedLemmas.{counted_open, is_counted}
 use Rattle.shard_files.proofs.VolumeSteps.{of_name, same_volume}
 
@@ -48,3 +48,13 @@ snapshot_needs_its_data number files open_ gone sound =
     let there = w.holds.body in
     let none : get files (snapshot_data w.snapshot.number) ≡ None = ap (λ n. get files (snapshot_data n)) same ∙ gone in
     cc
+
+-- ---- what is done
+
+pub done_is_step : DoneIsStep
+done_is_step = record {
+  wrote = λ v rows x y done. (record { others = done.others; either = inr done.holds }, is_counted is_volume_checkpoint y (part_of Checkpoint v) refl (ap is_open (done.holds.parts Checkpoint)));
+  wrote_none = λ v rows x y done. (record { others = done.others; either = inl done.closed }, closed_is_uncounted v.ns v.start v.number y done.closed);
+  saved = λ s x y done. (record { others = done.others; either = inr done.holds }, is_counted is_snapshot_checkpoint y (snapshot_checkpoint s.number) refl (ap is_open done.holds.checkpoint));
+  saved_none = λ s x y done. (record { others = done.others; either = inl done.closed }, λ m. let open_ = counted_open is_snapshot_checkpoint y (snapshot_checkpoint s.number) m in let never : false ≡ true = sym done.closed ∙ open_ in cc);
+}

@@ -7,7 +7,7 @@ use Rattle.m3_model.specs.Members.{IsIn}
 use Rattle.m3_model.specs.declared.point.Point.{Point}
 use Rattle.m3_model.specs.declared.point.Series.{Series}
 use Rattle.m3_outside.specs.Files.{Files, IsAbsent}
-use Rattle.m3_outside.specs.DiskState.{HaveSameNames}
+use Rattle.m3_outside.specs.DiskState.{DiskState, EachImage, Elapses, HaveSameNames}
 use Rattle.m3_outside.specs.Removal.{MayTakeAway, without_files}
 use Rattle.m3_outside.specs.declared.file_name.FileName.{FileName}
 use Rattle.commit_log.specs.Cutting.{segments_below}
@@ -17,7 +17,7 @@ use Rattle.shard_files.specs.Held.{points_of, tenure_of, fence_of}
 use Rattle.shard_files.specs.Parts.{KnownVolume, part_name, part_of, is_open, counted_volumes, counted_snapshots, snapshot_data, snapshot_checkpoint, IsNewest}
 use Rattle.shard_files.specs.FilesHold.{Counted, HoldParts, FilesHold, AreSound, points_known, volume_points, points_in_newest, tenure_in_newest, fence_in_newest}
 use Rattle.shard_files.specs.Keeps.{IsFilePoint, HoldContent, Keeps}
-use Rattle.shard_files.specs.Steps.{next_snapshot, volume_after, MayWrite, parts_there, IsOfSnapshot, MaySave, snapshots_below}
+use Rattle.shard_files.specs.Steps.{next_snapshot, volume_after, MayWrite, Wrote, WroteNone, parts_there, IsOfSnapshot, MaySave, Saved, SavedNone, snapshots_below}
 
 -- ---- a volume that is written
 
@@ -91,6 +91,15 @@ pub record MayBeCleared (kept : Contents) (number : ℕ) (files : Files) : Type 
 abbrev pub ClearKeeps : Type 0
 ClearKeeps = (kept : Contents) (number : ℕ) (x y : Files) → MayBeCleared kept number x → MayTakeAway (snapshots_below number x) x y → Keeps kept x y
 
+-- ---- what is done is a step, too
+
+-- a volume that was written counts, one that wasn't doesn't, and both are steps of its writing; likewise a snapshot
+pub record DoneIsStep : Type 0 where
+  pub wrote : (v : VolumeHead) (rows : List Series) (x y : Files) → Wrote v rows x y → MayWrite v rows x y × IsIn (counted_volumes y) (part_of Checkpoint v)
+  pub wrote_none : (v : VolumeHead) (rows : List Series) (x y : Files) → WroteNone v x y → MayWrite v rows x y × (¬ IsIn (counted_volumes y) (part_of Checkpoint v))
+  pub saved : (s : Snapshot) (x y : Files) → Saved s x y → MaySave s x y × IsIn (counted_snapshots y) (snapshot_checkpoint s.number)
+  pub saved_none : (s : Snapshot) (x y : Files) → SavedNone s.number x y → MaySave s x y × (¬ IsIn (counted_snapshots y) (snapshot_checkpoint s.number))
+
 -- ---- which files are taken away
 
 -- it is a matter of the names that are there, so the same for reads and in each image
@@ -98,6 +107,18 @@ pub record TakenByNames : Type 0 where
   pub volume : (ns start number : ℕ) (x y : Files) → HaveSameNames x y → parts_there ns start number y ≡ parts_there ns start number x
   pub snapshots : (number : ℕ) (x y : Files) → HaveSameNames x y → snapshots_below number y ≡ snapshots_below number x
   pub segments : (number : ℕ) (x y : Files) → HaveSameNames x y → segments_below number y ≡ segments_below number x
+
+-- ---- on a disk
+
+-- Where each image allows the step, a stop at any moment of it leaves what is to be kept. What is taken away is told by the files that reads give.
+pub record StepsKeep {D : Type 0} (state : D → DiskState) : Type 0 where
+  pub written : (old new : D) (kept : Contents) (v : VolumeHead) (rows : List Series) → (state old).tells ≡ true → EachImage (state old) (MayBeWritten kept v rows) → Elapses (MayWrite v rows) (state old) (state new) → Elapses (Keeps kept) (state old) (state new)
+  pub taken : (old new : D) (kept : Contents) (ns start number : ℕ) → (state old).tells ≡ true → EachImage (state old) (MayBeTaken kept ns start number)
+      → Elapses (MayTakeAway (parts_there ns start number (state old).files)) (state old) (state new) → Elapses (Keeps kept) (state old) (state new)
+  pub saved : (old new : D) (kept : Contents) (s : Snapshot) → (state old).tells ≡ true → EachImage (state old) (MayBeSaved kept s) → Elapses (MaySave s) (state old) (state new) → Elapses (Keeps kept) (state old) (state new)
+  pub cut : (old new : D) (kept : Contents) (number : ℕ) → (state old).tells ≡ true → EachImage (state old) (MayBeCut kept) → Elapses (MayTakeAway (segments_below number (state old).files)) (state old) (state new) → Elapses (Keeps kept) (state old) (state new)
+  pub cleared : (old new : D) (kept : Contents) (number : ℕ) → (state old).tells ≡ true → EachImage (state old) (MayBeCleared kept number)
+      → Elapses (MayTakeAway (snapshots_below number (state old).files)) (state old) (state new) → Elapses (Keeps kept) (state old) (state new)
 
 -- ---- what the definitions refuse
 

@@ -59,19 +59,6 @@ files_of_volume ns start number = map (λ part. part_name part ns start number) 
 abbrev pub parts_there : ℕ → ℕ → ℕ → Files → List FileName
 parts_there ns start number files = those_there (files_of_volume ns start number) files
 
--- the volume of this head is one of those that count
-pub record IsCountedIn (v : VolumeHead) (files : Files) : Type 0 where
-  pub rows : List Series
-  pub holds : VolumeHolds v rows files
-
--- the record of a series stands at this place of the data, with this length
-pub record IsRowAt (rows : List Series) (offset len : ℕ) (s : Series) : Type 0 where
-  pub before : List Series
-  pub after : List Series
-  pub split : rows ≡ before ++ s ∷ after
-  pub place : offset ≡ length (data_bytes before)
-  pub long : len ≡ length (row_bytes s)
-
 -- ---- a snapshot
 
 -- whether the name is that of a snapshot's file of this kind

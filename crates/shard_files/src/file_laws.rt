@@ -5,7 +5,7 @@ ghost use Rattle.shard_files.specs.FilesHold.{HoldWhole};
 ghost use Rattle.shard_files.specs.FileLaws.{FilesHoldOne, FilesHoldOrdered, VolumeIsHeld, SnapshotIsHeld, CountedByCheckpoints, EachByItsFiles, AppendKeepsOthers, AppendBrings};
 ghost use Rattle.shard_files.specs.Damage.{DamagedHoldNothing, DamageIsOne, ToldDigestsDiffer};
 ghost use Rattle.shard_files.specs.Keeps.{KeepsThen, StopKeeps};
-ghost use Rattle.shard_files.specs.StepLaws.{WriteKeeps, NextVolumeIsNew, TakeKeeps, SaveKeeps, NextSnapshotIsNew, CutKeeps, ClearKeeps, TakenByNames, ClosedIsUncounted, VolumeNeedsItsFiles, CheckpointGoesFirst, SnapshotNeedsItsData};
+ghost use Rattle.shard_files.specs.StepLaws.{DoneIsStep, WriteKeeps, NextVolumeIsNew, TakeKeeps, SaveKeeps, NextSnapshotIsNew, CutKeeps, ClearKeeps, TakenByNames, StepsKeep, ClosedIsUncounted, VolumeNeedsItsFiles, CheckpointGoesFirst, SnapshotNeedsItsData};
 
 use m3_outside::disk::Disk;
 
@@ -94,9 +94,19 @@ pub fn clear_keeps()
     ensures { ClearKeeps }
 {}
 
+/// A volume or a snapshot that was written counts, one that wasn't doesn't, and both are steps of its writing.
+pub fn done_is_step()
+    ensures { DoneIsStep }
+{}
+
 /// Which files are taken away is a matter of the names that are there.
 pub fn taken_by_names()
     ensures { TakenByNames }
+{}
+
+/// Each of these steps, on a disk of which every image allows it, leaves what is to be kept wherever a stop falls.
+pub fn steps_keep<D: Disk>()
+    ensures { StepsKeep D.state }
 {}
 
 /// Calls one after another that keep the same keep it together.
