@@ -7,7 +7,6 @@ use Rattle.std.specs.FinMap.{get}
 use Rattle.m3_model.specs.Members.{IsIn}
 use Rattle.m3_model.specs.Ascends.{Ascends}
 use Rattle.m3_model.proofs.MemberLemmas.{IsIn-append_left, IsIn-append_right, IsIn-append_cases, map-IsIn}
-use Rattle.m3_outside.specs.declared.file_name.FileName.{FileName}
 use Rattle.m3_outside.specs.Files.{Files}
 use Rattle.m3_outside.specs.DiskState.{DiskState, IsLawful, StepOf, Elapses}
 use Rattle.m3_outside.specs.Removal.{without_files, MayTakeAway, HasTakenAway}
@@ -17,7 +16,7 @@ use Rattle.commit_log.specs.LogEnd.{LogEnd, NoneAbove, Stands}
 use Rattle.commit_log.specs.Contents.{numbers, PartsHold}
 use Rattle.commit_log.specs.Cutting.{numbers_below, numbers_from, segments_below}
 use Rattle.commit_log.specs.LogLaws.{IsLog, IsCutAt, LeavesEnd, CutLeavesEnd}
-use Rattle.commit_log.proofs.CutLemmas.{IsCut, by_numbers, named_in}
+use Rattle.commit_log.proofs.CutLemmas.{by_numbers, named_in}
 use Rattle.commit_log.proofs.Numbers.{in_there, there_in, ascend, same_members, in_below}
 use Rattle.commit_log.proofs.Parts.{parts_split, parts_join, parts_same}
 use Rattle.commit_log.proofs.LogLemmas.{since_begin}
@@ -53,7 +52,7 @@ all_from m (n ∷ ns) all =
     let test = le-ltb n m (all n (inl refl)) in
     (ap (λ b. cond b (n ∷ below_of m ns) (below_of m ns)) test ∙ rest.0, ap (λ b. cond (not b) (n ∷ from_of m ns) (from_of m ns)) test ∙ ap (λ (l : List ℕ). n ∷ l) rest.1)
 
-halves : (m : ℕ) (ns : List ℕ) → Ascends (λ a b. a < b) ns → ns ≡ below_of m ns ++ from_of m ns
+pub halves : (m : ℕ) (ns : List ℕ) → Ascends (λ a b. a < b) ns → ns ≡ below_of m ns ++ from_of m ns
 halves m [] up = refl
 halves m (n ∷ ns) up = by (nat_lt n m) refl (halves m ns up.1)
   where
@@ -99,7 +98,7 @@ module _ (gone left from : List ℕ) (x y : Files) (split : numbers x ≡ gone +
     above = λ n lt. ap (λ (w : Files). get w (segment n)) is ∙ none_stays (map segment gone) x (segment n) (above n lt);
   }
 
-cut_end : (m last : ℕ) (below from : List (List ℕ)) (x y : Files) → IsCutAt m below from last x → MayTakeAway (segments_below m x) x y → LeavesEnd below from last y
+pub cut_end : (m last : ℕ) (below from : List (List ℕ)) (x y : Files) → IsCutAt m below from last x → MayTakeAway (segments_below m x) x y → LeavesEnd below from last y
 cut_end m last below from x y at takes =
     let cut = by_numbers (numbers_below m x) x y takes in
     let parts = parts_split cut.gone cut.left x below (subst (λ (l : List ℕ). PartsHold l x below) cut.split at.parts_below) in

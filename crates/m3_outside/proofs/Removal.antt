@@ -1,5 +1,5 @@
 -- Files that are taken away one after another.
-use Rattle.std.proofs.Common.{add-one, ◌≡◌, ◌⊎◌, inl, inr, ⊎_elim, ℕ, ◌+◌, ◌<◌, ◌≤◌, List, [], ◌∷◌, ◌++◌, length, take, drop, get_or, refl, sym, ap, subst, ◌∙◌, arith, true, None, Result, Ok, Err}
+use Rattle.std.proofs.Common.{add-one, ◌≡◌, ◌⊎◌, inl, inr, ⊎_elim, ℕ, ◌+◌, ◌<◌, ◌≤◌, List, [], ◌∷◌, ◌++◌, length, take, drop, get_or, refl, sym, ap, subst, ◌∙◌, arith, true, Result, Ok, Err}
 use Rattle.std.specs.Prelude.{⊤, IsErr}
 use Rattle.std.specs.FinMap.{get}
 use Rattle.std.proofs.lemmas.List.{take-append-drop, take_more}

@@ -92,7 +92,7 @@ only_zeros (n ∷ ns) y here zero_all = record {
 absent_all : (x : Files) → NoneFrom 0 x → (n : ℕ) → IsIn (numbers x) n → ⊥
 absent_all x none n m = let there = in_there x n m in let gone = none n (omega arith) in absurd (cc)
 
-first_segment : (es : List LogEntry) (x y : Files) → HoldsEntries es x → NoneFrom 0 x → MayBegin 0 x y → HoldsEntries es y
+pub first_segment : (es : List LogEntry) (x y : Files) → HoldsEntries es x → NoneFrom 0 x → MayBegin 0 x y → HoldsEntries es y
 first_segment es x y holds none (inl same) = subst (HoldsEntries es) (sym same) holds
 first_segment es x y holds none (inr done) = record {
   parts = subst (PartsHold (numbers y) y) (sym (no_chunks (numbers x) x (map spelled es) (absent_all x none) holds.parts)) (only_zeros (numbers y) y here zero_all);

@@ -1,5 +1,5 @@
 -- What calls bring to files, one after another.
-use Rattle.std.proofs.Common.{◌≡◌, inl, inr, ⊎_elim, ℕ, ◌≤◌, max, List, ℤ, ◌≤ℤ◌, refl, sym, subst, arith}
+use Rattle.std.proofs.Common.{◌≡◌, inl, inr, ⊎_elim, ℕ, max, List, ℤ, ◌≤ℤ◌, refl, subst, arith}
 use Rattle.std.specs.Int.Signed.{≤ℤ_refl, <ℤ-≤ℤ_trans, <ℤ_irrefl}
 use Rattle.std.proofs.lemmas.Int.{by_lt_z}
 use Rattle.m3_model.specs.Members.{IsIn}
@@ -10,7 +10,6 @@ use Rattle.m3_outside.specs.DiskState.{DiskState, StepOf, IsLawful}
 use Rattle.shard_files.specs.Held.{Held}
 use Rattle.shard_files.specs.Gains.{Gain, nothing, Grows, HoldsPart, Gains, MayGain}
 use Rattle.shard_files.specs.HeldLaws.{StopLeavesPart, WasGrown}
-use Rattle.shard_files.proofs.HeldLemmas.{held_is_one}
 
 pub ≤ℤ_trans : {a b c : ℤ} → a ≤ℤ b → b ≤ℤ c → a ≤ℤ c
 ≤ℤ_trans {a} {b} {c} h k = by_lt_z c a (λ lt. absurd (<ℤ_irrefl (<ℤ-≤ℤ_trans (<ℤ-≤ℤ_trans lt h) k))) (λ le. le)

@@ -68,8 +68,11 @@ no_numbers =
     let none : entries (empty {X = List ℕ} {R = name_cmp}) ≡ [] = none_of_length _ (sym (len-entries _) ∙ len-empty name_cmp (List ℕ)) in
     ap (λ (es : List (FileName × List ℕ)). numbers_of (map (λ (e : FileName × List ℕ). e.0) es)) none
 
+pub no_files_no_entries : HoldsEntries [] empty
+no_files_no_entries = record { parts = subst (λ (ns : List ℕ). PartsHold ns empty []) (sym no_numbers) refl; within = tt }
+
 pub no_files_hold_nothing : Held [] 0 0 empty
-no_files_hold_nothing = record { entries = []; holds = record { parts = subst (λ (ns : List ℕ). PartsHold ns empty []) (sym no_numbers) refl; within = tt }; amount = record { points_are = refl; tenure_is = refl; fence_is = refl } }
+no_files_hold_nothing = record { entries = []; holds = no_files_no_entries; amount = record { points_are = refl; tenure_is = refl; fence_is = refl } }
 
 -- the entries as a log that ends in this segment
 as_log : (es : List LogEntry) (number : ℕ) (files : Files) → HoldsEntries es files → NoneAbove number files → IsLog (map spelled es) number files

@@ -6,3 +6,15 @@ pub mod AmountLemmas
 pub mod GainLemmas
 pub mod EntryLemmas
 pub mod ContentLemmas
+pub mod CountedLemmas
+pub mod PartLemmas
+pub mod FilesHoldLemmas
+pub mod VolumeSteps
+pub mod NextLemmas
+pub mod SnapshotSteps
+pub mod CutSteps
+pub mod KeepLemmas
+pub mod RefusedLemmas
+pub mod FirstDamageLemmas
+pub mod AloneLemmas
+pub mod DiskSteps

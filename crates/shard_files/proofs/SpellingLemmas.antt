@@ -1,5 +1,5 @@
 -- Entries by their bytes: one spelling of each.
-use Rattle.std.proofs.Common.{◌≡◌, ℕ, List, [], ◌∷◌, ◌++◌, map, length, refl, sym, ap, ◌∙◌, arith, append_assoc}
+use Rattle.std.proofs.Common.{◌≡◌, ℕ, List, [], ◌∷◌, ◌++◌, map, length, refl, ap, arith}
 use Rattle.wire_bytes.specs.Entries.{AnEntry, OfPoints, OfFence, OfTenure}
 use Rattle.wire_bytes.proofs.NumberLemmas.{bytes_one}
 use Rattle.wire_bytes.proofs.PointLemmas.{number_parts}

@@ -3,5 +3,6 @@
 
 pub mod amount;
 pub mod entries;
+pub mod file_laws;
 pub mod laws;
 pub mod load_err;

@@ -5,3 +5,4 @@ pub mod TextLemmas
 pub mod PointLemmas
 pub mod EntryLemmas
 pub mod VolumeLemmas
+pub mod StopLemmas

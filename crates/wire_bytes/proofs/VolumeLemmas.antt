@@ -12,7 +12,6 @@ use Rattle.m3_model.specs.declared.point.Series.{Series}
 use Rattle.wire_bytes.specs.Points.{APoint}
 use Rattle.wire_bytes.specs.Entries.{IsBounded, bytes_of_point, points_bytes, AllBounded}
 use Rattle.wire_bytes.specs.Volumes.{VolumeHead, IsRow, IsVolume, pair_bytes, id_bytes, row_bytes, data_bytes, info_bytes}
-use Rattle.wire_bytes.specs.Snapshots.{Snapshot, IsSnapshot, snapshot_bytes}
 use Rattle.wire_bytes.specs.ByteLaws.{VolumesAreOne, SnapshotsAreOne}
 use Rattle.wire_bytes.proofs.FieldLemmas.{one_front}
 use Rattle.wire_bytes.proofs.NumberLemmas.{length_number}
@@ -122,11 +121,11 @@ small_format n (inr e) = omega (arith, e)
 
 pub same_head : (v w : VolumeHead) (rows others : List Series) → IsVolume v rows → IsVolume w others → info_bytes v rows ≡ info_bytes w others → v ≡ w
 same_head v w rows others f g e =
-    let format = number_parts 1 v.format w.format _ _ (let h = small_format v.format f.format in omega (arith, h)) (let h = small_format w.format g.format in omega (arith, h)) e in
-    let ns = number_parts 1 v.ns w.ns _ _ (omega (arith, f.ns)) (omega (arith, g.ns)) format.1 in
-    let start = number_parts 8 v.start w.start _ _ (omega (arith, f.start)) (omega (arith, g.start)) ns.1 in
-    let size = number_parts 8 v.size w.size _ _ (omega (arith, f.size_high)) (omega (arith, g.size_high)) start.1 in
-    let number = number_parts 8 v.number w.number _ _ (omega (arith, f.number)) (omega (arith, g.number)) size.1 in
+    let format = number_parts 1 v.format w.format _ _ (let h = small_format v.format f.head.format in omega (arith, h)) (let h = small_format w.format g.head.format in omega (arith, h)) e in
+    let ns = number_parts 1 v.ns w.ns _ _ (omega (arith, f.head.ns)) (omega (arith, g.head.ns)) format.1 in
+    let start = number_parts 8 v.start w.start _ _ (omega (arith, f.head.start)) (omega (arith, g.head.start)) ns.1 in
+    let size = number_parts 8 v.size w.size _ _ (omega (arith, f.head.size_high)) (omega (arith, g.head.size_high)) start.1 in
+    let number = number_parts 8 v.number w.number _ _ (omega (arith, f.head.number)) (omega (arith, g.head.number)) size.1 in
     λ i. record { format = format.0 i; ns = ns.0 i; start = start.0 i; size = size.0 i; number = number.0 i }
 
 pub volumes_are_one : VolumesAreOne

@@ -1,9 +1,9 @@
 -- One spelling for each volume and each snapshot, and bytes worked out.
-use Rattle.std.specs.Prelude.{◌≡◌, ◌⊎◌, ℕ, pos, List, [], ◌∷◌, ◌++◌, codes}
-use Rattle.m3_model.specs.declared.point.Point.{Point}
+use Rattle.std.specs.Prelude.{◌≡◌, ℕ, pos, List, [], ◌∷◌, ◌++◌, length, codes}
+use Rattle.m3_model.specs.Members.{IsIn}
 use Rattle.m3_model.specs.declared.point.Series.{Series}
-use Rattle.wire_bytes.specs.Points.{point_bytes}
-use Rattle.wire_bytes.specs.Volumes.{VolumeHead, IsVolume, Part, Info, Data, part_bytes, row_bytes, index_entry, summaries_bytes}
+use Rattle.wire_bytes.specs.Fields.{StopsAt}
+use Rattle.wire_bytes.specs.Volumes.{VolumeHead, IsVolume, Info, Data, part_bytes, row_bytes, index_entry, summaries_bytes}
 use Rattle.wire_bytes.specs.Snapshots.{Snapshot, IsSnapshot, snapshot_bytes}
 
 -- volumes of which info and data are the same are one
@@ -13,6 +13,17 @@ VolumesAreOne = (v w : VolumeHead) (rows others : List Series) → IsVolume v ro
 -- snapshots of the same bytes are one
 abbrev pub SnapshotsAreOne : Type 0
 SnapshotsAreOne = (s t : Snapshot) → IsSnapshot s → IsSnapshot t → snapshot_bytes s ≡ snapshot_bytes t → s ≡ t
+
+-- Where a form has one spelling, bytes that end within it stop at their end, bytes that go on behind it stop at its end, and others stop at the first byte that
+-- differs.
+pub record OneSpellingStops : Type 0 where
+  pub short : (word bytes : List ℕ) (next : ℕ) (more : List ℕ) → word ≡ bytes ++ next ∷ more → StopsAt (λ b. b ≡ word) bytes (length bytes)
+  pub long : (word bytes : List ℕ) (next : ℕ) (more : List ℕ) → bytes ≡ word ++ next ∷ more → StopsAt (λ b. b ≡ word) bytes (length word)
+  pub other : (word bytes front : List ℕ) (due stands : ℕ) (more rest : List ℕ) → word ≡ front ++ due ∷ more → bytes ≡ front ++ stands ∷ rest → ¬ (due ≡ stands) → StopsAt (λ b. b ≡ word) bytes (length front)
+
+-- bytes stop at one place at most
+abbrev pub StopsAtOne : Type 0
+StopsAtOne = (form : List (List ℕ)) (bytes : List ℕ) (at other : ℕ) → StopsAt (IsIn form) bytes at → StopsAt (IsIn form) bytes other → at ≡ other
 
 -- ---- worked out
 

@@ -1,5 +1,5 @@
 -- A volume as bytes: what stands in each of its seven files is a function of its head and of its rows.
-use Rattle.std.specs.Prelude.{◌≡◌, ◌⊎◌, ℕ, ℤ, zero, suc, ◌+◌, ◌*◌, ◌%◌, ◌<◌, ◌≤◌, ◌^◌, Bool, true, false, if◌then◌else◌, ◌==◌, List, [], ◌∷◌, ◌++◌, length, drop, flat_map, map, sum_by, IsUtf8, FitsSigned}
+use Rattle.std.specs.Prelude.{◌≡◌, ◌⊎◌, ℕ, ℤ, zero, suc, ◌+◌, ◌*◌, ◌%◌, ◌<◌, ◌≤◌, ◌^◌, Bool, if◌then◌else◌, ◌==◌, List, [], ◌∷◌, ◌++◌, length, drop, flat_map, map, sum_by, IsUtf8, FitsSigned}
 use Rattle.std.specs.List.{list_any}
 use Rattle.std.specs.Int.{w64, cast_unsigned}
 use Rattle.byteorder.specs.Endian.{big_bytes, big_number}
@@ -118,8 +118,12 @@ bloom_bytes rows = let m = 16 * length rows in big_bytes 4 m ++ bits_from m rows
 
 -- ---- all seven
 
+-- the info of a volume of so many series and points
+abbrev pub info_of : VolumeHead → ℕ → ℕ → List ℕ
+info_of v series points = big_bytes 1 v.format ++ (big_bytes 1 v.ns ++ (big_bytes 8 v.start ++ (big_bytes 8 v.size ++ (big_bytes 8 v.number ++ (big_bytes 4 series ++ big_bytes 8 points)))))
+
 abbrev pub info_bytes : VolumeHead → List Series → List ℕ
-info_bytes v rows = big_bytes 1 v.format ++ (big_bytes 1 v.ns ++ (big_bytes 8 v.start ++ (big_bytes 8 v.size ++ (big_bytes 8 v.number ++ (big_bytes 4 (length rows) ++ big_bytes 8 (count_of rows))))))
+info_bytes v rows = info_of v (length rows) (count_of rows)
 
 -- the digests of info, summaries, index, data and bloom filter
 abbrev pub digests_bytes : VolumeHead → List Series → List ℕ
@@ -149,14 +153,18 @@ part_bytes Bloom v rows = bloom_bytes rows
 part_bytes Digests v rows = digests_bytes v rows
 part_bytes Checkpoint v rows = checkpoint_bytes (digests_bytes v rows)
 
--- what a volume has lies within the bounds of its fields
-pub record IsVolume (v : VolumeHead) (rows : List Series) : Type 0 where
+-- what a head has lies within the bounds of its fields
+pub record IsHead (v : VolumeHead) : Type 0 where
   pub format : (v.format ≡ 1) ⊎ (v.format ≡ 2)
   pub ns : v.ns < 8
   pub start : v.start < 2 ^ 62
   pub size_low : 1 ≤ v.size
   pub size_high : v.size < 2 ^ 40
   pub number : v.number < 2 ^ 62
+
+-- there is a series, they ascend by identifier, and each number of a part fits its field
+pub record IsVolume (v : VolumeHead) (rows : List Series) : Type 0 where
+  pub head : IsHead v
   pub some : 1 ≤ length rows
   pub counted : 16 * length rows < 2 ^ 32
   pub points : count_of rows < 2 ^ 64

@@ -1,4 +1,4 @@
-use Rattle.std.proofs.Common.{sym, ◌∙◌, arith}
+use Rattle.std.proofs.Common.{sym, ◌∙◌}
 use Rattle.m3_outside.proofs.Removal.{not_going, moment, take_failed, taken_so_far, goes_on, present}
 use Rattle.m3_outside.proofs.take_away.take_away.Goals as goal
 
