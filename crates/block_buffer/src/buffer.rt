@@ -182,8 +182,8 @@ impl Buffer {
         self.all.drop_block(ns, start, size);
     }
 
-    // Gives up the room.
-    fn release(&mut self)
+    /// Gives up the room. Takes no memory.
+    pub fn release(&mut self)
         ensures { self.new ≡ record { points = self.old.points; room = None } }
     {
         if let Some(key) = self.room.take() {

@@ -1,18 +1,17 @@
 -- A segment that is made, and calls that leave files as they are.
-use Rattle.std.proofs.Common.{◌≡◌, inl, inr, ⊎_elim, ℕ, ◌+◌, ◌<◌, ◌≤◌, [], replicate, refl, sym, ap, subst, ◌∙◌, arith, true, Some, Result, Ok, Err}
-use Rattle.std.specs.Prelude.{⊤, OnOk}
+use Rattle.std.proofs.Common.{◌≡◌, inl, inr, ⊎_elim, ℕ, ◌+◌, ◌<◌, [], replicate, refl, sym, ap, subst, ◌∙◌, arith, true, Some, Ok, Err}
+use Rattle.std.specs.Prelude.{⊤}
 use Rattle.std.specs.FinMap.{get}
 use Rattle.m3_outside.specs.declared.file_name.FileName.{FileName}
 use Rattle.m3_outside.specs.declared.disk_err.DiskErr.{DiskErr}
 use Rattle.m3_outside.specs.declared.disk_err.DiskErr.TheVariants.{Memory, Failed as DiskFailed}
-use Rattle.m3_outside.specs.Causes.{CountsFaults}
 use Rattle.m3_outside.specs.Files.{Files, Stays, files_with_zeros}
 use Rattle.m3_outside.specs.DiskState.{DiskState, Elapses, Becomes, Told}
-use Rattle.m3_outside.specs.DiskCalls.{Creates, LeavesFiles, Reserves}
+use Rattle.m3_outside.specs.DiskCalls.{Creates, LeavesFiles}
 use Rattle.m3_outside.proofs.Names.{get_here, get_apart}
-use Rattle.m3_outside.proofs.Moments.{elapses_as, elapses_then}
+use Rattle.m3_outside.proofs.Moments.{elapses_as, elapses_then, becomes_both, becomes_stays}
 use Rattle.commit_log.specs.Segment.{segment, IsAtRest}
-use Rattle.commit_log.specs.LogEnd.{LogEnd, NoneFrom, NoneAbove, Stands, IsReadyFor, MayBegin, BeganOrNot}
+use Rattle.commit_log.specs.LogEnd.{LogEnd, NoneFrom, NoneAbove, Stands, MayBegin, BeganOrNot}
 
 module _ (number : ℕ) (name : FileName) (named : name ≡ segment number) (a b : DiskState) where
   apart : (n : ℕ) → number < n → segment n ≡ name → ⊥
@@ -70,28 +69,12 @@ stands_stays log failed a b leaves st =
       within = st.within;
     }
 
--- one change and then another
-pub becomes_both : (f g h : Files → Files) (a b c : DiskState) → ((x y : Files) → y ≡ f x → g y ≡ h x) → Becomes f a b → Becomes g b c → Becomes h a c
-becomes_both f g h a b c both one two = record {
-  files = two.files ∙ both a.files b.files one.files;
-  images = λ x image.
-      let last = two.images x image in
-      let first = one.images last.before last.was in
-      record { before = first.before; was = first.was; stepped = last.stepped ∙ both first.before last.before first.stepped };
-}
-
-pub becomes_stays : (failed : Type 0) (a b : DiskState) → LeavesFiles failed a b → a.tells ≡ true → Becomes (λ files. files) a b
-becomes_stays failed a b leaves t = record { files = leaves.files t; images = (leaves.proceeds.told t).images }
-
-pub same_becomes : (a : DiskState) → Becomes (λ files. files) a a
-same_becomes a = record { files = refl; images = λ c image. record { before = c; was = image; stepped = refl } }
-
--- a segment is there or not, and then nothing changed
-pub began_then_stays : (number : ℕ) (failed : Type 0) (a b c : DiskState) → BeganOrNot number a b → LeavesFiles failed b c → b.tells ≡ true → BeganOrNot number a c
-began_then_stays number failed a b c one leaves t =
-    let same = becomes_stays failed b c leaves t in
-    ⊎_elim (λ (kept : Becomes (λ (files : Files). files) a b). inl (becomes_both (λ files. files) (λ files. files) (λ files. files) a b c (λ x y e. e) kept same))
-    (λ (done : Becomes (files_with_zeros (segment number) 65536) a b). inr (becomes_both (files_with_zeros (segment number) 65536) (λ files. files) (files_with_zeros (segment number) 65536) a b c (λ x y e. e) done same)) one
+-- nothing changed, and then a segment is there or not
+pub stays_then_began : (number : ℕ) (failed : Type 0) (a b c : DiskState) → LeavesFiles failed a b → a.tells ≡ true → BeganOrNot number b c → BeganOrNot number a c
+stays_then_began number failed a b c leaves t one =
+    let same = becomes_stays failed a b leaves t in
+    ⊎_elim (λ (kept : Becomes (λ (files : Files). files) b c). inl (becomes_both (λ files. files) (λ files. files) (λ files. files) a b c (λ x y e. e) same kept))
+    (λ (done : Becomes (files_with_zeros (segment number) 65536) b c). inr (becomes_both (λ files. files) (files_with_zeros (segment number) 65536) (files_with_zeros (segment number) 65536) a b c (λ x y e. ap (files_with_zeros (segment number) 65536) e) same done)) one
 
 -- nothing happened
 pub elapses_none : (number : ℕ) (a : DiskState) → Elapses (MayBegin number) a a
@@ -102,27 +85,9 @@ elapses_none number a = record {
   keeps = λ t c le left. left;
 }
 
--- a segment may have begun, and then nothing changed
-pub begun_then_stays : (number : ℕ) (a b c : DiskState) → Elapses (MayBegin number) a b → Elapses Stays b c → Elapses (MayBegin number) a c
-begun_then_stays number a b c one two = elapses_then a b c (λ x y image step. step) (λ x y z image step image1 same. subst (λ (w : Files). MayBegin number x w) (sym same) step) one two
+-- nothing changed, and then a segment may have begun
+pub stays_then_begun : (number : ℕ) (a b c : DiskState) → Elapses Stays a b → Elapses (MayBegin number) b c → Elapses (MayBegin number) a c
+stays_then_begun number a b c one two = elapses_then a b c (λ x y image same. inl same) (λ x y z image same image1 step. subst (λ (w : Files). MayBegin number w z) same step) one two
 
 pub stays_begun : (number : ℕ) (a b : DiskState) → Elapses Stays a b → Elapses (MayBegin number) a b
 stays_begun number a b one = elapses_as a b (λ x y image same. inl same) one
-
--- one count after another
-pub counts_then : (failed : Type 0) (a b c : ℕ) → CountsFaults ⊥ a b → CountsFaults failed b c → CountsFaults failed a c
-counts_then failed a b c one two = record {
-  later = omega (arith, one.later, two.later);
-  stays = λ e. two.stays (one.stays e);
-  rose = λ f. let r = two.rose f in omega (arith, one.later, r);
-}
-
-pub counts_none : (failed : Type 0) (a b : ℕ) → (failed → ⊥) → CountsFaults failed a b → CountsFaults ⊥ a b
-counts_none failed a b never one = record { later = one.later; stays = one.stays; rose = λ f. absurd f }
-
--- a log's end that has room is ready once calls are reserved
-pub ready_after : (log : LogEnd) (n : ℕ) (r : Result ⊤ DiskErr) (a b : DiskState) → Reserves 5 r a b → Stands log a → log.clean ≡ true → log.at + 5 + n ≤ 65536 → OnOk r (IsReadyFor log n b)
-ready_after log n (Ok u) a b reserves st clean room =
-    let after = stands_stays log _ a b reserves.leaves st in
-    record { stands = after; clean = clean; ready = record { kept = after.kept clean; room = room; spare = reserves.enough } }
-ready_after log n (Err e) a b reserves st clean room = tt

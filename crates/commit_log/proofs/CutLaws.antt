@@ -1,40 +1,32 @@
 -- What is left of a log where segments are taken away.
-use Rattle.std.proofs.Common.{◌≡◌, inl, inr, ⊎_elim, ℕ, ◌<◌, ◌≤◌, List, [], ◌∷◌, ◌++◌, refl, sym, ap, subst, ◌∙◌, Some, None, arith, Bool, true, false, cond, not, append_assoc}
+use Rattle.std.proofs.Common.{◌≡◌, inl, inr, ⊎_elim, ℕ, ◌<◌, ◌≤◌, List, [], ◌∷◌, ◌++◌, map, refl, sym, ap, subst, ◌∙◌, Some, None, arith, Bool, true, false, cond, not, append_assoc}
 use Rattle.std.specs.Prelude.{nat_lt}
 use Rattle.std.specs.List.{filter}
 use Rattle.std.proofs.lemmas.Bool.{ltb-false, le-ltb}
 use Rattle.std.specs.FinMap.{get}
 use Rattle.m3_model.specs.Members.{IsIn}
 use Rattle.m3_model.specs.Ascends.{Ascends}
-use Rattle.m3_model.proofs.MemberLemmas.{IsIn-append_left, IsIn-append_right, IsIn-append_cases}
-use Rattle.m3_outside.specs.declared.file_name.FileName.{FileName}
-use Rattle.m3_outside.specs.Files.{Files, files_without}
+use Rattle.m3_model.proofs.MemberLemmas.{IsIn-append_left, IsIn-append_right, IsIn-append_cases, map-IsIn}
+use Rattle.m3_outside.specs.Files.{Files}
 use Rattle.m3_outside.specs.DiskState.{DiskState, IsLawful, StepOf, Elapses}
-use Rattle.m3_outside.proofs.Names.{name_is, get_gone, get_stays}
+use Rattle.m3_outside.specs.Removal.{without_files, MayTakeAway, HasTakenAway}
+use Rattle.m3_outside.proofs.Removal.{none_stays, gone_none, left_same, may_take}
 use Rattle.commit_log.specs.Segment.{segment, IsAtRest}
 use Rattle.commit_log.specs.LogEnd.{LogEnd, NoneAbove, Stands}
 use Rattle.commit_log.specs.Contents.{numbers, PartsHold}
-use Rattle.commit_log.specs.Cutting.{without_segments, numbers_below, numbers_from, MayCut, HasCut}
+use Rattle.commit_log.specs.Cutting.{numbers_below, numbers_from, segments_below}
 use Rattle.commit_log.specs.LogLaws.{IsLog, IsCutAt, LeavesEnd, CutLeavesEnd}
-use Rattle.commit_log.proofs.CutLemmas.{may_cut}
+use Rattle.commit_log.proofs.CutLemmas.{by_numbers, named_in}
 use Rattle.commit_log.proofs.Numbers.{in_there, there_in, ascend, same_members, in_below}
 use Rattle.commit_log.proofs.Parts.{parts_split, parts_join, parts_same}
-use Rattle.commit_log.proofs.LogLemmas.{since_begin, apart_names}
+use Rattle.commit_log.proofs.LogLemmas.{since_begin}
 
--- a file that isn't there comes from no removal
-none_stays : (ns : List ℕ) (x : Files) (q : FileName) → get x q ≡ None → get (without_segments ns x) q ≡ None
-none_stays [] x q none = none
-none_stays (n ∷ ns) x q none =
-    none_stays ns (files_without (segment n) x) q (⊎_elim (λ (same : q ≡ segment n). ap (get (files_without (segment n) x)) same ∙ get_gone x (segment n)) (λ (apart : q ≡ segment n → ⊥). get_stays x (segment n) q apart ∙ none) (name_is q (segment n)))
+-- of segments, by their numbers
+gone_number : (ns : List ℕ) (x : Files) (n : ℕ) → IsIn ns n → get (without_files (map segment ns) x) (segment n) ≡ None
+gone_number ns x n m = gone_none (map segment ns) x (segment n) (map-IsIn segment ns n m)
 
-gone_none : (ns : List ℕ) (x : Files) (n : ℕ) → IsIn ns n → get (without_segments ns x) (segment n) ≡ None
-gone_none [] x n m = absurd m
-gone_none (k ∷ ns) x n (inl same) = none_stays ns (files_without (segment k) x) (segment n) (ap (λ j. get (files_without (segment k) x) (segment j)) (sym same) ∙ get_gone x (segment k))
-gone_none (k ∷ ns) x n (inr rest) = gone_none ns (files_without (segment k) x) n rest
-
-left_same : (ns : List ℕ) (x : Files) (n : ℕ) → (IsIn ns n → ⊥) → get (without_segments ns x) (segment n) ≡ get x (segment n)
-left_same [] x n out = refl
-left_same (k ∷ ns) x n out = left_same ns (files_without (segment k) x) n (λ m. out (inr m)) ∙ get_stays x (segment k) (segment n) (apart_names n k (λ e. out (inl (sym e))))
+left_number : (ns : List ℕ) (x : Files) (n : ℕ) → (IsIn ns n → ⊥) → get (without_files (map segment ns) x) (segment n) ≡ get x (segment n)
+left_number ns x n out = left_same (map segment ns) x (segment n) (λ m. out (named_in ns n m))
 
 -- ascending numbers in two parts
 later_ascend : (ns ms : List ℕ) → Ascends (λ a b. a < b) (ns ++ ms) → Ascends (λ a b. a < b) ms
@@ -60,7 +52,7 @@ all_from m (n ∷ ns) all =
     let test = le-ltb n m (all n (inl refl)) in
     (ap (λ b. cond b (n ∷ below_of m ns) (below_of m ns)) test ∙ rest.0, ap (λ b. cond (not b) (n ∷ from_of m ns) (from_of m ns)) test ∙ ap (λ (l : List ℕ). n ∷ l) rest.1)
 
-halves : (m : ℕ) (ns : List ℕ) → Ascends (λ a b. a < b) ns → ns ≡ below_of m ns ++ from_of m ns
+pub halves : (m : ℕ) (ns : List ℕ) → Ascends (λ a b. a < b) ns → ns ≡ below_of m ns ++ from_of m ns
 halves m [] up = refl
 halves m (n ∷ ns) up = by (nat_lt n m) refl (halves m ns up.1)
   where
@@ -71,12 +63,12 @@ halves m (n ∷ ns) up = by (nat_lt n m) refl (halves m ns up.1)
         ap (λ (l : List ℕ). n ∷ l) (sym all.1) ∙ ap (λ (l : List ℕ). l ++ n ∷ from_of m ns) (sym all.0)
 
 -- the segments of the first numbers are gone
-module _ (gone left from : List ℕ) (x y : Files) (split : numbers x ≡ gone ++ (left ++ from)) (is : y ≡ without_segments gone x) where
+module _ (gone left from : List ℕ) (x y : Files) (split : numbers x ≡ gone ++ (left ++ from)) (is : y ≡ without_files (map segment gone) x) where
   up : Ascends (λ a b. a < b) (gone ++ (left ++ from))
   up = subst (Ascends (λ a b. a < b)) split (ascend x)
 
   stays : (n : ℕ) → (IsIn gone n → ⊥) → get y (segment n) ≡ get x (segment n)
-  stays n out = ap (λ (w : Files). get w (segment n)) is ∙ left_same gone x n out
+  stays n out = ap (λ (w : Files). get w (segment n)) is ∙ left_number gone x n out
 
   not_gone : (n : ℕ) → IsIn (left ++ from) n → IsIn gone n → ⊥
   not_gone n m g = let lt = parts_apart gone (left ++ from) n n up g m in omega (arith, lt)
@@ -85,7 +77,7 @@ module _ (gone left from : List ℕ) (x y : Files) (split : numbers x ≡ gone +
   numbers_left = same_members (numbers y) (left ++ from) (ascend y) (later_ascend gone (left ++ from) up) to back
     where
       present : (n : ℕ) (file : List ℕ) → get y (segment n) ≡ Some file → IsIn gone n → ⊥
-      present n file there g = let none = ap (λ (w : Files). get w (segment n)) is ∙ gone_none gone x n g in absurd (cc)
+      present n file there g = let none = ap (λ (w : Files). get w (segment n)) is ∙ gone_number gone x n g in absurd (cc)
 
       to : (n : ℕ) → IsIn (numbers y) n → IsIn (left ++ from) n
       to n m =
@@ -103,11 +95,12 @@ module _ (gone left from : List ℕ) (x y : Files) (split : numbers x ≡ gone +
   log_left cs ds last a b above = record {
     parts = subst (λ (l : List ℕ). PartsHold l y (cs ++ ds)) (sym numbers_left)
         (parts_same (left ++ from) x y (cs ++ ds) (λ n m. stays n (not_gone n m)) (parts_join left from x cs ds a b));
-    above = λ n lt. ap (λ (w : Files). get w (segment n)) is ∙ none_stays gone x (segment n) (above n lt);
+    above = λ n lt. ap (λ (w : Files). get w (segment n)) is ∙ none_stays (map segment gone) x (segment n) (above n lt);
   }
 
-cut_end : (m last : ℕ) (below from : List (List ℕ)) (x y : Files) → IsCutAt m below from last x → MayCut (numbers_below m x) x y → LeavesEnd below from last y
-cut_end m last below from x y at cut =
+pub cut_end : (m last : ℕ) (below from : List (List ℕ)) (x y : Files) → IsCutAt m below from last x → MayTakeAway (segments_below m x) x y → LeavesEnd below from last y
+cut_end m last below from x y at takes =
+    let cut = by_numbers (numbers_below m x) x y takes in
     let parts = parts_split cut.gone cut.left x below (subst (λ (l : List ℕ). PartsHold l x below) cut.split at.parts_below) in
     let whole : numbers x ≡ cut.gone ++ (cut.left ++ numbers_from m x) =
     halves m (numbers x) (ascend x) ∙ ap (λ (l : List ℕ). l ++ numbers_from m x) cut.split ∙ append_assoc cut.gone cut.left (numbers_from m x) in
@@ -118,27 +111,27 @@ cut_end m last below from x y at cut =
       log = log_left cut.gone cut.left (numbers_from m x) x y whole cut.cut parts.back from last parts.of_back at.parts_from at.above;
     }
 
-cut_whole : (m last : ℕ) (below from : List (List ℕ)) (x y : Files) → IsCutAt m below from last x → y ≡ without_segments (numbers_below m x) x → IsLog from last y
+cut_whole : (m last : ℕ) (below from : List (List ℕ)) (x y : Files) → IsCutAt m below from last x → y ≡ without_files (segments_below m x) x → IsLog from last y
 cut_whole m last below from x y at is = log_left (numbers_below m x) [] (numbers_from m x) x y (halves m (numbers x) (ascend x)) is [] from last refl at.parts_from at.above
 
 nothing_cut : (m last : ℕ) (below from : List (List ℕ)) (x : Files) → IsCutAt m below from last x → LeavesEnd below from last x
-nothing_cut m last below from x at = cut_end m last below from x x at (record { gone = []; left = numbers_below m x; split = refl; cut = refl })
+nothing_cut m last below from x at = cut_end m last below from x x at (record { gone = []; left = segments_below m x; split = refl; taken = refl })
 
 module _ {D : Type 0} (state : D → DiskState) (lawful : (d : D) → IsLawful (state d)) where
   pub cut_leaves_end : CutLeavesEnd state
   cut_leaves_end = record {
     stopped = λ old new m last below from tells each same elapses c after.
         ⊎_elim (λ (was : (state old).images c). nothing_cut m last below from c (each tells c was))
-        (λ (step : StepOf (MayCut (numbers_below m (state old).files)) (state old).images c).
-        cut_end m last below from step.before c (each tells step.before step.was) (subst (λ (l : List ℕ). MayCut l step.before c) (sym (same tells step.before step.was)) step.stepped))
+        (λ (step : StepOf (MayTakeAway (segments_below m (state old).files)) (state old).images c).
+        cut_end m last below from step.before c (each tells step.before step.was) (subst (λ (l : List ℕ). MayTakeAway (map segment l) step.before c) (sym (same tells step.before step.was)) step.stepped))
         (since_begin state lawful old new c elapses after);
     done = λ old new m last below from tells each same becomes told c image.
         let step = becomes.images c image in
-        cut_whole m last below from step.before c (each tells step.before step.was) (step.stepped ∙ ap (λ (l : List ℕ). without_segments l step.before) (sym (same tells step.before step.was)));
+        cut_whole m last below from step.before c (each tells step.before step.was) (step.stepped ∙ ap (λ (l : List ℕ). without_files (map segment l) step.before) (sym (same tells step.before step.was)));
   }
 
 -- the log's end stands where segments below it are taken away
-pub stands_cut : (log : LogEnd) (m : ℕ) (a b : DiskState) → m ≤ log.number → b.tells ≡ a.tells → (a.tells ≡ true → Elapses (MayCut (numbers_below m a.files)) a b) → (a.tells ≡ true → HasCut (numbers_below m a.files) a b)
+pub stands_cut : (log : LogEnd) (m : ℕ) (a b : DiskState) → m ≤ log.number → b.tells ≡ a.tells → (a.tells ≡ true → Elapses (MayTakeAway (segments_below m a.files)) a b) → (a.tells ≡ true → HasTakenAway (segments_below m a.files) a b)
     → Stands log a → Stands log b
 stands_cut log m a b le same elapses cuts st = record {
   kept = λ clean. let k = st.kept clean in record {
@@ -152,16 +145,17 @@ stands_cut log m a b le same elapses cuts st = record {
   within = st.within;
 }
   where
-    files : a.tells ≡ true → MayCut (numbers_below m a.files) a.files b.files
-    files t = may_cut (numbers_below m a.files) a b (cuts t)
+    files : a.tells ≡ true → MayTakeAway (segments_below m a.files) a.files b.files
+    files t = may_take (segments_below m a.files) a b (cuts t)
 
-    here : (x y z : Files) → MayCut (numbers_below m z) x y → get y (segment log.number) ≡ get x (segment log.number)
-    here x y z cut =
+    here : (x y z : Files) → MayTakeAway (segments_below m z) x y → get y (segment log.number) ≡ get x (segment log.number)
+    here x y z takes =
+        let cut = by_numbers (numbers_below m z) x y takes in
         ap (λ (w : Files). get w (segment log.number)) cut.cut
-        ∙ left_same cut.gone x log.number (λ g. let lt = (in_below (numbers z) m log.number (subst (λ (l : List ℕ). IsIn l log.number) (sym cut.split) (IsIn-append_left cut.gone cut.left log.number g))).1 in omega (arith, lt, le))
+        ∙ left_number cut.gone x log.number (λ g. let lt = (in_below (numbers z) m log.number (subst (λ (l : List ℕ). IsIn l log.number) (sym cut.split) (IsIn-append_left cut.gone cut.left log.number g))).1 in omega (arith, lt, le))
 
     rest_stays : IsAtRest log.number log.at a.files → get b.files (segment log.number) ≡ get a.files (segment log.number) → IsAtRest log.number log.at b.files
     rest_stays r e = record { chunks = r.chunks; place = r.place; there = e ∙ r.there }
 
-    none_still : MayCut (numbers_below m a.files) a.files b.files → NoneAbove log.number a.files → NoneAbove log.number b.files
-    none_still cut none = λ n lt. ap (λ (w : Files). get w (segment n)) cut.cut ∙ none_stays cut.gone a.files (segment n) (none n lt)
+    none_still : MayTakeAway (segments_below m a.files) a.files b.files → NoneAbove log.number a.files → NoneAbove log.number b.files
+    none_still takes none = λ n lt. ap (λ (w : Files). get w (segment n)) takes.taken ∙ none_stays takes.gone a.files (segment n) (none n lt)

@@ -19,7 +19,7 @@ both_parts a b c d same e = (
 same_length : (m n : ℕ) → m < 256 ^ 4 → n < 256 ^ 4 → big_bytes 4 m ≡ big_bytes 4 n → m ≡ n
 same_length m n p q e = sym (big_number-reads_back 4 m [] p) ∙ ap (λ (l : List ℕ). big_from 0 4 (l ++ [])) e ∙ big_number-reads_back 4 n [] q
 
-same_chunk : (c d r s : List ℕ) → length c < 256 ^ 4 → length d < 256 ^ 4 → chunk_bytes c ++ r ≡ chunk_bytes d ++ s → (c ≡ d) × (r ≡ s)
+pub same_chunk : (c d r s : List ℕ) → length c < 256 ^ 4 → length d < 256 ^ 4 → chunk_bytes c ++ r ≡ chunk_bytes d ++ s → (c ≡ d) × (r ≡ s)
 same_chunk c d r s p q e =
     let body = (head_same 1 1 _ _ e).1 in
     let whole : big_bytes 4 (length c) ++ (c ++ r) ≡ big_bytes 4 (length d) ++ (d ++ s) = sym (append_assoc (big_bytes 4 (length c)) c r) ∙ body ∙ append_assoc (big_bytes 4 (length d)) d s in
@@ -27,9 +27,15 @@ same_chunk c d r s p q e =
     both_parts c r d s (same_length (length c) (length d) p q field.0) field.1
 
 -- no chunk stands where an end is
-no_chunk : (c r : List ℕ) → IsEnd (chunk_bytes c ++ r) → ⊥
+pub no_chunk : (c r : List ℕ) → IsEnd (chunk_bytes c ++ r) → ⊥
 no_chunk c r (inl shut) = shut refl
 no_chunk c r (inr few) = omega (arith, length-append (big_bytes 4 (length c) ++ c) r, length-append (big_bytes 4 (length c)) c)
+
+-- a chunk in a segment has a length that its field can say
+pub chunk_long : (c r bytes : List ℕ) → length bytes ≤ 65536 → bytes ≡ chunk_bytes c ++ r → (length c < 256 ^ 4) × (length r ≤ 65536)
+chunk_long c r bytes le e =
+    let l : length bytes ≡ suc (length (big_bytes 4 (length c) ++ c)) + length r = ap length e ∙ length-append (chunk_bytes c) r in
+    (omega (arith, le, l, length-append (big_bytes 4 (length c)) c), omega (arith, le, l))
 
 -- a segment reads as at most one list of chunks
 pub one_reading : (cs ds : List (List ℕ)) (bytes : List ℕ) → length bytes ≤ 65536 → Reads cs bytes → Reads ds bytes → cs ≡ ds
@@ -37,11 +43,8 @@ one_reading [] [] bytes le a b = refl
 one_reading [] (d ∷ ds) bytes le a b = absurd (no_chunk d b.0 (subst IsEnd b.1 a))
 one_reading (c ∷ cs) [] bytes le a b = absurd (no_chunk c a.0 (subst IsEnd a.1 b))
 one_reading (c ∷ cs) (d ∷ ds) bytes le a b =
-    let long : (k r : List ℕ) → bytes ≡ chunk_bytes k ++ r → (length k < 256 ^ 4) × (length r ≤ 65536) = λ (k r : List ℕ) e.
-    let l : length bytes ≡ suc (length (big_bytes 4 (length k) ++ k)) + length r = ap length e ∙ length-append (chunk_bytes k) r in
-    (omega (arith, length-append (big_bytes 4 (length k)) k), omega arith) in
-    let same = same_chunk c d a.0 b.0 (long c a.0 a.1).0 (long d b.0 b.1).0 (sym a.1 ∙ b.1) in
-    let rest = one_reading cs ds a.0 (long c a.0 a.1).1 a.2 (subst (Reads ds) (sym same.1) b.2) in
+    let same = same_chunk c d a.0 b.0 (chunk_long c a.0 bytes le a.1).0 (chunk_long d b.0 bytes le b.1).0 (sym a.1 ∙ b.1) in
+    let rest = one_reading cs ds a.0 (chunk_long c a.0 bytes le a.1).1 a.2 (subst (Reads ds) (sym same.1) b.2) in
     λ i. same.0 i ∷ rest i
 
 -- nothing is read of a segment that breaks

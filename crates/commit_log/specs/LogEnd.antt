@@ -1,8 +1,12 @@
 -- The end of a log: the segment that chunks go into, and the place there.
-use Rattle.std.specs.Prelude.{◌≡◌, ◌⊎◌, ℕ, ◌<◌, ◌≤◌, Bool, true}
+use Rattle.std.specs.Prelude.{◌≡◌, ◌⊎◌, ℕ, ◌<◌, ◌≤◌, ◌^◌, Bool, true}
 use Rattle.m3_outside.specs.Files.{Files, IsAbsent, DoneOrNot, files_with_zeros}
 use Rattle.m3_outside.specs.DiskState.{DiskState, Told, Becomes}
 use Rattle.commit_log.specs.Segment.{segment, IsKept, IsReady}
+
+-- the numbers of segments are below this one
+abbrev pub segment_limit : ℕ
+segment_limit = 2 ^ 62
 
 pub record LogEnd : Type 0 where
   pub number : ℕ  -- the segment's

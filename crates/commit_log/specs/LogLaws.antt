@@ -4,9 +4,10 @@ use Rattle.m3_model.specs.Members.{IsIn}
 use Rattle.m3_model.specs.Ascends.{Ascends}
 use Rattle.m3_outside.specs.Files.{Files, IsPresent}
 use Rattle.m3_outside.specs.DiskState.{DiskState, EachImage, StepOf, Elapses, Becomes}
+use Rattle.m3_outside.specs.Removal.{without_files, MayTakeAway}
 use Rattle.commit_log.specs.Segment.{segment, written, Reads, MayAdd, Adds}
 use Rattle.commit_log.specs.LogEnd.{NoneAbove, MayBegin}
-use Rattle.commit_log.specs.Cutting.{numbers_below, numbers_from, without_segments, MayCut}
+use Rattle.commit_log.specs.Cutting.{numbers_below, numbers_from, segments_below}
 use Rattle.commit_log.specs.Contents.{numbers, PartsHold, LogHolds, FirstDamaged}
 
 -- what stands behind a gate that isn't open is never read
@@ -66,8 +67,8 @@ pub record LeavesEnd (below from : List (List ℕ)) (last : ℕ) (files : Files)
 -- all; where it is done, none. Each image before is to have the same segments below the number as the files.
 pub record CutLeavesEnd {D : Type 0} (state : D → DiskState) : Type 0 where
   pub stopped : (old new : D) (m last : ℕ) (below from : List (List ℕ)) → (state old).tells ≡ true → EachImage (state old) (IsCutAt m below from last)
-      → EachImage (state old) (λ c. numbers_below m c ≡ numbers_below m (state old).files) → Elapses (MayCut (numbers_below m (state old).files)) (state old) (state new)
+      → EachImage (state old) (λ c. numbers_below m c ≡ numbers_below m (state old).files) → Elapses (MayTakeAway (segments_below m (state old).files)) (state old) (state new)
       → (c : Files) → (state new).since (state old).moment c → LeavesEnd below from last c
   pub done : (old new : D) (m last : ℕ) (below from : List (List ℕ)) → (state old).tells ≡ true → EachImage (state old) (IsCutAt m below from last)
-      → EachImage (state old) (λ c. numbers_below m c ≡ numbers_below m (state old).files) → Becomes (without_segments (numbers_below m (state old).files)) (state old) (state new)
+      → EachImage (state old) (λ c. numbers_below m c ≡ numbers_below m (state old).files) → Becomes (without_files (segments_below m (state old).files)) (state old) (state new)
       → EachImage (state new) (IsLog from last)

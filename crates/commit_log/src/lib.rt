@@ -12,7 +12,7 @@ mod read;
 mod segment;
 
 pub use cut::cut_before;
-pub use log::Log;
+pub use log::{Log, SEGMENT_LIMIT};
 pub use log_err::LogErr;
 pub use place::ChunkPlace;
 pub use read::{Found, read_all};

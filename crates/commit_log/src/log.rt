@@ -1,17 +1,20 @@
-ghost use Rattle.std.specs.Prelude.{◌≡◌, ◌⊎◌, ℕ, ◌+◌, ◌≤◌, Bool, true, false, ◌↔◌, IsTrue, length, IfOk, IsErr, IsErrOf, OnOk, OnErr};
+ghost use Rattle.std.specs.Prelude.{◌≡◌, ◌⊎◌, ℕ, ◌+◌, ◌<◌, ◌≤◌, Bool, true, false, ◌↔◌, IsTrue, length, IfOk, IsErr, IsErrOf, OnOk, OnErr};
 ghost use Rattle.m3_outside.specs.Files.{Files, files_with_zeros};
 ghost use Rattle.m3_outside.specs.Causes.{CountsFaults};
 ghost use Rattle.m3_outside.specs.DiskState.{DiskState, Told, Elapses, StepOf, Becomes};
 ghost use Rattle.m3_outside.specs.DiskCalls.{LeavesFiles};
 ghost use Rattle.m3_outside.specs.declared.disk_err.DiskErr.TheVariants.{Failed as DiskFailed, Memory as WantOfMemory};
 ghost use Rattle.commit_log.specs.Segment.{segment, MayAdd, Adds, OthersStay};
-ghost use Rattle.commit_log.specs.LogEnd.{NoneFrom, Stands, IsReadyFor, MayBegin, BeganOrNot};
+ghost use Rattle.commit_log.specs.LogEnd.{segment_limit, NoneFrom, Stands, IsReadyFor, MayBegin, BeganOrNot};
 
 use crate::chunk::{HEAD_BYTES, SEGMENT_BYTES, put_chunk, segment_name};
 use m3_outside::disk::Disk;
 use m3_outside::disk_err::DiskErr;
 use m3_outside::failed::Failed;
 use std::marker::Model;
+
+/// Numbers of segments are below this one.
+pub const SEGMENT_LIMIT: u64 = 1 << 62;
 
 // The device calls of an append that use up room.
 const CALLS: u64 = 5;
@@ -34,7 +37,8 @@ impl Model for Log {
 }
 
 impl Log {
-    /// Begins the segment of this number, empty, as the last of the disk.
+    /// Begins the segment of this number, empty, as the last of the disk. From the number `SEGMENT_LIMIT` on memory is said
+    /// to be wanted.
     ///
     /// # Errors
     ///
@@ -43,6 +47,7 @@ impl Log {
         requires { Told (D.state disk.old) (NoneFrom number) }
         ensures ok { IfOk result (λ log. log ≡ record { number = number; at = 0; clean = true }) }
         ensures stands { OnOk result (Stands (record { number = number; at = 0; clean = true }) (D.state disk.new)) }
+        ensures limit { OnOk result (number < segment_limit) }
         ensures made { (D.state disk.old).tells ≡ true → OnOk result (Becomes (files_with_zeros (segment number) 65536) (D.state disk.old) (D.state disk.new)) }
         ensures memory { (D.state disk.old).tells ≡ true → IsErrOf result WantOfMemory → Becomes (λ files. files) (D.state disk.old) (D.state disk.new) }
         ensures files { (D.state disk.old).tells ≡ true → BeganOrNot number (D.state disk.old) (D.state disk.new) }
@@ -50,6 +55,9 @@ impl Log {
         ensures tells { (D.state disk.new).tells ≡ (D.state disk.old).tells }
         ensures faults { CountsFaults (IsErrOf result DiskFailed) (D.state disk.old).faults (D.state disk.new).faults }
     {
+        if number >= SEGMENT_LIMIT {
+            return Err(DiskErr::Memory);
+        }
         disk.create(segment_name(number), SEGMENT_BYTES)?;
         Ok(Log {
             number,
@@ -66,34 +74,55 @@ impl Log {
         self.clean && self.at + HEAD_BYTES + u64::from(len) <= SEGMENT_BYTES
     }
 
-    // Begins the segment of the next number. This number isn't tried again, also where the call fails.
+    // Begins the segment of the next number. After a fault this number isn't tried again; want of memory leaves all as it was.
     fn begin_next<D: Disk>(&mut self, disk: &mut D) -> Result<(), DiskErr>
         requires { Stands self.old (D.state disk.old) }
         ensures stands { Stands self.new (D.state disk.new) }
         ensures ok { OnOk result (self.new ≡ record { number = self.old.number + 1; at = 0; clean = true }) }
         ensures end { (self.new ≡ self.old) ⊎ ((self.new.number ≡ self.old.number + 1) × (self.new.at ≡ 0)) }
+        ensures memory { IsErrOf result WantOfMemory → self.new ≡ self.old }
+        ensures unchanged { (D.state disk.old).tells ≡ true → IsErrOf result WantOfMemory → Becomes (λ files. files) (D.state disk.old) (D.state disk.new) }
+        ensures limit { OnOk result (self.new.number < segment_limit) }
+        ensures low { self.old.number < segment_limit → self.new.number < segment_limit }
+        ensures spare { (D.state disk.old).spare ≤ (D.state disk.new).spare }
         ensures files { (D.state disk.old).tells ≡ true → BeganOrNot (self.old.number + 1) (D.state disk.old) (D.state disk.new) }
         ensures any_moment { (D.state disk.old).tells ≡ true → Elapses (MayBegin (self.old.number + 1)) (D.state disk.old) (D.state disk.new) }
         ensures tells { (D.state disk.new).tells ≡ (D.state disk.old).tells }
         ensures faults { CountsFaults (IsErrOf result DiskFailed) (D.state disk.old).faults (D.state disk.new).faults }
     {
-        let Some(next) = self.number.checked_add(1) else {
+        if self.number >= SEGMENT_LIMIT - 1 {
             return Err(DiskErr::Memory);
-        };
-        self.number = next;
+        }
+        let next = self.number + 1;
+        match disk.create(segment_name(next), SEGMENT_BYTES) {
+            Ok(()) => {
+                self.move_to(next, true);
+                Ok(())
+            }
+            Err(DiskErr::Memory) => Err(DiskErr::Memory),
+            Err(DiskErr::Failed) => {
+                self.move_to(next, false);
+                Err(DiskErr::Failed)
+            }
+        }
+    }
+
+    // Goes on at the begin of the segment of this number.
+    fn move_to(&mut self, number: u64, clean: bool)
+        ensures { self.new ≡ record { number = number; at = 0; clean = clean } }
+    {
+        self.number = number;
         self.at = 0;
-        self.clean = false;
-        disk.create(segment_name(next), SEGMENT_BYTES)?;
-        self.clean = true;
-        Ok(())
+        self.clean = clean;
     }
 
     /// Makes room for one chunk of `len` bytes, in a fresh segment where the present one has too little or its end isn't
-    /// known. A fresh one has the next number; there is none above 2^64 - 1, and then memory is said to be wanted.
+    /// known. A fresh one has the next number; where that would be `SEGMENT_LIMIT`, memory is said to be wanted.
     ///
     /// # Errors
     ///
-    /// A fault or want of memory. All chunks stay.
+    /// A fault, after which all chunks stay, and the fresh segment is there or not. Want of memory, which leaves the log's
+    /// end and all files as they were.
     pub fn ready<D: Disk>(&mut self, disk: &mut D, len: u32) -> Result<(), DiskErr>
         requires short { len ≤ 65531 }
         requires stands { Stands self.old (D.state disk.old) }
@@ -103,16 +132,20 @@ impl Log {
         ensures stays { self.old.clean ≡ true → self.old.at + 5 + len ≤ 65536 → LeavesFiles (IsErrOf result DiskFailed) (D.state disk.old) (D.state disk.new) }
         ensures fresh { OnOk result ((self.new ≡ self.old) ⊎ (self.new ≡ record { number = self.old.number + 1; at = 0; clean = true })) }
         ensures end { (self.new ≡ self.old) ⊎ ((self.new.number ≡ self.old.number + 1) × (self.new.at ≡ 0)) }
+        ensures memory { IsErrOf result WantOfMemory → self.new ≡ self.old }
+        ensures unchanged { (D.state disk.old).tells ≡ true → IsErrOf result WantOfMemory → Becomes (λ files. files) (D.state disk.old) (D.state disk.new) }
+        ensures limit { self.old.number < segment_limit → self.new.number < segment_limit }
         ensures files { (D.state disk.old).tells ≡ true → BeganOrNot (self.old.number + 1) (D.state disk.old) (D.state disk.new) }
         ensures any_moment { (D.state disk.old).tells ≡ true → Elapses (MayBegin (self.old.number + 1)) (D.state disk.old) (D.state disk.new) }
         ensures tells { (D.state disk.new).tells ≡ (D.state disk.old).tells }
         ensures faults { CountsFaults (IsErrOf result DiskFailed) (D.state disk.old).faults (D.state disk.new).faults }
     {
+        // The memory first: a segment that is begun uses up no room.
+        disk.reserve(CALLS)?;
         if self.has_room(len) {
-            return disk.reserve(CALLS);
+            return Ok(());
         }
-        self.begin_next(disk)?;
-        disk.reserve(CALLS)
+        self.begin_next(disk)
     }
 
     /// Adds a chunk. From `Ok` on each stop leaves it. Takes no memory.

@@ -1,14 +1,15 @@
-ghost use Rattle.std.specs.Prelude.{◌≡◌, ℕ, true, ◌↔◌, IsTrue, IfOk, OnOk, IfErr, IfSome, IsErrOf};
+ghost use Rattle.std.specs.Prelude.{◌≡◌, ◌<◌, ℕ, true, ◌↔◌, IsTrue, IfOk, OnOk, IfErr, IfSome, IsErrOf};
 ghost use Rattle.m3_outside.specs.DiskState.{DiskState, Told};
 ghost use Rattle.m3_outside.specs.DiskCalls.{LeavesFiles};
 ghost use Rattle.m3_outside.specs.declared.disk_err.DiskErr.TheVariants.{Failed as DiskFailed};
 ghost use Rattle.commit_log.specs.Contents as contents;
 ghost use Rattle.commit_log.specs.Contents.{LogHolds, numbers};
-ghost use Rattle.commit_log.specs.LogEnd.{NoneFrom};
+ghost use Rattle.commit_log.specs.LogEnd.{segment_limit, NoneFrom};
 ghost use Rattle.commit_log.specs.Places.{ArePlaced, AreInside};
 ghost use Rattle.commit_log.specs.Reading.{FindsAll, MayBeFirstDamage};
 ghost use Rattle.commit_log.specs.declared.log_err.LogErr.TheVariants as errors;
 
+use crate::log::SEGMENT_LIMIT;
 use crate::log_err::LogErr;
 use crate::place::ChunkPlace;
 use crate::segment::read_segment;
@@ -50,13 +51,17 @@ pub(crate) fn segment_numbers<D: Disk>(alloc: Global, disk: &mut D) -> Result<Ve
     Ok(segments.map(|name| name.number).collect(alloc)?)
 }
 
-// One above all of these numbers, or 1 where there are none. None where that is no u64.
+// One above all of these numbers, or 1 where there are none. None where that isn't below the limit.
 fn next_after(numbers: &[u64]) -> Option<u64>
-    ensures { IfSome result (λ next. next ≡ contents.next_after numbers.now) }
+    ensures next { IfSome result (λ next. next ≡ contents.next_after numbers.now) }
+    ensures limit { IfSome result (λ next. next < segment_limit) }
 {
     let mut next = 1;
     for number in numbers {
-        next = next.max(number.checked_add(1)?);
+        if *number >= SEGMENT_LIMIT - 1 {
+            return None;
+        }
+        next = next.max(*number + 1);
     }
     Some(next)
 }
@@ -86,10 +91,11 @@ fn read_segments<D: Disk>(
 /// # Errors
 ///
 /// A fault. Damage, which names the lowest segment that isn't in the grammar and the first place in it from which on it
-/// isn't. Want of memory, also where a segment has the number 2^64 - 1. All files stay.
+/// isn't. Want of memory, also where the number `next` would be `SEGMENT_LIMIT` or a higher one. All files stay.
 pub fn read_all<D: Disk>(alloc: Global, disk: &mut D) -> Result<Found, LogErr>
     ensures leaves { LeavesFiles (IsErrOf result errors.Disk) (D.state disk.old) (D.state disk.new) }
     ensures ok { (D.state disk.old).tells ≡ true → IfOk result (λ found. LogHolds found.chunks found.next (D.state disk.old).files) }
+    ensures limit { IfOk result (λ found. found.next < segment_limit) }
     ensures placed { (D.state disk.old).tells ≡ true → IfOk result (λ found. ArePlaced (numbers (D.state disk.old).files) (D.state disk.old).files found.chunks found.places) }
     ensures inside { IfOk result (λ found. AreInside found.chunks found.places) }
     ensures fresh { IfOk result (λ found. Told (D.state disk.new) (NoneFrom found.next)) }

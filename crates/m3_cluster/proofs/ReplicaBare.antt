@@ -10,12 +10,12 @@ use Rattle.m3_outside.specs.DiskState.{DiskState, EachImage, IsEmpty}
 use Rattle.m3_outside.specs.Files.{Files}
 use Rattle.m3_outside.specs.Slots.{Held, Unused, Here, Out, MayGive}
 use Rattle.placement_core.proofs.ListLemmas.{All-from_each, each-from_All, Any-from_IsIn, IsIn-from_Any}
-use Rattle.shard_store.specs.Held.{Held as FilesHold}
-use Rattle.shard_store.proofs.HeldLemmas.{no_files_hold_nothing}
+use Rattle.shard_files.specs.Held.{Held as FilesHold}
+use Rattle.shard_files.proofs.HeldLemmas.{no_files_hold_nothing}
 use Rattle.cluster_core.specs.Replicas.{IsGone}
 use Rattle.cluster_core.specs.declared.event.StepReply.{StepReply}
 use Rattle.cluster_core.specs.declared.replica_state.ReplicaState.{ReplicaState}
-use Rattle.replica_machine.specs.Machines.{MachineState, IsHeldBy, IsMachineOf, first_machine}
+use Rattle.replica_machine.specs.Machines.{MachineState, MayHaveTenure, IsHeldBy, IsMachineOf, first_machine}
 use Rattle.session.specs.Changes.{Step}
 use Rattle.session.specs.declared.slot.Slot.{Slot}
 use Rattle.m3_outside.specs.Depots.{Depot, TellAll}
@@ -37,8 +37,8 @@ given_bare state Out disk is given = absurd given
 
 -- ---- the replica of a bare disk
 
-first_known : (tenure : ℕ) → tenure ≤ 1 → IsIn (0 ∷ []) tenure ⊎ IsIn (1 ∷ []) tenure
-first_known tenure low = ⊎_elim (λ (none : tenure < 1). inl (inl (omega (arith, none)))) (λ (one : 1 ≤ tenure). inr (inl (omega (arith, one, low)))) (cases_lt tenure 1)
+first_known : (tenure : ℕ) → tenure ≤ 1 → IsIn (0 ∷ []) tenure ⊎ (IsIn (1 ∷ []) tenure × IsIn (1 ∷ []) tenure)
+first_known tenure low = ⊎_elim (λ (none : tenure < 1). inl (inl (omega (arith, none)))) (λ (one : 1 ≤ tenure). let is : 1 ≡ tenure = omega (arith, one, low) in inr (inl is, inl is)) (cases_lt tenure 1)
 
 first_fence : (tenure fence : ℕ) → tenure ≤ fence → fence ≤ 1 → (fence ≡ max tenure 0) ⊎ Any (λ doubtful. fence ≡ max doubtful (max tenure 0)) (1 ∷ [])
 first_fence tenure fence order low =
@@ -62,6 +62,7 @@ bare_machine : {D : Type 0} (state : D → DiskState) (disk : D) → EachImage (
 bare_machine state disk none = record {
   stands = refl;
   begun = record { none_higher = All-cons (λ one. one ≤ 0) 0 [] (omega arith) (All-nil (λ one. one ≤ 0)); one_of = inl refl };
+  below = All-cons (λ one. one ≤ 0) 0 [] (omega arith) (All-nil (λ one. one ≤ 0));
   empty = λ e. absurd (cc);
   open_ = λ e. absurd (cc);
   files = λ begun tells c image. bare_held c (none tells c image);
@@ -101,8 +102,8 @@ no_elements : {X : Type 0} (xs : List X) → ((x : X) → IsIn xs x → ⊥) →
 no_elements [] none = refl
 no_elements (x ∷ xs) none = absurd (none x (inl refl))
 
-low_known : (r : ReplicaState) (tenure : ℕ) → All (λ t. t ≤ 1) r.begun → All (λ t. t ≤ 1) r.tried → IsIn r.begun tenure ⊎ IsIn r.tried tenure → tenure ≤ 1
-low_known r tenure begun tried known = ⊎_elim (λ (m : IsIn r.begun tenure). each-from_All (λ t. t ≤ 1) r.begun begun tenure m) (λ (m : IsIn r.tried tenure). each-from_All (λ t. t ≤ 1) r.tried tried tenure m) known
+low_known : (r : ReplicaState) (tenure : ℕ) → All (λ t. t ≤ 1) r.begun → All (λ t. t ≤ 1) r.tried → MayHaveTenure r tenure → tenure ≤ 1
+low_known r tenure begun tried known = ⊎_elim (λ (m : IsIn r.begun tenure). each-from_All (λ t. t ≤ 1) r.begun begun tenure m) (λ (m : IsIn r.tried tenure × IsIn r.doubt_fences tenure). each-from_All (λ t. t ≤ 1) r.tried tried tenure m.0) known
 
 low_fence : (r : ReplicaState) (tenure fence : ℕ) → tenure ≤ 1 → r.fence ≤ 1 → All (λ f. f ≤ 1) r.doubt_fences → (fence ≡ max tenure r.fence) ⊎ Any (λ doubtful. fence ≡ max doubtful (max tenure r.fence)) r.doubt_fences → (tenure ≤ fence) × (fence ≤ 1)
 low_fence r tenure fence low own fences is =

@@ -14,7 +14,7 @@ use Rattle.m3_model.specs.declared.replica.Standing.TheVariants as standing
 use Rattle.m3_model.specs.declared.rules.Rules.{Rules}
 use Rattle.m3_outside.specs.DiskState.{DiskState, IsLawful}
 use Rattle.placement_core.proofs.ListLemmas.{each-from_All, IsIn-from_Any}
-use Rattle.shard_store.specs.Held.{IsSound}
+use Rattle.shard_files.specs.Held.{IsSound}
 use Rattle.cluster_core.specs.Refusals.{closed}
 use Rattle.cluster_core.specs.Replicas.{IsGone, Shows}
 use Rattle.cluster_core.specs.Rows.{MayRefuse, MayBeHigher}

@@ -7,7 +7,7 @@ use Rattle.m3_model.specs.declared.reason.Damage.{Damage}
 use Rattle.m3_model.specs.declared.reason.Reason.{Reason}
 use Rattle.m3_model.specs.declared.reason.Reason.TheVariants as reason
 use Rattle.m3_outside.specs.DiskState.{DiskState, Told}
-use Rattle.shard_store.specs.Held.{IsSound}
+use Rattle.shard_files.specs.Held.{IsSound}
 use Rattle.cluster_core.specs.declared.event.StepCall.TheVariants as call
 use Rattle.cluster_core.specs.declared.event.StepReply.{StepReply}
 use Rattle.cluster_core.specs.declared.event.StepReply.TheVariants as reply

@@ -10,7 +10,7 @@ use Rattle.m3_outside.specs.Causes.{Rose}
 use Rattle.m3_outside.specs.DiskState.{DiskState, IsEmpty, Told}
 use Rattle.m3_outside.specs.Slots.{Here, Out, MayGive}
 use Rattle.placement_core.specs.Shards.{Shard, nodes_of}
-use Rattle.shard_store.specs.Held.{IsSound}
+use Rattle.shard_files.specs.Held.{IsSound}
 use Rattle.cluster_core.specs.declared.event.StepCall.TheVariants as call
 use Rattle.cluster_core.specs.declared.event.StepReply.{StepReply}
 use Rattle.cluster_core.specs.declared.event.StepReply.TheVariants as reply

@@ -8,7 +8,7 @@ use Rattle.m3_outside.specs.declared.disk.Disk.{Ghosts}
 use Rattle.m3_outside.specs.DiskState.{DiskState, IsEmpty, Told}
 use Rattle.m3_outside.specs.Slots.{Held, Here, Out, MayGive}
 use Rattle.m3_outside.specs.declared.slot.Slot.{Slot as Place}
-use Rattle.shard_store.specs.Held.{IsSound}
+use Rattle.shard_files.specs.Held.{IsSound}
 use Rattle.cluster_core.specs.declared.event.StepReply.{StepReply}
 use Rattle.cluster_core.specs.declared.event.StepReply.TheVariants as reply
 use Rattle.replica_machine.specs.Machines.{MachineState, first_machine}

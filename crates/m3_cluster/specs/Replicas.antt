@@ -13,7 +13,7 @@ use Rattle.m3_model.specs.declared.replica.Standing.TheVariants as standing
 use Rattle.m3_outside.specs.DiskState.{DiskState, EachImage}
 use Rattle.m3_outside.specs.Files.{Files}
 use Rattle.m3_outside.specs.Slots.{Held, Unused, Here, Out}
-use Rattle.shard_store.specs.Held.{Held as FilesHold}
+use Rattle.shard_files.specs.Held.{Held as FilesHold}
 use Rattle.cluster_core.specs.Replicas.{fresh}
 use Rattle.cluster_core.specs.declared.replica_state.ReplicaState.{ReplicaState}
 use Rattle.replica_machine.specs.Machines.{MachineState, IsMachineOf}

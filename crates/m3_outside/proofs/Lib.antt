@@ -1,4 +1,5 @@
 pub mod Names
 pub mod Patches
 pub mod Moments
+pub mod Removal
 pub mod DiskLawLemmas

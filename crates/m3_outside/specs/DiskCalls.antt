@@ -21,10 +21,11 @@ pub record ChangesFiles (change : Files → Files) (ok memory failed : Type 0) (
   pub undone : old.tells ≡ true → memory → Becomes (λ files. files) old new
   pub done_or_not : old.tells ≡ true → failed → Becomes (λ files. files) old new ⊎ Becomes change old new
 
--- there is room for so many calls
+-- there is room for so many calls; memory is wanted only where there wasn't before
 pub record Reserves (calls : ℕ) (result : Result ⊤ DiskErr) (old new : DiskState) : Type 0 where
   pub leaves : LeavesFiles (IsErrOf result DiskFailed) old new
   pub enough : OnOk result (calls ≤ new.spare)
+  pub had : calls ≤ old.spare → ¬ (IsErrOf result Memory)
 
 -- a file of zeros
 pub record Creates (name : FileName) (size : ℕ) (result : Result ⊤ DiskErr) (old new : DiskState) : Type 0 where

@@ -8,3 +8,4 @@ pub mod DiskCalls
 pub mod Slots
 pub mod DiskLaws
 pub mod Depots
+pub mod Removal

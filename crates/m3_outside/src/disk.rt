@@ -21,11 +21,12 @@ pub trait Disk: Drop + Send {
     /// What the disk holds, what a stop may leave of it, its room and its count of faults.
     ghost state: { Self → DiskState };
 
-    /// Makes room: so many writes, syncs and removals take no memory.
+    /// Makes room: so many writes, syncs and removals take no memory. Where there is as much room already, it takes none
+    /// itself.
     ///
     /// # Errors
     ///
-    /// A fault or want of memory. Files and images stay.
+    /// A fault, or want of memory where there was less room. Files and images stay.
     fn reserve(&mut self, calls: u64) -> Result<(), DiskErr>
         ensures { Reserves calls result (state self.old) (state self.new) };
 

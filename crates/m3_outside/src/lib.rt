@@ -14,3 +14,4 @@ mod schedule;
 pub mod sink;
 pub mod slot;
 pub mod source;
+pub mod take_away;

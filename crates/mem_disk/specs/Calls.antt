@@ -1,5 +1,5 @@
 -- Which calls of a disk in memory fail.
-use Rattle.std.specs.Prelude.{◌≡◌, ℕ, ◌-◌, Bool, true, false, ◌||◌, nat_eq, if◌then◌else◌, List, Option, Some, None, Result, Ok, Err}
+use Rattle.std.specs.Prelude.{◌≡◌, ℕ, ◌-◌, Bool, true, false, ◌||◌, nat_eq, if◌then◌else◌, List, [], Option, Some, None, Result, Ok, Err}
 use Rattle.std.specs.List.{list_any}
 use Rattle.m3_outside.specs.Causes.{count_after}
 use Rattle.m3_outside.specs.declared.disk_err.DiskErr.{DiskErr}
@@ -11,6 +11,10 @@ pub record Calls : Type 0 where
   pub fuse : Option ℕ
   pub calls : ℕ
   pub faults : ℕ
+
+-- no call fails, and none came so far
+abbrev pub unfailing : Calls
+unfailing = record { fail = []; fuse = None; calls = 0; faults = 0 }
 
 -- the next call is listed
 abbrev pub is_listed : Calls → Bool

@@ -96,8 +96,12 @@ impl Disk for MemDisk {
         if self.schedule.next_fails() {
             return Err(DiskErr::Failed);
         }
-        self.past.reserve(calls as usize)?;
-        self.now.pending.make_room(calls as usize, 0)?;
+        let calls = calls as usize;
+        if calls <= self.now.pending.room() {
+            return Ok(());
+        }
+        self.past.reserve(calls)?;
+        self.now.pending.make_room(calls, 0)?;
         Ok(())
     }
 

@@ -11,7 +11,7 @@ use m3_outside::slot::Slot;
 use std::alloc::Global;
 
 /// Disks in memory that never fail: one for each node below 16 and each shard below 64, and the meta disk. Another
-/// disk may be put in a slot.
+/// disk may be put in a slot, and only such disks have faults to count.
 #[derive(Drop)]
 pub struct MemDisks {
     alloc: Global,
@@ -36,13 +36,12 @@ fn empty_places(alloc: Global) -> Result<Vec<Place>, Memory>
 }
 
 impl MemDisks {
-    ghost use Rattle.std.specs.Prelude.{◌≡◌, ◌≤◌, Some, IfOk};
-    ghost use Rattle.m3_outside.specs.Causes.{RoseBy};
+    ghost use Rattle.std.specs.Prelude.{◌≡◌, Some, IfOk};
     ghost use Rattle.mem_disk.specs.Parts.{state_of};
     ghost use Rattle.m3_outside.specs.declared.slot.Slot.{Slot as AtSlot};
     ghost use Rattle.m3_outside.specs.Slots.{Unused, Here, Out, OthersStay};
     ghost use Rattle.mem_disk.specs.Places.{HasSlot, disk_in};
-    ghost use Rattle.mem_disk.specs.Slots.{held_of, faults_of};
+    ghost use Rattle.mem_disk.specs.Slots.{held_of, counted_of, faults_of, count_with};
 
     /// All slots, none of them used. Takes the memory for them, and none for their disks.
     ///
@@ -68,8 +67,10 @@ impl MemDisks {
         ensures old { HasSlot slot → ¬ (held_of self.old slot ≡ Out) → result ≡ disk_in (held_of self.old slot) }
         ensures back { (HasSlot slot → held_of self.old slot ≡ Out) → (result ≡ Some disk) × (held_of self.new slot ≡ held_of self.old slot) }
         ensures others { OthersStay slot (held_of self.old) (held_of self.new) }
-        ensures later { faults_of self.old ≤ faults_of self.new }
-        ensures counted { HasSlot slot → ¬ (held_of self.old slot ≡ Out) → RoseBy (state_of disk).faults (faults_of self.old) (faults_of self.new) }
+        ensures counted { HasSlot slot → ¬ (held_of self.old slot ≡ Out) → counted_of self.new slot ≡ (state_of disk).faults }
+        ensures counted_others { OthersStay slot (counted_of self.old) (counted_of self.new) }
+        ensures counts { HasSlot slot → ¬ (held_of self.old slot ≡ Out) → faults_of self.new ≡ count_with (faults_of self.old) (state_of disk).faults }
+        ensures refused { (HasSlot slot → held_of self.old slot ≡ Out) → self.new ≡ self.old }
     {
         let Some(place) = place_of(slot) else {
             return Some(disk);
@@ -85,7 +86,15 @@ impl MemDisks {
 impl Disks for MemDisks {
     type D = MemDisk;
 
+    ghost use Rattle.std.specs.Prelude.{◌≡◌, ◌-◌, IfOk, OnErr, IsErrOf};
+    ghost use Rattle.m3_outside.specs.Causes.{CountsFaults, RoseBy};
+    ghost use Rattle.m3_outside.specs.DiskState.{IsEmpty};
+    ghost use Rattle.m3_outside.specs.Slots.{Unused, Here, Out, MayGive, OthersStay};
+    ghost use Rattle.m3_outside.specs.declared.slot.Slot.{Slot as AtSlot};
+    ghost use Rattle.mem_disk.specs.Calls.{unfailing};
+    ghost use Rattle.mem_disk.specs.Parts.{calls_of, state_of};
     ghost use Rattle.mem_disk.specs.Places.{held_at, counted_at};
+    ghost use Rattle.mem_disk.specs.Slots.{held_of, counted_of, faults_of, count_with};
 
     ghost held = { λ d. held_at d.places.items };
 
@@ -93,7 +102,23 @@ impl Disks for MemDisks {
 
     ghost all_faults = { λ d. d.faults };
 
-    fn take(&mut self, slot: Slot) -> Result<MemDisk, DiskErr> {
+    /// Takes the disk of a slot. One that was never used gives a disk that never fails. This object has no faults of its own.
+    fn take(&mut self, slot: Slot) -> Result<MemDisk, DiskErr>
+        requires { ¬ (held_of self.old slot ≡ Out) }
+        // As of all disks.
+        ensures disk { IfOk result (MayGive (λ d. IsEmpty (state_of d)) (held_of self.old slot)) }
+        ensures disk_faults { IfOk result (λ d. (state_of d).faults ≡ counted_of self.old slot) }
+        ensures out { IfOk result (λ _. held_of self.new slot ≡ Out) }
+        ensures refused { OnErr result (held_of self.new slot ≡ held_of self.old slot) }
+        ensures others { OthersStay slot (held_of self.old) (held_of self.new) }
+        ensures counted { (s : AtSlot) → counted_of self.new s ≡ counted_of self.old s }
+        ensures cause { CountsFaults (IsErrOf result DiskErr.Failed) (faults_of self.old) (faults_of self.new) }
+
+        // A new disk fails at no call, and nothing is counted.
+        ensures fresh { held_of self.old slot ≡ Unused → IfOk result (λ d. calls_of d ≡ unfailing) }
+        ensures no_fault { ¬ (IsErrOf result DiskErr.Failed) }
+        ensures counts { faults_of self.new ≡ faults_of self.old }
+    {
         let Some(place) = place_of(slot) else {
             return Err(DiskErr::Memory);
         };
@@ -101,7 +126,20 @@ impl Disks for MemDisks {
         Ok(disk)
     }
 
-    fn give(&mut self, slot: Slot, disk: MemDisk) {
+    /// Gives the disk of a slot back: the faults that it had since it was taken are counted, and no others.
+    fn give(&mut self, slot: Slot, disk: MemDisk)
+        requires { held_of self.old slot ≡ Out }
+        // As of all disks.
+        ensures here { held_of self.new slot ≡ Here disk }
+        ensures others { OthersStay slot (held_of self.old) (held_of self.new) }
+        ensures counted { counted_of self.new slot ≡ (state_of disk).faults }
+        ensures counted_others { OthersStay slot (counted_of self.old) (counted_of self.new) }
+        ensures cause { CountsFaults ⊥ (faults_of self.old) (faults_of self.new) }
+        ensures rose { RoseBy ((state_of disk).faults - counted_of self.old slot) (faults_of self.old) (faults_of self.new) }
+
+        // Exactly so many.
+        ensures counts { faults_of self.new ≡ count_with (faults_of self.old) ((state_of disk).faults - counted_of self.old slot) }
+    {
         let Some(place) = place_of(slot) else {
             unreachable!()
         };
@@ -109,7 +147,7 @@ impl Disks for MemDisks {
         self.faults = self
             .faults
             .saturating_add(disk.faults().saturating_sub(counted));
-        let _ = self.places[place].put(disk);
+        drop(self.places[place].put(disk));
     }
 
     fn faults(&self) -> u64 {

@@ -1,7 +1,8 @@
 ghost use Rattle.std.specs.Prelude.{◌≡◌, ◌<◌, Some, IfOk, OnOk, OnErr, IfSome, IsTrue, ◌↔◌};
 ghost use Rattle.m3_outside.specs.DiskState.{IsEmpty};
-ghost use Rattle.m3_outside.specs.Slots.{Out, MayGive};
-ghost use Rattle.mem_disk.specs.Parts.{state_of};
+ghost use Rattle.m3_outside.specs.Slots.{Unused, Out, MayGive};
+ghost use Rattle.mem_disk.specs.Calls.{unfailing};
+ghost use Rattle.mem_disk.specs.Parts.{calls_of, state_of};
 ghost use Rattle.mem_disk.specs.Places as places;
 
 use crate::disk::MemDisk;
@@ -52,28 +53,25 @@ impl Place {
         matches!(self, Place::Lent(_))
     }
 
-    // Takes the disk out, or a new one.
+    // Takes the disk out, or a new one that never fails.
     pub fn take(&mut self, alloc: Global) -> Result<MemDisk, Memory>
         requires { ¬ (places.held_in (Some self.old) ≡ Out) }
         ensures disk { IfOk result (MayGive (λ d. IsEmpty (state_of d)) (places.held_in (Some self.old))) }
+        ensures fresh { places.held_in (Some self.old) ≡ Unused → IfOk result (λ d. calls_of d ≡ unfailing) }
         ensures faults { IfOk result (λ d. (state_of d).faults ≡ places.counted_in (Some self.old)) }
         ensures out { OnOk result (places.held_in (Some self.new) ≡ Out) }
         ensures counted { places.counted_in (Some self.new) ≡ places.counted_in (Some self.old) }
         ensures refused { OnErr result (self.new ≡ self.old) }
     {
-        match mem::replace(self, Place::Lent(0)) {
-            Place::Empty => match MemDisk::new(alloc, &[], None) {
-                Ok(disk) => Ok(disk),
-                Err(Memory) => {
-                    *self = Place::Empty;
-                    Err(Memory)
-                }
-            },
-            Place::Full(disk) => {
-                *self = Place::Lent(disk.faults());
-                Ok(disk)
-            }
-            Place::Lent(_) => unreachable!(),
+        if let Place::Empty = self {
+            let disk = MemDisk::new(alloc, &[], None)?;
+            drop(mem::replace(self, Place::Lent(0)));
+            return Ok(disk);
+        }
+        let faults = self.counted();
+        match mem::replace(self, Place::Lent(faults)) {
+            Place::Full(disk) => Ok(disk),
+            Place::Empty | Place::Lent(_) => unreachable!(),
         }
     }
 

@@ -10,13 +10,13 @@ use Rattle.m3_outside.specs.Causes.{CountsFaults}
 use Rattle.m3_outside.specs.Files.{Files, Stays}
 use Rattle.m3_outside.specs.DiskState.{DiskState, Told, StepOf, Elapses}
 use Rattle.m3_outside.proofs.Moments.{step_as}
-use Rattle.shard_store.specs.Held.{Held, IsSound}
-use Rattle.shard_store.specs.Loading.{MayBeUnsound}
-use Rattle.shard_store.specs.Gains.{nothing, a_tenure, Gains, MayGain}
-use Rattle.shard_store.specs.declared.load.LoadErr.{LoadErr}
-use Rattle.shard_store.specs.declared.load.LoadErr.TheVariants as failures
-use Rattle.shard_store.proofs.DamageLemmas.{damaged_is_unsound}
-use Rattle.shard_store.proofs.GainLemmas.{nothing_is_part}
+use Rattle.shard_files.specs.Held.{Held, IsSound}
+use Rattle.shard_files.specs.Loading.{MayBeUnsound}
+use Rattle.shard_files.specs.Gains.{nothing, a_tenure, Gains, MayGain}
+use Rattle.shard_files.specs.declared.load_err.LoadErr.{LoadErr}
+use Rattle.shard_files.specs.declared.load_err.LoadErr.TheVariants as failures
+use Rattle.shard_files.proofs.DamageLemmas.{damaged_is_unsound}
+use Rattle.shard_files.proofs.GainLemmas.{nothing_is_part}
 use Rattle.cluster_core.specs.Refusals.{closed}
 use Rattle.cluster_core.specs.declared.event.StepCall.TheVariants as call
 use Rattle.cluster_core.specs.declared.event.StepReply.TheVariants as reply

@@ -1,6 +1,6 @@
 -- A begin is a step of the core.
 use Rattle.std.proofs.Common.{◌≡◌, ◌<◌, ◌≤◌, inl, inr, ⊎_elim, ℕ, max, List, [], ◌∷◌, ◌++◌, refl, sym, ap, subst, ◌∙◌, arith, true, Some, None, Result, Ok, Err, All}
-use Rattle.std.specs.Prelude.{⊤, ◌≢◌, ◌⊎◌, Option}
+use Rattle.std.specs.Prelude.{⊤, ◌≢◌, ◌⊎◌, Option, IsErrOf}
 use Rattle.std.proofs.lemmas.Bool.{OnTrue_from}
 use Rattle.m3_model.specs.Contents.{content_of, point_at}
 use Rattle.m3_model.specs.Members.{IsIn}
@@ -18,13 +18,13 @@ use Rattle.m3_outside.specs.DiskState.{DiskState, Told, EachImage, StepOf}
 use Rattle.m3_outside.specs.declared.disk_err.DiskErr.{DiskErr}
 use Rattle.m3_outside.specs.declared.disk_err.DiskErr.TheVariants as refused
 use Rattle.placement_core.proofs.ListLemmas.{All-from_each, each-from_All, Any-from_IsIn}
-use Rattle.shard_store.specs.Held.{Held}
-use Rattle.shard_store.specs.Gains.{nothing, a_tenure, Gains, MayGain, Brings}
-use Rattle.shard_store.specs.Stores.{StoreState}
-use Rattle.shard_store.proofs.GainLemmas.{covers_itself}
-use Rattle.shard_store.proofs.HeldLemmas.{held_is_one}
+use Rattle.shard_files.specs.Held.{Held}
+use Rattle.shard_files.specs.Gains.{nothing, a_tenure, Gains, MayGain, Brings}
+use Rattle.shard_store.specs.Stores.{StoreState, closed_over}
+use Rattle.shard_files.proofs.GainLemmas.{covers_itself}
+use Rattle.shard_files.proofs.HeldLemmas.{held_is_one}
 use Rattle.shard_store.proofs.LogStepLemmas.{counts_both, counts_for, counts_same}
-use Rattle.shard_store.proofs.ContentLemmas.{content_holds, content_source}
+use Rattle.shard_files.proofs.ContentLemmas.{content_holds, content_source}
 use Rattle.cluster_core.specs.Refusals.{closed, first_refusal}
 use Rattle.cluster_core.specs.Replicas.{IsGone}
 use Rattle.cluster_core.specs.Rows.{NoneHigher, MayBeHigher, IsBegan, LawfulStep}
@@ -40,7 +40,7 @@ use Rattle.replica_machine.specs.declared.machine.Began.{Began}
 use Rattle.replica_machine.proofs.DiskLemmas.{each_step, brings_ok, brings_err}
 use Rattle.replica_machine.proofs.HeldByLemmas.{held_nothing, greater_is_max}
 use Rattle.replica_machine.proofs.ReasonLemmas.{own_reason}
-use Rattle.replica_machine.proofs.StepLemmas.{machine_of, stands_at, kept_machine, shut_follows}
+use Rattle.replica_machine.proofs.StepLemmas.{machine_of, settled_is, failed_is, stands_at, kept_machine, shut_follows}
 use Rattle.replica_machine.proofs.TenureLemmas.{held_tried, held_began, held_again, loaded_covers, loaded}
 
 empty_or : (xs : List ℕ) → (xs ≡ []) ⊎ (xs ≢ [])
@@ -61,6 +61,9 @@ module _ {D : Type 0} (state : D → DiskState) (old : MachineState D) (t : ℕ)
 
   not_closed : (r : ReplicaState) → IsMachineOf state r old → closed old.standing ≡ None → first_refusal r (call.Begin t) ≡ None
   not_closed r h up = ap closed (sym h.stands) ∙ up
+
+  all_below : (r : ReplicaState) → IsMachineOf state r old → old.begun ≤ t → (fence : ℕ) → t ≤ fence → All (λ one. one ≤ fence) (r.begun ++ t ∷ [])
+  all_below r h high fence le = All-from_each (λ one. one ≤ fence) (r.begun ++ t ∷ []) (λ b m. let low = each-from_All (λ one. one ≤ t) (r.begun ++ t ∷ []) (all_begun r h high) b m in omega (arith, low, le))
 
   -- ---- refused
 
@@ -85,7 +88,7 @@ module _ {D : Type 0} (state : D → DiskState) (old : MachineState D) (t : ℕ)
       lawful = λ r h past n s given. record { uses = refl; taken = (not_closed r h up, OnTrue_from (state old.disk).tells (NoneHigher r t) (λ e. none_higher r h high)); clock = tt; there = tt };
       follows = λ r h.
           let q : ReplicaState = record r { standing = standing.Down; doubt_fences = r.doubt_fences ++ t ∷ []; tried = r.tried ++ t ∷ [] } in
-          shut_follows state r q old standing.Down d (λ e. cc) refl refl refl h (λ b. each_step (state old.disk) (state d) (IsHeldBy r) (IsHeldBy q) same steps (λ x y may held. held_tried r t x y may held) (h.files b));
+          shut_follows state r q old standing.Down d (λ e. cc) refl refl refl refl h (λ b. each_step (state old.disk) (state d) (IsHeldBy r) (IsHeldBy q) same steps (λ x y may held. held_tried r t x y may held) (h.files b));
       faults = counts_for _ _ _ _ (λ e. fault) counts;
     }
 
@@ -95,7 +98,7 @@ module _ {D : Type 0} (state : D → DiskState) (old : MachineState D) (t : ℕ)
       lawful = λ r h past n s given. record { reads = refl; taken = (not_closed r h up, OnTrue_from (state old.disk).tells (NoneHigher r t) (λ e. none_higher r h high)); clock = tt };
       follows = λ r h.
           let q : ReplicaState = record r { standing = standing.Down } in
-          shut_follows state r q old standing.Down d (λ e. cc) refl refl refl h (λ b. each_step (state old.disk) (state d) (IsHeldBy r) (IsHeldBy q) same steps (λ x y gains held. held_nothing r q (stands_at r standing.Down) x y gains held) (h.files b));
+          shut_follows state r q old standing.Down d (λ e. cc) refl refl refl refl h (λ b. each_step (state old.disk) (state d) (IsHeldBy r) (IsHeldBy q) same steps (λ x y gains held. held_nothing r q (stands_at r standing.Down) x y gains held) (h.files b));
       faults = counts_for _ _ _ _ (λ e. absurd (cc)) counts;
     }
 
@@ -113,7 +116,7 @@ module _ {D : Type 0} (state : D → DiskState) (old : MachineState D) (t : ℕ)
             let one_t = one.1 in
             let above = now.higher in
             let lt : t < was.tenure = omega (arith, one_t, above) in
-            ⊎_elim (λ (m : IsIn r.begun was.tenure). inl (Any-from_IsIn (λ begun. t < begun) r.begun was.tenure m lt)) (λ (m : IsIn r.tried was.tenure). inr (inl (Any-from_IsIn (λ tried. t < tried) r.tried was.tenure m lt))) was.known)
+            ⊎_elim (λ (m : IsIn r.begun was.tenure). inl (Any-from_IsIn (λ begun. t < begun) r.begun was.tenure m lt)) (λ (m : IsIn r.tried was.tenure × IsIn r.doubt_fences was.tenure). inr (inl (Any-from_IsIn (λ tried. t < tried) r.tried was.tenure m.0 lt))) was.known)
             (empty_or r.begun)),
       );
       follows = λ r h. kept_machine state r old d same steps h;
@@ -144,6 +147,7 @@ module _ {D : Type 0} (state : D → DiskState) (old : MachineState D) (t : ℕ)
           follows = λ r h. record {
             stands = refl;
             begun = record { none_higher = all_begun r h high; one_of = inr (IsIn-push r.begun t) };
+            below = all_below r h high fence (omega (arith, fence_is));
             empty = λ e. absurd (some_there r.begun t e);
             open_ = λ o. record {
               begun = some_there r.begun t;
@@ -186,6 +190,7 @@ module _ {D : Type 0} (state : D → DiskState) (old : MachineState D) (t : ℕ)
             record {
               stands = is_open;
               begun = record { none_higher = all_begun r h high; one_of = inr (IsIn-push r.begun t) };
+              below = all_below r h high fence (omega (arith, fence_is));
               empty = λ e. absurd (some_there r.begun t e);
               open_ = λ o. record {
                 begun = some_there r.begun t;
@@ -251,6 +256,15 @@ module _ {D : Type 0} (state : D → DiskState) (s : Standing) (tenure : Option 
       → (let said : Result ⊤ DiskErr = Err e in Brings (a_tenure t) said (state before.disk) (state now.disk)) → BeginLeft state old t why new
   begin_left_of up high e why new moved is left brings =
       begin_left state old t now.disk up high e why new is (left ∙ ap (left_by e) (ap (machine_of s tenure begun) moved ∙ ap (λ (m : MachineState D). record m { disk = now.disk }) view))
+      (subst (λ (d : D). let said : Result ⊤ DiskErr = Err e in Brings (a_tenure t) said (state d) (state now.disk)) disk_is brings)
+
+  -- of an open machine, whose store a fault closed
+  pub again_left : closed old.standing ≡ None → old.begun ≤ t → (e : DiskErr) (now_s : Standing) (why : Reason) → (let said : Result ⊤ DiskErr = Err e in IsErrOf said refused.Memory → now ≡ record before { disk = now.disk })
+      → (let said : Result ⊤ DiskErr = Err e in IsErrOf said refused.Failed → now ≡ closed_over now.disk) → why ≡ reason_of e → (e ≡ refused.Failed → now_s ≡ standing.Down) → ((e ≡ refused.Failed → ⊥) → now_s ≡ s)
+      → (let said : Result ⊤ DiskErr = Err e in Brings (a_tenure t) said (state before.disk) (state now.disk)) → BeginLeft state old t why (machine_of now_s tenure begun now)
+  again_left up high e now_s why memory fault is down stays brings =
+      let left = settled_is s tenure begun before now now_s (Err e) memory fault (λ f. down (failed_is e f)) (λ fine. stays (λ f. fine (ap Err f))) in
+      begin_left state old t now.disk up high e why (machine_of now_s tenure begun now) is (left ∙ ap (λ (m : MachineState D). left_by e (record m { disk = now.disk })) view)
       (subst (λ (d : D). let said : Result ⊤ DiskErr = Err e in Brings (a_tenure t) said (state d) (state now.disk)) disk_is brings)
 
 -- what an open machine's begin answers and leaves

@@ -9,9 +9,9 @@ use Rattle.m3_outside.specs.DiskState.{DiskState, EachImage, StepOf, Elapses}
 use Rattle.m3_outside.specs.declared.disk_err.DiskErr.{DiskErr}
 use Rattle.m3_outside.specs.declared.disk_err.DiskErr.TheVariants as refused
 use Rattle.m3_outside.proofs.Moments.{step_as, elapses_as, elapses_then}
-use Rattle.shard_store.specs.Held.{Held}
-use Rattle.shard_store.specs.Gains.{Gain, nothing, Gains, MayGain, Brings}
-use Rattle.shard_store.proofs.GainLemmas.{gains_nothing, nothing_is_part}
+use Rattle.shard_files.specs.Held.{Held}
+use Rattle.shard_files.specs.Gains.{Gain, nothing, Gains, MayGain, Brings}
+use Rattle.shard_files.proofs.GainLemmas.{gains_nothing, nothing_is_part}
 use Rattle.cluster_core.specs.declared.event.StepReply.{StepReply}
 use Rattle.cluster_core.specs.declared.event.StepReply.TheVariants as reply
 use Rattle.shard_store.proofs.LogStepLemmas.{after_nothing, steps_after_nothing, counts_both, counts_for, on_ok_as, brings_none}

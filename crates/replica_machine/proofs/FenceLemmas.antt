@@ -1,19 +1,22 @@
 -- A fence is a step of the core.
-use Rattle.std.proofs.Common.{◌≡◌, ℕ, max, [], ◌∷◌, ◌++◌, refl, sym, ap, subst, ◌∙◌, Some, None, Result, Ok, Err, ◌≤◌, Bool, true, false, cond}
-use Rattle.std.specs.Prelude.{⊤, ◌≢◌, Option, nat_le, OnOk, OnErr, IfErr, IsErrOf}
+use Rattle.std.proofs.Common.{◌≡◌, inl, inr, ⊎_elim, ℕ, max, [], ◌∷◌, ◌++◌, refl, sym, ap, subst, ◌∙◌, Some, None, Result, Ok, Err, ◌≤◌, Bool, true, false, cond}
+use Rattle.std.specs.Prelude.{⊤, ◌≢◌, Option, nat_le, OnOk, IfErr, IsErrOf}
 use Rattle.std.specs.Option.{option_or}
 use Rattle.std.proofs.lemmas.Bool.{leb-true}
 use Rattle.m3_model.specs.declared.reason.Reason.{Reason}
 use Rattle.m3_model.specs.declared.reason.Reason.TheVariants as reason
 use Rattle.m3_model.specs.declared.replica.Standing.{Standing}
 use Rattle.m3_model.specs.declared.replica.Standing.TheVariants as standing
+use Rattle.m3_model.specs.Members.{IsIn}
+use Rattle.m3_model.proofs.MemberLemmas.{IsIn-append_left}
 use Rattle.m3_outside.specs.Causes.{CountsFaults}
-use Rattle.m3_outside.specs.DiskState.{DiskState}
+use Rattle.m3_outside.proofs.Moments.{same_becomes}
+use Rattle.m3_outside.specs.DiskState.{DiskState, Becomes}
 use Rattle.m3_outside.specs.declared.disk_err.DiskErr.{DiskErr}
 use Rattle.m3_outside.specs.declared.disk_err.DiskErr.TheVariants as refused
-use Rattle.shard_store.specs.Gains.{a_fence, Brings}
+use Rattle.shard_files.specs.Gains.{a_fence, Brings}
 use Rattle.shard_store.specs.Stores.{StoreState}
-use Rattle.shard_store.proofs.LogStepLemmas.{on_ok_as, counts_same}
+use Rattle.shard_store.proofs.LogStepLemmas.{counts_same}
 use Rattle.cluster_core.specs.Refusals.{shut, unowned, first_refusal}
 use Rattle.cluster_core.specs.Replicas.{after}
 use Rattle.cluster_core.specs.Rows.{IsOwner}
@@ -25,12 +28,14 @@ use Rattle.replica_machine.specs.Steps.{reply_by, IsStep, BringsTo}
 use Rattle.replica_machine.proofs.ReasonLemmas.{IsPlain, plain_lawful, plain_no_fault, fence_plain, shut_alike, refused_none, refused_some}
 use Rattle.replica_machine.proofs.DiskLemmas.{each_step, reply_counts, brings_settled, brings_none_to}
 use Rattle.replica_machine.proofs.HeldByLemmas.{held_fence_doubt}
-use Rattle.replica_machine.proofs.StepLemmas.{machine_of, store_open, store_stays, kept_machine, shut_follows, fence_follows}
+use Rattle.replica_machine.proofs.StepLemmas.{machine_of, middle, kept_machine, shut_follows, fence_follows}
 
 -- what a fence answers and leaves
 pub record FenceDone {D : Type 0} (state : D → DiskState) (old : MachineState D) (version : ℕ) (result : Result ⊤ Reason) (new : MachineState D) : Type 0 where
   pub ok : OnOk result (new ≡ record old { disk = new.disk; fence = max old.fence version })
   pub err : IfErr result (λ why. why ≢ reason.Disk → new ≡ record old { disk = new.disk })
+  pub plain : IfErr result (λ why. why ≢ reason.Disk → why ≢ reason.Memory → new ≡ old)
+  pub unchanged : (state old.disk).tells ≡ true → IsErrOf result reason.Memory → Becomes (λ files. files) (state old.disk) (state new.disk)
   pub fault : IsErrOf result reason.Disk → new ≡ shut_machine standing.Down old new.disk
   pub refused : IsRefusedFor (refusal old (call.Fence version)) result
   pub disk : BringsTo (a_fence version) result (state old.disk) (state new.disk)
@@ -40,6 +45,7 @@ pub record FenceDone {D : Type 0} (state : D → DiskState) (old : MachineState 
 pub record FenceBy {D : Type 0} (state : D → DiskState) (old mid : MachineState D) (version : ℕ) (said : Result ⊤ DiskErr) : Type 0 where
   pub ok : OnOk said (mid ≡ record old { disk = mid.disk; fence = max old.fence version })
   pub err : IfErr said (λ why. mid ≡ record old { disk = mid.disk })
+  pub unchanged : (state old.disk).tells ≡ true → IsErrOf said refused.Memory → Becomes (λ files. files) (state old.disk) (state mid.disk)
   pub disk : Brings (a_fence version) said (state old.disk) (state mid.disk)
 
 left_plain : (r : ReplicaState) (version : ℕ) (why : Reason) → IsPlain why → r ≡ after r (call.Fence version) (reply.Refused why)
@@ -83,6 +89,8 @@ module _ {D : Type 0} (state : D → DiskState) (old : MachineState D) (version 
       record {
         ok = tt;
         err = λ not. refl;
+        plain = λ not none. refl;
+        unchanged = λ t f. same_becomes (state old.disk);
         fault = λ f. absurd (fault f);
         refused = refused_some ⊤ (refusal old (call.Fence version)) why first;
         disk = brings_none_to (a_fence version) why (state old.disk) (plain_no_fault why plain);
@@ -123,9 +131,9 @@ module _ {D : Type 0} (state : D → DiskState) (old : MachineState D) (version 
           let q : ReplicaState = record r { standing = standing.Down; doubt_fences = r.doubt_fences ++ version ∷ [] } in
           let all = h.open_ (owning old.standing old.tenure version first).open_ in
           subst (λ (m : MachineState D). IsMachineOf state q m) (ap (λ (m : MachineState D). shut_machine standing.Down m mid.disk) (sym by.err))
-          (shut_follows state r q old standing.Down mid.disk (λ e. cc) refl refl refl h
+          (shut_follows state r q old standing.Down mid.disk (λ e. cc) refl refl refl refl h
           (λ b. each_step (state old.disk) (state mid.disk) (IsHeldBy r) (IsHeldBy q) by.disk.tells (λ t. (by.disk.any_moment t).images)
-          (λ x y may held. held_fence_doubt r version all.sure_fences q refl refl refl (record { kept = λ o m. m; gained = λ o m. absurd m; gone = λ o stays. stays }) (λ t a. a) (λ t a. a) x y may held) (h.files b)));
+          (λ x y may held. held_fence_doubt r version all.sure_fences q refl refl refl (record { kept = λ o m. m; gained = λ o m. absurd m; gone = λ o stays. stays }) (λ t a. a) (λ t a. ⊎_elim (λ (m : IsIn r.begun t). inl m) (λ (m : IsIn r.tried t × IsIn r.doubt_fences t). inr (m.0, IsIn-append_left r.doubt_fences (version ∷ []) t m.1)) a) x y may held) (h.files b)));
       faults = answer_counts (Err refused.Failed) by;
     }
     fence_step (Err refused.Memory) by = record {
@@ -138,6 +146,8 @@ module _ {D : Type 0} (state : D → DiskState) (old : MachineState D) (version 
     fence_done_said (Ok u) by = record {
       ok = by.ok;
       err = tt;
+      plain = tt;
+      unchanged = λ t f. absurd (none f);
       fault = λ f. absurd (never f);
       refused = refused_none (refusal old (call.Fence version)) (Ok u) first;
       disk = brings_settled (a_fence version) (Ok u) (state old.disk) (state mid.disk) by.disk;
@@ -146,17 +156,27 @@ module _ {D : Type 0} (state : D → DiskState) (old : MachineState D) (version 
       where
         never : (let r : Result ⊤ Reason = Ok u in IsErrOf r reason.Disk) → ⊥
         never f = cc
+
+        none : (let r : Result ⊤ Reason = Ok u in IsErrOf r reason.Memory) → ⊥
+        none f = cc
     fence_done_said (Err refused.Failed) by = record {
       ok = tt;
       err = λ not. absurd (not refl);
+      plain = λ not none. absurd (not refl);
+      unchanged = λ t f. absurd (none f);
       fault = λ f. ap (λ (m : MachineState D). shut_machine standing.Down m mid.disk) by.err;
       refused = refused_none (refusal old (call.Fence version)) (Err refused.Failed) first;
       disk = brings_settled (a_fence version) (Err refused.Failed) (state old.disk) (state mid.disk) by.disk;
       step = fence_step (Err refused.Failed) by;
     }
+      where
+        none : (let r : Result ⊤ Reason = Err reason.Disk in IsErrOf r reason.Memory) → ⊥
+        none f = cc
     fence_done_said (Err refused.Memory) by = record {
       ok = tt;
       err = λ not. by.err;
+      plain = λ not none. absurd (none refl);
+      unchanged = λ t f. by.unchanged t refl;
       fault = λ f. absurd (never f);
       refused = refused_none (refusal old (call.Fence version)) (Err refused.Memory) first;
       disk = brings_settled (a_fence version) (Err refused.Memory) (state old.disk) (state mid.disk) by.disk;
@@ -170,24 +190,21 @@ module _ {D : Type 0} (state : D → DiskState) (old : MachineState D) (version 
     fence_done said result new is left by =
         subst (λ (x : Result ⊤ Reason). FenceDone state old version x new) (sym is) (subst (λ (m : MachineState D). FenceDone state old version (settled_answer said) m) (sym left) (fence_done_said said by))
 
+-- with what the store's fence did, or as it was where it was refused
 pub fence_by : {D : Type 0} (state : D → DiskState) (s : Standing) (tenure : Option ℕ) (begun : ℕ) (old : MachineState D) (before now : StoreState D) (version : ℕ) (said : Result ⊤ DiskErr) → machine_of s tenure begun before ≡ old
-    → OnOk said (now ≡ record { disk = now.disk; open_ = true; content = before.content; tenure = before.tenure; fence = max before.fence version }) → OnErr said (now ≡ record before { disk = now.disk })
-    → Brings (a_fence version) said (state before.disk) (state now.disk) → FenceBy state old (machine_of s tenure begun now) version said
-fence_by state s tenure begun old before now version said view ok err brings =
-    subst (λ (m : MachineState _). FenceBy state m (machine_of s tenure begun now) version said) view (record { ok = on_ok_as said (ap (machine_of s tenure begun)) ok; err = err_as said err; disk = brings })
+    → OnOk said (now ≡ record { disk = now.disk; open_ = true; content = before.content; tenure = before.tenure; fence = max before.fence version })
+    → ((state before.disk).tells ≡ true → IsErrOf said refused.Memory → Becomes (λ files. files) (state before.disk) (state now.disk)) → Brings (a_fence version) said (state before.disk) (state now.disk)
+    → FenceBy state old (middle s tenure begun before now old said) version said
+fence_by {D} state s tenure begun old before now version said view ok unchanged brings = subst (λ (m : MachineState D). FenceBy state m (middle s tenure begun before now m said) version said) view (by said ok unchanged brings)
   where
-    err_as : (said : Result ⊤ DiskErr) → OnErr said (now ≡ record before { disk = now.disk }) → IfErr said (λ why. machine_of s tenure begun now ≡ record (machine_of s tenure begun before) { disk = now.disk })
-    err_as (Ok u) e = tt
-    err_as (Err why) e = ap (machine_of s tenure begun) e
+    by : (said : Result ⊤ DiskErr) → OnOk said (now ≡ record { disk = now.disk; open_ = true; content = before.content; tenure = before.tenure; fence = max before.fence version })
+        → ((state before.disk).tells ≡ true → IsErrOf said refused.Memory → Becomes (λ files. files) (state before.disk) (state now.disk)) → Brings (a_fence version) said (state before.disk) (state now.disk)
+        → FenceBy state (machine_of s tenure begun before) (middle s tenure begun before now (machine_of s tenure begun before) said) version said
+    by (Ok u) ok unchanged brings = record { ok = ap (machine_of s tenure begun) ok; err = tt; unchanged = unchanged; disk = brings }
+    by (Err why) ok unchanged brings = record { ok = tt; err = refl; unchanged = unchanged; disk = brings }
 
 -- an open machine's store is open, where nothing stands against a fence
 pub fence_open : (s : Standing) → shut s ≡ None → s ≡ standing.Open
 fence_open standing.Down e = let wrong : Some reason.Down ≡ None = e in absurd (cc)
 fence_open standing.Boot e = let wrong : Some reason.Boot ≡ None = e in absurd (cc)
 fence_open standing.Open e = refl
-
--- the store stays as open as it was
-pub fence_kept : {D : Type 0} (s : Standing) (before now : StoreState D) (version : ℕ) (said : Result ⊤ DiskErr) → s ≡ standing.Open → IsStoreOf s before
-    → OnOk said (now ≡ record { disk = now.disk; open_ = true; content = before.content; tenure = before.tenure; fence = max before.fence version }) → OnErr said (now ≡ record before { disk = now.disk }) → IsStoreOf s now
-fence_kept s before now version (Ok u) is_open of ok err = store_stays s now is_open (ap (λ (x : StoreState _). x.open_) ok)
-fence_kept s before now version (Err why) is_open of ok err = store_stays s now is_open (ap (λ (x : StoreState _). x.open_) err ∙ store_open s before of is_open)

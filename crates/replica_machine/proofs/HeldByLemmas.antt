@@ -9,12 +9,12 @@ use Rattle.m3_model.specs.declared.point.Point.{Point}
 use Rattle.m3_model.proofs.MemberLemmas.{IsIn-append_left, IsIn-append_cases, IsIn-push}
 use Rattle.m3_outside.specs.Files.{Files}
 use Rattle.placement_core.proofs.ListLemmas.{All-from_each, each-from_All, Any-from_IsIn, IsIn-from_Any}
-use Rattle.shard_store.specs.Held.{Held}
-use Rattle.shard_store.specs.Gains.{Gain, nothing, a_point, a_fence, Grows, Gains, MayGain}
-use Rattle.shard_store.proofs.GainLemmas.{covers_then}
+use Rattle.shard_files.specs.Held.{Held}
+use Rattle.shard_files.specs.Gains.{Gain, nothing, a_point, a_fence, Grows, Gains, MayGain}
+use Rattle.shard_files.proofs.GainLemmas.{covers_itself, covers_then}
 use Rattle.cluster_core.specs.Replicas.{greater, IsGone}
 use Rattle.cluster_core.specs.declared.replica_state.ReplicaState.{ReplicaState}
-use Rattle.replica_machine.specs.Machines.{IsHeldBy}
+use Rattle.replica_machine.specs.Machines.{MayHaveTenure, IsHeldBy}
 
 pub greater_is_max : (m n : ℕ) → greater m n ≡ max m n
 greater_is_max m n = by (nat_le m n) refl
@@ -35,7 +35,7 @@ pub record MovesOn (r q : ReplicaState) (gain : Gain) : Type 0 where
 
 module _ (r q : ReplicaState) (gain : Gain) (moves : MovesOn r q gain) (x y : Files) (h : IsHeldBy r x) where
   pub held_after : (points : List Point) (tenure fence : ℕ) → Held points tenure fence y → Grows h.points gain points → ((p : Point) → IsIn q.sure p → IsIn r.sure p ⊎ Covers points p)
-      → All (λ begun. begun ≤ tenure) q.begun → IsIn q.begun tenure ⊎ IsIn q.tried tenure → MayHaveFence q tenure fence → IsHeldBy q y
+      → All (λ begun. begun ≤ tenure) q.begun → MayHaveTenure q tenure → MayHaveFence q tenure fence → IsHeldBy q y
   held_after points tenure fence held grows there none_higher known fence_is = record {
     points = points;
     tenure = tenure;
@@ -44,7 +44,7 @@ module _ (r q : ReplicaState) (gain : Gain) (moves : MovesOn r q gain) (x y : Fi
     source = All-from_each (λ p. IsIn q.sure p ⊎ IsIn q.doubt p) points (λ p m.
         ⊎_elim (λ (old : IsIn h.points p). moves.kept p (each-from_All (λ p. IsIn r.sure p ⊎ IsIn r.doubt p) h.points h.source p old)) (λ (new : IsIn gain.points p). moves.gained p new) (grows.nothing_else p m));
     all_there = All-from_each (λ p. ¬ IsGone q p → Covers points p) q.sure (λ p m stays.
-        ⊎_elim (λ (old : IsIn r.sure p). covers_then h.points points p (each-from_All (λ p. ¬ IsGone r p → Covers h.points p) r.sure h.all_there p old (moves.gone p stays)) grows.stays) (λ (new : Covers points p). new) (there p m));
+        ⊎_elim (λ (old : IsIn r.sure p). covers_then h.points points p (each-from_All (λ p. ¬ IsGone r p → Covers h.points p) r.sure h.all_there p old (moves.gone p stays)) (λ q n. covers_itself points q (grows.stays q n))) (λ (new : Covers points p). new) (there p m));
     none_higher = none_higher;
     known = known;
     fence_is = fence_is;
@@ -53,7 +53,7 @@ module _ (r q : ReplicaState) (gain : Gain) (moves : MovesOn r q gain) (x y : Fi
 -- the tenures, the fence and those in doubt are the same
 pub record HasNumbersOf (r q : ReplicaState) : Type 0 where
   pub begun : (t : ℕ) → All (λ begun. begun ≤ t) r.begun → All (λ begun. begun ≤ t) q.begun
-  pub known : (t : ℕ) → IsIn r.begun t ⊎ IsIn r.tried t → IsIn q.begun t ⊎ IsIn q.tried t
+  pub known : (t : ℕ) → MayHaveTenure r t → MayHaveTenure q t
   pub fence : (t f : ℕ) → MayHaveFence r t f → MayHaveFence q t f
 
 -- files of which tenure and fence stay
@@ -129,7 +129,7 @@ held_fence r version none x y gains h =
     (λ o m. inl m) h.none_higher h.known (inl is)
 
 pub held_fence_doubt : (r : ReplicaState) (version : ℕ) → r.doubt_fences ≡ [] → (q : ReplicaState) → q.sure ≡ r.sure → q.fence ≡ r.fence → q.doubt_fences ≡ r.doubt_fences ++ version ∷ [] → MovesOn r q nothing
-    → ((t : ℕ) → All (λ begun. begun ≤ t) r.begun → All (λ begun. begun ≤ t) q.begun) → ((t : ℕ) → IsIn r.begun t ⊎ IsIn r.tried t → IsIn q.begun t ⊎ IsIn q.tried t)
+    → ((t : ℕ) → All (λ begun. begun ≤ t) r.begun → All (λ begun. begun ≤ t) q.begun) → ((t : ℕ) → MayHaveTenure r t → MayHaveTenure q t)
     → (x y : Files) → MayGain (a_fence version) x y → IsHeldBy r x → IsHeldBy q y
 held_fence_doubt r version none q sure fence doubts moves begun known x y may h =
     let part = may h.points h.tenure h.fence h.held in

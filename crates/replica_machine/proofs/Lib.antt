@@ -11,3 +11,5 @@ pub mod TenureLemmas
 pub mod BootLemmas
 pub mod BeginLemmas
 pub mod PartLemmas
+pub mod NumberLemmas
+pub mod OpeningLemmas

@@ -18,9 +18,9 @@ use Rattle.m3_outside.specs.DiskCalls.{Restarts}
 use Rattle.m3_outside.specs.declared.disk_err.DiskErr.{DiskErr}
 use Rattle.m3_outside.specs.declared.disk_err.DiskErr.TheVariants as refused
 use Rattle.m3_outside.proofs.Moments.{step_as}
-use Rattle.shard_store.specs.Gains.{nothing, Gains}
+use Rattle.shard_files.specs.Gains.{nothing, Gains}
 use Rattle.shard_store.specs.Stores.{StoreState, closed_over}
-use Rattle.shard_store.proofs.GainLemmas.{gains_nothing}
+use Rattle.shard_files.proofs.GainLemmas.{gains_nothing}
 use Rattle.shard_store.proofs.LogStepLemmas.{counts_for, counts_same}
 use Rattle.cluster_core.specs.Replicas.{fresh}
 use Rattle.cluster_core.specs.Rows.{open_fence}
@@ -46,7 +46,7 @@ module _ {D : Type 0} (state : D → DiskState) (old : MachineState D) where
     lawful = λ r h past n s given. tt;
     follows = λ r h.
         let q : ReplicaState = record r { standing = standing.Down } in
-        shut_follows state r q old standing.Down old.disk (λ e. cc) refl refl refl h (λ b tells c image. held_nothing r q (stands_at r standing.Down) c c (gains_nothing c) (h.files b tells c image));
+        shut_follows state r q old standing.Down old.disk (λ e. cc) refl refl refl refl h (λ b tells c image. held_nothing r q (stands_at r standing.Down) c c (gains_nothing c) (h.files b tells c image));
     faults = counts_same _ _ (λ e. cc);
   }
 
@@ -77,6 +77,7 @@ pub first_follows : {D : Type 0} (state : D → DiskState) (disk : D) → IsMach
 first_follows state disk = record {
   stands = refl;
   begun = record { none_higher = λ k d lt. absurd (omega (arith, lt)); one_of = inl refl };
+  below = λ k d lt. absurd (omega (arith, lt));
   empty = λ e. refl;
   open_ = λ e. cc;
   files = λ b. absurd (b refl);
@@ -132,7 +133,7 @@ module _ {D : Type 0} (state : D → DiskState) (old : MachineState D) (d : D) w
       lawful = λ r h past n s given. tt;
       follows = λ r h.
           let q : ReplicaState = record r { standing = standing.Boot } in
-          shut_follows state r q old standing.Boot d (λ e. cc) refl refl refl h
+          shut_follows state r q old standing.Boot d (λ e. cc) refl refl refl refl h
           (λ b tells c image.
           let told : (state old.disk).tells ≡ true = sym restarts.proceeds.tells ∙ tells in
           let files = (state d).files in
@@ -162,7 +163,7 @@ module _ {D : Type 0} (state : D → DiskState) (old : MachineState D) (d : D) w
       lawful = λ r h past n s given. record { uses = refl; taken = refl; clock = tt; there = tt };
       follows = λ r h.
           let q : ReplicaState = record r { standing = standing.Down } in
-          shut_follows state r q old standing.Down d (λ e. cc) refl refl refl h
+          shut_follows state r q old standing.Down d (λ e. cc) refl refl refl refl h
           (λ b. each_step (state old.disk) (state d) (IsHeldBy r) (IsHeldBy q) restarts.proceeds.tells (steps refused.Failed restarts) (λ x y gains held. held_nothing r q (stands_at r standing.Down) x y gains held) (h.files b));
       faults = counts_for _ _ _ _ (λ e. refl) restarts.proceeds.faults;
     };

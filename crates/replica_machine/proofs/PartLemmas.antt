@@ -9,12 +9,12 @@ use Rattle.m3_model.specs.declared.replica.Standing.TheVariants as standing
 use Rattle.m3_outside.specs.Causes.{CountsFaults}
 use Rattle.m3_outside.specs.Files.{Stays}
 use Rattle.m3_outside.specs.DiskState.{DiskState, Told, Elapses}
-use Rattle.shard_store.specs.Held.{Held}
-use Rattle.shard_store.specs.Gains.{a_tenure}
-use Rattle.shard_store.specs.Loading.{MayBeUnsound}
+use Rattle.shard_files.specs.Held.{Held}
+use Rattle.shard_files.specs.Gains.{a_tenure}
+use Rattle.shard_files.specs.Loading.{MayBeUnsound}
 use Rattle.shard_store.specs.Stores.{StoreState, closed_over}
-use Rattle.shard_store.specs.declared.load.LoadErr.{LoadErr}
-use Rattle.shard_store.specs.declared.load.LoadErr.TheVariants as failures
+use Rattle.shard_files.specs.declared.load_err.LoadErr.{LoadErr}
+use Rattle.shard_files.specs.declared.load_err.LoadErr.TheVariants as failures
 use Rattle.cluster_core.specs.Refusals.{closed}
 use Rattle.cluster_core.specs.declared.event.StepCall.TheVariants as call
 use Rattle.cluster_core.specs.declared.event.StepReply.TheVariants as reply

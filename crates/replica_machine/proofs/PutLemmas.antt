@@ -1,8 +1,9 @@
 -- A put is a step of the core.
-use Rattle.std.proofs.Common.{◌≡◌, ℕ, [], ◌∷◌, ◌++◌, refl, sym, ap, subst, ◌∙◌, Option, Some, None, Result, Ok, Err}
+use Rattle.std.proofs.Common.{◌≡◌, ℕ, true, [], ◌∷◌, ◌++◌, refl, sym, ap, subst, ◌∙◌, Option, Some, None, Result, Ok, Err}
 use Rattle.std.specs.Prelude.{⊤, ◌≢◌, OnOk, IfErr, IsErrOf}
 use Rattle.std.specs.Option.{option_or}
-use Rattle.m3_model.specs.Contents.{raised}
+use Rattle.m3_model.specs.Contents.{Contents, raised}
+use Rattle.m3_outside.proofs.Moments.{same_becomes}
 use Rattle.m3_model.specs.Rules.{InWindow}
 use Rattle.m3_model.specs.declared.point.Point.{Point}
 use Rattle.m3_model.specs.declared.reason.Reason.{Reason}
@@ -11,12 +12,12 @@ use Rattle.m3_model.specs.declared.replica.Standing.{Standing}
 use Rattle.m3_model.specs.declared.replica.Standing.TheVariants as standing
 use Rattle.m3_model.specs.declared.rules.Rules.{Rules}
 use Rattle.m3_outside.specs.Causes.{CountsFaults}
-use Rattle.m3_outside.specs.DiskState.{DiskState}
+use Rattle.m3_outside.specs.DiskState.{DiskState, Becomes}
 use Rattle.m3_outside.specs.declared.disk_err.DiskErr.{DiskErr}
 use Rattle.m3_outside.specs.declared.disk_err.DiskErr.TheVariants as refused
-use Rattle.shard_store.specs.Gains.{a_point, Brings}
+use Rattle.shard_files.specs.Gains.{a_point, Brings}
 use Rattle.shard_store.specs.Stores.{StoreState}
-use Rattle.shard_store.proofs.LogStepLemmas.{on_ok_as, counts_same}
+use Rattle.shard_store.proofs.LogStepLemmas.{counts_same}
 use Rattle.cluster_core.specs.Refusals.{shut, unowned, outdated, outside, first_refusal}
 use Rattle.cluster_core.specs.Replicas.{after}
 use Rattle.cluster_core.specs.declared.event.StepCall.TheVariants as call
@@ -28,13 +29,15 @@ use Rattle.replica_machine.proofs.RefusalLemmas.{up}
 use Rattle.replica_machine.proofs.ReasonLemmas.{IsPlain, plain_lawful, plain_no_fault, put_plain, shut_alike, after_three, refused_none, refused_some}
 use Rattle.replica_machine.proofs.DiskLemmas.{each_step, reply_counts, brings_settled, brings_none_to}
 use Rattle.replica_machine.proofs.HeldByLemmas.{held_doubt}
-use Rattle.replica_machine.proofs.StepLemmas.{machine_of, kept_machine, shut_follows, put_follows, serving}
+use Rattle.replica_machine.proofs.StepLemmas.{machine_of, middle, kept_machine, shut_follows, put_follows, serving}
 
 -- what a put answers and leaves
 pub record PutDone {D : Type 0} (state : D → DiskState) (old : MachineState D) (version : ℕ) (rules : Rules) (p : Point) (result : Result ⊤ Reason) (new : MachineState D) : Type 0 where
   pub ok : OnOk result (new ≡ record old { disk = new.disk; content = raised old.content p })
   pub window : OnOk result (InWindow rules p)
   pub err : IfErr result (λ why. why ≢ reason.Disk → new ≡ record old { disk = new.disk })
+  pub plain : IfErr result (λ why. why ≢ reason.Disk → why ≢ reason.Memory → new ≡ old)
+  pub unchanged : (state old.disk).tells ≡ true → IsErrOf result reason.Memory → Becomes (λ files. files) (state old.disk) (state new.disk)
   pub fault : IsErrOf result reason.Disk → new ≡ shut_machine standing.Down old new.disk
   pub refused : (client number : ℕ) → IsRefusedFor (refusal old (call.Put client number rules version p)) result
   pub disk : BringsTo (a_point p) result (state old.disk) (state new.disk)
@@ -45,6 +48,7 @@ pub record PutBy {D : Type 0} (state : D → DiskState) (old mid : MachineState 
   pub ok : OnOk said (mid ≡ record old { disk = mid.disk; content = raised old.content p })
   pub memory : IsErrOf said refused.Memory → mid ≡ record old { disk = mid.disk }
   pub fault : mid ≡ record old { disk = mid.disk; content = mid.content }
+  pub unchanged : (state old.disk).tells ≡ true → IsErrOf said refused.Memory → Becomes (λ files. files) (state old.disk) (state mid.disk)
   pub disk : Brings (a_point p) said (state old.disk) (state mid.disk)
 
 left_plain : (r : ReplicaState) (client number version : ℕ) (rules : Rules) (p : Point) (why : Reason) → IsPlain why → r ≡ after r (call.Put client number rules version p) (reply.Refused why)
@@ -72,6 +76,8 @@ module _ {D : Type 0} (state : D → DiskState) (old : MachineState D) (version 
         ok = tt;
         window = tt;
         err = λ not. refl;
+        plain = λ not none. refl;
+        unchanged = λ t f. same_becomes (state old.disk);
         fault = λ f. absurd (fault f);
         refused = λ client number. refused_some ⊤ (refusal old (call.Put client number rules version p)) why first;
         disk = brings_none_to (a_point p) why (state old.disk) (plain_no_fault why plain);
@@ -108,7 +114,7 @@ module _ {D : Type 0} (state : D → DiskState) (old : MachineState D) (version 
       follows = λ r h.
           let q : ReplicaState = record r { standing = standing.Down; doubt = r.doubt ++ p ∷ [] } in
           subst (λ (m : MachineState D). IsMachineOf state q m) (ap (λ (m : MachineState D). shut_machine standing.Down m mid.disk) (sym by.fault))
-          (shut_follows state r q old standing.Down mid.disk (λ e. cc) refl refl refl h
+          (shut_follows state r q old standing.Down mid.disk (λ e. cc) refl refl refl refl h
           (λ b. each_step (state old.disk) (state mid.disk) (IsHeldBy r) (IsHeldBy q) by.disk.tells (λ t. (by.disk.any_moment t).images)
           (λ x y may held. held_doubt r q p refl refl refl (record { begun = λ t all. all; known = λ t is. is; fence = λ t f is. is }) x y may held) (h.files b)));
       faults = answer_counts (Err refused.Failed) by;
@@ -124,6 +130,8 @@ module _ {D : Type 0} (state : D → DiskState) (old : MachineState D) (version 
       ok = by.ok;
       window = in_window;
       err = tt;
+      plain = tt;
+      unchanged = λ t f. absurd (none f);
       fault = λ f. absurd (never f);
       refused = λ client number. refused_none (refusal old (call.Put client number rules version p)) (Ok u) none_first;
       disk = brings_settled (a_point p) (Ok u) (state old.disk) (state mid.disk) by.disk;
@@ -132,19 +140,29 @@ module _ {D : Type 0} (state : D → DiskState) (old : MachineState D) (version 
       where
         never : (let r : Result ⊤ Reason = Ok u in IsErrOf r reason.Disk) → ⊥
         never f = cc
+
+        none : (let r : Result ⊤ Reason = Ok u in IsErrOf r reason.Memory) → ⊥
+        none f = cc
     put_done_said (Err refused.Failed) by = record {
       ok = tt;
       window = tt;
       err = λ not. absurd (not refl);
+      plain = λ not none. absurd (not refl);
+      unchanged = λ t f. absurd (none f);
       fault = λ f. ap (λ (m : MachineState D). shut_machine standing.Down m mid.disk) by.fault;
       refused = λ client number. refused_none (refusal old (call.Put client number rules version p)) (Err refused.Failed) none_first;
       disk = brings_settled (a_point p) (Err refused.Failed) (state old.disk) (state mid.disk) by.disk;
       step = λ client number. put_step (Err refused.Failed) client number by;
     }
+      where
+        none : (let r : Result ⊤ Reason = Err reason.Disk in IsErrOf r reason.Memory) → ⊥
+        none f = cc
     put_done_said (Err refused.Memory) by = record {
       ok = tt;
       window = tt;
       err = λ not. by.memory refl;
+      plain = λ not none. absurd (none refl);
+      unchanged = λ t f. by.unchanged t refl;
       fault = λ f. absurd (never f);
       refused = λ client number. refused_none (refusal old (call.Put client number rules version p)) (Err refused.Memory) none_first;
       disk = brings_settled (a_point p) (Err refused.Memory) (state old.disk) (state mid.disk) by.disk;
@@ -158,9 +176,15 @@ module _ {D : Type 0} (state : D → DiskState) (old : MachineState D) (version 
     put_done said result new is left by =
         subst (λ (x : Result ⊤ Reason). PutDone state old version rules p x new) (sym is) (subst (λ (m : MachineState D). PutDone state old version rules p (settled_answer said) m) (sym left) (put_done_said said by))
 
+-- with what the store's put did, or as it was where it was refused
 pub put_by : {D : Type 0} (state : D → DiskState) (s : Standing) (tenure : Option ℕ) (begun : ℕ) (old : MachineState D) (before now : StoreState D) (p : Point) (said : Result ⊤ DiskErr) → machine_of s tenure begun before ≡ old
-    → OnOk said (now ≡ record before { disk = now.disk; content = raised before.content p }) → (IsErrOf said refused.Memory → now ≡ record before { disk = now.disk }) → now ≡ record before { disk = now.disk; content = now.content }
-    → Brings (a_point p) said (state before.disk) (state now.disk) → PutBy state old (machine_of s tenure begun now) p said
-put_by state s tenure begun old before now p said view ok memory fault brings =
-    subst (λ (m : MachineState _). PutBy state m (machine_of s tenure begun now) p said) view
-    (record { ok = on_ok_as said (ap (machine_of s tenure begun)) ok; memory = λ f. ap (machine_of s tenure begun) (memory f); fault = ap (machine_of s tenure begun) fault; disk = brings })
+    → OnOk said (now ≡ record before { disk = now.disk; content = raised before.content p }) → ((state before.disk).tells ≡ true → IsErrOf said refused.Memory → Becomes (λ files. files) (state before.disk) (state now.disk))
+    → Brings (a_point p) said (state before.disk) (state now.disk) → PutBy state old (middle s tenure begun before now old said) p said
+put_by {D} state s tenure begun old before now p said view ok unchanged brings = subst (λ (m : MachineState D). PutBy state m (middle s tenure begun before now m said) p said) view (by said ok unchanged brings)
+  where
+    by : (said : Result ⊤ DiskErr) → OnOk said (now ≡ record before { disk = now.disk; content = raised before.content p }) → ((state before.disk).tells ≡ true → IsErrOf said refused.Memory → Becomes (λ files. files) (state before.disk) (state now.disk))
+        → Brings (a_point p) said (state before.disk) (state now.disk) → PutBy state (machine_of s tenure begun before) (middle s tenure begun before now (machine_of s tenure begun before) said) p said
+    by (Ok u) ok unchanged brings =
+        let is = ap (machine_of s tenure begun) ok in
+        record { ok = is; memory = λ f. absurd (cc); fault = is ∙ ap (λ (c : Contents). record (machine_of s tenure begun before) { disk = now.disk; content = c }) (sym (ap (λ (x : StoreState D). x.content) ok)); unchanged = unchanged; disk = brings }
+    by (Err why) ok unchanged brings = record { ok = tt; memory = λ f. refl; fault = refl; unchanged = unchanged; disk = brings }

@@ -1,6 +1,6 @@
 -- What calls leave of a machine is what they leave of its replica.
-use Rattle.std.proofs.Common.{◌≡◌, inl, inr, ℕ, ◌≤◌, max, true, [], ◌∷◌, ◌++◌, refl, sym, ap, subst, ◌∙◌, Option, None}
-use Rattle.std.specs.Prelude.{◌≢◌}
+use Rattle.std.proofs.Common.{◌≡◌, inl, inr, ℕ, ◌≤◌, max, true, List, [], ◌∷◌, ◌++◌, refl, sym, ap, subst, ◌∙◌, Option, None, Result, Ok, Err, All, arith}
+use Rattle.std.specs.Prelude.{⊤, ◌≢◌, OnOk, IsErrOf}
 use Rattle.m3_model.specs.Contents.{Contents, Holds, raised, point_at}
 use Rattle.m3_model.specs.Members.{IsIn}
 use Rattle.m3_model.specs.declared.point.Point.{Point}
@@ -10,12 +10,15 @@ use Rattle.m3_model.proofs.JoinLemmas.{raised_holds, raised_keeps, raised_source
 use Rattle.m3_model.proofs.MemberLemmas.{IsIn-append_left, IsIn-append_cases, IsIn-push}
 use Rattle.m3_outside.specs.Files.{Files}
 use Rattle.m3_outside.specs.DiskState.{DiskState, EachImage, StepOf}
-use Rattle.shard_store.specs.Gains.{nothing, a_point, a_fence, Gains}
+use Rattle.placement_core.proofs.ListLemmas.{All-from_each, each-from_All}
+use Rattle.shard_files.specs.Gains.{nothing, a_point, a_fence, Gains}
 use Rattle.cluster_core.specs.Replicas.{Shows, greater}
 use Rattle.cluster_core.specs.Rows.{IsServing}
 use Rattle.cluster_core.specs.declared.replica_state.ReplicaState.{ReplicaState}
-use Rattle.shard_store.specs.Stores.{StoreState}
-use Rattle.replica_machine.specs.Machines.{MachineState, IsStoreOf, IsMachineOf, IsHeldBy, IsGreatest, shut_machine, unserved}
+use Rattle.m3_outside.specs.declared.disk_err.DiskErr.{DiskErr}
+use Rattle.m3_outside.specs.declared.disk_err.DiskErr.TheVariants as refused
+use Rattle.shard_store.specs.Stores.{StoreState, closed_over}
+use Rattle.replica_machine.specs.Machines.{MachineState, IsStoreOf, IsMachineOf, IsHeldBy, IsGreatest, shut_machine, settled, unserved}
 use Rattle.replica_machine.proofs.DiskLemmas.{each_step}
 use Rattle.replica_machine.proofs.HeldByLemmas.{StandsElse, held_nothing, held_point, held_fence, greater_is_max}
 use Rattle.replica_machine.proofs.RefusalLemmas.{IsUp, up}
@@ -48,17 +51,19 @@ module _ {D : Type 0} (state : D → DiskState) where
   kept_machine r old d same steps h = record {
     stands = h.stands;
     begun = h.begun;
+    below = h.below;
     empty = h.empty;
     open_ = λ o. let a = h.open_ o in record { begun = a.begun; tenure = a.tenure; fence = a.fence; sure = a.sure; sure_fences = a.sure_fences; shows = λ t. a.shows (sym same ∙ t) };
     files = λ b. each_step (state old.disk) (state d) (IsHeldBy r) (IsHeldBy r) same steps (λ x y gains held. held_nothing r r (stands_same r) x y gains held) (h.files b);
   }
 
   -- a machine that isn't open any more
-  pub shut_follows : (r q : ReplicaState) (old : MachineState D) (s : Standing) (d : D) → s ≢ standing.Open → q.standing ≡ s → q.begun ≡ r.begun → q.sure ≡ r.sure → IsMachineOf state r old → (r.begun ≢ [] → EachImage (state d) (IsHeldBy q))
+  pub shut_follows : (r q : ReplicaState) (old : MachineState D) (s : Standing) (d : D) → s ≢ standing.Open → q.standing ≡ s → q.begun ≡ r.begun → q.fence ≡ r.fence → q.sure ≡ r.sure → IsMachineOf state r old → (r.begun ≢ [] → EachImage (state d) (IsHeldBy q))
       → IsMachineOf state q (shut_machine s old d)
-  shut_follows r q old s d not stands begun sure h files = record {
+  shut_follows r q old s d not stands begun fence sure h files = record {
     stands = sym stands;
     begun = subst (IsGreatest old.begun) (sym begun) h.begun;
+    below = subst (λ (l : List ℕ). All (λ b. b ≤ q.fence) l) (sym begun) (subst (λ (f : ℕ). All (λ b. b ≤ f) r.begun) (sym fence) h.below);
     empty = λ e. sure ∙ h.empty (sym begun ∙ e);
     open_ = λ o. absurd (not o);
     files = λ b. files (λ e. b (begun ∙ e));
@@ -73,6 +78,7 @@ module _ {D : Type 0} (state : D → DiskState) where
       record {
         stands = h.stands;
         begun = h.begun;
+        below = h.below;
         empty = λ e. absurd (a.begun e);
         open_ = λ o. record { begun = a.begun; tenure = a.tenure; fence = a.fence; sure = a.sure; sure_fences = a.sure_fences; shows = λ t. shows_raised r old.content p (a.shows (sym same ∙ t)) };
         files = λ b. each_step (state old.disk) (state d) (IsHeldBy r) (IsHeldBy (record r { sure = r.sure ++ p ∷ [] })) same steps (λ x y gains held. held_point r p x y gains held) (h.files b);
@@ -87,6 +93,7 @@ module _ {D : Type 0} (state : D → DiskState) where
       record {
         stands = h.stands;
         begun = h.begun;
+        below = All-from_each (λ b. b ≤ greater r.fence version) r.begun (λ b m. let le = each-from_All (λ b. b ≤ r.fence) r.begun h.below b m in let up = greater_is_max r.fence version in omega (arith, le, up));
         empty = h.empty;
         open_ = λ o. record {
           begun = a.begun;
@@ -122,3 +129,26 @@ store_stays s store is_open open_ = subst (λ (x : Standing). IsStoreOf x store)
 -- a machine by its own fields and its store
 abbrev pub machine_of : {D : Type 0} → Standing → Option ℕ → ℕ → StoreState D → MachineState D
 machine_of s tenure begun store = record { standing = s; tenure = tenure; begun = begun; fence = store.fence; content = store.content; disk = store.disk }
+
+pub failed_is : (e : DiskErr) → (let said : Result ⊤ DiskErr = Err e in IsErrOf said refused.Failed) → e ≡ refused.Failed
+failed_is e f = cc
+
+-- ---- what a store's call leaves of an open machine, which a fault takes down
+
+module _ {D : Type 0} (s : Standing) (tenure : Option ℕ) (begun : ℕ) (before now : StoreState D) where
+  -- the machine with what the call did, or as it was where it was refused
+  abbrev pub middle : MachineState D → Result ⊤ DiskErr → MachineState D
+  middle old (Ok u) = machine_of s tenure begun now
+  middle old (Err why) = record old { disk = now.disk }
+
+  pub settled_is : (now_s : Standing) (said : Result ⊤ DiskErr) → (IsErrOf said refused.Memory → now ≡ record before { disk = now.disk }) → (IsErrOf said refused.Failed → now ≡ closed_over now.disk) → (IsErrOf said refused.Failed → now_s ≡ standing.Down)
+      → ((IsErrOf said refused.Failed → ⊥) → now_s ≡ s) → machine_of now_s tenure begun now ≡ settled said (middle (machine_of s tenure begun before) said)
+  settled_is now_s (Ok u) memory fault down stays = ap (λ (x : Standing). machine_of x tenure begun now) (stays (λ f. cc))
+  settled_is now_s (Err refused.Memory) memory fault down stays = ap (λ (x : Standing). machine_of x tenure begun now) (stays (λ f. cc)) ∙ ap (machine_of s tenure begun) (memory refl)
+  settled_is now_s (Err refused.Failed) memory fault down stays = ap (λ (x : Standing). machine_of x tenure begun now) (down refl) ∙ ap (machine_of standing.Down tenure begun) (fault refl)
+
+  pub store_after : (now_s : Standing) (said : Result ⊤ DiskErr) → s ≡ standing.Open → before.open_ ≡ true → OnOk said (now.open_ ≡ true) → (IsErrOf said refused.Memory → now ≡ record before { disk = now.disk }) → (IsErrOf said refused.Failed → now ≡ closed_over now.disk)
+      → (IsErrOf said refused.Failed → now_s ≡ standing.Down) → ((IsErrOf said refused.Failed → ⊥) → now_s ≡ s) → IsStoreOf now_s now
+  store_after now_s (Ok u) is_open opened ok memory fault down stays = store_stays now_s now (stays (λ f. cc) ∙ is_open) ok
+  store_after now_s (Err refused.Memory) is_open opened ok memory fault down stays = store_stays now_s now (stays (λ f. cc) ∙ is_open) (ap (λ (x : StoreState D). x.open_) (memory refl) ∙ opened)
+  store_after now_s (Err refused.Failed) is_open opened ok memory fault down stays = subst (λ (x : Standing). IsStoreOf x now) (sym (down refl)) (fault refl)

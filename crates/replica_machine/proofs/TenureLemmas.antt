@@ -9,14 +9,14 @@ use Rattle.m3_model.specs.declared.replica.Standing.TheVariants as standing
 use Rattle.m3_model.proofs.MemberLemmas.{IsIn-append_left, IsIn-append_right, IsIn-append_cases, IsIn-push}
 use Rattle.m3_outside.specs.Files.{Files}
 use Rattle.placement_core.proofs.ListLemmas.{All-from_each, each-from_All, Any-from_IsIn, IsIn-from_Any}
-use Rattle.shard_store.specs.Held.{Held}
-use Rattle.shard_store.specs.Gains.{a_tenure, Gains, MayGain}
-use Rattle.shard_store.proofs.GainLemmas.{covers_itself, covers_then}
-use Rattle.shard_store.proofs.HeldLemmas.{held_is_one}
+use Rattle.shard_files.specs.Held.{Held}
+use Rattle.shard_files.specs.Gains.{a_tenure, Gains, MayGain}
+use Rattle.shard_files.proofs.GainLemmas.{covers_itself, covers_then}
+use Rattle.shard_files.proofs.HeldLemmas.{held_is_one}
 use Rattle.cluster_core.specs.Replicas.{greater, IsGone}
 use Rattle.cluster_core.specs.Rows.{IsLoaded}
 use Rattle.cluster_core.specs.declared.replica_state.ReplicaState.{ReplicaState}
-use Rattle.replica_machine.specs.Machines.{IsHeldBy}
+use Rattle.replica_machine.specs.Machines.{MayHaveTenure, IsHeldBy}
 use Rattle.replica_machine.proofs.HeldByLemmas.{MayHaveFence, MovesOn, held_after, greater_is_max, only_fence}
 
 -- ---- a tenure that was to begin
@@ -24,9 +24,9 @@ use Rattle.replica_machine.proofs.HeldByLemmas.{MayHaveFence, MovesOn, held_afte
 abbrev tried : ReplicaState → ℕ → ReplicaState
 tried r t = record r { standing = standing.Down; doubt_fences = r.doubt_fences ++ t ∷ []; tried = r.tried ++ t ∷ [] }
 
-still_known : (r : ReplicaState) (t u : ℕ) → IsIn r.begun u ⊎ IsIn r.tried u → IsIn r.begun u ⊎ IsIn (r.tried ++ t ∷ []) u
+still_known : (r : ReplicaState) (t u : ℕ) → MayHaveTenure r u → MayHaveTenure (tried r t) u
 still_known r t u (inl begun) = inl begun
-still_known r t u (inr was) = inr (IsIn-append_left r.tried (t ∷ []) u was)
+still_known r t u (inr was) = inr (IsIn-append_left r.tried (t ∷ []) u was.0, IsIn-append_left r.doubt_fences (t ∷ []) u was.1)
 
 still_fenced : (r : ReplicaState) (t u f : ℕ) → MayHaveFence r u f → MayHaveFence (tried r t) u f
 still_fenced r t u f (inl is) = inl is
@@ -34,10 +34,10 @@ still_fenced r t u f (inr any) =
     let d = IsIn-from_Any (λ doubtful. f ≡ max doubtful (max u r.fence)) r.doubt_fences any in
     inr (Any-from_IsIn (λ doubtful. f ≡ max doubtful (max u r.fence)) (r.doubt_fences ++ t ∷ []) d.0 (IsIn-append_left r.doubt_fences (t ∷ []) d.0 d.1) d.2)
 
-up_known : (r : ReplicaState) (t u : ℕ) → IsIn r.begun u ⊎ IsIn r.tried u → IsIn r.begun (max u t) ⊎ IsIn (r.tried ++ t ∷ []) (max u t)
+up_known : (r : ReplicaState) (t u : ℕ) → MayHaveTenure r u → MayHaveTenure (tried r t) (max u t)
 up_known r t u known =
-    ⊎_elim (λ (lt : u < t). let is : t ≡ max u t = omega (arith, lt) in inr (subst (IsIn (r.tried ++ t ∷ [])) is (IsIn-push r.tried t)))
-    (λ (ge : t ≤ u). let is : u ≡ max u t = omega (arith, ge) in subst (λ (n : ℕ). IsIn r.begun n ⊎ IsIn (r.tried ++ t ∷ []) n) is (still_known r t u known)) (cases_lt u t)
+    ⊎_elim (λ (lt : u < t). let is : t ≡ max u t = omega (arith, lt) in inr (subst (IsIn (r.tried ++ t ∷ [])) is (IsIn-push r.tried t), subst (IsIn (r.doubt_fences ++ t ∷ [])) is (IsIn-push r.doubt_fences t)))
+    (λ (ge : t ≤ u). let is : u ≡ max u t = omega (arith, ge) in subst (MayHaveTenure (tried r t)) is (still_known r t u known)) (cases_lt u t)
 
 up_fenced : (r : ReplicaState) (t u f : ℕ) → MayHaveFence r u f → MayHaveFence r (max u t) (max f t)
 up_fenced r t u f (inl is) = let up : max f t ≡ max (max u t) r.fence = omega (arith, is) in inl up
@@ -79,7 +79,7 @@ held_began r t fence points tenure_found fence_found x y held low fence_is none_
       held = all.held;
       source = All-from_each (λ p. IsIn (r.sure ++ points) p ⊎ ⊥) all.points (λ p m. ⊎_elim (λ (old : IsIn points p). inl (IsIn-append_right r.sure points p old)) (λ (none : ⊥). absurd none) (all.grows.nothing_else p m));
       all_there = All-from_each (λ p. ¬ IsGone r p → Covers all.points p) (r.sure ++ points) (λ p m stays.
-          covers_then points all.points p (⊎_elim (λ (old : IsIn r.sure p). there p old stays) (λ (new : IsIn points p). covers_itself points p new) (IsIn-append_cases r.sure points p m)) all.grows.stays);
+          covers_then points all.points p (⊎_elim (λ (old : IsIn r.sure p). there p old stays) (λ (new : IsIn points p). covers_itself points p new) (IsIn-append_cases r.sure points p m)) (λ q n. covers_itself all.points q (all.grows.stays q n)));
       none_higher = All-from_each (λ b. b ≤ max tenure_found t) (r.begun ++ t ∷ []) (λ b m.
           ⊎_elim (λ (old : IsIn r.begun b). let le = none_higher b old in omega (arith, le)) (λ (new : (t ≡ b) ⊎ ⊥). ⊎_elim (λ (same : t ≡ b). omega (arith, same)) (λ (none : ⊥). absurd none) new) (IsIn-append_cases r.begun (t ∷ []) b m));
       known = inl (subst (IsIn (r.begun ++ t ∷ [])) tenure_is (IsIn-push r.begun t));
@@ -105,7 +105,7 @@ held_again r t fence no_doubt none fence_is none_higher x y gains h =
     (⊎_elim (λ (lt : h.tenure < t). let up : t ≡ max h.tenure t = omega (arith, lt) in inl (subst (IsIn (r.begun ++ t ∷ [])) up (IsIn-push r.begun t)))
     (λ (ge : t ≤ h.tenure).
     let up : h.tenure ≡ max h.tenure t = omega (arith, ge) in
-    subst (λ (n : ℕ). IsIn (r.begun ++ t ∷ []) n ⊎ IsIn r.tried n) up (⊎_elim (λ (begun : IsIn r.begun h.tenure). inl (IsIn-append_left r.begun (t ∷ []) h.tenure begun)) (λ (was : IsIn r.tried h.tenure). inr was) h.known)) (cases_lt h.tenure t))
+    subst (MayHaveTenure q) up (⊎_elim (λ (begun : IsIn r.begun h.tenure). inl (IsIn-append_left r.begun (t ∷ []) h.tenure begun)) (λ (was : IsIn r.tried h.tenure × IsIn r.doubt_fences h.tenure). absurd (subst (λ (l : List ℕ). IsIn l h.tenure) none was.1)) h.known)) (cases_lt h.tenure t))
     (inl is)
 
 -- ---- what the core says of a Began

@@ -7,9 +7,9 @@ use Rattle.m3_model.specs.declared.reason.Reason.TheVariants as reason
 use Rattle.m3_model.specs.declared.replica.Standing.TheVariants as standing
 use Rattle.m3_outside.specs.Files.{Files}
 use Rattle.m3_outside.specs.DiskState.{DiskState, Told}
-use Rattle.shard_store.specs.Held.{Held}
-use Rattle.shard_store.specs.declared.load.LoadErr.{LoadErr}
-use Rattle.shard_store.specs.declared.load.LoadErr.TheVariants as failures
+use Rattle.shard_files.specs.Held.{Held}
+use Rattle.shard_files.specs.declared.load_err.LoadErr.{LoadErr}
+use Rattle.shard_files.specs.declared.load_err.LoadErr.TheVariants as failures
 use Rattle.replica_machine.specs.Damages.{damage_of}
 use Rattle.replica_machine.specs.Machines.{MachineState, shut_machine}
 use Rattle.replica_machine.specs.declared.machine.Began.{Began}

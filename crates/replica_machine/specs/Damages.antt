@@ -3,7 +3,7 @@ use Rattle.std.specs.Prelude.{◌≡◌, ℕ, List, ◌++◌, codes, decimal}
 use Rattle.m3_model.specs.declared.reason.Damage.{Damage}
 use Rattle.m3_model.specs.declared.reason.Damage.TheVariants as damage
 use Rattle.m3_outside.specs.Files.{Files}
-use Rattle.shard_store.specs.Loading.{IsDamagedAt}
+use Rattle.shard_files.specs.Loading.{IsDamagedAt}
 
 -- the name of the log's segment of this number
 abbrev pub segment_text : ℕ → List ℕ

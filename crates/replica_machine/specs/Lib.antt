@@ -2,3 +2,5 @@ pub mod Machines
 pub mod Steps
 pub mod Damages
 pub mod Boots
+pub mod MachineLaws
+pub mod Openings

@@ -21,7 +21,7 @@ use Rattle.m3_outside.specs.Files.{Files}
 use Rattle.m3_outside.specs.DiskState.{DiskState, EachImage}
 use Rattle.m3_outside.specs.declared.disk_err.DiskErr.{DiskErr}
 use Rattle.m3_outside.specs.declared.disk_err.DiskErr.TheVariants as refused
-use Rattle.shard_store.specs.Held.{Held}
+use Rattle.shard_files.specs.Held.{Held}
 use Rattle.shard_store.specs.Stores.{StoreState, closed_over}
 use Rattle.cluster_core.specs.Refusals.{shut, unowned, outdated, first_refusal}
 use Rattle.cluster_core.specs.Replicas.{Shows, IsGone, fresh}
@@ -127,9 +127,13 @@ pub record IsLiveAnswer (c : Contents) (rules : Rules) (pick : Pick) (from to : 
 
 -- ---- the replica that it is
 
+-- the tenure of files: one with which the replica began, or one with which it was to begin when the disk failed, as long as that is in doubt
+abbrev pub MayHaveTenure : ReplicaState → ℕ → Type 0
+MayHaveTenure r tenure = IsIn r.begun tenure ⊎ (IsIn r.tried tenure × IsIn r.doubt_fences tenure)
+
 -- Files that the replica may begin with. Their points are sure or in doubt, and cover the sure ones that aren't gone. Their tenure is one with which
--- it began, or was to begin when the disk failed, and none with which it began is above it. Their fence is the replica's or one in doubt, and not below
--- their tenure.
+-- it began, or one in doubt with which it was to begin, and none with which it began is above it. Their fence is the replica's or one in doubt, and not
+-- below their tenure.
 pub record IsHeldBy (r : ReplicaState) (files : Files) : Type 0 where
   pub points : List Point
   pub tenure : ℕ
@@ -138,7 +142,7 @@ pub record IsHeldBy (r : ReplicaState) (files : Files) : Type 0 where
   pub source : All (λ p. IsIn r.sure p ⊎ IsIn r.doubt p) points
   pub all_there : All (λ p. ¬ IsGone r p → Covers points p) r.sure
   pub none_higher : All (λ begun. begun ≤ tenure) r.begun
-  pub known : IsIn r.begun tenure ⊎ IsIn r.tried tenure
+  pub known : MayHaveTenure r tenure
   pub fence_is : (fence ≡ max tenure r.fence) ⊎ Any (λ doubtful. fence ≡ max doubtful (max tenure r.fence)) r.doubt_fences
 
 -- an open machine has the tenure and the fence of the replica, which began and of which nothing is in doubt, and where the disk tells a content that
@@ -157,10 +161,11 @@ pub record IsGreatest (begun : ℕ) (all : List ℕ) : Type 0 where
   pub one_of : (begun ≡ 0) ⊎ IsIn all begun
 
 -- The machine is the replica's: it stands as the replica does, has all that the replica has where it is open, and each stop leaves files that the
--- replica may begin with, once it began.
+-- replica may begin with, once it began. No tenure with which the replica began is above its fence.
 pub record IsMachineOf {D : Type 0} (state : D → DiskState) (r : ReplicaState) (m : MachineState D) : Type 0 where
   pub stands : m.standing ≡ r.standing
   pub begun : IsGreatest m.begun r.begun
+  pub below : All (λ begun. begun ≤ r.fence) r.begun
   pub empty : r.begun ≡ [] → r.sure ≡ []
   pub open_ : m.standing ≡ standing.Open → HasAllOf state r m
   pub files : r.begun ≢ [] → EachImage (state m.disk) (IsHeldBy r)

@@ -5,8 +5,8 @@ ghost use Rattle.m3_model.specs.declared.replica.Standing.TheVariants.{Down as I
 ghost use Rattle.m3_outside.specs.DiskState.{DiskState, Told, EachImage};
 ghost use Rattle.commit_log.specs.LogEnd.{NoneFrom};
 ghost use Rattle.m3_model.specs.declared.reason.Damage.{Damage};
-ghost use Rattle.shard_store.specs.Held.{Held, IsSound};
-ghost use Rattle.shard_store.specs.Gains.{a_tenure};
+ghost use Rattle.shard_files.specs.Held.{Held, IsSound};
+ghost use Rattle.shard_files.specs.Gains.{a_tenure};
 ghost use Rattle.cluster_core.specs.declared.event.StepCall.TheVariants as call;
 ghost use Rattle.cluster_core.specs.declared.event.StepReply.TheVariants as reply;
 ghost use Rattle.replica_machine.specs.Machines.{IsOwn};
@@ -15,14 +15,15 @@ ghost use Rattle.replica_machine.specs.Boots.{BeganFrom, BeganAgain, HoldsHigher
 ghost use Rattle.replica_machine.specs.Steps.{reply_by, IsStep, BringsTo};
 
 use crate::damage::damaged_segment;
-use crate::machine::{Began, Machine};
+use crate::machine::{Began, Machine, fall};
 use crate::opening::open_store;
 use m3_model::reason::Reason;
 use m3_model::replica::Standing;
 use m3_model::seq::Seq;
 use m3_outside::disk::Disk;
 use m3_outside::disk_err::DiskErr;
-use shard_store::load::{LoadErr, Loaded};
+use shard_files::load_err::LoadErr;
+use shard_store::load::Loaded;
 
 impl<D: Disk> Machine<D> {
     /// Begins a tenure. From Boot it syncs and loads the files, begins a fresh segment of the log, has the tenure in it where
@@ -91,7 +92,7 @@ impl<D: Disk> Machine<D> {
         ensures step { IsStep D.state self.old (call.Begin tenure) (reply_by (λ began. reply.Began began.fence began.points) result) self.new }
     {
         if let Err(why) = self.store.begin(tenure) {
-            return Err(self.refused(why));
+            return Err(fall(&mut self.standing, why));
         }
         self.tenure = Some(tenure);
         self.begun = tenure;

@@ -3,6 +3,7 @@
 
 mod boot;
 mod damage;
+pub mod laws;
 pub mod machine;
 mod opening;
 mod refusals;

@@ -4,15 +4,16 @@ ghost use Rattle.m3_model.specs.Reads.{space_picked};
 ghost use Rattle.m3_model.specs.Rules.{InWindow};
 ghost use Rattle.m3_model.specs.declared.reason.Reason.TheVariants as reason;
 ghost use Rattle.m3_model.specs.declared.replica.Standing.TheVariants.{Down as IsDown, Boot as IsBoot, Open as IsOpen};
-ghost use Rattle.m3_outside.specs.DiskState.{DiskState, Told};
+ghost use Rattle.m3_outside.specs.DiskState.{DiskState, Told, Becomes};
+ghost use Rattle.m3_outside.specs.declared.disk_err.DiskErr.TheVariants.{Failed as DiskFailed};
 ghost use Rattle.wire_bytes.specs.Entries.{IsBounded};
-ghost use Rattle.shard_store.specs.Gains.{nothing, a_point, a_fence, a_tenure};
-ghost use Rattle.shard_store.specs.Held.{Held};
+ghost use Rattle.shard_files.specs.Gains.{nothing, a_point, a_fence, a_tenure};
+ghost use Rattle.shard_files.specs.Held.{Held};
 ghost use Rattle.cluster_core.specs.Replicas.{fresh};
 ghost use Rattle.cluster_core.specs.Rows.{open_fence};
 ghost use Rattle.cluster_core.specs.declared.event.StepCall.TheVariants as call;
 ghost use Rattle.cluster_core.specs.declared.event.StepReply.TheVariants as reply;
-ghost use Rattle.replica_machine.specs.Machines.{first_machine, shut_machine, IsMachineOf, reason_of, left_by, settled_answer, settled, refusal, unserved, IsOwn, IsRefusedFor, IsLiveAnswer};
+ghost use Rattle.replica_machine.specs.Machines.{first_machine, shut_machine, IsMachineOf, reason_of, left_by, settled_answer, refusal, unserved, IsOwn, IsRefusedFor, IsLiveAnswer};
 ghost use Rattle.replica_machine.specs.Steps.{reply_by, IsStep, BringsTo, RestartsTo};
 
 use crate::refusals::{check_fence, check_open, check_owner, check_window};
@@ -87,6 +88,31 @@ fn first_live(retention: u64, now: u64, from: u64) -> u64
     }
 }
 
+// What a machine answers for what its open store refused: a fault, which closed the store, takes it down.
+pub(crate) fn fall(standing: &mut Standing, why: DiskErr) -> Reason
+    ensures why { result ≡ reason_of why }
+    ensures down { why ≡ DiskFailed → standing.new ≡ IsDown }
+    ensures stays { ¬ (why ≡ DiskFailed) → standing.new ≡ standing.old }
+{
+    if why == DiskErr::Memory {
+        return Reason::Memory;
+    }
+    *standing = Standing::Down;
+    Reason::Disk
+}
+
+// The same for what the store answered.
+fn settle(standing: &mut Standing, said: Result<(), DiskErr>) -> Result<(), Reason>
+    ensures said { result ≡ settled_answer said }
+    ensures down { IsErrOf said DiskFailed → standing.new ≡ IsDown }
+    ensures stays { ¬ (IsErrOf said DiskFailed) → standing.new ≡ standing.old }
+{
+    match said {
+        Ok(()) => Ok(()),
+        Err(why) => Err(fall(standing, why)),
+    }
+}
+
 impl<D: Disk> Machine<D> {
     /// A machine at Boot over this disk, without tenure. Takes no memory.
     pub fn new(alloc: Global, disk: D) -> Machine<D>
@@ -126,30 +152,22 @@ impl<D: Disk> Machine<D> {
         }
     }
 
-    // What the machine answers for what its disk answered.
-    fn settle(&mut self, said: Result<(), DiskErr>) -> Result<(), Reason>
-        ensures said { result ≡ settled_answer said }
-        ensures left { self.new ≡ settled said self.old }
-    {
-        match said {
-            Ok(()) => Ok(()),
-            Err(why) => Err(self.refused(why)),
-        }
-    }
-
     /// Takes the point, which a client sent at this version: the content is joined with it, in logarithmic time, and it is
     /// in the log, synced. The point's namespace is one of the rules, and its values are within their bounds.
     ///
     /// # Errors
     ///
     /// The first of `Down`, `Boot`, `NotOwned`, `Stale`, `Past` and `Future` that holds, else want of memory or a fault.
-    /// Each but a fault leaves the machine as it was. After a fault the machine is closed, and the point is in doubt.
+    /// Each but a fault leaves the machine and its files as they were. After a fault the machine is closed, and the point is
+    /// in doubt.
     pub fn put(&mut self, rules: &Rules, version: u64, point: &Point) -> Result<(), Reason>
         requires space { point.now.ns < length rules.now.spaces }
         requires bounded { IsBounded point.now }
         ensures ok { OnOk result (self.new ≡ record self.old { disk = self.new.disk; content = raised self.old.content point.now }) }
         ensures window { OnOk result (InWindow rules.entry.now point.now) }
         ensures err { IfErr result (λ why. why ≢ reason.Disk → self.new ≡ record self.old { disk = self.new.disk }) }
+        ensures plain { IfErr result (λ why. why ≢ reason.Disk → why ≢ reason.Memory → self.new ≡ self.old) }
+        ensures unchanged { (D.state self.old.disk).tells ≡ true → IsErrOf result reason.Memory → Becomes (λ files. files) (D.state self.old.disk) (D.state self.new.disk) }
         ensures fault { IsErrOf result reason.Disk → self.new ≡ shut_machine IsDown self.old self.new.disk }
         ensures refused { (client number : ℕ) → IsRefusedFor (refusal self.old (call.Put client number rules.entry.now version point.now)) result }
         ensures disk { BringsTo (a_point point.now) result (D.state self.old.disk) (D.state self.new.disk) }
@@ -158,7 +176,7 @@ impl<D: Disk> Machine<D> {
         self.check_version(version)?;
         check_window(rules, point)?;
         let said = self.store.put(point);
-        self.settle(said)
+        settle(&mut self.standing, said)
     }
 
     /// The held points with `from <= t < to` that haven't expired, of the series that the pick asks for. Identifiers and
@@ -197,10 +215,12 @@ impl<D: Disk> Machine<D> {
     /// # Errors
     ///
     /// The first of `Down`, `Boot` and `NotOwned` that holds, else want of memory or a fault. Each but a fault leaves the
-    /// machine as it was. After a fault the machine is closed, and the fence is in doubt.
+    /// machine and its files as they were. After a fault the machine is closed, and the fence is in doubt.
     pub fn fence(&mut self, version: u64) -> Result<(), Reason>
         ensures ok { OnOk result (self.new ≡ record self.old { disk = self.new.disk; fence = max self.old.fence version }) }
         ensures err { IfErr result (λ why. why ≢ reason.Disk → self.new ≡ record self.old { disk = self.new.disk }) }
+        ensures plain { IfErr result (λ why. why ≢ reason.Disk → why ≢ reason.Memory → self.new ≡ self.old) }
+        ensures unchanged { (D.state self.old.disk).tells ≡ true → IsErrOf result reason.Memory → Becomes (λ files. files) (D.state self.old.disk) (D.state self.new.disk) }
         ensures fault { IsErrOf result reason.Disk → self.new ≡ shut_machine IsDown self.old self.new.disk }
         ensures refused { IsRefusedFor (refusal self.old (call.Fence version)) result }
         ensures disk { BringsTo (a_fence version) result (D.state self.old.disk) (D.state self.new.disk) }
@@ -209,7 +229,7 @@ impl<D: Disk> Machine<D> {
         check_open(self.standing)?;
         check_owner(self.tenure, version)?;
         let said = self.store.fence(version);
-        self.settle(said)
+        settle(&mut self.standing, said)
     }
 
     /// Closes the machine and forgets what is in memory. The files stay. Takes no memory.

@@ -2,8 +2,8 @@ ghost use Rattle.std.specs.Prelude.{◌≡◌, ◌≤◌, true, max, OnOk, OnErr
 ghost use Rattle.m3_model.specs.Contents.{content_of};
 ghost use Rattle.m3_outside.specs.DiskState.{DiskState, Told, EachImage};
 ghost use Rattle.commit_log.specs.LogEnd.{NoneFrom};
-ghost use Rattle.shard_store.specs.Gains.{Brings, a_tenure};
-ghost use Rattle.shard_store.specs.Held.{Held};
+ghost use Rattle.shard_files.specs.Gains.{Brings, a_tenure};
+ghost use Rattle.shard_files.specs.Held.{Held};
 ghost use Rattle.shard_store.specs.Stores.{closed_over};
 
 use m3_outside::disk::Disk;

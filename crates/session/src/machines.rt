@@ -6,7 +6,7 @@ ghost use Rattle.m3_model.specs.declared.reason.Damage.{Damage};
 ghost use Rattle.m3_model.specs.declared.reason.Reason.TheVariants as reason;
 ghost use Rattle.m3_outside.specs.DiskState.{DiskState, Told};
 ghost use Rattle.wire_bytes.specs.Entries.{IsBounded};
-ghost use Rattle.shard_store.specs.Held.{IsSound};
+ghost use Rattle.shard_files.specs.Held.{IsSound};
 ghost use Rattle.cluster_core.specs.declared.event.StepCall.TheVariants as call;
 ghost use Rattle.cluster_core.specs.declared.event.StepReply.{StepReply};
 ghost use Rattle.cluster_core.specs.declared.event.StepReply.TheVariants as reply;

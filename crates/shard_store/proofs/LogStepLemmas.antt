@@ -1,5 +1,5 @@
 -- Calls of a log as steps of what the files hold.
-use Rattle.std.proofs.Common.{◌≡◌, inl, ℕ, ◌+◌, ◌≤◌, true, List, [], ◌∷◌, refl, sym, ap, subst, ◌∙◌, arith, Result, Ok, Err}
+use Rattle.std.proofs.Common.{◌≡◌, inl, ℕ, ◌+◌, ◌≤◌, max, true, false, Option, Some, None, List, [], ◌∷◌, refl, sym, ap, subst, ◌∙◌, arith, Result, Ok, Err}
 use Rattle.std.specs.Prelude.{⊤, IsErr, IsErrAnd, IsErrOf, IfOk, OnOk}
 use Rattle.m3_outside.specs.Causes.{CountsFaults}
 use Rattle.m3_outside.specs.Files.{Files}
@@ -9,29 +9,60 @@ use Rattle.m3_outside.specs.declared.disk_err.DiskErr.TheVariants.{Memory, Faile
 use Rattle.m3_outside.proofs.Moments.{step_as, elapses_as, elapses_then}
 use Rattle.commit_log.specs.Segment.{segment, MayAdd, Adds}
 use Rattle.commit_log.specs.LogEnd.{LogEnd, NoneAbove, NoneFrom, Stands, MayBegin}
-use Rattle.shard_store.specs.declared.entries.LogEntry.{LogEntry}
-use Rattle.shard_store.specs.Entries.{IsEntry}
-use Rattle.shard_store.specs.Held.{Held}
-use Rattle.shard_store.specs.Gains.{Gain, nothing, Gains, MayGain, Brings}
-use Rattle.shard_store.specs.LogSteps.{gain_in}
-use Rattle.shard_store.specs.Stores.{HoldsAtLeast, IsKeptOn}
+use Rattle.shard_files.specs.declared.entries.LogEntry.{LogEntry}
+use Rattle.shard_files.specs.Entries.{IsEntry}
+use Rattle.shard_files.specs.Held.{Held}
+use Rattle.shard_files.specs.Gains.{Gain, nothing, Gains, MayGain, Brings}
+use Rattle.shard_files.specs.LogSteps.{gain_in}
+use Rattle.block_buffer.specs.Held.{Held as InMemory}
+use Rattle.m3_model.specs.Contents.{Contents, content_of, raised}
+use Rattle.m3_model.specs.declared.point.Key.{Key}
+use Rattle.shard_files.specs.declared.entries.LogEntry.TheVariants as entry
+use Rattle.shard_store.specs.declared.opened.Opened.{Opened}
+use Rattle.shard_store.specs.StoreParts.{state_of, IsKept}
+use Rattle.shard_store.specs.Stores.{StoreState, HoldsOpened, IsKeptOn, memory_with}
 use Rattle.wire_bytes.specs.Entries.{IsBounded, ArePoints}
 use Rattle.m3_model.specs.Members.{IsIn}
 use Rattle.m3_model.specs.declared.point.Point.{Point}
-use Rattle.shard_store.proofs.GainLemmas.{gains_nothing, there_already, all_is_part, nothing_is_part, nothing_then_all, nothing_then_part, kept_by_part}
-use Rattle.shard_store.proofs.EntryLemmas.{added, may_be_added, begun_gains, fresh_gains}
+use Rattle.shard_files.proofs.GainLemmas.{gains_nothing, all_is_part, nothing_is_part, nothing_then_all, nothing_then_part}
+use Rattle.shard_files.specs.Held.{tenure_in, fence_in}
+use Rattle.shard_files.proofs.HeldLemmas.{tenure_is_fence}
+use Rattle.shard_store.proofs.KeptLemmas.{there_already, opened_by_all, opened_by_nothing}
+use Rattle.shard_files.proofs.EntryLemmas.{added, may_be_added, begun_gains, fresh_gains}
 
 -- no image has a segment above the log's end
 above_all : (log : LogEnd) (d : DiskState) → IsLawful d → Stands log d → d.tells ≡ true → (c : Files) → d.images c → NoneAbove log.number c
 above_all log d lawful stands tells c image n lt = (lawful.same_names tells c image (segment n)).0 (stands.above tells n lt)
 
 -- what each image keeps, a step on
-pub kept_as : {step : Files → Files → Type 0} (t f u g : ℕ) (old new : DiskState) → new.tells ≡ old.tells → ((x y : Files) → step x y → HoldsAtLeast t f x → HoldsAtLeast u g y)
-    → (old.tells ≡ true → (c : Files) → new.images c → StepOf step old.images c) → EachImage old (HoldsAtLeast t f) → EachImage new (HoldsAtLeast u g)
-kept_as t f u g old new same keeps steps each tells c image =
+pub kept_as : {step : Files → Files → Type 0} {P Q : Files → Type 0} (old new : DiskState) → new.tells ≡ old.tells → ((x y : Files) → step x y → P x → Q y)
+    → (old.tells ≡ true → (c : Files) → new.images c → StepOf step old.images c) → EachImage old P → EachImage new Q
+kept_as old new same keeps steps each tells c image =
     let told = sym same ∙ tells in
     let step = steps told c image in
     keeps step.before c step.stepped (each told step.before step.was)
+
+-- what is in memory is what each stop leaves still, where a call brings nothing
+pub kept_by_nothing : (log end : LogEnd) (memory : InMemory) (tenure fence : ℕ) (old new : DiskState) → new.tells ≡ old.tells → Stands end new → (old.tells ≡ true → Elapses (Gains nothing) old new)
+    → IsKeptOn log memory tenure fence old → IsKeptOn end memory tenure fence new
+kept_by_nothing log end memory tenure fence old new same stands goes kept = record {
+  stands = stands;
+  exact = kept_as old new same (opened_by_nothing memory.points tenure fence) (λ tells. (goes tells).images) kept.exact;
+  at_rest = kept.at_rest;
+  order = kept.order;
+}
+
+-- and where it brings an entry
+pub kept_by_entry : {X E : Type 0} (r : Result X E) (e : LogEntry) (log end : LogEnd) (memory : InMemory) (tenure fence : ℕ) (old new : DiskState) → new.tells ≡ old.tells → Stands end new
+    → (old.tells ≡ true → OnOk r ((c : Files) → new.images c → StepOf (Gains (gain_in e)) old.images c)) → IsKeptOn log memory tenure fence old
+    → OnOk r (IsKeptOn end (memory_with e memory) (max tenure (tenure_in e)) (max fence (fence_in e)) new)
+kept_by_entry (Ok x) e log end memory tenure fence old new same stands steps kept = record {
+  stands = stands;
+  exact = kept_as old new same (λ x y gains has. opened_by_all (gain_in e) x y memory.points tenure fence gains has) steps kept.exact;
+  at_rest = kept.at_rest;
+  order = let up = tenure_is_fence e in omega (arith, kept.order, up);
+}
+kept_by_entry (Err x) e log end memory tenure fence old new same stands steps kept = tt
 
 -- a segment that may begin
 module _ (log : LogEnd) (old new : DiskState) (lawful : IsLawful old) (stands : Stands log old) where
@@ -45,9 +76,6 @@ module _ (log : LogEnd) (old new : DiskState) (lawful : IsLawful old) (stands : 
 
   pub append_added : old.tells ≡ true → ((c : Files) → new.images c → StepOf (Adds (segment log.number) bytes) old.images c) → (c : Files) → new.images c → StepOf (Gains (gain_in e)) old.images c
   append_added tells steps c image = step_as (λ x y was adds. added e bytes is log.number x y (above_all log old lawful stands tells x was) adds) c (steps c image)
-
-pub nothing_keeps : (t f : ℕ) (x y : Files) → Gains nothing x y → HoldsAtLeast t f x → HoldsAtLeast t f y
-nothing_keeps t f x y gains least = kept_by_part nothing x y t f (all_is_part nothing x y gains) least
 
 -- first a call that brings nothing, and then one that brings something
 module _ (gain : Gain) (a b c : DiskState) (one : a.tells ≡ true → Elapses (Gains nothing) a b) (same : b.tells ≡ a.tells) where
@@ -123,9 +151,9 @@ brings_none gain r a is =
     brings_nothing gain r Memory a a is (λ tells. elapses_same (Gains nothing) a (λ x image. gains_nothing x)) refl (counts_same (IsErrOf r DiskFailed) a.faults (λ h. not_failed (subst (λ (q : Result ⊤ DiskErr). IsErrOf q DiskFailed) is h)))
 
 -- a number that the files have already
-pub brings_there : (gain : Gain) (u : ⊤) (tenure fence : ℕ) (a : DiskState) → EachImage a (HoldsAtLeast tenure fence) → ((p : Point) → IsIn gain.points p → ⊥) → gain.tenure ≤ tenure → gain.fence ≤ fence → Brings gain (Ok u) a a
-brings_there gain u tenure fence a each none t f =
-    let there = λ (tells : a.tells ≡ true) (x : Files) (image : a.images x). there_already gain x x tenure fence (each tells x image) none t f in
+pub brings_there : (gain : Gain) (u : ⊤) (content : Contents) (tenure fence : ℕ) (a : DiskState) → EachImage a (HoldsOpened content tenure fence) → ((p : Point) → IsIn gain.points p → ⊥) → gain.tenure ≤ tenure → gain.fence ≤ fence → Brings gain (Ok u) a a
+brings_there gain u content tenure fence a each none t f =
+    let there = λ (tells : a.tells ≡ true) (x : Files) (image : a.images x). there_already gain x x content tenure fence (each tells x image) none t f in
     brings_all gain u a a (λ tells. elapses_same (MayGain gain) a (λ x image. all_is_part gain x x (there tells x image)))
     (λ tells z image. record { before = z; was = image; stepped = there tells z image }) refl (counts_same ⊥ a.faults (λ h. h))
 
@@ -133,8 +161,8 @@ brings_there gain u tenure fence a each none t f =
 pub brings_as : (gain : Gain) (r q : Result ⊤ DiskErr) (a b : DiskState) → q ≡ r → Brings gain r a b → Brings gain q a b
 brings_as gain r q a b same brings = subst (λ (x : Result ⊤ DiskErr). Brings gain x a b) (sym same) brings
 
-pub kept_for : (log : LogEnd) (t f u g : ℕ) (d : DiskState) → t ≡ u → f ≡ g → IsKeptOn log t f d → IsKeptOn log u g d
-kept_for log t f u g d a b kept = subst (λ (n : ℕ). IsKeptOn log n g d) a (subst (λ (n : ℕ). IsKeptOn log t n d) b kept)
+pub kept_for : (log : LogEnd) (memory : InMemory) (t f u g : ℕ) (d : DiskState) → t ≡ u → f ≡ g → IsKeptOn log memory t f d → IsKeptOn log memory u g d
+kept_for log memory t f u g d a b kept = subst (λ (n : ℕ). IsKeptOn log memory n g d) a (subst (λ (n : ℕ). IsKeptOn log memory t n d) b kept)
 
 -- the entry of one point
 pub one_bounded : (p : Point) → IsBounded p → ArePoints (p ∷ [])
@@ -144,17 +172,17 @@ one_bounded p bounded = record { some = omega arith; most = omega arith; bounded
 pub fresh_elapses : (number : ℕ) (old new : DiskState) → IsLawful old → Told old (NoneFrom number) → old.tells ≡ true → Elapses (MayBegin number) old new → Elapses (Gains nothing) old new
 fresh_elapses number old new lawful none tells goes = elapses_as old new (λ x y image may. fresh_gains number x y (λ n le. (lawful.same_names tells x image (segment n)).0 (none tells n le)) may) goes
 
-pub begun_kept : (r : Result LogEnd DiskErr) (log : LogEnd) (tenure fence : ℕ) (d : DiskState) → IfOk r (λ end. end ≡ log) → OnOk r (Stands log d) → EachImage d (HoldsAtLeast tenure fence) → tenure ≤ fence → IfOk r (λ end. IsKeptOn end tenure fence d)
-begun_kept (Ok end) log tenure fence d is stands sound order = record { stands = subst (λ l. Stands l d) (sym is) stands; sound = sound; order = order }
-begun_kept (Err e) log tenure fence d is stands sound order = tt
+pub begun_kept : (r : Result LogEnd DiskErr) (log : LogEnd) (memory : InMemory) (tenure fence : ℕ) (d : DiskState) → IfOk r (λ end. end ≡ log) → OnOk r (Stands log d)
+    → EachImage d (HoldsOpened memory.points tenure fence) → memory.room ≡ None → tenure ≤ fence → IfOk r (λ end. IsKeptOn end memory tenure fence d)
+begun_kept (Ok end) log memory tenure fence d is stands exact at_rest order = record { stands = subst (λ l. Stands l d) (sym is) stands; exact = exact; at_rest = at_rest; order = order }
+begun_kept (Err e) log memory tenure fence d is stands exact at_rest order = tt
 
 pub brings_nothing_more : (u : ⊤) (a c : DiskState) → (a.tells ≡ true → Elapses (Gains nothing) a c) → c.tells ≡ a.tells → CountsFaults ⊥ a.faults c.faults → Brings nothing (Ok u) a c
 brings_nothing_more u a c goes same faults = brings_all nothing u a c (λ tells. elapses_as a c (λ x y image gains. all_is_part nothing x y gains) (goes tells)) (λ tells. (goes tells).images) same faults
 
 -- what was read is what each image holds
-pub only_held : (points : List Point) (tenure fence : ℕ) (d : DiskState) → Told d (Held points tenure fence) → EachImage d (λ c. c ≡ d.files) → EachImage d (HoldsAtLeast tenure fence)
-only_held points tenure fence d held only tells c image =
-    record { points = points; tenure_now = tenure; fence_now = fence; held = subst (Held points tenure fence) (sym (only tells c image)) (held tells); tenure_low = omega arith; fence_low = omega arith }
+pub only_held : (points : List Point) (tenure fence : ℕ) (d : DiskState) → Told d (Held points tenure fence) → EachImage d (λ c. c ≡ d.files) → EachImage d (HoldsOpened (content_of points) tenure fence)
+only_held points tenure fence d held only tells c image = record { points = points; held = subst (Held points tenure fence) (sym (only tells c image)) (held tells); make_up = refl }
 
 -- the same error, handed on
 pub err_to : {X Y E : Type 0} (r : Result X E) (q : Result Y E) (e d : E) → r ≡ Err e → q ≡ Err e → IsErrOf q d → IsErrOf r d
@@ -162,3 +190,22 @@ err_to {X} {Y} {E} r q e d was same f = was ∙ ap Err (err_same e d (sym same �
   where
     err_same : (e d : E) → (let x : Result Y E = Err e in let y : Result Y E = Err d in x ≡ y) → e ≡ d
     err_same e d is = cc
+
+-- an error that is no fault is want of memory
+pub memory_else : {X Y : Type 0} (r : Result X DiskErr) (q : Result Y DiskErr) (e : DiskErr) → r ≡ Err e → q ≡ Err e → (IsErrOf q DiskFailed → ⊥) → IsErrOf r Memory
+memory_else r q Memory was same fine = was
+memory_else r q DiskFailed was same fine = absurd (fine same)
+
+-- what is in memory with a point put into it
+pub memory_put : (memory room now : InMemory) (p : Point) (k : Option Key) → memory.room ≡ None → room ≡ record { points = memory.points; room = k } → now ≡ record { points = raised room.points p; room = None }
+    → memory_with (entry.Points (p ∷ [])) memory ≡ now
+memory_put memory room now p k at_rest roomed is =
+    let first : memory_with (entry.Points (p ∷ [])) memory ≡ record { points = raised memory.points p; room = None } = ap (λ (o : Option Key). let m : InMemory = record { points = raised memory.points p; room = o } in m) at_rest in
+    let last : now ≡ record { points = raised memory.points p; room = None } = is ∙ ap (λ (m : InMemory). let n : InMemory = record { points = raised m.points p; room = None } in n) roomed in
+    first ∙ sym last
+
+-- what an open store shows is what each stop leaves
+pub shown_by_each : {D : Type 0} (state : D → DiskState) (s : StoreState D) (disk : D) (opened : Option Opened) → state_of disk opened ≡ s → IsKept opened (state disk) → s.open_ ≡ true
+    → EachImage (state s.disk) (HoldsOpened s.content s.tenure s.fence)
+shown_by_each {D} state s disk None is kept open_ = let closed : false ≡ s.open_ = ap (λ (x : StoreState D). x.open_) is in absurd (cc)
+shown_by_each {D} state s disk (Some opened) is kept open_ = subst (λ (x : StoreState D). EachImage (state x.disk) (HoldsOpened x.content x.tenure x.fence)) is kept.exact

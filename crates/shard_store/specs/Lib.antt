@@ -1,11 +1,2 @@
-pub mod Matched
-pub mod Selected
-pub mod Indexed
-pub mod Entries
-pub mod Held
-pub mod Gains
-pub mod LogSteps
 pub mod Stores
 pub mod StoreParts
-pub mod HeldLaws
-pub mod Loading

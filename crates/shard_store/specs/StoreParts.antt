@@ -8,7 +8,7 @@ use Rattle.shard_store.specs.declared.opened.Opened.{Opened}
 
 abbrev pub content_in : Option Opened → Contents
 content_in None = finite.empty
-content_in (Some opened) = opened.held
+content_in (Some opened) = opened.held.points
 
 abbrev pub tenure_in : Option Opened → ℕ
 tenure_in None = 0
@@ -23,4 +23,4 @@ state_of disk opened = record { disk = disk; open_ = is_some opened; content = c
 
 abbrev pub IsKept : Option Opened → DiskState → Type 0
 IsKept None d = ⊤
-IsKept (Some opened) d = IsKeptOn opened.log opened.tenure opened.fence d
+IsKept (Some opened) d = IsKeptOn opened.log opened.held opened.tenure opened.fence d

@@ -1,13 +1,15 @@
 -- A store as its contracts see it.
-use Rattle.std.specs.Prelude.{ℕ, ◌≤◌, Bool, false, List, refl}
+use Rattle.std.specs.Prelude.{◌≡◌, ℕ, ◌≤◌, Bool, false, List, None, fold, refl}
 use Rattle.std.specs.Coded.{Coded, code_by, coded×, coded_ℕ, coded_bool}
 use Rattle.std.specs.FinMap as finite
-use Rattle.m3_model.specs.Contents.{Contents, contents_code}
+use Rattle.m3_model.specs.Contents.{Contents, contents_code, raised, content_of}
 use Rattle.m3_model.specs.declared.point.Point.{Point}
 use Rattle.m3_outside.specs.Files.{Files}
 use Rattle.m3_outside.specs.DiskState.{DiskState, EachImage}
+use Rattle.block_buffer.specs.Held.{Held as InMemory}
 use Rattle.commit_log.specs.LogEnd.{LogEnd, Stands}
-use Rattle.shard_store.specs.Held.{Held}
+use Rattle.shard_files.specs.Held.{Held, points_in}
+use Rattle.shard_files.specs.declared.entries.LogEntry.{LogEntry}
 
 -- What a store is: its disk, whether its points are in memory, and then these, joined, with the greatest tenure and the greatest fence or tenure of
 -- its files. A closed one has none of them.
@@ -27,17 +29,19 @@ store_code {D} disk_code =
 abbrev pub closed_over : {D : Type 0} → D → StoreState D
 closed_over disk = record { disk = disk; open_ = false; content = finite.empty; tenure = 0; fence = 0 }
 
--- the files hold something, with a tenure and a fence that aren't below these
-pub record HoldsAtLeast (tenure fence : ℕ) (files : Files) : Type 0 where
+-- the files hold points that make up this content, this tenure and this fence
+pub record HoldsOpened (content : Contents) (tenure fence : ℕ) (files : Files) : Type 0 where
   pub points : List Point
-  pub tenure_now : ℕ
-  pub fence_now : ℕ
-  pub held : Held points tenure_now fence_now files
-  pub tenure_low : tenure ≤ tenure_now
-  pub fence_low : fence ≤ fence_now
+  pub held : Held points tenure fence files
+  pub make_up : content_of points ≡ content
 
--- the log ends on the disk where it says, and each stop leaves sound files with a tenure and a fence that aren't below these; a tenure is a fence too
-pub record IsKeptOn (log : LogEnd) (tenure fence : ℕ) (d : DiskState) : Type 0 where
+-- The log ends on the disk where it says. Each stop leaves files that hold just what is in memory. No put is under way, and a tenure is a fence too.
+pub record IsKeptOn (log : LogEnd) (memory : InMemory) (tenure fence : ℕ) (d : DiskState) : Type 0 where
   pub stands : Stands log d
-  pub sound : EachImage d (HoldsAtLeast tenure fence)
+  pub exact : EachImage d (HoldsOpened memory.points tenure fence)
+  pub at_rest : memory.room ≡ None
   pub order : tenure ≤ fence
+
+-- what is in memory, joined with the points of an entry
+abbrev pub memory_with : LogEntry → InMemory → InMemory
+memory_with e memory = record memory { points = fold raised memory.points (points_in e) }

@@ -1,18 +1,8 @@
-//! The points of one shard that one replica holds, and what it answers a read with.
+//! One replica's points of one shard, on its disk and in memory.
 #![tactic(auto)]
 
-pub mod amount;
-mod candidates;
-pub mod entries;
-pub mod held;
-pub mod laws;
-mod listing;
 pub mod load;
 mod log_step;
-mod matching;
 mod opened;
-mod ranges;
 pub mod store;
 mod sync;
-#[cfg(test)]
-mod tests;

@@ -4,19 +4,18 @@ ghost use Rattle.m3_outside.specs.DiskState.{DiskState, Told, EachImage, Elapses
 ghost use Rattle.m3_outside.specs.DiskCalls.{LeavesFiles};
 ghost use Rattle.m3_outside.specs.Files.{Stays};
 ghost use Rattle.commit_log.specs.LogEnd.{NoneFrom};
-ghost use Rattle.shard_store.specs.Held.{HoldsEntries, Held};
-ghost use Rattle.shard_store.specs.Loading.{MayBeUnsound};
-ghost use Rattle.shard_store.specs.declared.load.LoadErr.TheVariants as failures;
+ghost use Rattle.shard_files.specs.Held.{HoldsEntries, Held};
+ghost use Rattle.shard_files.specs.Loading.{MayBeUnsound};
+ghost use Rattle.shard_files.specs.declared.load_err.LoadErr.TheVariants as failures;
 
-use crate::amount::join_entries;
-use crate::entries::{EntriesErr, LogEntry, read_entries};
 use crate::sync::sync_all;
-use commit_log::{ChunkPlace, LogErr, read_all};
-use m3_model::memory::Memory;
+use commit_log::{ChunkPlace, read_all};
 use m3_model::point::Point;
 use m3_model::seq::Seq;
 use m3_outside::disk::Disk;
-use m3_outside::disk_err::DiskErr;
+use shard_files::amount::join_entries;
+use shard_files::entries::{EntriesErr, LogEntry, read_entries};
+use shard_files::load_err::LoadErr;
 use std::alloc::Global;
 
 // The bytes of a chunk in front of its entry.
@@ -29,57 +28,6 @@ struct HeldEntries {
     entries: Seq<LogEntry>,
     // The number for the next segment: one above all that are there, and 1 where none is.
     next: u64,
-}
-
-/// Why a replica's log can't be read.
-#[derive(Clone, Copy, Debug, PartialEq, Eq)]
-pub enum LoadErr {
-    /// The disk failed. Its count of faults rose in that call.
-    Disk,
-    /// Want of memory.
-    Memory,
-    /// In the segment of this number no replica's log goes on with the byte at the place `at`, or for want of it.
-    Form { number: u64, at: u64 },
-}
-
-impl From<LogErr> for LoadErr {
-    ghost use Rattle.std.specs.Prelude.{◌≡◌};
-    ghost use Rattle.shard_store.specs.Loading.{of_log};
-
-    ghost from_gives = { λ d e. e ≡ of_log d };
-
-    fn from(e: LogErr) -> LoadErr {
-        match e {
-            LogErr::Disk => LoadErr::Disk,
-            LogErr::Memory => LoadErr::Memory,
-            LogErr::Form { number, at } => LoadErr::Form { number, at },
-        }
-    }
-}
-
-impl From<DiskErr> for LoadErr {
-    ghost use Rattle.std.specs.Prelude.{◌≡◌};
-    ghost use Rattle.shard_store.specs.Loading.{of_disk};
-
-    ghost from_gives = { λ d e. e ≡ of_disk d };
-
-    fn from(e: DiskErr) -> LoadErr {
-        match e {
-            DiskErr::Failed => LoadErr::Disk,
-            DiskErr::Memory => LoadErr::Memory,
-        }
-    }
-}
-
-impl From<Memory> for LoadErr {
-    ghost use Rattle.std.specs.Prelude.{◌≡◌};
-    ghost use Rattle.shard_store.specs.declared.load.LoadErr.TheVariants as failures;
-
-    ghost from_gives = { λ _ e. e ≡ failures.Memory };
-
-    fn from(_: Memory) -> LoadErr {
-        LoadErr::Memory
-    }
 }
 
 // The damage of a chunk that stands there, by its byte at the place `at`.

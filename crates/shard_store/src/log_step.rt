@@ -1,16 +1,17 @@
 //! One more entry in a replica's log.
-ghost use Rattle.std.specs.Prelude.{◌≡◌, ◌≤◌, ℕ, max, true, length, IfOk, OnOk, IsErr, IsErrOf};
+ghost use Rattle.std.specs.Prelude.{◌≡◌, ◌≤◌, ℕ, None, max, true, length, IfOk, OnOk, IsErr, IsErrOf};
 ghost use Rattle.m3_outside.specs.Causes.{CountsFaults};
-ghost use Rattle.m3_outside.specs.DiskState.{DiskState, Told, EachImage, Elapses, StepOf};
+ghost use Rattle.m3_outside.specs.DiskState.{DiskState, Told, EachImage, Elapses, StepOf, Becomes};
 ghost use Rattle.m3_outside.specs.Files.{Files};
-ghost use Rattle.m3_outside.specs.declared.disk_err.DiskErr.TheVariants.{Failed as DiskFailed};
+ghost use Rattle.m3_outside.specs.declared.disk_err.DiskErr.TheVariants.{Failed as DiskFailed, Memory as WantOfMemory};
+ghost use Rattle.block_buffer.specs.Held.{Held as InMemory};
 ghost use Rattle.commit_log.specs.LogEnd.{LogEnd, NoneFrom, Stands, IsReadyFor};
-ghost use Rattle.shard_store.specs.Entries.{IsEntry};
-ghost use Rattle.shard_store.specs.Gains.{Gains, MayGain, Brings, nothing};
-ghost use Rattle.shard_store.specs.Held.{tenure_in, fence_in};
-ghost use Rattle.shard_store.specs.Stores.{HoldsAtLeast, IsKeptOn};
-ghost use Rattle.shard_store.specs.declared.entries.LogEntry.{LogEntry as Entry};
-ghost use Rattle.shard_store.specs.LogSteps.{gain_in};
+ghost use Rattle.shard_files.specs.Entries.{IsEntry};
+ghost use Rattle.shard_files.specs.Gains.{Gains, MayGain, Brings, nothing};
+ghost use Rattle.shard_files.specs.Held.{tenure_in, fence_in};
+ghost use Rattle.shard_store.specs.Stores.{HoldsOpened, IsKeptOn, memory_with};
+ghost use Rattle.shard_files.specs.declared.entries.LogEntry.{LogEntry as Entry};
+ghost use Rattle.shard_files.specs.LogSteps.{gain_in};
 
 use commit_log::Log;
 use m3_outside::disk::Disk;
@@ -24,7 +25,8 @@ use m3_outside::failed::Failed;
 /// A fault or want of memory. The files hold what they held.
 pub(crate) fn begin_log<D: Disk>(disk: &mut D, number: u64) -> Result<Log, DiskErr>
     requires { Told (D.state disk.old) (NoneFrom number) }
-    ensures kept { (tenure fence : ℕ) → tenure ≤ fence → EachImage (D.state disk.old) (HoldsAtLeast tenure fence) → IfOk result (λ log. IsKeptOn log tenure fence (D.state disk.new)) }
+    ensures kept { (memory : InMemory) (tenure fence : ℕ) → memory.room ≡ None → tenure ≤ fence → EachImage (D.state disk.old) (HoldsOpened memory.points tenure fence) → IfOk result (λ log. IsKeptOn log memory tenure fence (D.state disk.new)) }
+    ensures unchanged { (D.state disk.old).tells ≡ true → IsErrOf result WantOfMemory → Becomes (λ files. files) (D.state disk.old) (D.state disk.new) }
     ensures any_moment { (D.state disk.old).tells ≡ true → Elapses (Gains nothing) (D.state disk.old) (D.state disk.new) }
     ensures tells { (D.state disk.new).tells ≡ (D.state disk.old).tells }
     ensures faults { CountsFaults (IsErrOf result DiskFailed) (D.state disk.old).faults (D.state disk.new).faults }
@@ -36,12 +38,13 @@ pub(crate) fn begin_log<D: Disk>(disk: &mut D, number: u64) -> Result<Log, DiskE
 ///
 /// # Errors
 ///
-/// A fault or want of memory. The files hold what they held.
+/// A fault: the files hold what they held. Want of memory: the files are as they were.
 pub(crate) fn ready_entry<D: Disk>(disk: &mut D, log: &mut Log, len: u32) -> Result<(), DiskErr>
     requires short { len ≤ 65531 }
     requires stands { Stands log.old (D.state disk.old) }
     ensures ready { OnOk result (IsReadyFor log.new len (D.state disk.new)) }
-    ensures kept { (tenure fence : ℕ) → IsKeptOn log.old tenure fence (D.state disk.old) → IsKeptOn log.new tenure fence (D.state disk.new) }
+    ensures kept { (memory : InMemory) (tenure fence : ℕ) → IsKeptOn log.old memory tenure fence (D.state disk.old) → IsKeptOn log.new memory tenure fence (D.state disk.new) }
+    ensures unchanged { (D.state disk.old).tells ≡ true → IsErrOf result WantOfMemory → Becomes (λ files. files) (D.state disk.old) (D.state disk.new) }
     ensures stands { Stands log.new (D.state disk.new) }
     ensures any_moment { (D.state disk.old).tells ≡ true → Elapses (Gains nothing) (D.state disk.old) (D.state disk.new) }
     ensures tells { (D.state disk.new).tells ≡ (D.state disk.old).tells }
@@ -58,7 +61,7 @@ pub(crate) fn ready_entry<D: Disk>(disk: &mut D, log: &mut Log, len: u32) -> Res
 pub(crate) fn append_entry<D: Disk>(disk: &mut D, log: &mut Log, bytes: &[u8]) -> Result<(), Failed>
     requires ready { IsReadyFor log.old (length bytes.now) (D.state disk.old) }
     requires entry { (e : Entry) × IsEntry bytes.now e }
-    ensures kept { (tenure fence : ℕ) → IsKeptOn log.old tenure fence (D.state disk.old) → IsKeptOn log.new tenure fence (D.state disk.new) }
+    ensures kept { (e : Entry) → IsEntry bytes.now e → (memory : InMemory) (tenure fence : ℕ) → IsKeptOn log.old memory tenure fence (D.state disk.old) → OnOk result (IsKeptOn log.new (memory_with e memory) (max tenure (tenure_in e)) (max fence (fence_in e)) (D.state disk.new)) }
     ensures stands { Stands log.new (D.state disk.new) }
     ensures any_moment { (e : Entry) → IsEntry bytes.now e → (D.state disk.old).tells ≡ true → Elapses (MayGain (gain_in e)) (D.state disk.old) (D.state disk.new) }
     ensures acknowledged { (e : Entry) → IsEntry bytes.now e → (D.state disk.old).tells ≡ true → OnOk result ((c : Files) → (D.state disk.new).images c → StepOf (Gains (gain_in e)) (D.state disk.old).images c) }
@@ -72,15 +75,16 @@ pub(crate) fn append_entry<D: Disk>(disk: &mut D, log: &mut Log, bytes: &[u8]) -
 ///
 /// # Errors
 ///
-/// A fault: the entry may be there after a stop, or not. Want of memory: the files hold what they held.
+/// A fault: the entry may be there after a stop, or not. Want of memory: the files are as they were.
 pub(crate) fn log_entry<D: Disk>(disk: &mut D, log: &mut Log, bytes: &[u8]) -> Result<(), DiskErr>
     requires short { length bytes.now ≤ 65531 }
     requires stands { Stands log.old (D.state disk.old) }
     requires entry { (e : Entry) × IsEntry bytes.now e }
-    ensures kept { (tenure fence : ℕ) → IsKeptOn log.old tenure fence (D.state disk.old) → IsKeptOn log.new tenure fence (D.state disk.new) }
+    ensures kept { (e : Entry) → IsEntry bytes.now e → (memory : InMemory) (tenure fence : ℕ) → IsKeptOn log.old memory tenure fence (D.state disk.old) → OnOk result (IsKeptOn log.new (memory_with e memory) (max tenure (tenure_in e)) (max fence (fence_in e)) (D.state disk.new)) }
+    ensures memory { (memory : InMemory) (tenure fence : ℕ) → IsKeptOn log.old memory tenure fence (D.state disk.old) → IsErrOf result WantOfMemory → IsKeptOn log.new memory tenure fence (D.state disk.new) }
+    ensures unchanged { (D.state disk.old).tells ≡ true → IsErrOf result WantOfMemory → Becomes (λ files. files) (D.state disk.old) (D.state disk.new) }
     ensures stands { Stands log.new (D.state disk.new) }
     ensures brings { (e : Entry) → IsEntry bytes.now e → Brings (gain_in e) result (D.state disk.old) (D.state disk.new) }
-    ensures all_kept { (e : Entry) → IsEntry bytes.now e → (tenure fence : ℕ) → IsKeptOn log.old tenure fence (D.state disk.old) → OnOk result (IsKeptOn log.new (max tenure (tenure_in e)) (max fence (fence_in e)) (D.state disk.new)) }
 {
     ready_entry(disk, log, bytes.len() as u32)?;
     append_entry(disk, log, bytes)?;

@@ -1,13 +1,14 @@
-ghost use Rattle.std.specs.Prelude.{◌≡◌, ◌⊎◌, max, OnOk, OnErr, IsErrOf};
+ghost use Rattle.std.specs.Prelude.{◌≡◌, true, None, max, OnOk, OnErr, IsErrOf};
 ghost use Rattle.m3_model.specs.Contents.{raised};
-ghost use Rattle.m3_outside.specs.declared.disk_err.DiskErr.TheVariants.{Memory as WantOfMemory};
+ghost use Rattle.m3_outside.specs.declared.disk_err.DiskErr.TheVariants.{Failed as DiskFailed, Memory as WantOfMemory};
+ghost use Rattle.m3_outside.specs.DiskState.{DiskState, Becomes};
 ghost use Rattle.wire_bytes.specs.Entries.{IsBounded};
-ghost use Rattle.shard_store.specs.Gains.{Brings, a_point, a_fence, a_tenure};
+ghost use Rattle.shard_files.specs.Gains.{Brings, a_point, a_fence, a_tenure};
 ghost use Rattle.shard_store.specs.Stores.{IsKeptOn};
 
-use crate::held::HeldPoints;
 use crate::log_step::{append_entry, log_entry, ready_entry};
 use commit_log::Log;
+use held_points::held::HeldPoints;
 use m3_model::point::Point;
 use m3_outside::disk::Disk;
 use m3_outside::disk_err::DiskErr;
@@ -26,8 +27,9 @@ pub(crate) struct Opened {
 
 impl Opened {
     pub(crate) fn begin<D: Disk>(&mut self, disk: &mut D, tenure: u64) -> Result<(), DiskErr>
-        requires kept { IsKeptOn self.old.log self.old.tenure self.old.fence (D.state disk.old) }
-        ensures kept { IsKeptOn self.new.log self.new.tenure self.new.fence (D.state disk.new) }
+        requires kept { IsKeptOn self.old.log self.old.held self.old.tenure self.old.fence (D.state disk.old) }
+        ensures kept { ¬ (IsErrOf result DiskFailed) → IsKeptOn self.new.log self.new.held self.new.tenure self.new.fence (D.state disk.new) }
+        ensures unchanged { (D.state disk.old).tells ≡ true → IsErrOf result WantOfMemory → Becomes (λ files. files) (D.state disk.old) (D.state disk.new) }
         ensures ok { OnOk result ((self.new.tenure ≡ max self.old.tenure tenure) × (self.new.fence ≡ max self.old.fence tenure)) }
         ensures err { OnErr result ((self.new.tenure ≡ self.old.tenure) × (self.new.fence ≡ self.old.fence)) }
         ensures held { self.new.held ≡ self.old.held }
@@ -45,8 +47,9 @@ impl Opened {
     }
 
     pub(crate) fn fence<D: Disk>(&mut self, disk: &mut D, version: u64) -> Result<(), DiskErr>
-        requires kept { IsKeptOn self.old.log self.old.tenure self.old.fence (D.state disk.old) }
-        ensures kept { IsKeptOn self.new.log self.new.tenure self.new.fence (D.state disk.new) }
+        requires kept { IsKeptOn self.old.log self.old.held self.old.tenure self.old.fence (D.state disk.old) }
+        ensures kept { ¬ (IsErrOf result DiskFailed) → IsKeptOn self.new.log self.new.held self.new.tenure self.new.fence (D.state disk.new) }
+        ensures unchanged { (D.state disk.old).tells ≡ true → IsErrOf result WantOfMemory → Becomes (λ files. files) (D.state disk.old) (D.state disk.new) }
         ensures ok { OnOk result (self.new.fence ≡ max self.old.fence version) }
         ensures err { OnErr result (self.new.fence ≡ self.old.fence) }
         ensures tenure { self.new.tenure ≡ self.old.tenure }
@@ -64,22 +67,26 @@ impl Opened {
     }
 
     pub(crate) fn put<D: Disk>(&mut self, disk: &mut D, point: &Point) -> Result<(), DiskErr>
-        requires kept { IsKeptOn self.old.log self.old.tenure self.old.fence (D.state disk.old) }
+        requires kept { IsKeptOn self.old.log self.old.held self.old.tenure self.old.fence (D.state disk.old) }
         requires bounded { IsBounded point.now }
-        ensures kept { IsKeptOn self.new.log self.new.tenure self.new.fence (D.state disk.new) }
-        ensures ok { OnOk result (self.new.held ≡ raised self.old.held point.now) }
+        ensures kept { ¬ (IsErrOf result DiskFailed) → IsKeptOn self.new.log self.new.held self.new.tenure self.new.fence (D.state disk.new) }
+        ensures unchanged { (D.state disk.old).tells ≡ true → IsErrOf result WantOfMemory → Becomes (λ files. files) (D.state disk.old) (D.state disk.new) }
+        ensures ok { OnOk result (self.new.held ≡ record { points = raised self.old.held.points point.now; room = None }) }
         ensures memory { IsErrOf result WantOfMemory → self.new.held ≡ self.old.held }
-        ensures either { (self.new.held ≡ self.old.held) ⊎ (self.new.held ≡ raised self.old.held point.now) }
         ensures tenure { self.new.tenure ≡ self.old.tenure }
         ensures fence { self.new.fence ≡ self.old.fence }
         ensures disk { Brings (a_point point.now) result (D.state disk.old) (D.state disk.new) }
     {
         self.bytes.clear();
         put_points(&mut self.bytes, &[point])?;
-        ready_entry(disk, &mut self.log, self.bytes.len() as u32)?;
+        self.held.room(point)?;
+        if let Err(why) = ready_entry(disk, &mut self.log, self.bytes.len() as u32) {
+            self.held.release(point);
+            return Err(why);
+        }
         // From here on no memory is wanted.
-        self.held.put(point)?;
         append_entry(disk, &mut self.log, &self.bytes)?;
+        self.held.put(point);
         Ok(())
     }
 }

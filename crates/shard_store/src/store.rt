@@ -1,36 +1,37 @@
-ghost use Rattle.std.specs.Prelude.{◌≡◌, ◌⊎◌, ◌≤◌, true, false, max, IfOk, IfErr, OnOk, OnErr, IsErrOf};
+ghost use Rattle.std.specs.Prelude.{◌≡◌, ◌≤◌, true, false, None, max, IfOk, IfErr, OnOk, OnErr, IsErrOf};
 ghost use Rattle.m3_model.specs.Answers.{IsAnswer};
 ghost use Rattle.m3_model.specs.Contents.{raised, content_of};
 ghost use Rattle.m3_outside.specs.Causes.{CountsFaults};
-ghost use Rattle.m3_outside.specs.DiskState.{DiskState, Told, EachImage, Elapses};
+ghost use Rattle.m3_outside.specs.DiskState.{DiskState, Told, EachImage, Elapses, Becomes};
 ghost use Rattle.m3_outside.specs.DiskCalls.{Restarts};
 ghost use Rattle.m3_outside.specs.Files.{Stays};
-ghost use Rattle.m3_outside.specs.declared.disk_err.DiskErr.TheVariants.{Memory as WantOfMemory};
+ghost use Rattle.m3_outside.specs.declared.disk_err.DiskErr.TheVariants.{Failed as DiskFailed, Memory as WantOfMemory};
 ghost use Rattle.commit_log.specs.LogEnd.{NoneFrom};
 ghost use Rattle.wire_bytes.specs.Entries.{IsBounded};
-ghost use Rattle.shard_store.specs.Held.{Held};
-ghost use Rattle.shard_store.specs.Gains.{Brings, nothing, a_point, a_fence, a_tenure};
-ghost use Rattle.shard_store.specs.Loading.{MayBeUnsound};
-ghost use Rattle.shard_store.specs.Stores.{closed_over};
-ghost use Rattle.shard_store.specs.declared.load.LoadErr.TheVariants as failures;
+ghost use Rattle.shard_files.specs.Held.{Held};
+ghost use Rattle.shard_files.specs.Gains.{Brings, nothing, a_point, a_fence, a_tenure};
+ghost use Rattle.shard_files.specs.Loading.{MayBeUnsound};
+ghost use Rattle.shard_store.specs.Stores.{closed_over, HoldsOpened};
+ghost use Rattle.shard_files.specs.declared.load_err.LoadErr.TheVariants as failures;
 
-use crate::amount::hold;
-use crate::held::HeldPoints;
-use crate::load::{LoadErr, Loaded, load};
+use crate::load::{Loaded, load};
 use crate::log_step::begin_log;
 use crate::opened::Opened;
+use held_points::held::hold;
 use m3_model::memory::Memory;
 use m3_model::point::{Pick, Point, Series};
 use m3_model::seq::Seq;
 use m3_outside::disk::Disk;
 use m3_outside::disk_err::DiskErr;
+use shard_files::load_err::LoadErr;
 use std::alloc::Global;
 use std::marker::Model;
 
 /// One replica's points of one shard, on its disk and, while it is open, in memory. Each put, fence and tenure is in the
 /// replica's commit log, synced, before it is acknowledged.
 ///
-/// After a fault the store is to be closed: what is in memory may then be more than what a stop leaves.
+/// While it is open, each stop leaves just what is in memory: see `images_hold`. So a fault closes it, since what a stop
+/// then leaves isn't known.
 ///
 /// See M3DB's pages "Storage Engine" and "Commit Logs and Snapshot Files".
 #[derive(Drop)]
@@ -52,6 +53,18 @@ impl<D: Disk> Model for Store<D> {
     ghost view = { λ s. state_of s.disk s.opened };
 
     ghost invariant = { λ s. IsKept s.opened (D.state s.disk) };
+}
+
+// Forgets what is in memory where the disk failed, and hands on what was said.
+fn close_after(opened: &mut Option<Opened>, said: Result<(), DiskErr>) -> Result<(), DiskErr>
+    ensures said { result ≡ said }
+    ensures closed { IsErrOf said DiskFailed → opened.new ≡ None }
+    ensures stays { ¬ (IsErrOf said DiskFailed) → opened.new ≡ opened.old }
+{
+    if let Err(DiskErr::Failed) = said {
+        drop(opened.take());
+    }
+    said
 }
 
 impl<D: Disk> Store<D> {
@@ -87,7 +100,7 @@ impl<D: Disk> Store<D> {
     ///
     /// # Errors
     ///
-    /// A fault or want of memory. The store stays closed, and the files hold what they held.
+    /// A fault: the files hold what they held. Want of memory: the files are as they were. The store stays closed.
     pub fn open(&mut self, loaded: &Loaded) -> Result<(), DiskErr>
         requires closed { self.old.open_ ≡ false }
         requires held { Told (D.state self.old.disk) (Held loaded.now.points loaded.now.tenure loaded.now.fence) }
@@ -96,17 +109,19 @@ impl<D: Disk> Store<D> {
         requires order { loaded.now.tenure ≤ loaded.now.fence }
         ensures ok { OnOk result (self.new ≡ record { disk = self.new.disk; open_ = true; content = content_of loaded.now.points; tenure = loaded.now.tenure; fence = loaded.now.fence }) }
         ensures err { OnErr result (self.new ≡ record self.old { disk = self.new.disk }) }
+        ensures unchanged { (D.state self.old.disk).tells ≡ true → IsErrOf result WantOfMemory → Becomes (λ files. files) (D.state self.old.disk) (D.state self.new.disk) }
         ensures disk { Brings nothing result (D.state self.old.disk) (D.state self.new.disk) }
     {
         let held = hold(self.alloc, loaded.points.as_slice())?;
         let log = begin_log(&mut self.disk, loaded.next_segment)?;
-        self.opened = Some(Opened {
+        let opened = Opened {
             log,
             held,
             tenure: loaded.tenure,
             fence: loaded.fence,
             bytes: Vec::new(self.alloc),
-        });
+        };
+        drop(self.opened.replace(opened));
         Ok(())
     }
 
@@ -114,30 +129,38 @@ impl<D: Disk> Store<D> {
     ///
     /// # Errors
     ///
-    /// A fault, after which a stop may leave the tenure or not. Want of memory, after which the files hold what they held.
+    /// A fault, after which a stop may leave the tenure or not, and the store is closed. Want of memory, which leaves the
+    /// store and the files as they were.
     pub fn begin(&mut self, tenure: u64) -> Result<(), DiskErr>
         requires open_ { self.old.open_ ≡ true }
         ensures ok { OnOk result (self.new ≡ record { disk = self.new.disk; open_ = true; content = self.old.content; tenure = max self.old.tenure tenure; fence = max self.old.fence tenure }) }
-        ensures err { OnErr result (self.new ≡ record self.old { disk = self.new.disk }) }
+        ensures memory { IsErrOf result WantOfMemory → self.new ≡ record self.old { disk = self.new.disk } }
+        ensures unchanged { (D.state self.old.disk).tells ≡ true → IsErrOf result WantOfMemory → Becomes (λ files. files) (D.state self.old.disk) (D.state self.new.disk) }
+        ensures fault { IsErrOf result DiskFailed → self.new ≡ closed_over self.new.disk }
         ensures disk { Brings (a_tenure tenure) result (D.state self.old.disk) (D.state self.new.disk) }
     {
         let opened = self.opened.as_mut().unwrap();
-        opened.begin(&mut self.disk, tenure)
+        let said = opened.begin(&mut self.disk, tenure);
+        close_after(&mut self.opened, said)
     }
 
     /// The fence is in the log, if none was that isn't below it.
     ///
     /// # Errors
     ///
-    /// A fault, after which a stop may leave the fence or not. Want of memory, after which the files hold what they held.
+    /// A fault, after which a stop may leave the fence or not, and the store is closed. Want of memory, which leaves the store
+    /// and the files as they were.
     pub fn fence(&mut self, version: u64) -> Result<(), DiskErr>
         requires open_ { self.old.open_ ≡ true }
         ensures ok { OnOk result (self.new ≡ record { disk = self.new.disk; open_ = true; content = self.old.content; tenure = self.old.tenure; fence = max self.old.fence version }) }
-        ensures err { OnErr result (self.new ≡ record self.old { disk = self.new.disk }) }
+        ensures memory { IsErrOf result WantOfMemory → self.new ≡ record self.old { disk = self.new.disk } }
+        ensures unchanged { (D.state self.old.disk).tells ≡ true → IsErrOf result WantOfMemory → Becomes (λ files. files) (D.state self.old.disk) (D.state self.new.disk) }
+        ensures fault { IsErrOf result DiskFailed → self.new ≡ closed_over self.new.disk }
         ensures disk { Brings (a_fence version) result (D.state self.old.disk) (D.state self.new.disk) }
     {
         let opened = self.opened.as_mut().unwrap();
-        opened.fence(&mut self.disk, version)
+        let said = opened.fence(&mut self.disk, version);
+        close_after(&mut self.opened, said)
     }
 
     /// Joins the point, of which the higher value stays at its key, and has it in the log. Its memory is taken before the
@@ -146,19 +169,20 @@ impl<D: Disk> Store<D> {
     ///
     /// # Errors
     ///
-    /// A fault, after which a stop may leave the point or not. Want of memory leaves the content as it was, and the files
-    /// hold what they held.
+    /// A fault, after which a stop may leave the point or not, and the store is closed. Want of memory, which leaves the store
+    /// and the files as they were.
     pub fn put(&mut self, point: &Point) -> Result<(), DiskErr>
         requires open_ { self.old.open_ ≡ true }
         requires bounded { IsBounded point.now }
         ensures ok { OnOk result (self.new ≡ record self.old { disk = self.new.disk; content = raised self.old.content point.now }) }
         ensures memory { IsErrOf result WantOfMemory → self.new ≡ record self.old { disk = self.new.disk } }
-        ensures fault { self.new ≡ record self.old { disk = self.new.disk; content = self.new.content } }
-        ensures either { (self.new.content ≡ self.old.content) ⊎ (self.new.content ≡ raised self.old.content point.now) }
+        ensures unchanged { (D.state self.old.disk).tells ≡ true → IsErrOf result WantOfMemory → Becomes (λ files. files) (D.state self.old.disk) (D.state self.new.disk) }
+        ensures fault { IsErrOf result DiskFailed → self.new ≡ closed_over self.new.disk }
         ensures disk { Brings (a_point point.now) result (D.state self.old.disk) (D.state self.new.disk) }
     {
         let opened = self.opened.as_mut().unwrap();
-        opened.put(&mut self.disk, point)
+        let said = opened.put(&mut self.disk, point);
+        close_after(&mut self.opened, said)
     }
 
     /// The points with `from <= t < to` of the series that the pick asks for, as `HeldPoints::fetch` finds them.
@@ -188,7 +212,7 @@ impl<D: Disk> Store<D> {
     pub fn close(&mut self)
         ensures { self.new ≡ closed_over self.old.disk }
     {
-        self.opened = None;
+        drop(self.opened.take());
     }
 
     /// Restarts the disk, as after a stop of the process, and closes the store.
@@ -202,7 +226,8 @@ impl<D: Disk> Store<D> {
         ensures restarts { Restarts result (D.state self.old.disk) (D.state self.new.disk) }
     {
         self.disk.restart(pick)?;
-        self.opened.take();
+        let forgotten = self.opened.take();
+        drop(forgotten);
         Ok(())
     }
 
@@ -210,6 +235,16 @@ impl<D: Disk> Store<D> {
     pub fn into_disk(self) -> D
         ensures { result ≡ self.disk }
     {
-        self.disk
+        let Store { disk, opened, .. } = self;
+        drop(opened);
+        disk
+    }
+
+    /// What each stop leaves of an open store is what it has in memory: its points, joined, its tenure and its fence, and
+    /// nothing else.
+    pub fn images_hold(&self)
+        ensures { self.now.open_ ≡ true → EachImage (D.state self.now.disk) (HoldsOpened self.now.content self.now.tenure self.now.fence) }
+    {
+        let _opened = &self.opened;
     }
 }

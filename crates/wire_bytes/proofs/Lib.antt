@@ -4,3 +4,5 @@ pub mod Characters
 pub mod TextLemmas
 pub mod PointLemmas
 pub mod EntryLemmas
+pub mod VolumeLemmas
+pub mod StopLemmas

@@ -235,7 +235,7 @@ point_ends a r f g =
     a r (from_point a f) (from_point (a ++ r) g)
 
 -- two points of the same bytes are one
-both_parts : (a b c d : List ℕ) → length a ≡ length c → a ++ b ≡ c ++ d → (a ≡ c) × (b ≡ d)
+pub both_parts : (a b c d : List ℕ) → length a ≡ length c → a ++ b ≡ c ++ d → (a ≡ c) × (b ≡ d)
 both_parts a b c d same e = (
   sym (take_at a b (length a) refl) ∙ ap (λ (l : List ℕ). take (length a) l) e ∙ take_at c d (length a) (sym same),
   sym (drop_at a b (length a) refl) ∙ ap (λ (l : List ℕ). drop (length a) l) e ∙ drop_at c d (length a) (sym same),

@@ -35,3 +35,10 @@ IsFault Field bytes at (errors.Bad place) = (at ≤ place) × Misfits Field (dro
 pub record Extends (old new : List ℕ) : Type 0 where
   pub more : List ℕ
   pub is : new ≡ old ++ more
+
+-- The bytes have not this form, by this place: some bytes of the form begin with those before it, and none go on with the byte there, or the bytes end there.
+pub record StopsAt (Form : List ℕ → Type 0) (bytes : List ℕ) (at : ℕ) : Type 0 where
+  pub inside : at ≤ length bytes
+  pub begins : Begins Form (take at bytes)
+  pub stops : at < length bytes → ¬ (Begins Form (take (suc at) bytes))
+  pub none : ¬ (Form bytes)

@@ -4,3 +4,6 @@ pub mod Texts
 pub mod Points
 pub mod Entries
 pub mod Bodies
+pub mod Volumes
+pub mod Snapshots
+pub mod ByteLaws

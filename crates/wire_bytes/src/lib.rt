@@ -5,6 +5,7 @@ mod digests;
 mod due;
 mod entries;
 mod entry_read;
+pub mod laws;
 mod numbers;
 mod points;
 mod texts;

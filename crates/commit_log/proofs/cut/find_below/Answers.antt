@@ -1,8 +1,9 @@
-use Rattle.std.proofs.Common.{ap, ◌∙◌, rules}
+use Rattle.std.proofs.Common.{map, ap, ◌∙◌, rules}
 use Rattle.std.specs.Prelude.{nat_lt}
 use Rattle.std.specs.List.{filter}
 use Rattle.std.proofs.lemmas.Fn.{filter_same}
 use Rattle.m3_outside.specs.declared.disk_err.DiskErr.TheVariants.{Failed as DiskFailed}
+use Rattle.commit_log.specs.Segment.{segment}
 use Rattle.commit_log.proofs.Leaves.{leaves_as, leaves_then}
 use Rattle.commit_log.proofs.ReadLemmas.{passed_err}
 use Rattle.commit_log.proofs.cut.find_below.Goals as goal
@@ -20,5 +21,5 @@ returns-clause-leaves g c =
 
 pub returns-clause-ok : goal.returns-clause-ok
 returns-clause-ok g c = λ t.
-    filter_same _ (λ n. nat_lt n c.args.number) _ (λ x b q r. search rules) _ _ c.retain.ensures.filtered
-    ∙ ap (filter (λ n. nat_lt n c.args.number)) (c.in_ok-numbers.ensures.ok t)
+    c.in_ok-names.ensures ∙ ap (map segment) (c.deref.ensures.value ∙ filter_same _ (λ n. nat_lt n c.args.number) _ (λ x b q r. search rules) _ _ c.retain.ensures.filtered
+    ∙ ap (filter (λ n. nat_lt n c.args.number)) (c.in_ok-numbers.ensures.ok t))

@@ -3,4 +3,4 @@ use Rattle.commit_log.proofs.Numbers.{next_at_least}
 use Rattle.commit_log.proofs.read.next_after.Goals as goal
 
 pub loop-number-init : goal.loop-number-init
-loop-number-init c = record { least = omega arith; rest = next_at_least c.args.numbers.now }
+loop-number-init c = record { least = omega arith; limit = omega arith; rest = next_at_least c.args.numbers.now }

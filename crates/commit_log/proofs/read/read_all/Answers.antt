@@ -23,4 +23,4 @@ returns-clause-fresh g c = λ h.
     let between = sym c.read_segments.ensures.leaves.proceeds.tells ∙ h in
     let t = sym c.in_ok-numbers.ensures.leaves.proceeds.tells ∙ between in
     subst (NoneFrom c.in-Some.next) (sym (c.read_segments.ensures.leaves.files between ∙ c.in_ok-numbers.ensures.leaves.files t))
-    (none_from_after (g.D.Disk.state c.args.disk.now).files c.in-Some.next (c.in-Some.ensures ∙ ap next_after (c.deref.ensures.value ∙ c.in_ok-numbers.ensures.ok t)))
+    (none_from_after (g.D.Disk.state c.args.disk.now).files c.in-Some.next (c.in-Some.ensures.next ∙ ap next_after (c.deref.ensures.value ∙ c.in_ok-numbers.ensures.ok t)))

@@ -1,4 +1,4 @@
-use Rattle.shard_store.proofs.DamageLemmas.{index_within, place_inside, entry_damage}
+use Rattle.shard_files.proofs.DamageLemmas.{index_within, place_inside, entry_damage}
 use Rattle.shard_store.proofs.load.held_entries.Goals as goal
 
 pub bounds-as_slice-index : goal.bounds-as_slice-index

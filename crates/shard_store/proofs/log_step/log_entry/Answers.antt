@@ -1,11 +1,9 @@
-use Rattle.std.proofs.Common.{◌∙◌, refl, sym, subst, arith}
+use Rattle.std.proofs.Common.{◌∙◌, refl, sym, subst}
 use Rattle.std.specs.Prelude.{⊤, IsErr, IsErrOf}
 use Rattle.m3_outside.specs.Causes.{CountsFaults}
 use Rattle.m3_outside.specs.declared.disk_err.DiskErr.TheVariants.{Failed as DiskFailed}
-use Rattle.shard_store.specs.LogSteps.{gain_in}
-use Rattle.shard_store.proofs.GainLemmas.{kept_by_all}
-use Rattle.shard_store.proofs.HeldLemmas.{tenure_is_fence}
-use Rattle.shard_store.proofs.LogStepLemmas.{kept_as, err_is, brings_nothing, brings_fault, brings_all, after_nothing, steps_after_nothing, counts_both, counts_for}
+use Rattle.shard_files.specs.LogSteps.{gain_in}
+use Rattle.shard_store.proofs.LogStepLemmas.{err_is, brings_nothing, brings_fault, brings_all, after_nothing, steps_after_nothing, counts_both, counts_for}
 use Rattle.shard_store.proofs.log_step.log_entry.Goals as goal
 
 pub returns-in_err-ready_entry-clause-brings : goal.returns-in_err-ready_entry-clause-brings
@@ -14,18 +12,12 @@ returns-in_err-ready_entry-clause-brings g c e is =
     brings_nothing (gain_in e) c.from_residual.result c.in_err-ready_entry.field-0.0 (g.D.Disk.state c.args.disk.now) (g.D.Disk.state c.ready_entry.new.disk) same c.ready_entry.ensures.any_moment c.ready_entry.ensures.tells
     (subst (λ r. CountsFaults (IsErrOf r DiskFailed) (g.D.Disk.state c.args.disk.now).faults (g.D.Disk.state c.ready_entry.new.disk).faults) (c.in_err-ready_entry.was ∙ sym same) c.ready_entry.ensures.faults)
 
-pub returns-in_err-append_entry-clause-kept : goal.returns-in_err-append_entry-clause-kept
-returns-in_err-append_entry-clause-kept g c tenure fence kept = c.append_entry.ensures.kept tenure fence (c.ready_entry.ensures.kept tenure fence kept)
-
 pub returns-in_err-append_entry-clause-brings : goal.returns-in_err-append_entry-clause-brings
 returns-in_err-append_entry-clause-brings g c e is =
     brings_fault (gain_in e) c.from_residual-in_err-append_entry.result (g.D.Disk.state c.args.disk.now) (g.D.Disk.state c.append_entry.new.disk) (err_is c.from_residual-in_err-append_entry.result DiskFailed c.from_residual-in_err-append_entry.ensures)
     (after_nothing (gain_in e) (g.D.Disk.state c.args.disk.now) (g.D.Disk.state c.ready_entry.new.disk) (g.D.Disk.state c.append_entry.new.disk) c.ready_entry.ensures.any_moment c.ready_entry.ensures.tells (λ tells. c.append_entry.ensures.any_moment e is (c.ready_entry.ensures.tells ∙ tells)))
     (c.append_entry.ensures.tells ∙ c.ready_entry.ensures.tells)
     (counts_for (IsErr c.append_entry.result) ⊤ _ _ (λ u. subst IsErr (sym c.in_err-append_entry.was) refl) (counts_both _ _ _ _ _ c.ready_entry.ensures.faults c.append_entry.ensures.faults))
-
-pub returns-clause-kept : goal.returns-clause-kept
-returns-clause-kept g c tenure fence kept = c.append_entry.ensures.kept tenure fence (c.ready_entry.ensures.kept tenure fence kept)
 
 pub returns-clause-brings : goal.returns-clause-brings
 returns-clause-brings g c e is =
@@ -35,10 +27,5 @@ returns-clause-brings g c e is =
     (c.append_entry.ensures.tells ∙ c.ready_entry.ensures.tells)
     (counts_for (IsErr c.append_entry.result) ⊥ _ _ (λ none. absurd none) (counts_both _ _ _ _ _ c.ready_entry.ensures.faults c.append_entry.ensures.faults))
 
-pub returns-clause-all_kept : goal.returns-clause-all_kept
-returns-clause-all_kept g c e is tenure fence kept = record {
-  stands = c.append_entry.ensures.stands;
-  sound = kept_as tenure fence _ _ (g.D.Disk.state c.ready_entry.new.disk) (g.D.Disk.state c.append_entry.new.disk) c.append_entry.ensures.tells (λ x y gains least. kept_by_all (gain_in e) x y tenure fence gains least) (λ tells. c.in_ok-append_entry.ensures.acknowledged e is tells)
-      (c.ready_entry.ensures.kept tenure fence kept).sound;
-  order = let up = tenure_is_fence e in omega (arith, kept.order, up);
-}
+pub returns-clause-kept : goal.returns-clause-kept
+returns-clause-kept g c e is memory tenure fence kept = c.in_ok-append_entry.ensures.kept e is memory tenure fence (c.ready_entry.ensures.kept memory tenure fence kept)

@@ -1,25 +1,31 @@
-use Rattle.std.proofs.Common.{◌≡◌, ◌+◌, inl, ap, arith}
-use Rattle.commit_log.proofs.Begin.{begun_stands, failed_above, none_from_next, elapses_none, same_becomes}
+use Rattle.std.proofs.Common.{◌≡◌, ◌+◌, inl, sym, ap, subst, arith}
+use Rattle.commit_log.specs.LogEnd.{LogEnd, Stands}
+use Rattle.m3_outside.proofs.Moments.{same_becomes}
+use Rattle.commit_log.proofs.Begin.{begun_stands, failed_above, none_from_next, elapses_none}
 use Rattle.commit_log.proofs.log.Log.begin_next.Goals as goal
 
-pub returns-in_default-clause-any_moment : goal.returns-in_default-clause-any_moment
-returns-in_default-clause-any_moment g c = λ t. elapses_none (c.args.self.now.number + 1) (g.D.Disk.state c.args.disk.now)
+pub returns-then-self-clause-any_moment : goal.returns-then-self-clause-any_moment
+returns-then-self-clause-any_moment g c = λ t. elapses_none (c.args.self.now.number + 1) (g.D.Disk.state c.args.disk.now)
 
-pub returns-in_default-clause-files : goal.returns-in_default-clause-files
-returns-in_default-clause-files g c = λ t. inl (same_becomes (g.D.Disk.state c.args.disk.now))
+pub returns-then-self-clause-files : goal.returns-then-self-clause-files
+returns-then-self-clause-files g c = λ t. inl (same_becomes (g.D.Disk.state c.args.disk.now))
 
-pub returns-in_err-create-clause-stands : goal.returns-in_err-create-clause-stands
-returns-in_err-create-clause-stands g c =
-    let next : c.in-Some.next ≡ c.args.self.now.number + 1 = omega (arith, c.in-Some.ensures, ap (λ v. v.number) c.self.view_is) in
-    record {
+pub returns-in-Err-Failed-clause-stands : goal.returns-in-Err-Failed-clause-stands
+returns-in-Err-Failed-clause-stands g c =
+    let number = c.self.inside.number + 1 in
+    let next : number ≡ c.args.self.now.number + 1 = ap (λ (v : LogEnd). v.number + 1) c.self.view_is in
+    subst (λ (l : LogEnd). Stands l (g.D.Disk.state c.create.new.self)) (sym c.move_to-in-Err-Failed.ensures)
+    (record {
       kept = λ clean. absurd (cc);
-      above = failed_above c.in-Some.next c.segment_name.result c.segment_name.ensures (g.D.Disk.state c.args.disk.now) (g.D.Disk.state c.create.new.self) c.in_err-create.field-0.0 c.in_err-create.ensures
-          (λ t. none_from_next c.args.self.now.number c.in-Some.next (g.D.Disk.state c.args.disk.now).files next (c.requires.above t));
+      above = failed_above number c.segment_name.result c.segment_name.ensures (g.D.Disk.state c.args.disk.now) (g.D.Disk.state c.create.new.self) c.in-Err-Failed.field-0 c.in-Err-Failed.ensures
+          (λ t. none_from_next c.args.self.now.number number (g.D.Disk.state c.args.disk.now).files next (c.requires.above t));
       within = omega arith;
-    }
+    })
 
-pub returns-clause-stands : goal.returns-clause-stands
-returns-clause-stands g c =
-    let next : c.in-Some.next ≡ c.args.self.now.number + 1 = omega (arith, c.in-Some.ensures, ap (λ v. v.number) c.self.view_is) in
-    begun_stands c.in-Some.next c.segment_name.result c.segment_name.ensures (g.D.Disk.state c.args.disk.now) (g.D.Disk.state c.create.new.self) c.in_ok-create.field-0 c.in_ok-create.ensures
-    (λ t. none_from_next c.args.self.now.number c.in-Some.next (g.D.Disk.state c.args.disk.now).files next (c.requires.above t))
+pub returns-in-Ok-clause-stands : goal.returns-in-Ok-clause-stands
+returns-in-Ok-clause-stands g c =
+    let number = c.self.inside.number + 1 in
+    let next : number ≡ c.args.self.now.number + 1 = ap (λ (v : LogEnd). v.number + 1) c.self.view_is in
+    subst (λ (l : LogEnd). Stands l (g.D.Disk.state c.create.new.self)) (sym c.move_to.ensures)
+    (begun_stands number c.segment_name.result c.segment_name.ensures (g.D.Disk.state c.args.disk.now) (g.D.Disk.state c.create.new.self) c.in-Ok.field-0 c.in-Ok.ensures
+    (λ t. none_from_next c.args.self.now.number number (g.D.Disk.state c.args.disk.now).files next (c.requires.above t)))

@@ -1,26 +1,24 @@
-use Rattle.std.proofs.Common.{◌+◌, ap, ◌∙◌, refl, arith}
-use Rattle.commit_log.proofs.Begin.{ready_after, stays_begun, begun_then_stays, began_then_stays}
+use Rattle.std.proofs.Common.{◌+◌, ◌∙◌}
+use Rattle.m3_outside.proofs.Moments.{becomes_both, becomes_stays}
+use Rattle.commit_log.proofs.Begin.{stays_begun, stays_then_begun, stays_then_began}
 use Rattle.commit_log.proofs.log.Log.ready.Goals as goal
 
-pub returns-then-has_room-clause-ok : goal.returns-then-has_room-clause-ok
-returns-then-has_room-clause-ok g c =
-    let room = c.if-has_room.ensures.0 refl in
-    ready_after c.args.self.now c.args.len c.reserve.result (g.D.Disk.state c.args.disk.now) (g.D.Disk.state c.reserve.new.self) c.reserve.ensures c.requires.stands room.0 room.1
+pub returns-in_err-reserve-clause-unchanged : goal.returns-in_err-reserve-clause-unchanged
+returns-in_err-reserve-clause-unchanged g c = λ t wants. becomes_stays _ (g.D.Disk.state c.args.disk.now) (g.D.Disk.state c.reserve.new.self) c.reserve.ensures.leaves t
+
+pub returns-in_err-reserve-clause-any_moment : goal.returns-in_err-reserve-clause-any_moment
+returns-in_err-reserve-clause-any_moment g c = λ t. stays_begun (c.args.self.now.number + 1) (g.D.Disk.state c.args.disk.now) (g.D.Disk.state c.reserve.new.self) (c.reserve.ensures.leaves.proceeds.told t)
 
 pub returns-then-has_room-clause-any_moment : goal.returns-then-has_room-clause-any_moment
 returns-then-has_room-clause-any_moment g c = λ t. stays_begun (c.args.self.now.number + 1) (g.D.Disk.state c.args.disk.now) (g.D.Disk.state c.reserve.new.self) (c.reserve.ensures.leaves.proceeds.told t)
 
-pub returns-clause-ok : goal.returns-clause-ok
-returns-clause-ok g c =
-    let is = c.in_ok-begin_next.ensures.ok in
-    ready_after c.begin_next.new.self c.args.len c.reserve-2.result (g.D.Disk.state c.begin_next.new.disk) (g.D.Disk.state c.reserve-2.new.self) c.reserve-2.ensures c.begin_next.ensures.stands
-    (ap (λ v. v.clean) is) (let zero_at = ap (λ v. v.at) is in omega (arith, zero_at, c.requires.short))
-
-pub returns-clause-any_moment : goal.returns-clause-any_moment
-returns-clause-any_moment g c = λ t.
-    begun_then_stays (c.args.self.now.number + 1) (g.D.Disk.state c.args.disk.now) (g.D.Disk.state c.begin_next.new.disk) (g.D.Disk.state c.reserve-2.new.self) (c.begin_next.ensures.any_moment t)
-    (c.reserve-2.ensures.leaves.proceeds.told (c.begin_next.ensures.tells ∙ t))
+pub returns-clause-unchanged : goal.returns-clause-unchanged
+returns-clause-unchanged g c = λ t wants.
+    becomes_both (λ files. files) (λ files. files) (λ files. files) (g.D.Disk.state c.args.disk.now) (g.D.Disk.state c.reserve.new.self) (g.D.Disk.state c.begin_next.new.disk) (λ x y e. e)
+    (becomes_stays _ (g.D.Disk.state c.args.disk.now) (g.D.Disk.state c.reserve.new.self) c.reserve.ensures.leaves t) (c.begin_next.ensures.unchanged (c.reserve.ensures.leaves.proceeds.tells ∙ t) wants)
 
 pub returns-clause-files : goal.returns-clause-files
-returns-clause-files g c = λ t.
-    began_then_stays (c.args.self.now.number + 1) _ (g.D.Disk.state c.args.disk.now) (g.D.Disk.state c.begin_next.new.disk) (g.D.Disk.state c.reserve-2.new.self) (c.begin_next.ensures.files t) c.reserve-2.ensures.leaves (c.begin_next.ensures.tells ∙ t)
+returns-clause-files g c = λ t. stays_then_began (c.args.self.now.number + 1) _ (g.D.Disk.state c.args.disk.now) (g.D.Disk.state c.reserve.new.self) (g.D.Disk.state c.begin_next.new.disk) c.reserve.ensures.leaves t (c.begin_next.ensures.files (c.reserve.ensures.leaves.proceeds.tells ∙ t))
+
+pub returns-clause-any_moment : goal.returns-clause-any_moment
+returns-clause-any_moment g c = λ t. stays_then_begun (c.args.self.now.number + 1) (g.D.Disk.state c.args.disk.now) (g.D.Disk.state c.reserve.new.self) (g.D.Disk.state c.begin_next.new.disk) (c.reserve.ensures.leaves.proceeds.told t) (c.begin_next.ensures.any_moment (c.reserve.ensures.leaves.proceeds.tells ∙ t))

@@ -10,6 +10,16 @@ returns-then-next_fails-clause-disk c =
     record {
       leaves = leaves_files d.now d.now d.past.items d.past.items d.schedule.faults c.next_fails.new.self.faults refl (same_itself d.now) refl (omega arith) (counts_as (λ h. c.if-next_fails.true) c.next_fails.ensures.cause);
       enough = tt;
+      had = λ le wants. absurd (cc);
+    }
+
+pub returns-then-calls-room-clause-disk : goal.returns-then-calls-room-clause-disk
+returns-then-calls-room-clause-disk c =
+    let d = c.args.self.now in
+    record {
+      leaves = leaves_files d.now d.now d.past.items d.past.items d.schedule.faults c.next_fails.new.self.faults refl (same_itself d.now) refl (omega arith) (counts_as (λ h. cc) c.next_fails.ensures.cause);
+      enough = omega (arith, c.if-calls-room.true, c.room.ensures);
+      had = λ le wants. absurd (cc);
     }
 
 pub returns-in_err-reserve-clause-disk : goal.returns-in_err-reserve-clause-disk
@@ -18,6 +28,7 @@ returns-in_err-reserve-clause-disk c =
     rw (is_memory _ c.from_residual.ensures.1) (record {
       leaves = leaves_files d.now d.now d.past.items c.reserve.new.self.items d.schedule.faults c.next_fails.new.self.faults refl (same_itself d.now) c.reserve.ensures.items (omega arith) (counts_as (λ h. cc) c.next_fails.ensures.cause);
       enough = tt;
+      had = λ le wants. absurd (omega (arith, le, c.if-calls-room.false));
     })
 
 pub returns-in_err-make_room-clause-disk : goal.returns-in_err-make_room-clause-disk
@@ -28,6 +39,7 @@ returns-in_err-make_room-clause-disk c =
       leaves = leaves_files d.now (record d.now { pending = c.make_room.new.self }) d.past.items c.reserve.new.self.items d.schedule.faults c.next_fails.new.self.faults refl
           (record { synced = refl; writes = ap (λ (p : Pending). p.writes) same }) c.reserve.ensures.items (omega (arith, ap (λ (p : Pending). p.room) same)) (counts_as (λ h. cc) c.next_fails.ensures.cause);
       enough = tt;
+      had = λ le wants. absurd (omega (arith, le, c.if-calls-room.false));
     })
 
 pub returns-clause-disk : goal.returns-clause-disk
@@ -38,4 +50,5 @@ returns-clause-disk c =
       leaves = leaves_files d.now (record d.now { pending = c.make_room.new.self }) d.past.items c.reserve.new.self.items d.schedule.faults c.next_fails.new.self.faults refl
           (record { synced = refl; writes = ap (λ (p : Pending). p.writes) wider }) c.reserve.ensures.items (omega (arith, ap (λ (p : Pending). p.room) wider)) (counts_as (λ h. cc) c.next_fails.ensures.cause);
       enough = omega (arith, ap (λ (p : Pending). p.room) wider);
+      had = λ le wants. absurd (cc);
     }

@@ -1,16 +1,16 @@
-use Rattle.std.proofs.Common.{ap, ◌∙◌}
+use Rattle.std.proofs.Common.{ap, ◌∙◌, Err}
 use Rattle.cluster_core.specs.Refusals.{closed}
 use Rattle.replica_machine.specs.declared.machine.Began.{Began}
-use Rattle.replica_machine.proofs.BootLemmas.{BeginLeft, begin_left_of, again_done}
-use Rattle.replica_machine.proofs.StepLemmas.{store_open, store_stays}
+use Rattle.replica_machine.proofs.BootLemmas.{BeginLeft, again_left, again_done}
+use Rattle.replica_machine.proofs.StepLemmas.{machine_of, failed_is, store_open, store_stays, store_after}
 use Rattle.replica_machine.proofs.machine.Machine.begin_again.Given.{Over}
 use Rattle.replica_machine.proofs.machine.Machine.begin_again.Goals as goal
 
-failed : (g : Over) (c : goal.After-refused g) → BeginLeft g.D.Disk.state c.args.self.now c.args.tenure c.refused.result c.refused.new.self
+failed : (g : Over) (c : goal.After-fall g) → BeginLeft g.D.Disk.state c.args.self.now c.args.tenure c.fall.result (machine_of c.fall.new.standing c.self.inside.tenure c.self.inside.begun c.begin.new.self)
 failed g c =
     let inside = c.self.inside in
-    begin_left_of g.D.Disk.state inside.standing inside.tenure inside.begun c.args.self.now inside.store c.begin.new.self c.self.view_is c.args.tenure (ap closed c.requires.open_) c.requires.high c.in-Err.why c.refused.result c.refused.new.self
-    c.in-Err.ensures.err c.refused.ensures.why c.refused.ensures.left c.in-Err.ensures.disk
+    again_left g.D.Disk.state inside.standing inside.tenure inside.begun c.args.self.now inside.store c.begin.new.self c.self.view_is c.args.tenure (ap closed c.requires.open_) c.requires.high c.in-Err.why c.fall.new.standing c.fall.result c.in-Err.ensures.memory c.in-Err.ensures.fault
+    c.fall.ensures.why c.fall.ensures.down c.fall.ensures.stays c.in-Err.ensures.disk
 
 pub begin-requires-clause-open_ : goal.begin-requires-clause-open_
 begin-requires-clause-open_ g c = λ a b. store_open c.self.inside.standing c.self.inside.store c.self.invariant (ap (λ m. m.standing) c.self.view_is ∙ c.requires.open_)
@@ -32,8 +32,11 @@ returns-in-Err-clause-step g c = (failed g c).step
 
 pub invariant_of-self : goal.invariant_of-self
 invariant_of-self g c =
+    let inside = c.self.inside in
     let is_open = ap (λ m. m.standing) c.self.view_is ∙ c.requires.open_ in
-    store_stays c.self.inside.standing c.begin.new.self is_open (ap (λ s. s.open_) c.in-Err.ensures.err ∙ store_open c.self.inside.standing c.self.inside.store c.self.invariant is_open)
+    let opened = store_open inside.standing inside.store c.self.invariant is_open in
+    store_after inside.standing inside.tenure inside.begun inside.store c.begin.new.self c.fall.new.standing (Err c.in-Err.why) is_open opened tt c.in-Err.ensures.memory c.in-Err.ensures.fault
+    (λ f. c.fall.ensures.down (failed_is c.in-Err.why f)) (λ fine. c.fall.ensures.stays (λ f. fine (ap Err f)))
 
 pub invariant_of-self-2 : goal.invariant_of-self-2
 invariant_of-self-2 g c = store_stays c.self.inside.standing c.begin.new.self (ap (λ m. m.standing) c.self.view_is ∙ c.requires.open_) (ap (λ s. s.open_) c.in_default.ensures.ok)

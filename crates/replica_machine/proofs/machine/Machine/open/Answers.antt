@@ -1,7 +1,7 @@
 use Rattle.std.proofs.Common.{◌≡◌, ap, ◌∙◌, sym, subst, refl}
 use Rattle.cluster_core.specs.Refusals.{closed}
 use Rattle.m3_outside.specs.DiskState.{Told, EachImage}
-use Rattle.shard_store.specs.Held.{Held}
+use Rattle.shard_files.specs.Held.{Held}
 use Rattle.commit_log.specs.LogEnd.{NoneFrom}
 use Rattle.replica_machine.specs.declared.machine.Began.{Began}
 use Rattle.replica_machine.proofs.BootLemmas.{BeginLeft, begin_left_of, open_done}

@@ -2,10 +2,11 @@ use Rattle.std.proofs.Common.{Some, sym, subst, ap, ◌∙◌, Result}
 use Rattle.std.specs.Prelude.{⊤}
 use Rattle.m3_model.specs.declared.reason.Reason.{Reason}
 use Rattle.cluster_core.specs.Refusals.{shut, unowned, outdated, outside}
-use Rattle.shard_store.proofs.LogStepLemmas.{err_is}
+use Rattle.shard_store.proofs.LogStepLemmas.{err_is, on_ok_as}
+use Rattle.replica_machine.specs.Machines.{settled}
 use Rattle.replica_machine.proofs.RefusalLemmas.{in_window, up}
 use Rattle.replica_machine.proofs.ReasonLemmas.{first_of_three, after_three}
-use Rattle.replica_machine.proofs.StepLemmas.{machine_of, store_open, store_stays}
+use Rattle.replica_machine.proofs.StepLemmas.{machine_of, middle, settled_is, store_open, store_after}
 use Rattle.replica_machine.proofs.PutLemmas.{PutDone, put_refused, put_by, put_done}
 use Rattle.replica_machine.proofs.machine.Machine.put.Given.{Over}
 use Rattle.replica_machine.proofs.machine.Machine.put.Goals as goal
@@ -34,14 +35,19 @@ not_inside g c =
     (after_three (shut old.standing) (unowned old.tenure version) (outdated old.fence version) (outside rules point) (Some why) c.in_ok-check_version.ensures.ok c.in_err-check_window.ensures.err))
 
 -- what the store answered
-settles : (g : Over) (c : goal.After-settle g) → PutDone g.D.Disk.state c.args.self.now c.args.version c.args.rules.now c.args.point.now c.settle.result c.settle.new.self
+settles : (g : Over) (c : goal.After-settle g)
+    → PutDone g.D.Disk.state c.args.self.now c.args.version c.args.rules.now c.args.point.now c.settle.result (machine_of c.settle.new.standing c.self.inside.tenure c.self.inside.begun c.put-said.new.self)
 settles g c =
     let inside = c.self.inside in
     let rules = c.args.rules.now in
     let point = c.args.point.now in
-    let by = put_by g.D.Disk.state inside.standing inside.tenure inside.begun c.args.self.now inside.store c.put-said.new.self point c.put-said.result c.self.view_is c.put-said.ensures.ok c.put-said.ensures.memory c.put-said.ensures.fault c.put-said.ensures.disk in
-    put_done g.D.Disk.state c.args.self.now c.args.version rules point c.in_ok-check_version.ensures.ok (in_window rules point c.requires.space c.in_ok-check_window.ensures.ok) c.in_ok-check_window.ensures.ok
-    (machine_of inside.standing inside.tenure inside.begun c.put-said.new.self) c.put-said.result c.settle.result c.settle.new.self c.settle.ensures.said c.settle.ensures.left by
+    let said = c.put-said.result in
+    let mid = middle inside.standing inside.tenure inside.begun inside.store c.put-said.new.self c.args.self.now said in
+    let by = put_by g.D.Disk.state inside.standing inside.tenure inside.begun c.args.self.now inside.store c.put-said.new.self point said c.self.view_is c.put-said.ensures.ok c.put-said.ensures.unchanged c.put-said.ensures.disk in
+    let left =
+    settled_is inside.standing inside.tenure inside.begun inside.store c.put-said.new.self c.settle.new.standing said c.put-said.ensures.memory c.put-said.ensures.fault c.settle.ensures.down c.settle.ensures.stays
+    ∙ ap (λ m. settled said (middle inside.standing inside.tenure inside.begun inside.store c.put-said.new.self m said)) c.self.view_is in
+    put_done g.D.Disk.state c.args.self.now c.args.version rules point c.in_ok-check_version.ensures.ok (in_window rules point c.requires.space c.in_ok-check_window.ensures.ok) c.in_ok-check_window.ensures.ok mid said c.settle.result _ c.settle.ensures.said left by
 
 pub put-said-requires-clause-open_ : goal.put-said-requires-clause-open_
 put-said-requires-clause-open_ g c = λ a b.
@@ -50,9 +56,12 @@ put-said-requires-clause-open_ g c = λ a b.
 
 pub invariant_of-self : goal.invariant_of-self
 invariant_of-self g c =
+    let inside = c.self.inside in
     let is_up = up c.args.self.now.standing c.args.self.now.tenure c.args.self.now.fence c.args.version c.in_ok-check_version.ensures.ok in
     let is_open = ap (λ m. m.standing) c.self.view_is ∙ is_up.open_ in
-    store_stays c.self.inside.standing c.put-said.new.self is_open (ap (λ s. s.open_) c.put-said.ensures.fault ∙ store_open c.self.inside.standing c.self.inside.store c.self.invariant is_open)
+    let opened = store_open inside.standing inside.store c.self.invariant is_open in
+    store_after inside.standing inside.tenure inside.begun inside.store c.put-said.new.self c.settle.new.standing c.put-said.result is_open opened (on_ok_as c.put-said.result (λ is. ap (λ s. s.open_) is ∙ opened) c.put-said.ensures.ok) c.put-said.ensures.memory c.put-said.ensures.fault
+    c.settle.ensures.down c.settle.ensures.stays
 
 pub returns-in_err-check_version-clause-ok : goal.returns-in_err-check_version-clause-ok
 returns-in_err-check_version-clause-ok g c = (not_served g c).ok
@@ -116,3 +125,21 @@ returns-clause-disk g c = (settles g c).disk
 
 pub returns-clause-step : goal.returns-clause-step
 returns-clause-step g c = (settles g c).step
+
+pub returns-in_err-check_version-clause-plain : goal.returns-in_err-check_version-clause-plain
+returns-in_err-check_version-clause-plain g c = (not_served g c).plain
+
+pub returns-in_err-check_version-clause-unchanged : goal.returns-in_err-check_version-clause-unchanged
+returns-in_err-check_version-clause-unchanged g c = (not_served g c).unchanged
+
+pub returns-in_err-check_window-clause-plain : goal.returns-in_err-check_window-clause-plain
+returns-in_err-check_window-clause-plain g c = (not_inside g c).plain
+
+pub returns-in_err-check_window-clause-unchanged : goal.returns-in_err-check_window-clause-unchanged
+returns-in_err-check_window-clause-unchanged g c = (not_inside g c).unchanged
+
+pub returns-clause-plain : goal.returns-clause-plain
+returns-clause-plain g c = (settles g c).plain
+
+pub returns-clause-unchanged : goal.returns-clause-unchanged
+returns-clause-unchanged g c = (settles g c).unchanged

@@ -1,7 +1,7 @@
 use Rattle.std.proofs.Common.{refl, subst}
 use Rattle.m3_model.specs.declared.reason.Reason.TheVariants as reason
 use Rattle.m3_outside.specs.DiskState.{Told}
-use Rattle.shard_store.specs.Held.{IsSound}
+use Rattle.shard_files.specs.Held.{IsSound}
 use Rattle.cluster_core.specs.declared.event.StepCall.TheVariants as call
 use Rattle.cluster_core.specs.declared.event.StepReply.TheVariants as reply
 use Rattle.session.proofs.SlotLemmas.{wrote, none_at, found_not_none, found_same, err_still}

@@ -1,22 +1,19 @@
 use Rattle.std.proofs.Common.{max, ◌++◌, List, ℕ, ◌∙◌, ap, sym, arith}
 use Rattle.wire_bytes.specs.Entries.{tenure_entry}
 use Rattle.m3_outside.specs.declared.disk_err.DiskErr.TheVariants.{Memory}
-use Rattle.shard_store.specs.Gains.{a_tenure}
-use Rattle.shard_store.specs.declared.entries.LogEntry.TheVariants as entry
-use Rattle.shard_store.proofs.LogStepLemmas.{err_is, brings_none, brings_there, brings_as, kept_for}
+use Rattle.shard_files.specs.Gains.{a_tenure}
+use Rattle.shard_files.specs.declared.entries.LogEntry.TheVariants as entry
+use Rattle.shard_store.proofs.LogStepLemmas.{err_is, memory_else, brings_none, brings_there, brings_as, kept_for}
 use Rattle.shard_store.proofs.opened.Opened.begin.Goals as goal
 
 pub returns-then-tenure-self-clause-disk : goal.returns-then-tenure-self-clause-disk
-returns-then-tenure-self-clause-disk g c = brings_there (a_tenure c.args.tenure) tt c.args.self.now.tenure c.args.self.now.fence (g.D.Disk.state c.args.disk.now) c.requires.kept.sound (λ p m. m) (omega (arith, c.if-tenure-self.true)) (omega (arith, c.if-tenure-self.true, c.requires.kept.order))
+returns-then-tenure-self-clause-disk g c = brings_there (a_tenure c.args.tenure) tt c.args.self.now.held.points c.args.self.now.tenure c.args.self.now.fence (g.D.Disk.state c.args.disk.now) c.requires.kept.exact (λ p m. m) (omega (arith, c.if-tenure-self.true)) (omega (arith, c.if-tenure-self.true, c.requires.kept.order))
 
 pub returns-in_err-put_tenure-clause-disk : goal.returns-in_err-put_tenure-clause-disk
 returns-in_err-put_tenure-clause-disk g c = brings_none (a_tenure c.args.tenure) c.from_residual.result (g.D.Disk.state c.args.disk.now) (err_is c.from_residual.result Memory c.from_residual.ensures)
 
 pub log_entry-requires-clause-entry : goal.log_entry-requires-clause-entry
 log_entry-requires-clause-entry g c = λ a b. (entry.Tenure c.args.tenure, record { within = c.ranges.tenure.fits; is = c.deref.ensures.value ∙ c.in_ok-put_tenure.ensures.ok ∙ ap (λ (l : List ℕ). l ++ tenure_entry c.args.tenure) c.clear.ensures.items })
-
-pub returns-in_err-log_entry-clause-kept : goal.returns-in_err-log_entry-clause-kept
-returns-in_err-log_entry-clause-kept g c = c.log_entry.ensures.kept c.args.self.now.tenure c.args.self.now.fence c.requires.kept
 
 pub returns-in_err-log_entry-clause-disk : goal.returns-in_err-log_entry-clause-disk
 returns-in_err-log_entry-clause-disk g c =
@@ -29,9 +26,14 @@ returns-clause-disk g c =
     brings_as (a_tenure c.args.tenure) c.log_entry.result _ (g.D.Disk.state c.args.disk.now) (g.D.Disk.state c.log_entry.new.disk) (sym c.in_ok-log_entry.was) (c.log_entry.ensures.brings (entry.Tenure c.args.tenure) (record { within = c.ranges.tenure.fits; is = c.deref.ensures.value ∙ c.in_ok-put_tenure.ensures.ok ∙ ap (λ (l : List ℕ). l ++ tenure_entry c.args.tenure) c.clear.ensures.items }))
 
 pub returns-clause-kept : goal.returns-clause-kept
-returns-clause-kept g c =
-    kept_for c.log_entry.new.log (max c.args.self.now.tenure c.args.tenure) (max c.args.self.now.fence c.args.tenure) _ _ (g.D.Disk.state c.log_entry.new.disk) (omega (arith, c.if-tenure-self.false)) (sym c.max-self.ensures)
-    (c.in_ok-log_entry.ensures.all_kept (entry.Tenure c.args.tenure) (record { within = c.ranges.tenure.fits; is = c.deref.ensures.value ∙ c.in_ok-put_tenure.ensures.ok ∙ ap (λ (l : List ℕ). l ++ tenure_entry c.args.tenure) c.clear.ensures.items }) c.args.self.now.tenure c.args.self.now.fence c.requires.kept)
+returns-clause-kept g c = λ fine.
+    kept_for c.log_entry.new.log _ (max c.args.self.now.tenure c.args.tenure) (max c.args.self.now.fence c.args.tenure) _ _ (g.D.Disk.state c.log_entry.new.disk) (omega (arith, c.if-tenure-self.false)) (sym c.max-self.ensures)
+    (c.in_ok-log_entry.ensures.kept (entry.Tenure c.args.tenure) (record { within = c.ranges.tenure.fits; is = c.deref.ensures.value ∙ c.in_ok-put_tenure.ensures.ok ∙ ap (λ (l : List ℕ). l ++ tenure_entry c.args.tenure) c.clear.ensures.items }) c.args.self.now.held c.args.self.now.tenure c.args.self.now.fence c.requires.kept)
 
 pub returns-then-tenure-self-clause-ok : goal.returns-then-tenure-self-clause-ok
 returns-then-tenure-self-clause-ok g c = (omega (arith, c.if-tenure-self.true), omega (arith, c.if-tenure-self.true, c.requires.kept.order))
+
+pub returns-in_err-log_entry-clause-kept : goal.returns-in_err-log_entry-clause-kept
+returns-in_err-log_entry-clause-kept g c = λ fine.
+    c.log_entry.ensures.memory c.args.self.now.held c.args.self.now.tenure c.args.self.now.fence c.requires.kept
+    (memory_else c.log_entry.result c.from_residual-in_err-log_entry.result c.in_err-log_entry.field-0.0 c.in_err-log_entry.was (err_is c.from_residual-in_err-log_entry.result c.in_err-log_entry.field-0.0 c.from_residual-in_err-log_entry.ensures) fine)

@@ -1,22 +1,19 @@
 use Rattle.std.proofs.Common.{max, ◌++◌, List, ℕ, ◌∙◌, ap, sym, arith}
 use Rattle.wire_bytes.specs.Entries.{fence_entry}
 use Rattle.m3_outside.specs.declared.disk_err.DiskErr.TheVariants.{Memory}
-use Rattle.shard_store.specs.Gains.{a_fence}
-use Rattle.shard_store.specs.declared.entries.LogEntry.TheVariants as entry
-use Rattle.shard_store.proofs.LogStepLemmas.{err_is, brings_none, brings_there, brings_as, kept_for}
+use Rattle.shard_files.specs.Gains.{a_fence}
+use Rattle.shard_files.specs.declared.entries.LogEntry.TheVariants as entry
+use Rattle.shard_store.proofs.LogStepLemmas.{err_is, memory_else, brings_none, brings_there, brings_as, kept_for}
 use Rattle.shard_store.proofs.opened.Opened.fence.Goals as goal
 
 pub returns-then-version-self-clause-disk : goal.returns-then-version-self-clause-disk
-returns-then-version-self-clause-disk g c = brings_there (a_fence c.args.version) tt c.args.self.now.tenure c.args.self.now.fence (g.D.Disk.state c.args.disk.now) c.requires.kept.sound (λ p m. m) (omega (arith, c.if-version-self.true)) (omega (arith, c.if-version-self.true, c.requires.kept.order))
+returns-then-version-self-clause-disk g c = brings_there (a_fence c.args.version) tt c.args.self.now.held.points c.args.self.now.tenure c.args.self.now.fence (g.D.Disk.state c.args.disk.now) c.requires.kept.exact (λ p m. m) (omega (arith, c.if-version-self.true)) (omega (arith, c.if-version-self.true, c.requires.kept.order))
 
 pub returns-in_err-put_fence-clause-disk : goal.returns-in_err-put_fence-clause-disk
 returns-in_err-put_fence-clause-disk g c = brings_none (a_fence c.args.version) c.from_residual.result (g.D.Disk.state c.args.disk.now) (err_is c.from_residual.result Memory c.from_residual.ensures)
 
 pub log_entry-requires-clause-entry : goal.log_entry-requires-clause-entry
 log_entry-requires-clause-entry g c = λ a b. (entry.Fence c.args.version, record { within = c.ranges.version.fits; is = c.deref.ensures.value ∙ c.in_ok-put_fence.ensures.ok ∙ ap (λ (l : List ℕ). l ++ fence_entry c.args.version) c.clear.ensures.items })
-
-pub returns-in_err-log_entry-clause-kept : goal.returns-in_err-log_entry-clause-kept
-returns-in_err-log_entry-clause-kept g c = c.log_entry.ensures.kept c.args.self.now.tenure c.args.self.now.fence c.requires.kept
 
 pub returns-in_err-log_entry-clause-disk : goal.returns-in_err-log_entry-clause-disk
 returns-in_err-log_entry-clause-disk g c =
@@ -29,6 +26,11 @@ returns-clause-disk g c =
     brings_as (a_fence c.args.version) c.log_entry.result _ (g.D.Disk.state c.args.disk.now) (g.D.Disk.state c.log_entry.new.disk) (sym c.in_ok-log_entry.was) (c.log_entry.ensures.brings (entry.Fence c.args.version) (record { within = c.ranges.version.fits; is = c.deref.ensures.value ∙ c.in_ok-put_fence.ensures.ok ∙ ap (λ (l : List ℕ). l ++ fence_entry c.args.version) c.clear.ensures.items }))
 
 pub returns-clause-kept : goal.returns-clause-kept
-returns-clause-kept g c =
-    kept_for c.log_entry.new.log (max c.args.self.now.tenure 0) (max c.args.self.now.fence c.args.version) _ _ (g.D.Disk.state c.log_entry.new.disk) (omega (arith, c.if-version-self.false)) (omega (arith, c.if-version-self.false))
-    (c.in_ok-log_entry.ensures.all_kept (entry.Fence c.args.version) (record { within = c.ranges.version.fits; is = c.deref.ensures.value ∙ c.in_ok-put_fence.ensures.ok ∙ ap (λ (l : List ℕ). l ++ fence_entry c.args.version) c.clear.ensures.items }) c.args.self.now.tenure c.args.self.now.fence c.requires.kept)
+returns-clause-kept g c = λ fine.
+    kept_for c.log_entry.new.log _ (max c.args.self.now.tenure 0) (max c.args.self.now.fence c.args.version) _ _ (g.D.Disk.state c.log_entry.new.disk) (omega (arith, c.if-version-self.false)) (omega (arith, c.if-version-self.false))
+    (c.in_ok-log_entry.ensures.kept (entry.Fence c.args.version) (record { within = c.ranges.version.fits; is = c.deref.ensures.value ∙ c.in_ok-put_fence.ensures.ok ∙ ap (λ (l : List ℕ). l ++ fence_entry c.args.version) c.clear.ensures.items }) c.args.self.now.held c.args.self.now.tenure c.args.self.now.fence c.requires.kept)
+
+pub returns-in_err-log_entry-clause-kept : goal.returns-in_err-log_entry-clause-kept
+returns-in_err-log_entry-clause-kept g c = λ fine.
+    c.log_entry.ensures.memory c.args.self.now.held c.args.self.now.tenure c.args.self.now.fence c.requires.kept
+    (memory_else c.log_entry.result c.from_residual-in_err-log_entry.result c.in_err-log_entry.field-0.0 c.in_err-log_entry.was (err_is c.from_residual-in_err-log_entry.result c.in_err-log_entry.field-0.0 c.from_residual-in_err-log_entry.ensures) fine)

@@ -1,9 +1,15 @@
-use Rattle.std.proofs.Common.{ap, sym, subst}
+use Rattle.std.proofs.Common.{◌≡◌, List, None, ap, sym, subst, ◌∙◌}
+use Rattle.m3_model.specs.Contents.{content_of}
+use Rattle.m3_model.specs.declared.point.Point.{Point}
 use Rattle.std.specs.Prelude.{IsErrOf}
 use Rattle.m3_outside.specs.DiskState.{EachImage}
 use Rattle.m3_outside.specs.declared.disk_err.DiskErr.TheVariants.{Memory, Failed as DiskFailed}
-use Rattle.shard_store.specs.Gains.{Brings, nothing}
-use Rattle.shard_store.specs.Stores.{HoldsAtLeast}
+use Rattle.shard_files.specs.Gains.{Brings, nothing}
+use Rattle.std.specs.Prelude.{Option}
+use Rattle.shard_store.specs.declared.opened.Opened.{Opened}
+use Rattle.shard_store.specs.StoreParts.{IsKept}
+use Rattle.shard_store.specs.Stores.{HoldsOpened}
+use Rattle.block_buffer.specs.Held.{Held as InMemory}
 use Rattle.shard_store.proofs.LogStepLemmas.{err_is, brings_none, brings_nothing, brings_nothing_more, only_held, counts_for, err_to}
 use Rattle.shard_store.proofs.store.Store.open.Goals as goal
 
@@ -19,9 +25,14 @@ returns-in_err-log-clause-disk g c =
 
 pub invariant_of-self-2 : goal.invariant_of-self-2
 invariant_of-self-2 g c =
-    c.in_ok-log.ensures.kept c.args.loaded.now.tenure c.args.loaded.now.fence c.requires.order
-    (subst (λ d. EachImage (g.D.Disk.state d) (HoldsAtLeast c.args.loaded.now.tenure c.args.loaded.now.fence)) (sym (ap (λ s. s.disk) c.self.view_is))
-    (only_held c.args.loaded.now.points c.args.loaded.now.tenure c.args.loaded.now.fence (g.D.Disk.state c.args.self.now.disk) c.requires.held c.requires.only))
+    let memory = c.in_ok-held.held in
+    let loaded = c.args.loaded.now in
+    let is : memory ≡ record { points = content_of loaded.points; room = None } = c.in_ok-held.ensures ∙ ap (λ (ps : List Point). let m : InMemory = record { points = content_of ps; room = None } in m) c.as_slice.ensures in
+    subst (λ (o : Option Opened). IsKept o (g.D.Disk.state c.begin_log.new.disk)) (sym c.replace.ensures.after)
+    (c.in_ok-log.ensures.kept memory loaded.tenure loaded.fence (ap (λ (m : InMemory). m.room) is) c.requires.order
+    (subst (λ d. EachImage (g.D.Disk.state d) (HoldsOpened memory.points loaded.tenure loaded.fence)) (sym (ap (λ s. s.disk) c.self.view_is))
+    (subst (λ (m : InMemory). EachImage (g.D.Disk.state c.args.self.now.disk) (HoldsOpened m.points loaded.tenure loaded.fence)) (sym is)
+    (only_held loaded.points loaded.tenure loaded.fence (g.D.Disk.state c.args.self.now.disk) c.requires.held c.requires.only))))
 
 pub returns-clause-disk : goal.returns-clause-disk
 returns-clause-disk g c =

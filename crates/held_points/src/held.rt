@@ -1,0 +1,135 @@
+ghost use Rattle.std.specs.Prelude.{◌≡◌, Some, None, IfOk, OnOk, OnErr};
+ghost use Rattle.std.specs.FinMap as finite;
+ghost use Rattle.m3_model.specs.Contents.{raised, content_of, key_of};
+ghost use Rattle.m3_model.specs.Answers.{IsAnswer};
+
+use crate::candidates::{candidates, names};
+use crate::listing::{list, unlist};
+use crate::matching::unequal;
+use crate::ranges::ranges;
+use block_buffer::buffer::Buffer;
+use m3_model::memory::Memory;
+use m3_model::point::{Pick, Point, Series};
+use m3_model::seq::Seq;
+use std::alloc::Global;
+use std::marker::Model;
+use tag_index::Index;
+
+/// The points of one shard that one replica holds, in memory. Contracts see it as its content, and beside that the key for
+/// which there is room: at it the next `put` takes no memory.
+///
+/// See M3DB's page "Storage Engine".
+#[derive(Drop)]
+pub struct HeldPoints {
+    alloc: Global,
+    buffer: Buffer,
+    // The identifiers that have a point, by their tags, and that of the point for which there is room.
+    index: Index,
+    // Whether the point for which there is room is the first of its identifier.
+    newly: bool,
+}
+
+impl Model for HeldPoints {
+    ghost use Rattle.block_buffer.specs.Held.{Held, held_code};
+    ghost use Rattle.held_points.specs.Indexed.{IsIndexedFor};
+
+    ghost Value = { Held };
+
+    ghost coded = { held_code };
+
+    ghost view = { λ s. s.buffer };
+
+    ghost invariant = { λ s. IsIndexedFor s.buffer.room s.newly s.buffer.points s.index };
+}
+
+impl HeldPoints {
+    /// The store without points. Takes no memory.
+    pub fn new(alloc: Global) -> HeldPoints
+        ensures { result ≡ record { points = finite.empty; room = None } }
+    {
+        HeldPoints {
+            alloc,
+            buffer: Buffer::new(alloc),
+            index: Index::new(alloc),
+            newly: false,
+        }
+    }
+
+    /// Takes the memory that a `put` of this point needs, in logarithmic time; a series that is new costs as much for each
+    /// of its tags.
+    ///
+    /// # Errors
+    ///
+    /// Want of memory. Nothing changes.
+    pub fn room(&mut self, point: &Point) -> Result<(), Memory>
+        requires { self.old.room ≡ None }
+        ensures ok { OnOk result (self.new ≡ record { points = self.old.points; room = Some (key_of point.now) }) }
+        ensures err { OnErr result (self.new ≡ self.old) }
+    {
+        let newly = list(self.alloc, &mut self.index, &point.id)?;
+        if let Err(e) = self.buffer.room(point) {
+            unlist(&mut self.index, newly, &point.id);
+            return Err(e);
+        }
+        self.newly = newly;
+        Ok(())
+    }
+
+    /// Joins the point, for which there is room and of which the higher value stays at its key, and uses up the room. Takes
+    /// logarithmic time and no memory.
+    pub fn put(&mut self, point: &Point)
+        requires { self.old.room ≡ Some (key_of point.now) }
+        ensures { self.new ≡ record { points = raised self.old.points point.now; room = None } }
+    {
+        self.buffer.put(point);
+    }
+
+    /// Gives up the room for the point. Takes no memory.
+    pub fn release(&mut self, point: &Point)
+        requires { self.old.room ≡ Some (key_of point.now) }
+        ensures { self.new ≡ record { points = self.old.points; room = None } }
+    {
+        unlist(&mut self.index, self.newly, &point.id);
+        self.buffer.release();
+    }
+
+    /// The points with `from <= t < to` of the series that the pick asks for: of the one identifier, or of each
+    /// identifier of the namespace for which every matcher holds. Identifiers ascend strictly by bytes, times ascend
+    /// strictly, and no series is empty.
+    ///
+    /// One identifier costs logarithmic time. A match costs time in proportion to the series, of all namespaces, that have
+    /// the tags of its matchers of equality, and where it has no such matcher to all series held. Each beside its answer.
+    pub fn fetch(&self, pick: &Pick, from: u64, to: u64) -> Result<Seq<Series>, Memory>
+        requires { self.now.room ≡ None }
+        ensures { IfOk result (IsAnswer self.now.points pick.now from to) }
+    {
+        match pick {
+            Pick::One { .. } => self.buffer.range(self.alloc, pick, from, to),
+            Pick::Match { ns, wanted } => {
+                let wanted = wanted.as_slice();
+                match candidates(self.alloc, &self.index, wanted)? {
+                    Some(ordinals) => {
+                        let ids = names(self.alloc, &self.index, wanted, ordinals.as_slice())?;
+                        ranges(self.alloc, &self.buffer, *ns, ids, from, to)
+                    }
+                    None => {
+                        let found = self.buffer.range(self.alloc, pick, from, to)?;
+                        Ok(unequal(found, wanted))
+                    }
+                }
+            }
+        }
+    }
+}
+
+/// The points joined, in memory: of several of one key the higher value. Each costs logarithmic time.
+pub fn hold(alloc: Global, points: &[Point]) -> Result<HeldPoints, Memory>
+    ensures { IfOk result (λ held. held ≡ record { points = content_of points.now; room = None }) }
+{
+    let mut held = HeldPoints::new(alloc);
+    for point in points {
+        held.room(point)?;
+        held.put(point);
+    }
+    Ok(held)
+}

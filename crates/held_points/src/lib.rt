@@ -1,0 +1,8 @@
+//! The points of one shard that one replica holds in memory, and what it answers a read with.
+#![tactic(auto)]
+
+mod candidates;
+pub mod held;
+mod listing;
+mod matching;
+mod ranges;

@@ -1,0 +1,44 @@
+ghost use Rattle.std.specs.Prelude.{◌≡◌, IfOk, OnErr, MatchBool};
+ghost use Rattle.m3_model.specs.Tags.{HasTags};
+ghost use Rattle.tag_index.specs.Listed.{Listed};
+ghost use Rattle.held_points.specs.Indexed.{IsNewlyListed, WasListed};
+
+use m3_model::memory::Memory;
+use m3_model::seq::Seq;
+use m3_model::text::Text;
+use series_id::{IdErr, parse};
+use std::alloc::Global;
+use tag_index::Index;
+
+// The tags of the identifier. A text that is no identifier has none.
+fn tags_of(alloc: Global, id: &str) -> Result<Seq<(Text, Text)>, Memory>
+    ensures { IfOk result (λ tags. HasTags id.now tags) }
+{
+    match parse(alloc, id) {
+        Ok(parsed) => parsed.tags(alloc),
+        Err(IdErr::Memory) => Err(Memory),
+        Err(_) => Ok(Seq::new(alloc)),
+    }
+}
+
+// Lists the series with its tags, and says whether it wasn't listed before. Want of memory changes nothing.
+pub(crate) fn list(alloc: Global, index: &mut Index, id: &Text) -> Result<bool, Memory>
+    ensures ok { IfOk result (λ newly. MatchBool newly (IsNewlyListed index.old index.new id.now) (WasListed index.old index.new id.now)) }
+    ensures err { OnErr result (index.new ≡ index.old) }
+{
+    if index.has(id.as_str()) {
+        return Ok(false);
+    }
+    let tags = tags_of(alloc, id.as_str())?;
+    index.add(id, &tags)?;
+    Ok(true)
+}
+
+// Leaves the index as it was before the series was listed. Takes no memory.
+pub(crate) fn unlist(index: &mut Index, newly: bool, id: &Text)
+    ensures { (before : Listed) → MatchBool newly (IsNewlyListed before index.old id.now) (WasListed before index.old id.now) → index.new ≡ before }
+{
+    if newly {
+        index.remove(id.as_str());
+    }
+}

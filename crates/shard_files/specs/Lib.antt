@@ -1,0 +1,13 @@
+pub mod Entries
+pub mod Held
+pub mod Gains
+pub mod LogSteps
+pub mod HeldLaws
+pub mod Loading
+pub mod Parts
+pub mod FilesHold
+pub mod Keeps
+pub mod Steps
+pub mod FileLaws
+pub mod StepLaws
+pub mod Damage

@@ -1,0 +1,57 @@
+//! Laws over the definitions of what a replica's files hold.
+ghost use Rattle.std.specs.Prelude.{List, [], ℕ, ◌≤◌};
+ghost use Rattle.std.specs.FinMap.{empty};
+ghost use Rattle.m3_model.specs.declared.point.Point.{Point};
+ghost use Rattle.m3_outside.specs.Files.{Files};
+ghost use Rattle.shard_files.specs.declared.entries.LogEntry.{LogEntry};
+ghost use Rattle.shard_files.specs.Held.{Held, IsSound};
+ghost use Rattle.shard_files.specs.Loading.{IsDamagedAt};
+ghost use Rattle.shard_files.specs.HeldLaws.{OneSpelling, EntriesAreOne, HeldIsOne, OneMore, GrownIsJoined, StopLeavesPart};
+
+use m3_outside::disk::Disk;
+
+/// No two entries within their bounds have the same bytes.
+pub fn one_spelling()
+    ensures { OneSpelling }
+{}
+
+/// Files hold at most one list of entries.
+pub fn entries_are_one()
+    ensures { EntriesAreOne }
+{}
+
+/// Files hold at most one list of points, with one tenure and one fence.
+pub fn held_is_one()
+    ensures { HeldIsOne }
+{}
+
+/// Where there are no files, nothing is held.
+pub fn no_files_hold_nothing()
+    ensures { Held [] 0 0 empty }
+{}
+
+/// What files hold has a tenure that isn't above its fence.
+pub fn held_is_ordered()
+    ensures { (points : List Point) (tenure fence : ℕ) (files : Files) → Held points tenure fence files → tenure ≤ fence }
+{}
+
+/// Damaged files hold nothing.
+pub fn damaged_is_unsound()
+    ensures { (number at : ℕ) (files : Files) → IsDamagedAt number at files → ¬ IsSound files }
+{}
+
+/// One more entry brings its points, and its tenure and its fence where they are greater.
+pub fn one_more()
+    ensures { (es : List LogEntry) (e : LogEntry) → OneMore es e }
+{}
+
+/// A content that grew by part of a gain is the one from before, joined with points of the gain.
+pub fn grown_is_joined()
+    ensures { GrownIsJoined }
+{}
+
+/// A stop at any moment since a call began that may bring something leaves files that hold what those of one of the images
+/// held, and part of what the call brings.
+pub fn stop_leaves_part<D: Disk>()
+    ensures { StopLeavesPart D.state }
+{}

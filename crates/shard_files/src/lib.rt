@@ -1,0 +1,8 @@
+//! What the files of one replica's disk hold: the definitions that its readers and writers share, and the entries of its log.
+#![tactic(auto)]
+
+pub mod amount;
+pub mod entries;
+pub mod file_laws;
+pub mod laws;
+pub mod load_err;

@@ -1,0 +1,54 @@
+use commit_log::LogErr;
+use m3_model::memory::Memory;
+use m3_outside::disk_err::DiskErr;
+
+/// Why a replica's log can't be read.
+#[derive(Clone, Copy, Debug, PartialEq, Eq)]
+pub enum LoadErr {
+    /// The disk failed. Its count of faults rose in that call.
+    Disk,
+    /// Want of memory.
+    Memory,
+    /// In the segment of this number no replica's log goes on with the byte at the place `at`, or for want of it.
+    Form { number: u64, at: u64 },
+}
+
+impl From<LogErr> for LoadErr {
+    ghost use Rattle.std.specs.Prelude.{◌≡◌};
+    ghost use Rattle.shard_files.specs.Loading.{of_log};
+
+    ghost from_gives = { λ d e. e ≡ of_log d };
+
+    fn from(e: LogErr) -> LoadErr {
+        match e {
+            LogErr::Disk => LoadErr::Disk,
+            LogErr::Memory => LoadErr::Memory,
+            LogErr::Form { number, at } => LoadErr::Form { number, at },
+        }
+    }
+}
+
+impl From<DiskErr> for LoadErr {
+    ghost use Rattle.std.specs.Prelude.{◌≡◌};
+    ghost use Rattle.shard_files.specs.Loading.{of_disk};
+
+    ghost from_gives = { λ d e. e ≡ of_disk d };
+
+    fn from(e: DiskErr) -> LoadErr {
+        match e {
+            DiskErr::Failed => LoadErr::Disk,
+            DiskErr::Memory => LoadErr::Memory,
+        }
+    }
+}
+
+impl From<Memory> for LoadErr {
+    ghost use Rattle.std.specs.Prelude.{◌≡◌};
+    ghost use Rattle.shard_files.specs.declared.load_err.LoadErr.TheVariants as failures;
+
+    ghost from_gives = { λ _ e. e ≡ failures.Memory };
+
+    fn from(_: Memory) -> LoadErr {
+        LoadErr::Memory
+    }
+}

@@ -1,5 +1,0 @@
-use Rattle.shard_store.proofs.HeldLemmas.{entries_are_one as it}
-use Rattle.shard_store.proofs.laws.entries_are_one.Goals as goal
-
-pub returns : goal.returns
-returns c = it

@@ -1,5 +1,0 @@
-use Rattle.shard_store.proofs.ContentLemmas.{grown_is_joined as it}
-use Rattle.shard_store.proofs.laws.grown_is_joined.Goals as goal
-
-pub returns : goal.returns
-returns c = it

@@ -1,0 +1,5 @@
+use Rattle.wire_bytes.proofs.VolumeLemmas.{volumes_are_one as it}
+use Rattle.wire_bytes.proofs.laws.volumes_are_one.Goals as goal
+
+pub returns : goal.returns
+returns c = it
