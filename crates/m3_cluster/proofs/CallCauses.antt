@@ -314,15 +314,21 @@ found_due {D} {G} {state} {faults} {lines} {c} {m} h more among a b calls id w l
       may_be_short = λ e.
           let why = found.short_where.0 e in
           let k = why.1.0 in
-          let heard = heard_at k why.1.1 why.1.2 in
-          (why.0, (k, (within k).1 (why.1.1, why.1.2), record {
-            reasons = refusing (found.told k);
-            silent = silent_due heard (λ n x none. cc) (refusing (found.told k)) refl;
-            got = length (answering (found.told k));
-            others = others_due heard (length (answering (found.told k))) (refusing (found.told k)) refl refl;
-            some = let least = subst (λ l. needed_read l place.rf ≤ length (answering (found.told k))) why.0 (found.enough k why.1.1 why.1.2) in omega (arith, least);
-            fewer = why.1.3;
-          }));
+          let heard = heard_at k why.1.1 why.1.2 in (
+            why.0,
+            (
+              k,
+              (within k).1 (why.1.1, why.1.2),
+              record {
+                reasons = refusing (found.told k);
+                silent = silent_due heard (λ n x none. cc) (refusing (found.told k)) refl;
+                got = length (answering (found.told k));
+                others = others_due heard (length (answering (found.told k))) (refusing (found.told k)) refl refl;
+                some = let least = subst (λ l. needed_read l place.rf ≤ length (answering (found.told k))) why.0 (found.enough k why.1.1 why.1.2) in omega (arith, least);
+                fewer = why.1.3;
+              },
+            ),
+          );
       not_short = λ whole is k asks.
           let in_range = (within k).0 asks in
           let reached = reached_many (heard_at k in_range.0 in_range.1) in

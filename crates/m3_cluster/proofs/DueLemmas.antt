@@ -36,8 +36,12 @@ due_nowhere {D} {G} {state} {faults} {lines} {c} s more messages a b none refuse
     let p = place_after lines a b in
     let stopped = is_stopped (inner_turns lines) in
     let versions = map (λ (place : Placement). place.version) (placements None (inner_turns lines)) in
-    inr (inr (inner_turns lines, after_lines lines a b, subst (λ (o : Option Placement). IsDueBy true more None messages p (refusal_by o versions (rules_at None p) stopped a)) (sym (nowhere s none a b))
-    (subst (IsDueBy true more None messages p) (sym (refused versions (rules_at None p) stopped)) is)))
+    inr (inr (
+      inner_turns lines,
+      after_lines lines a b,
+      subst (λ (o : Option Placement). IsDueBy true more None messages p (refusal_by o versions (rules_at None p) stopped a)) (sym (nowhere s none a b))
+          (subst (IsDueBy true more None messages p) (sym (refused versions (rules_at None p) stopped)) is),
+    ))
 
 -- where one stands, what its placement, its rules and its stopped nodes refuse
 pub due_there : {D : Type 0} {G : Ghosts D} {state : D → DiskState} {faults : List Fault} {lines : List Turn} {c : Cluster D G} {m : Members D G} (h : At state faults lines c m) (more : List Fault) (messages : List LateMessage) (a : Act) (b : Answer) (refusal : Option Answer)
@@ -46,8 +50,12 @@ due_there {D} {G} {state} {faults} {lines} {c} {m} h more messages a b refusal i
     let p = place_after lines a b in
     let stopped = is_stopped (inner_turns lines) in
     let versions = map (λ (place : Placement). place.version) (placements None (inner_turns lines)) in
-    inr (inr (inner_turns lines, after_lines lines a b, subst (λ (o : Option Placement). IsDueBy true more None messages p (refusal_by o versions (rules_at None p) stopped a)) (sym (place_at h a b))
-    (subst (λ (r : Rules). IsDueBy true more None messages p (refusal_by (Some m.net.state.place) versions r stopped a)) (sym (rules_there h a b)) (subst (IsDueBy true more None messages p) (sym (is versions)) due))))
+    inr (inr (
+      inner_turns lines,
+      after_lines lines a b,
+      subst (λ (o : Option Placement). IsDueBy true more None messages p (refusal_by o versions (rules_at None p) stopped a)) (sym (place_at h a b))
+          (subst (λ (r : Rules). IsDueBy true more None messages p (refusal_by (Some m.net.state.place) versions r stopped a)) (sym (rules_there h a b)) (subst (IsDueBy true more None messages p) (sym (is versions)) due)),
+    ))
 
 -- and where none stands and nothing is refused, the act's own answer
 pub due_free : {D : Type 0} {G : Ghosts D} {state : D → DiskState} {faults : List Fault} {lines : List Turn} {c : Cluster D G} → Stands state faults lines c → (more : List Fault) (a : Act) (b : Answer) → c.members ≡ None
@@ -56,5 +64,9 @@ due_free {D} {G} {state} {faults} {lines} {c} s more a b none free own =
     let p = place_after lines a b in
     let stopped = is_stopped (inner_turns lines) in
     let versions = map (λ (place : Placement). place.version) (placements None (inner_turns lines)) in
-    inr (inr (inner_turns lines, after_lines lines a b, subst (λ (o : Option Placement). IsDueBy true more None [] p (refusal_by o versions (rules_at None p) stopped a)) (sym (nowhere s none a b))
-    (subst (IsDueBy true more None [] p) (sym (free versions (rules_at None p) stopped)) own)))
+    inr (inr (
+      inner_turns lines,
+      after_lines lines a b,
+      subst (λ (o : Option Placement). IsDueBy true more None [] p (refusal_by o versions (rules_at None p) stopped a)) (sym (nowhere s none a b))
+          (subst (IsDueBy true more None [] p) (sym (free versions (rules_at None p) stopped)) own),
+    ))

@@ -5,3 +5,5 @@
 mod logs;
 #[cfg(test)]
 mod machines;
+#[cfg(test)]
+mod points;
