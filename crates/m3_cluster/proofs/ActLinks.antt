@@ -1,5 +1,5 @@
 -- The links that each act's answer gives: the steps that the machines took in its line.
-use Rattle.std.proofs.Common.{◌≡◌, ◌⊎◌, ℕ, List, [], ◌∷◌, ◌++◌, map, refl, ap, subst, length, inl, inr, true, false}
+use Rattle.std.proofs.Common.{◌≡◌, ◌⊎◌, ℕ, List, [], ◌∷◌, ◌++◌, map, refl, ap, subst, length, inl, inr, true}
 use Rattle.std.specs.Prelude.{Option, Some, None}
 use Rattle.m3_outside.specs.declared.disk.Disk.{Ghosts}
 use Rattle.transcripts.specs.Faults.{Fault, Taking}

@@ -1,10 +1,8 @@
 -- Each answer to a call is the one that is due.
-use Rattle.std.proofs.Common.{◌≡◌, ◌<◌, ◌≤◌, ◌↔◌, ℕ, ℤ, List, [], ◌∷◌, length, filter, map, refl, sym, ap, subst, ◌∙◌, inl, inr, arith, Bool, true, false, cond}
+use Rattle.std.proofs.Common.{◌≡◌, ◌<◌, ◌≤◌, ◌↔◌, ℕ, ℤ, List, [], ◌∷◌, length, filter, map, refl, sym, ap, subst, ◌∙◌, inl, inr, arith, Bool, true, false}
 use Rattle.std.specs.Prelude.{Option, Some, None, IsTrue}
 use Rattle.m3_model.specs.Calls.{is_call}
-use Rattle.std.specs.List.{filter_map, cons_option}
 use Rattle.std.specs.FinMap as finite
-use Rattle.std.specs.Option.{option_map_or}
 use Rattle.m3_outside.specs.declared.disk.Disk.{Ghosts}
 use Rattle.m3_outside.specs.DiskState.{DiskState}
 use Rattle.transcripts.specs.Faults.{Fault, HasFailed}
@@ -38,10 +36,6 @@ use Rattle.m3_model.specs.declared.act.WriteLevel.{WriteLevel}
 use Rattle.m3_model.specs.declared.act.WriteLevel.TheVariants as write
 use Rattle.m3_model.specs.declared.answer.Answer.{Answer}
 use Rattle.m3_model.specs.declared.answer.Answer.TheVariants as answer
-use Rattle.m3_model.specs.declared.placement.Assignment.{Assignment}
-use Rattle.m3_model.specs.declared.placement.Placement.{Placement}
-use Rattle.m3_model.specs.declared.placement.ShardState.{ShardState}
-use Rattle.m3_model.specs.declared.placement.ShardState.TheVariants.{Initializing, Available, Leaving}
 use Rattle.m3_model.specs.declared.point.Pick.{Pick}
 use Rattle.m3_model.specs.declared.point.Pick.TheVariants as pick
 use Rattle.m3_model.specs.declared.point.Point.{Point}

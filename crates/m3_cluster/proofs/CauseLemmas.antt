@@ -16,7 +16,7 @@ use Rattle.m3_model.specs.NotYet.{IsServedAct}
 use Rattle.transcripts.specs.Placements.{MayStand, seed_after}
 use Rattle.placement_core.specs.NodeNames.{is_listed}
 use Rattle.transcripts.specs.Record.{inner_turns}
-use Rattle.transcripts.specs.Refusals.{missing_of_call, refusal_by}
+use Rattle.transcripts.specs.Refusals.{refusal_by}
 use Rattle.m3_model.specs.Rules.{namespace_place}
 use Rattle.m3_model.specs.declared.limits.TheConstants.{MOST_NAMESPACES}
 use Rattle.m3_model.specs.declared.act.Act.{Act}

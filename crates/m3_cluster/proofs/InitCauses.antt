@@ -1,17 +1,13 @@
 -- What `init` answers is what is due.
-use Rattle.std.proofs.Common.{◌≡◌, ◌<◌, ℕ, zero, suc, List, [], ◌∷◌, map, refl, sym, ap, ◌∙◌, subst, inl, inr, true, false}
+use Rattle.std.proofs.Common.{◌≡◌, ◌<◌, ℕ, zero, suc, List, [], ◌∷◌, map, refl, sym, ap, ◌∙◌, subst, inl, true, false}
 use Rattle.std.specs.Prelude.{Option, Some, None, IsSome, option_map, slice_get}
 use Rattle.m3_outside.specs.declared.disk.Disk.{Ghosts}
 use Rattle.m3_outside.specs.DiskState.{DiskState}
 use Rattle.transcripts.specs.Caused.{CausedAt, NamesNode}
 use Rattle.transcripts.specs.Faults.{Fault}
-use Rattle.transcripts.specs.Fates.{is_stopped}
 use Rattle.transcripts.specs.Kept.{KeptAt}
 use Rattle.placement_plan.specs.First.{IsFirstPlacement, IsInitial}
 use Rattle.m3_model.specs.Reads.{found_of}
-use Rattle.transcripts.specs.Record.{inner_turns}
-use Rattle.transcripts.specs.Refusals.{refusal_by}
-use Rattle.transcripts.specs.Rules.{rules_at}
 use Rattle.m3_model.specs.declared.act.Act.TheVariants as act
 use Rattle.m3_model.specs.declared.answer.Answer.{Answer}
 use Rattle.m3_model.specs.declared.answer.Answer.TheVariants as answer

@@ -1,6 +1,6 @@
 -- The writes that are held back, one line on.
 use Rattle.std.proofs.Common.{◌≡◌, ◌+◌, ◌<◌, ◌⊎◌, ℕ, ◌≤◌, zero, suc, List, [], ◌∷◌, ◌++◌, drop, filter, length, length-append, map, take, refl, sym, ap, ap₂, subst, ◌∙◌, inl, inr, arith, append-nil, Bool, true, false, cond}
-use Rattle.std.specs.Prelude.{Some, None, IsTrue, nat_eq, option_map, slice_get}
+use Rattle.std.specs.Prelude.{Some, None, IsTrue, nat_eq, option_map}
 use Rattle.std.proofs.lemmas.List.{append_assoc, take-map}
 use Rattle.m3_outside.specs.declared.disk.Disk.{Ghosts}
 use Rattle.m3_outside.specs.DiskState.{DiskState}

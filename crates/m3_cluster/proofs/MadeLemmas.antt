@@ -1,5 +1,5 @@
 -- What `init` leaves: of the counts, of the disks, and of the cluster.
-use Rattle.std.proofs.Common.{◌≡◌, ◌≤◌, ◌+◌, ℕ, List, [], ◌∷◌, ◌++◌, length, min, refl, sym, ap, subst, ◌∙◌, inl, inr, arith, append-nil, false}
+use Rattle.std.proofs.Common.{◌≡◌, ◌≤◌, ◌+◌, ℕ, List, [], ◌∷◌, ◌++◌, length, min, refl, sym, ap, subst, ◌∙◌, inl, inr, arith, append-nil}
 use Rattle.std.specs.Prelude.{Option, Some, None, IsSome}
 use Rattle.std.specs.FinMap.{empty}
 use Rattle.std.specs.List.{All}

@@ -1,5 +1,5 @@
 -- What is answered of a node's start or bootstrap is what is due.
-use Rattle.std.proofs.Common.{◌≡◌, ◌<◌, ◌++◌, ℕ, List, [], ◌∷◌, length, map, refl, sym, ap, ◌∙◌, subst, inl, Bool, true, false, not, cond, ◌&&◌}
+use Rattle.std.proofs.Common.{◌≡◌, ◌++◌, ℕ, List, [], ◌∷◌, length, map, refl, sym, ap, ◌∙◌, subst, inl, Bool, true, false, not, cond, ◌&&◌}
 use Rattle.std.specs.Prelude.{◌⊎◌, IsTrue, Option, Some, None, decimal, nat_eq, option_map}
 use Rattle.std.specs.FinMap as finite
 use Rattle.std.specs.List.{All}

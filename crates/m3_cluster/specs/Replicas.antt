@@ -1,5 +1,5 @@
 -- The replicas that a cluster's machines are: what each of them knows, and why one isn't open.
-use Rattle.std.specs.Prelude.{◌≡◌, ◌≢◌, ◌⊎◌, ◌≤◌, ℕ, ⊤, List, [], ◌∷◌, Some, None, count_by, nat_eq, false, ◌&&◌}
+use Rattle.std.specs.Prelude.{◌≡◌, ◌≢◌, ◌⊎◌, ◌≤◌, ℕ, ⊤, List, [], ◌∷◌, Some, None, count_by, nat_eq, ◌&&◌}
 use Rattle.std.specs.List.{All}
 use Rattle.transcripts.specs.Faults.{Fault, IsClosedByFault}
 use Rattle.transcripts.specs.Waiting.{WaitsForBoot}

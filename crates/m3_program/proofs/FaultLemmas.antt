@@ -1,5 +1,5 @@
 -- Counts that stay constant show no fault.
-use Rattle.std.proofs.Common.{◌≡◌, ℕ, ◌+◌, ◌<◌, List, [], ◌∷◌, length, refl, sym, subst, arith}
+use Rattle.std.proofs.Common.{◌≡◌, ◌<◌, List, [], ◌∷◌, length, refl, sym, subst, arith}
 use Rattle.m3_outside.specs.Causes.{last_count}
 use Rattle.m3_program.specs.FaultLaws.{ConstantMeansNoFault}
 

@@ -1,8 +1,7 @@
 -- What a run promises, after the requests that it took.
 use Rattle.std.proofs.Common.{◌≡◌, ℕ, ◌+◌, ◌-◌, ◌<◌, ◌≤◌, List, [], ◌∷◌, ◌++◌, length, length-append, refl, sym, ap, ◌∙◌, subst, append_assoc, append-nil, arith, inl, inr, true}
-use Rattle.std.specs.Prelude.{◌⊎◌, Option, Some, None, IsSome}
+use Rattle.std.specs.Prelude.{Option, Some, None, IsSome}
 use Rattle.std.specs.FinMap.{get}
-use Rattle.std.specs.List.{All}
 use Rattle.std.proofs.lemmas.List.Elements.{All-nil}
 use Rattle.m3_model.specs.Members.{IsIn}
 use Rattle.m3_model.specs.declared.turn.Request.{Request}
@@ -11,16 +10,15 @@ use Rattle.m3_model.proofs.MemberLemmas.{IsIn-append_cases}
 use Rattle.m3_model.proofs.SplitLemmas.{not_empty}
 use Rattle.placement_core.proofs.ListLemmas.{All-from_each, each-from_All}
 use Rattle.transcripts.specs.Caused.{Caused}
-use Rattle.transcripts.specs.Faults.{Fault, FaultKind, Taking, Failing, Damage}
-use Rattle.transcripts.specs.Record.{Record, TurnPlace, IsTurnPlace}
+use Rattle.transcripts.specs.Faults.{Fault, Taking, Failing, Damage}
+use Rattle.transcripts.specs.Record.{TurnPlace, IsTurnPlace}
 use Rattle.m3_outside.specs.Causes.{RoseBy, last_count}
 use Rattle.m3_outside.specs.DiskState.{DiskState}
 use Rattle.m3_outside.specs.declared.disk.Disk.{Ghosts}
 use Rattle.m3_outside.specs.declared.slot.Slot.{Slot as Place}
 use Rattle.m3_outside.specs.Depots.{Depot}
 use Rattle.session.specs.Slots.{slot_at}
-use Rattle.session.specs.declared.slot.Slot.{Slot}
-use Rattle.m3_cluster.specs.Depots.{count_at, place_of_slot, risen}
+use Rattle.m3_cluster.specs.Depots.{count_at, place_of_slot}
 use Rattle.m3_cluster.specs.First.{AreApart}
 use Rattle.m3_cluster.specs.Lending.{RisesBy}
 use Rattle.m3_cluster.specs.Replicas.{faults_at}
@@ -29,7 +27,7 @@ use Rattle.m3_cluster.specs.declared.members.Members.{Members}
 use Rattle.m3_cluster.proofs.ReplicaFaults.{machine_is}
 use Rattle.m3_cluster.proofs.SlotLists.{in_or_out, slots_apart}
 use Rattle.m3_program.specs.Exchanges.{Exchange, turns_of}
-use Rattle.m3_program.specs.Faults.{AreCauses, Counts, IsOfRun, counts_of, one_for, times_failed, times_untaken}
+use Rattle.m3_program.specs.Faults.{Counts, IsOfRun, counts_of, one_for}
 use Rattle.m3_program.specs.Runs.{Promises, record_of}
 use Rattle.m3_program.specs.Streams.{IsServed, Progress, PromisesSo, Stage}
 use Rattle.m3_program.proofs.CountLemmas.{AreFailing, AreTaking, failed_of, risen_many, untaken_of}
@@ -67,6 +65,10 @@ rose_none n = omega arith
 rose_by : (n before now : ℕ) → RoseBy n before now → now < last_count → n ≤ now - before
 rose_by n before now rose low = omega arith
 
+no_some : {X : Type 0} (o : Option X) → o ≡ None → IsSome o → ⊥
+no_some None e h = cc
+no_some (Some x) e h = cc
+
 -- ---- when the disks are given back
 
 -- what was caused in more turns is so in the first of them
@@ -96,10 +98,10 @@ failing_few {D} {G} state first mid now turns s closed low each = by_members mid
         let well = (s.stands.members m is).well in
         let apart : AreApart m.slots.items = subst AreApart (sym well.slots) (slots_apart m.net.state.place well.lawful) in
         let listed : (f : Fault) → IsIn s.failing f → IsIn m.slots.items (slot_at f.node f.shard) = λ f i.
-        let manned = subst IsSome (machine_is mid.cluster m (slot_at f.node f.shard) is) (each-from_All (λ (g : Fault). IsSome (machine_at mid.cluster (slot_at g.node g.shard))) s.failing s.counted.manned f i) in
+        let manned : IsSome (get m.net.machines (slot_at f.node f.shard)) = subst IsSome (machine_is mid.cluster m (slot_at f.node f.shard) is) (each-from_All (λ (g : Fault). IsSome (machine_at mid.cluster (slot_at g.node g.shard))) s.failing s.counted.manned f i) in
         elim (in_or_out m.slots.items (slot_at f.node f.shard)) as (λ _. IsIn m.slots.items (slot_at f.node f.shard)) [
           | inl among ↦ among
-          | inr out ↦ (let bad : IsSome None = subst IsSome (well.no_others (slot_at f.node f.shard) out) manned in absurd (cc))
+          | inr out ↦ absurd (no_some (get m.net.machines (slot_at f.node f.shard)) (well.no_others (slot_at f.node f.shard) out) manned)
         ] in
         let many = risen_many state mid.depot m.net.machines m.slots.items s.failing listed (λ slot.
         let count = count_at state mid.depot (machine_at mid.cluster slot) slot in

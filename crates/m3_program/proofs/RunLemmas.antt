@@ -4,15 +4,13 @@ use Rattle.std.specs.Prelude.{Option, Some, None, ◌^◌}
 use Rattle.std.specs.Io.KnownBytes.{Appends, Consumes, IsAtEnd}
 use Rattle.m3_outside.specs.DiskState.{DiskState}
 use Rattle.m3_outside.specs.declared.disk.Disk.{Ghosts}
-use Rattle.m3_model.specs.declared.turn.Request.{Request}
 use Rattle.m3_model.proofs.SplitLemmas.{not_empty}
 use Rattle.m3_outside.specs.Depots.{Depot}
 use Rattle.m3_program.specs.declared.status.Status.{Status}
 use Rattle.m3_program.specs.declared.status.Status.TheVariants as status
 use Rattle.m3_program.specs.Causes.{EndsStep}
 use Rattle.m3_program.specs.Faults.{Counts, counts_of}
-use Rattle.m3_program.specs.Exchanges.{Exchange}
-use Rattle.m3_program.specs.Runs.{HasRun, Reads, lines_of}
+use Rattle.m3_program.specs.Runs.{HasRun, lines_of}
 use Rattle.m3_program.specs.Streams.{Stage, IsFresh, StreamState, TakesOn, Cuts, CutShort, Halted, Finished, HasServed}
 use Rattle.m3_program.proofs.PromiseLemmas.{IsClosed, promised_closed, promised_nothing}
 use Rattle.m3_program.proofs.StreamLemmas.{cut_here, halted_of, stream_begins}
@@ -121,10 +119,6 @@ known_stops state first left0 written0 l w w2 n old new line part known few ende
       subst (λ i. Halted state first new i h.got (h.told ++ part)) (sym (heard_all state first input before l w n old line h ended)) (stops first h.got h.told h.stream),
     )
 
--- of the same bytes nothing is left
-later_none : {a b : List ℕ} (e : a ≡ b) (xs : List Exchange) (unanswered : Option Request) (r : Reads a xs unanswered) → r.later ≡ [] → (subst (λ bytes. Reads bytes xs unanswered) e r).later ≡ []
-later_none refl xs unanswered r none = none
-
 -- it came to the end
 pub known_finishes : {D : Type 0} {G : Ghosts D} (state : D → DiskState) (first : Depot D) (left0 written0 l w w2 : Option (List ℕ)) (n : ℕ) (old new : Stage D G) (line text : List ℕ)
     → Known state first left0 written0 l w n old line → n < 2 ^ 32 → IsAtEnd l → Appends w w2 text
@@ -133,7 +127,7 @@ pub known_finishes : {D : Type 0} {G : Ghosts D} (state : D → DiskState) (firs
 known_finishes state first left0 written0 l w w2 n old new line text known below ended wrote finishes input before p q =
     let h = known input before p q in
     let none = at_end l h.rest ended h.left_is in
-    let got : h.got ≡ input = sym (heard_all state first input before l w n old line h ended) in
+    let all : input ≡ h.got = heard_all state first input before l w n old line h ended in
     let end = finishes first h.got h.told h.stream in (
       h.rest,
       h.told ++ text,
@@ -144,8 +138,8 @@ known_finishes state first left0 written0 l w w2 n old new line text known below
           taken = h.got;
           parts = h.parts;
           few = let count = h.count in omega (arith, count, below);
-          course = record { exchanges = end.course.exchanges; unanswered = end.course.unanswered; each = end.course.each; of_input = subst (λ i. Reads i end.course.exchanges end.course.unanswered) got end.course.of_input; of_taken = end.course.of_taken };
-          got_to = (later_none got end.course.exchanges end.course.unanswered end.course.of_input end.all, end.written, none, let count = h.count in omega (arith, count, below));
+          course = record { exchanges = end.course.exchanges; unanswered = end.course.unanswered; each = end.course.each; of_input = record { later = end.course.of_input.later; lines_are = ap lines_of all ∙ end.course.of_input.lines_are; next = end.course.of_input.next }; of_taken = end.course.of_taken };
+          got_to = (end.all, end.written, none, let count = h.count in omega (arith, count, below));
         };
         promises = end.promises;
       },

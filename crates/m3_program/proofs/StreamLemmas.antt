@@ -29,7 +29,7 @@ replies_push : (xs : List Exchange) (x : Exchange) → replies_text (xs ++ x ∷
 replies_push xs x = flat_map-append (λ (y : Exchange). y.text) xs (x ∷ []) ∙ ap (λ l. replies_text xs ++ l) (append-nil x.text)
 
 -- what was read, whatever comes after it
-reads_at : {D : Type 0} {G : Ghosts D} (state : D → DiskState) (first : Depot D) (taken told tail : List ℕ) (now : Stage D G) (line : List ℕ) (unanswered : Option Request) → (t : StreamState state first taken told now line)
+abbrev reads_at : {D : Type 0} {G : Ghosts D} (state : D → DiskState) (first : Depot D) (taken told tail : List ℕ) (now : Stage D G) (line : List ℕ) (unanswered : Option Request) → (t : StreamState state first taken told now line)
     → IsNext unanswered (lines_of (line ++ tail)) → Reads (taken ++ tail) t.exchanges unanswered
 reads_at state first taken told tail now line unanswered t next = record {
   later = lines_of (line ++ tail);
@@ -119,7 +119,7 @@ takes_line state old new line rest text whole line2 none is empty goes = λ firs
     }
 
 -- what was read, with the line that was answered last
-answered_reads : (input : List ℕ) (xs : List Exchange) (x : Exchange) (later : List (List ℕ)) → lines_of input ≡ map (λ y. y.line) xs ++ x.line ∷ later → Reads input (xs ++ x ∷ []) None
+abbrev answered_reads : (input : List ℕ) (xs : List Exchange) (x : Exchange) (later : List (List ℕ)) → lines_of input ≡ map (λ y. y.line) xs ++ x.line ∷ later → Reads input (xs ++ x ∷ []) None
 answered_reads input xs x later lines = record {
   later = later;
   lines_are = lines ∙ sym (append_assoc (map (λ y. y.line) xs) (x.line ∷ []) later) ∙ ap (λ ls. ls ++ later) (sym (map-append (λ (y : Exchange). y.line) xs (x ∷ [])));
@@ -204,7 +204,7 @@ stream_begins state now fresh = record {
 }
 
 -- the course of a run that took all of its input
-whole_course : (input : List ℕ) (xs : List Exchange) (unanswered : Option Request) → AreExchanges None xs → Reads input xs unanswered → Course None input input
+abbrev whole_course : (input : List ℕ) (xs : List Exchange) (unanswered : Option Request) → AreExchanges None xs → Reads input xs unanswered → Course None input input
 whole_course input xs unanswered each reads = record { exchanges = xs; unanswered = unanswered; each = each; of_input = reads; of_taken = reads }
 
 -- the input ends with a newline, or is empty
@@ -223,7 +223,7 @@ last_in : {D : Type 0} {G : Ghosts D} (state : D → DiskState) (first : Depot D
 last_in state first taken told now line some t = ap lines_of t.read ∙ lines_of-lines t.exchanges line t.whole ∙ ap (λ ls. map (λ x. x.line) t.exchanges ++ ls) (lines_of-last line t.no_end some)
 
 -- the course with the last line, which has no newline
-last_course : {D : Type 0} {G : Ghosts D} (state : D → DiskState) (first : Depot D) (taken told : List ℕ) (old new : Stage D G) (line text : List ℕ) → 0 < length line → (t : StreamState state first taken told old line) → (goes : Advances state old line text new) → Course None taken taken
+abbrev last_course : {D : Type 0} {G : Ghosts D} (state : D → DiskState) (first : Depot D) (taken told : List ℕ) (old new : Stage D G) (line text : List ℕ) → 0 < length line → (t : StreamState state first taken told old line) → (goes : Advances state old line text new) → Course None taken taken
 last_course state first taken told old new line text some t goes =
     let next = goes first t.exchanges t.progress in
     let x : Exchange = record { line = line; outcome = next.0; text = text } in
