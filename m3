@@ -4,7 +4,7 @@ set -u
 top=$(cd "$(dirname "${BASH_SOURCE[0]}")" && pwd)
 program=$top/crates/m3/out/m3
 if [ ! -x "$program" ]; then
-  echo "m3: building the program; the first build proves all crates and takes some minutes" >&2
+  echo "m3: building the program; the first build proves all crates and takes long" >&2
   log=$(mktemp)
   (cd "$top/crates/m3" && rt run -- run) </dev/null >/dev/null 2>"$log"
   if [ ! -x "$program" ]; then
