@@ -1,13 +1,12 @@
 -- The laws of steps and of counted nodes.
 use Rattle.std.proofs.Common.{◌≡◌, ◌<◌, ℕ, suc, List, [], length, slice_get, Some, sym, ap, subst, arith}
 use Rattle.std.proofs.lemmas.List.{get_or_default}
-use Rattle.m3_model.specs.Members.{IsIn}
 use Rattle.m3_model.specs.declared.placement.Placement.{Placement}
 use Rattle.placement_core.specs.Shards.{Shard, shard_at, counts, is_available}
 use Rattle.placement_core.specs.Lawful.{IsShard, IsLawful}
 use Rattle.placement_core.specs.Steps.{IsStep, IsShardStep, done_at}
 use Rattle.placement_core.specs.Changes.{CountedAreAvailable, MovesOneReplica, CountedHoldAfter, KeepsShards, KeepsLawful, HasOneDoneList}
-use Rattle.placement_core.proofs.ListLemmas.{index-from_IsIn, at_index, same_at}
+use Rattle.placement_core.proofs.ListLemmas.{index-from_IsIn, at_index}
 use Rattle.placement_core.proofs.OrderLemmas.{at_in}
 use Rattle.placement_core.proofs.DoneLemmas.{one_done_list, from_start}
 use Rattle.placement_core.proofs.HolderLemmas.{chosen_node, node_chosen, available_of}

@@ -1,5 +1,5 @@
 -- What a placement is; M3DB's page "Placement".
-use Rattle.std.specs.Prelude.{◌≡◌, ◌≢◌, ◌⊎◌, ℕ, suc, ◌^◌, ◌<◌, ◌≤◌, List, filter, length, Some, None, true, IsTrue, slice_get}
+use Rattle.std.specs.Prelude.{◌≡◌, ◌≢◌, ◌⊎◌, ℕ, suc, ◌<◌, ◌≤◌, List, filter, length, Some, None, true, IsTrue, slice_get}
 use Rattle.m3_model.specs.Ascends.{Ascends}
 use Rattle.m3_model.specs.Members.{IsIn}
 use Rattle.m3_model.specs.Names.{is_name}
@@ -7,6 +7,7 @@ use Rattle.m3_model.specs.declared.placement.ShardState.TheVariants.{Initializin
 use Rattle.m3_model.specs.declared.placement.Assignment.{Assignment}
 use Rattle.m3_model.specs.declared.placement.Instance.{Instance}
 use Rattle.m3_model.specs.declared.placement.Placement.{Placement}
+use Rattle.m3_model.specs.declared.limits.TheConstants.{MOST_REPLICAS, MOST_SHARDS, MOST_NODES, NUMBER_END}
 use Rattle.placement_core.specs.Shards.{Shard, is_holder, is_staying}
 
 -- the two assignments are to different nodes in different isolation groups
@@ -55,13 +56,13 @@ pub record IsSpread (instances : List Instance) (shard : Shard) : Type 0 where
 -- 1 to 5 replicas of 1 to 64 shards on at most 16 nodes with names of their own, at a version below 2^62
 pub record IsWithinLimits (place : Placement) : Type 0 where
   pub some_replicas : 1 ≤ place.rf
-  pub few_replicas : place.rf ≤ 5
+  pub few_replicas : place.rf ≤ MOST_REPLICAS
   pub some_shards : 1 ≤ length place.shards
-  pub few_shards : length place.shards ≤ 64
-  pub few_nodes : length place.instances ≤ 16
+  pub few_shards : length place.shards ≤ MOST_SHARDS
+  pub few_nodes : length place.instances ≤ MOST_NODES
   pub named : (node : Instance) → IsIn place.instances node → IsTrue (is_name node.name) × IsTrue (is_name node.group)
   pub distinct : Ascends (λ a b. a.name ≢ b.name) place.instances
-  pub version_fits : place.version < 2 ^ 62
+  pub version_fits : place.version < NUMBER_END
 
 -- a placement that a cluster may have
 pub record IsLawful (place : Placement) : Type 0 where

@@ -1,5 +1,5 @@
 -- The rules of a lawful placement, taken apart as the test tries them.
-use Rattle.std.specs.Prelude.{◌≡◌, ◌≢◌, ◌⊎◌, ℕ, suc, ◌^◌, ◌<◌, ◌≤◌, List, length, Some, None, true, IsTrue, slice_get}
+use Rattle.std.specs.Prelude.{◌≡◌, ◌≢◌, ◌⊎◌, ℕ, suc, ◌<◌, ◌≤◌, List, length, Some, None, true, IsTrue, slice_get}
 use Rattle.std.specs.List.{All, Any}
 use Rattle.m3_model.specs.Ascends.{Ascends}
 use Rattle.m3_model.specs.Names.{is_name}
@@ -8,6 +8,7 @@ use Rattle.m3_model.specs.declared.placement.Assignment.{Assignment}
 use Rattle.m3_model.specs.declared.placement.Instance.{Instance}
 use Rattle.m3_model.specs.declared.placement.Placement.{Placement}
 use Rattle.m3_model.specs.declared.placement.ShardState.TheVariants.{Initializing, Leaving}
+use Rattle.m3_model.specs.declared.limits.TheConstants.{MOST_REPLICAS, MOST_SHARDS, MOST_NODES, NUMBER_END}
 use Rattle.placement_core.specs.Shards.{Shard}
 
 -- the node and its group have names
@@ -16,7 +17,7 @@ IsNamed node = IsTrue (is_name node.name) × IsTrue (is_name node.group)
 
 -- as many replicas, shards and nodes as there may be, and a version that fits
 abbrev pub IsSmall : Placement → Type 0
-IsSmall place = (1 ≤ place.rf) × (place.rf ≤ 5) × (1 ≤ length place.shards) × (length place.shards ≤ 64) × (length place.instances ≤ 16) × (place.version < 2 ^ 62)
+IsSmall place = (1 ≤ place.rf) × (place.rf ≤ MOST_REPLICAS) × (1 ≤ length place.shards) × (length place.shards ≤ MOST_SHARDS) × (length place.instances ≤ MOST_NODES) × (place.version < NUMBER_END)
 
 -- nodes with names of their own
 abbrev pub AreNamed : List Instance → Type 0

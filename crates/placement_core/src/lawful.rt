@@ -7,6 +7,7 @@ ghost use Rattle.placement_core.specs.Lawful.{IsApart, IsServing, IsMoving, IsSh
 ghost use Rattle.placement_core.specs.LawfulParts.{IsNamed, IsSmall, AreNamed, IsListed, MovesTo, Moves, HasReplicas, HasNodes, ApartBefore, ApartAfter, IsGood};
 
 use crate::ascending::{Order, ascend};
+use m3_model::limits::{MOST_NAME_BYTES, MOST_NODES, MOST_REPLICAS, MOST_SHARDS, NUMBER_END};
 use m3_model::placement::{Assignment, Instance, Placement, ShardState};
 
 fn is_name_byte(byte: u8) -> bool
@@ -24,7 +25,7 @@ fn are_name_bytes(bytes: &[u8]) -> bool
 fn is_name(text: &str) -> bool
     ensures { result ≡ is_name text.now }
 {
-    (1..=32).contains(&text.len()) && are_name_bytes(text.as_bytes())
+    (1..=MOST_NAME_BYTES).contains(&text.len()) && are_name_bytes(text.as_bytes())
 }
 
 fn is_named(instance: &Instance) -> bool
@@ -65,11 +66,11 @@ fn is_small(place: &Placement) -> bool
     ensures { IsTrue result ↔ IsSmall place.now }
 {
     1 <= place.rf
-        && place.rf <= 5
+        && place.rf <= MOST_REPLICAS
         && 1 <= place.shards.len()
-        && place.shards.len() <= 64
-        && place.instances.len() <= 16
-        && place.version < 1 << 62
+        && place.shards.len() <= MOST_SHARDS as usize
+        && place.instances.len() <= MOST_NODES
+        && place.version < NUMBER_END
 }
 
 fn is_within_limits(place: &Placement) -> bool
