@@ -1,14 +1,13 @@
 ghost use Rattle.std.specs.Prelude.{◌≡◌, ◌≤◌, ◌↔◌, [], ◌∷◌, ◌++◌, length, Ok, true, false, IfOk, IfErr, OnOk, OnErr};
+ghost use Rattle.m3_model.specs.declared.limits.TheConstants.{MOST_LATE_WRITES};
 
 use crate::late_write::LateWrite;
+use m3_model::limits::MOST_LATE_WRITES;
 use m3_model::memory::Memory;
 use m3_model::seq::Seq;
 use std::alloc::Global;
 use std::marker::Model;
 use std::mem;
-
-/// The most writes that a bag holds; one beyond that is lost.
-pub const MOST_LATE: usize = 4096;
 
 // The writes for which a bag has room as it begins.
 const FIRST_ROOM: usize = 16;
@@ -22,13 +21,14 @@ pub struct Bag {
 
 impl Model for Bag {
     ghost use Rattle.std.specs.Prelude.{List, ◌≤◌, length};
+    ghost use Rattle.m3_model.specs.declared.limits.TheConstants.{MOST_LATE_WRITES};
     ghost use Rattle.net_plan.specs.declared.late_write.LateWrite.{LateWrite};
 
     ghost Value = { List LateWrite };
 
     ghost view = { λ b. b.late.items };
 
-    ghost invariant = { λ b. length b.late.items ≤ 4096 };
+    ghost invariant = { λ b. length b.late.items ≤ MOST_LATE_WRITES };
 }
 
 impl Bag {
@@ -44,12 +44,12 @@ impl Bag {
     /// where 4,096 are held, and then the write is lost. Want of memory changes nothing and hands the write back.
     pub fn keep(&mut self, late: LateWrite) -> Result<bool, LateWrite>
         ensures kept { result ≡ Ok true → self.new ≡ self.old ++ late ∷ [] }
-        ensures full { (result ≡ Ok false) ↔ (length self.old ≡ 4096) }
+        ensures full { (result ≡ Ok false) ↔ (length self.old ≡ MOST_LATE_WRITES) }
         ensures lost { result ≡ Ok false → self.new ≡ self.old }
         ensures back { IfErr result (λ back. back ≡ late) }
         ensures err { OnErr result (self.new ≡ self.old) }
     {
-        if self.late.len() == MOST_LATE {
+        if self.late.len() == MOST_LATE_WRITES {
             return Ok(false);
         }
         match self.late.push(late) {
@@ -61,7 +61,7 @@ impl Bag {
     /// Takes out all writes, in the order in which they were kept: at most 4,096. Want of memory changes nothing.
     pub fn empty(&mut self) -> Result<Seq<LateWrite>, Memory>
         ensures all { IfOk result (λ all. all ≡ self.old) }
-        ensures few { IfOk result (λ all. length all ≤ 4096) }
+        ensures few { IfOk result (λ all. length all ≤ MOST_LATE_WRITES) }
         ensures emptied { OnOk result (self.new ≡ []) }
         ensures err { OnErr result (self.new ≡ self.old) }
     {

@@ -11,6 +11,7 @@ use Rattle.series_id.specs.declared.id_err.IdErr.{IdErr}
 use Rattle.series_id.specs.declared.id_err.IdErr.TheVariants.{Empty, Long, Name, Order, Repeat, Escape, Brace, Memory}
 use Rattle.series_id.specs.Names.{is_later_byte, begins_no_name, BeginsWithName}
 use Rattle.m3_model.specs.Identifiers.{begins_tagged, IsIdentifier}
+use Rattle.m3_model.specs.declared.limits.TheConstants.{MOST_ID_BYTES, MOST_TAGS}
 use Rattle.series_id.specs.Faults.{IsNameFault, IsSpellingFault, IsValueFault, IsTagFault, BeginsWithTag, IsEndFault, listed, last_name, MayFollow, FaultsAfter}
 use Rattle.series_id.specs.Places.{Closes}
 use Rattle.series_id.proofs.Orders.{below_trans, not_below_itself, not_both_below}
@@ -41,7 +42,7 @@ follow_ascends : (before : List ℕ) (tags : List (List ℕ × List ℕ)) → Ma
 follow_ascends before [] h = tt
 follow_ascends before (t ∷ tags) h = (follow_above t.0 tags h.2, follow_ascends t.0 tags h.2)
 
-pub closes_spelled : (text : List ℕ) (tags : List (List ℕ × List ℕ)) → Closes text tags → IsUtf8 text → length text ≤ 512 → IsSpelledBy text tags
+pub closes_spelled : (text : List ℕ) (tags : List (List ℕ × List ℕ)) → Closes text tags → IsUtf8 text → length text ≤ MOST_ID_BYTES → IsSpelledBy text tags
 closes_spelled text tags c utf8 short = record {
   spelled = c.spelled;
   is_text = utf8;
@@ -121,7 +122,7 @@ no_tag_fault before at o rest y e h above split f = elim f as (λ _. ⊥) [
   | inr value ↦ no_value_fault (at + length value.0) o.1 y value.1 e (named_so o rest y value.0 value.1 h split value.2.begins).1 value.3
 ]
 
-no_end_fault : (number : ℕ) (os : List (List ℕ × List ℕ)) (later : List ℕ) (e : IdErr) → number + length os ≤ 32 → later ≡ tail_of os → IsEndFault number later e → ⊥
+no_end_fault : (number : ℕ) (os : List (List ℕ × List ℕ)) (later : List ℕ) (e : IdErr) → number + length os ≤ MOST_TAGS → later ≡ tail_of os → IsEndFault number later e → ⊥
 no_end_fault number [] later Long few split f = let never : 44 ∷ f.1.0 ≡ 125 ∷ [] = sym f.1.1 ∙ split in let first : ◌≡◌ {A = ℕ} 44 125 = cc in absurd (omega (arith, first))
 no_end_fault number (u ∷ os) later Long few split f = absurd (omega (arith, f.0))
 no_end_fault number [] later Brace few split f = f.1 split
@@ -133,7 +134,7 @@ no_end_fault number os later Repeat few split f = f
 no_end_fault number os later (Escape place) few split f = f
 no_end_fault number os later Memory few split f = f
 
-no_fault : (before : List ℕ) (at read : ℕ) (tags : List (List ℕ × List ℕ)) (rest : List ℕ) (o : List ℕ × List ℕ) (os : List (List ℕ × List ℕ)) (e : IdErr) → MayFollow before tags → MayFollow before (o ∷ os) → read + (1 + length os) ≤ 32
+no_fault : (before : List ℕ) (at read : ℕ) (tags : List (List ℕ × List ℕ)) (rest : List ℕ) (o : List ℕ × List ℕ) (os : List (List ℕ × List ℕ)) (e : IdErr) → MayFollow before tags → MayFollow before (o ∷ os) → read + (1 + length os) ≤ MOST_TAGS
     → listed tags ++ rest ≡ tag_text o ++ tail_of os
     → IsTagFault (last_name before tags) at rest e ⊎ ((tag : List ℕ × List ℕ) × (later : List ℕ) × BeginsWithTag (last_name before tags) rest tag later × IsEndFault (read + length tags + 1) later e)
     → ⊥

@@ -10,6 +10,7 @@ use Rattle.series_id.specs.declared.id_err.IdErr.{IdErr}
 use Rattle.series_id.specs.declared.id_err.IdErr.TheVariants.{Empty, Long, Name, Order, Repeat, Escape, Brace, Memory}
 use Rattle.series_id.specs.Names.{begins_no_name, BeginsWithName, BeginsAbove}
 use Rattle.m3_model.specs.Identifiers.{IsIdentifier}
+use Rattle.m3_model.specs.declared.limits.TheConstants.{MOST_ID_BYTES, MOST_TAGS}
 use Rattle.series_id.specs.Faults.{escapes_nothing, IsNameFault, IsSpellingFault, IsValueFault, IsTagFault, BeginsWithTag, IsEndFault, listed, last_name, MayFollow, FaultsAfter, IsFirstFault}
 use Rattle.series_id.proofs.Orders.{not_below_itself, not_both_below}
 use Rattle.series_id.proofs.Unique.{same_name, name_bytes, same_value, same_tag}
@@ -102,7 +103,7 @@ same_tag_fault before at text e f (inr a) (inr b) =
 
 -- the kinds of a fault after a tag
 abbrev EndKinds : ℕ → List ℕ → IdErr → Type 0
-EndKinds number text e = ((e ≡ Long) × (number ≡ 32) × ((later : List ℕ) × (text ≡ 44 ∷ later))) ⊎ ((e ≡ Brace) × ((later : List ℕ) → text ≢ 44 ∷ later))
+EndKinds number text e = ((e ≡ Long) × (number ≡ MOST_TAGS) × ((later : List ℕ) × (text ≡ 44 ∷ later))) ⊎ ((e ≡ Brace) × ((later : List ℕ) → text ≢ 44 ∷ later))
 
 end_kinds : (number : ℕ) (text : List ℕ) (e : IdErr) → IsEndFault number text e → EndKinds number text e
 end_kinds number text Long f = inl (refl, f.0, f.1)
@@ -133,7 +134,7 @@ same_place_fault before at number text e f (inr a) (inr b) =
     same_end_fault number b.1 e f (end_kinds number b.1 e (subst (λ l. IsEndFault number l e) same.1 a.3)) (end_kinds number b.1 f b.3)
 
 -- no fault where a tag and a `,` stand, of a number below 32
-no_place_fault : (before : List ℕ) (at number : ℕ) (text : List ℕ) (tag : List ℕ × List ℕ) (more : List ℕ) (e : IdErr) → IsTrue (is_tag_name tag.0) → IsBelow before tag.0 → number < 32 → text ≡ tag_text tag ++ 44 ∷ more → PlaceFault before at number text e → ⊥
+no_place_fault : (before : List ℕ) (at number : ℕ) (text : List ℕ) (tag : List ℕ × List ℕ) (more : List ℕ) (e : IdErr) → IsTrue (is_tag_name tag.0) → IsBelow before tag.0 → number < MOST_TAGS → text ≡ tag_text tag ++ 44 ∷ more → PlaceFault before at number text e → ⊥
 no_place_fault before at number text tag more e named above few split (inl a) = no_tag_fault before at tag text (44 ∷ more) e named above split a
 no_place_fault before at number text tag more e named above few split (inr a) =
     let same = same_tag a.0 tag a.1 (44 ∷ more) a.2.named named (sym a.2.split ∙ split) in
@@ -145,7 +146,7 @@ shifted_at at tag tags = omega (arith, length-append (tag_text tag) (44 ∷ list
 shifted_number : (read : ℕ) (tag : List ℕ × List ℕ) (tags : List (List ℕ × List ℕ)) → read + length (tag ∷ tags) + 1 ≡ read + 1 + length tags + 1
 shifted_number read tag tags = omega arith
 
-one_fault : (before : List ℕ) (at read : ℕ) (ts us : List (List ℕ × List ℕ)) (x y : List ℕ) (e f : IdErr) → MayFollow before ts → MayFollow before us → read + length ts < 32 → read + length us < 32
+one_fault : (before : List ℕ) (at read : ℕ) (ts us : List (List ℕ × List ℕ)) (x y : List ℕ) (e f : IdErr) → MayFollow before ts → MayFollow before us → read + length ts < MOST_TAGS → read + length us < MOST_TAGS
     → listed ts ++ x ≡ listed us ++ y
     → PlaceFault (last_name before ts) (at + length (listed ts)) (read + length ts + 1) x e → PlaceFault (last_name before us) (at + length (listed us)) (read + length us + 1) y f → e ≡ f
 one_fault before at read [] [] x y e f ht hu lt lu split a b = same_place_fault before (at + 0) (read + 0 + 1) y e f (subst (λ z. PlaceFault before (at + 0) (read + 0 + 1) z e) split a) b
@@ -197,9 +198,9 @@ empty_excluded text h i = elim i as (λ _. ⊥) [
   | inr spelled ↦ absurd (omega (arith, ap length h, ap length spelled.1.spelled))
 ]
 
-long_excluded : (text : List ℕ) → 512 < length text → ¬ IsIdentifier text
+long_excluded : (text : List ℕ) → MOST_ID_BYTES < length text → ¬ IsIdentifier text
 long_excluded text h i = elim i as (λ _. ⊥) [
-  | inl plain ↦ absurd (omega (arith, h, leb-true (length text) 512 (both_true (nat_le 1 (length text)) (nat_le (length text) 512) plain.has_length).1))
+  | inl plain ↦ absurd (omega (arith, h, leb-true (length text) MOST_ID_BYTES (both_true (nat_le 1 (length text)) (nat_le (length text) MOST_ID_BYTES) plain.has_length).1))
   | inr spelled ↦ absurd (omega (arith, h, spelled.1.not_long))
 ]
 

@@ -3,6 +3,7 @@ use Rattle.std.proofs.Common.{◌≡◌, ℕ, ◌+◌, ◌-◌, ◌<◌, List, [
 use Rattle.std.specs.List.{join_with_byte}
 use Rattle.std.proofs.lemmas.List.{length-append}
 use Rattle.m3_model.specs.Tags.{IsBelow, is_tag_name, escaped, tag_text}
+use Rattle.m3_model.specs.declared.limits.TheConstants.{MOST_TAGS}
 use Rattle.series_id.specs.declared.id_err.IdErr.{IdErr}
 use Rattle.series_id.specs.declared.place.Place.{Place}
 use Rattle.series_id.specs.Faults.{IsTagFault, IsEndFault, FaultsAfter, BeginsWithTag, BeginsSpelled, listed, last_name, MayFollow, GoesOn}
@@ -28,7 +29,7 @@ joined-push (t ∷ u ∷ tags) tag = ap (λ xs. tag_text t ++ 44 ∷ xs) (joined
 pub length-push : (tags : List (List ℕ × List ℕ)) (tag : List ℕ × List ℕ) → length (tags ++ tag ∷ []) ≡ length tags + 1
 length-push tags tag = length-append tags (tag ∷ [])
 
-pub goes_on_next : (text : List ℕ) (tags : List (List ℕ × List ℕ)) (rest : List ℕ) (tag : List ℕ × List ℕ) (later : List ℕ) → GoesOn text tags rest → BeginsWithTag (last_name [] tags) rest tag (44 ∷ later) → length tags + 1 < 32 → GoesOn text (tags ++ tag ∷ []) later
+pub goes_on_next : (text : List ℕ) (tags : List (List ℕ × List ℕ)) (rest : List ℕ) (tag : List ℕ × List ℕ) (later : List ℕ) → GoesOn text tags rest → BeginsWithTag (last_name [] tags) rest tag (44 ∷ later) → length tags + 1 < MOST_TAGS → GoesOn text (tags ++ tag ∷ []) later
 goes_on_next text tags rest tag later g t few = record {
   begins = g.begins ∙ ap (λ xs. 123 ∷ listed tags ++ xs) t.split
       ∙ ap (λ xs. 123 ∷ xs) (ap (λ xs. listed tags ++ xs) (sym (append_assoc (tag_text tag) (44 ∷ []) later)) ∙ sym (append_assoc (listed tags) (tag_text tag ++ 44 ∷ []) later) ∙ ap (λ xs. xs ++ later) (sym (listed-push tags tag)));
@@ -79,7 +80,7 @@ read_last place name spelling later b e text tags s =
 
 -- a tag was read, and another one has to stand at the next place
 pub read_more : (place next : Place) (name spelling later : List ℕ) → BeginsSpelled place.before.now place.rest.now name spelling later → later ≡ 44 ∷ next.rest.now
-    → place.number + 1 < 32 → next.before.now ≡ name → next.at ≡ place.at + (length place.rest.now - length next.rest.now) → next.number ≡ place.number + 1
+    → place.number + 1 < MOST_TAGS → next.before.now ≡ name → next.at ≡ place.at + (length place.rest.now - length next.rest.now) → next.number ≡ place.number + 1
     → (text : List ℕ) (tags : List (List ℕ × List ℕ)) → Stands text tags place → (tag : List ℕ × List ℕ) × (name ≡ tag.0) × (spelling ≡ escaped tag.1) × Stands text (tags ++ tag ∷ []) next × ((later : List ℕ) × (text ≡ 123 ∷ listed tags ++ (tag_text tag ++ later)))
 read_more place next name spelling later b e few before at number text tags s =
     let tag : List ℕ × List ℕ = (name, b.0) in

@@ -6,6 +6,7 @@ use Rattle.std.proofs.lemmas.Str.{IsUtf8-append, IsUtf8-nil}
 use Rattle.std.proofs.Math.Dec.{eqb-suc-zero}
 use Rattle.std.proofs.lemmas.Bool.{eqb-false}
 use Rattle.m3_model.specs.Tags.{IsBelow, is_tag_name, escaped, tag_text, tags_text, IsSpelledBy}
+use Rattle.m3_model.specs.declared.limits.TheConstants.{MOST_ID_BYTES, MOST_TAGS}
 use Rattle.series_id.specs.declared.id_err.IdErr.{IdErr}
 use Rattle.series_id.specs.declared.id_err.IdErr.TheVariants.{Empty, Long, Name, Order, Repeat, Escape, Brace, Memory}
 use Rattle.series_id.specs.Faults.{listed, last_name, MayFollow}
@@ -68,7 +69,7 @@ opened_none = refl
 
 -- faults of tags, of which one more was added
 
-pub fine_more : (tags : List (List ℕ × List ℕ)) (tag : List ℕ × List ℕ) → IsFine tags → length tags < 32 → IsTrue (is_tag_name tag.0) → IsBelow (last_name [] tags) tag.0 → IsFine (tags ++ tag ∷ [])
+pub fine_more : (tags : List (List ℕ × List ℕ)) (tag : List ℕ × List ℕ) → IsFine tags → length tags < MOST_TAGS → IsTrue (is_tag_name tag.0) → IsBelow (last_name [] tags) tag.0 → IsFine (tags ++ tag ∷ [])
 fine_more tags tag f few named above = record { follow = follow_push [] tags tag f.follow named above; few = omega (arith, length-push tags tag) }
 
 pub fault_new : (tags : List (List ℕ × List ℕ)) (tag : List ℕ × List ℕ) (e : IdErr) → IsFine tags → IsAddedFault (length tags) (last_name [] tags) (1 + length (listed tags)) tag.0 e → HasFault (tags ++ tag ∷ []) e
@@ -90,7 +91,7 @@ follow_at : (before : List ℕ) (earlier : List (List ℕ × List ℕ)) (tag : L
 follow_at before [] tag later h = (h.0, h.1)
 follow_at before (t ∷ earlier) tag later h = follow_at t.0 earlier tag later h.2
 
-not_added : (number : ℕ) (before : List ℕ) (at : ℕ) (name : List ℕ) (e : IdErr) → number < 32 → IsTrue (is_tag_name name) → IsBelow before name → IsAddedFault number before at name e → ⊥
+not_added : (number : ℕ) (before : List ℕ) (at : ℕ) (name : List ℕ) (e : IdErr) → number < MOST_TAGS → IsTrue (is_tag_name name) → IsBelow before name → IsAddedFault number before at name e → ⊥
 not_added number before at name Long few named above f = absurd (omega (arith, f))
 not_added number before at name (Name place) few named above f = let never : true ≡ false = sym named ∙ f.1 in cc
 not_added number before at name Order few named above f = not_both_below before name above f.2
@@ -141,7 +142,7 @@ fault_step done tag before n at (Some e) found en eb ea was h = subst (λ f. Mat
 length_take : (tags : List (List ℕ × List ℕ)) (n : ℕ) → n < length tags → n ≡ length (take n tags)
 length_take tags n h = sym (length-take-le n tags (omega arith))
 
-pub begun_few : (tags : List (List ℕ × List ℕ)) (n : ℕ) (text before : List ℕ) → n < length tags → (fault : Option IdErr) → IsBegun tags n text before fault → MatchOption fault (n ≤ 32) (λ _. ⊤)
+pub begun_few : (tags : List (List ℕ × List ℕ)) (n : ℕ) (text before : List ℕ) → n < length tags → (fault : Option IdErr) → IsBegun tags n text before fault → MatchOption fault (n ≤ MOST_TAGS) (λ _. ⊤)
 begun_few tags n text before h None b = omega (arith, b.names.few, length_take tags n h)
 begun_few tags n text before h (Some e) b = tt
 
@@ -174,13 +175,13 @@ begun_all tags n text closed before fault h e b =
       names = subst (λ ts. MatchOption fault (IsFine ts) (HasFault ts)) all b.names;
     }
 
-pub outcome_spelled : (tags : List (List ℕ × List ℕ)) (text : List ℕ) → 0 < length tags → length text ≤ 512 → IsOutcome tags text None → IsSpelledBy text tags
+pub outcome_spelled : (tags : List (List ℕ × List ℕ)) (text : List ℕ) → 0 < length tags → length text ≤ MOST_ID_BYTES → IsOutcome tags text None → IsSpelledBy text tags
 outcome_spelled tags text some short o = closes_spelled text tags (record { spelled = o.spelled some; follow = o.names.follow; some = some; few = o.names.few }) o.utf8 short
 
-pub outcome_long : (tags : List (List ℕ × List ℕ)) (text : List ℕ) (fault : Option IdErr) → 0 < length tags → 512 < length text → IsOutcome tags text fault → IsGivenFault tags Long
+pub outcome_long : (tags : List (List ℕ × List ℕ)) (text : List ℕ) (fault : Option IdErr) → 0 < length tags → MOST_ID_BYTES < length text → IsOutcome tags text fault → IsGivenFault tags Long
 outcome_long tags text fault some long o = inr (inl (omega (arith, long, ap length (o.spelled some)), refl))
 
-pub outcome_fault : (tags : List (List ℕ × List ℕ)) (text : List ℕ) (e : IdErr) → 0 < length tags → length text ≤ 512 → IsOutcome tags text (Some e) → IsGivenFault tags e
+pub outcome_fault : (tags : List (List ℕ × List ℕ)) (text : List ℕ) (e : IdErr) → 0 < length tags → length text ≤ MOST_ID_BYTES → IsOutcome tags text (Some e) → IsGivenFault tags e
 outcome_fault tags text e some short o = inr (inr (omega (arith, short, ap length (o.spelled some)), o.names))
 
 pub some_tags : (tags : List (List ℕ × List ℕ)) (empty : Bool) → empty ≡ (length tags == 0) → empty ≡ false → 0 < length tags

@@ -7,6 +7,7 @@ use Rattle.series_id.specs.declared.id_err.IdErr.{IdErr}
 use Rattle.series_id.specs.declared.place.Place.{Place}
 use Rattle.series_id.specs.declared.place.Tag.{Tag}
 use Rattle.m3_model.specs.Identifiers.{begins_tagged, IsPlain, IsIdentifier}
+use Rattle.m3_model.specs.declared.limits.TheConstants.{MOST_ID_BYTES, MOST_TAGS}
 use Rattle.series_id.specs.Faults.{listed, FaultsAfter, IsFirstFault}
 use Rattle.series_id.specs.Places.{Stands, Closes, Reads, IsReading}
 use Rattle.series_id.proofs.Places.{length-push}
@@ -15,12 +16,12 @@ use Rattle.series_id.proofs.Excluded.{closes_spelled, fault_excludes}
 -- how many tags may still stand at the place
 abbrev pub left : Option Place → ℕ
 left None = 0
-left (Some here) = 32 - here.number
+left (Some here) = MOST_TAGS - here.number
 
-pub stands_within : (text : List ℕ) (tags : List (List ℕ × List ℕ)) (here : Place) → Stands text tags here → length text ≤ 512 → here.at + length here.rest.now ≤ 512
+pub stands_within : (text : List ℕ) (tags : List (List ℕ × List ℕ)) (here : Place) → Stands text tags here → length text ≤ MOST_ID_BYTES → here.at + length here.rest.now ≤ MOST_ID_BYTES
 stands_within text tags here s short = omega (arith, s.at, ap length s.goes_on.begins, length-append (listed tags) here.rest.now)
 
-pub stands_few : (text : List ℕ) (tags : List (List ℕ × List ℕ)) (here : Place) → Stands text tags here → here.number < 32
+pub stands_few : (text : List ℕ) (tags : List (List ℕ × List ℕ)) (here : Place) → Stands text tags here → here.number < MOST_TAGS
 stands_few text tags here s = omega (arith, s.number, s.goes_on.few)
 
 -- an identifier without tags has none
@@ -30,7 +31,7 @@ plain_tags text p = inr (refl, λ others s. apart others s)
     apart : (others : List (List ℕ × List ℕ)) → IsSpelledBy text others → ⊥
     apart others s = let never : true ≡ false = sym (ap begins_tagged s.spelled) ∙ p.untagged in cc
 
-pub go_on : (P : List (List ℕ × List ℕ) → Type 0) (text : List ℕ) (tags : List (List ℕ × List ℕ)) (read : Tag) → IsUtf8 text → length text ≤ 512 → (r : Reads text tags read) → P (tags ++ r.0 ∷ []) → IsReading P text read.next
+pub go_on : (P : List (List ℕ × List ℕ) → Type 0) (text : List ℕ) (tags : List (List ℕ × List ℕ)) (read : Tag) → IsUtf8 text → length text ≤ MOST_ID_BYTES → (r : Reads text tags read) → P (tags ++ r.0 ∷ []) → IsReading P text read.next
 go_on P text tags read utf8 short r p = by_next read.next r.3
   where
     by_next : (next : Option Place) → MatchOption next (Closes text (tags ++ r.0 ∷ [])) (Stands text (tags ++ r.0 ∷ [])) → IsReading P text next
@@ -39,12 +40,12 @@ go_on P text tags read utf8 short r p = by_next read.next r.3
         (inr (tags ++ r.0 ∷ [], spelled), (tags ++ r.0 ∷ [], inl spelled, p))
     by_next (Some next) s = (tags ++ r.0 ∷ [], s, p)
 
-pub left_less : (text : List ℕ) (tags : List (List ℕ × List ℕ)) (here : Place) (read : Tag) → Stands text tags here → Reads text tags read → left read.next < 32 - here.number
+pub left_less : (text : List ℕ) (tags : List (List ℕ × List ℕ)) (here : Place) (read : Tag) → Stands text tags here → Reads text tags read → left read.next < MOST_TAGS - here.number
 left_less text tags here read s r = by_next read.next r.3
   where
-    by_next : (next : Option Place) → MatchOption next (Closes text (tags ++ r.0 ∷ [])) (Stands text (tags ++ r.0 ∷ [])) → left next < 32 - here.number
+    by_next : (next : Option Place) → MatchOption next (Closes text (tags ++ r.0 ∷ [])) (Stands text (tags ++ r.0 ∷ [])) → left next < MOST_TAGS - here.number
     by_next None c = omega (arith, s.number, s.goes_on.few)
     by_next (Some next) t = omega (arith, s.number, s.goes_on.few, t.number, t.goes_on.few, length-push tags r.0)
 
-pub first_fault : (text : List ℕ) (tags : List (List ℕ × List ℕ)) (rest : List ℕ) (e : IdErr) → length text ≤ 512 → FaultsAfter text tags rest e → IsFirstFault text e × ¬ IsIdentifier text
+pub first_fault : (text : List ℕ) (tags : List (List ℕ × List ℕ)) (rest : List ℕ) (e : IdErr) → length text ≤ MOST_ID_BYTES → FaultsAfter text tags rest e → IsFirstFault text e × ¬ IsIdentifier text
 first_fault text tags rest e short f = (inr (inr (short, (tags, rest, f))), fault_excludes text rest tags e f)

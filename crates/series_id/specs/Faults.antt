@@ -1,6 +1,7 @@
 -- The first fault of a text, from the left; M3DB's page "Series ID and tags".
 use Rattle.std.specs.Prelude.{◌≡◌, ◌≢◌, ℕ, ◌+◌, ◌<◌, ◌≤◌, List, [], ◌∷◌, ◌++◌, length, Bool, true, ◌||◌, ◌==◌, not, codes, IsTrue, ⊤, ◌⊎◌}
 use Rattle.m3_model.specs.Tags.{IsBelow, is_tag_name, escaped, tag_text}
+use Rattle.m3_model.specs.declared.limits.TheConstants.{MOST_ID_BYTES, MOST_TAGS}
 use Rattle.series_id.specs.Names.{begins_no_name, BeginsWithName, BeginsAbove}
 use Rattle.series_id.specs.declared.id_err.IdErr.{IdErr}
 use Rattle.series_id.specs.declared.id_err.IdErr.TheVariants as errors
@@ -54,7 +55,7 @@ BeginsSpelled before text name spelling later = (value : List ℕ) × (spelling 
 
 -- a `,` follows the 32nd tag, or neither a `,` nor the last `}` follows a tag
 abbrev pub IsEndFault : ℕ → List ℕ → IdErr → Type 0
-IsEndFault number text errors.Long = (number ≡ 32) × ((later : List ℕ) × (text ≡ 44 ∷ later))
+IsEndFault number text errors.Long = (number ≡ MOST_TAGS) × ((later : List ℕ) × (text ≡ 44 ∷ later))
 IsEndFault number text errors.Brace = ((later : List ℕ) → text ≢ 44 ∷ later) × (text ≢ 125 ∷ [])
 IsEndFault number text _ = ⊥
 
@@ -77,7 +78,7 @@ MayFollow before (tag ∷ tags) = IsTrue (is_tag_name tag.0) × IsBelow before t
 pub record GoesOn (text : List ℕ) (tags : List (List ℕ × List ℕ)) (rest : List ℕ) : Type 0 where
   pub begins : text ≡ 123 ∷ listed tags ++ rest
   pub follow : MayFollow [] tags
-  pub few : length tags < 32
+  pub few : length tags < MOST_TAGS
 
 -- the first fault behind some tags: in the next tag, or after it
 pub record FaultsAfter (text : List ℕ) (tags : List (List ℕ × List ℕ)) (rest : List ℕ) (e : IdErr) : Type 0 where
@@ -88,5 +89,5 @@ pub record FaultsAfter (text : List ℕ) (tags : List (List ℕ × List ℕ)) (r
 -- the first fault of a text: it is empty, or too long, or the first one from the left
 abbrev pub IsFirstFault : List ℕ → IdErr → Type 0
 IsFirstFault text e = ((text ≡ []) × (e ≡ errors.Empty))
-    ⊎ (((512 < length text) × (e ≡ errors.Long))
-    ⊎ ((length text ≤ 512) × ((tags : List (List ℕ × List ℕ)) × (rest : List ℕ) × FaultsAfter text tags rest e)))
+    ⊎ (((MOST_ID_BYTES < length text) × (e ≡ errors.Long))
+    ⊎ ((length text ≤ MOST_ID_BYTES) × ((tags : List (List ℕ × List ℕ)) × (rest : List ℕ) × FaultsAfter text tags rest e)))

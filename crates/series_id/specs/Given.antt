@@ -2,6 +2,7 @@
 use Rattle.std.specs.Prelude.{◌≡◌, ℕ, ◌+◌, ◌<◌, ◌≤◌, List, [], ◌∷◌, ◌++◌, length, if◌then◌else◌, false, IsTrue, IsUtf8, ◌⊎◌, Option, Some, MatchOption}
 use Rattle.std.specs.List.{prefix_len}
 use Rattle.m3_model.specs.Tags.{IsBelow, is_tag_name, tags_text}
+use Rattle.m3_model.specs.declared.limits.TheConstants.{MOST_ID_BYTES, MOST_TAGS}
 use Rattle.series_id.specs.Names.{is_first_byte, is_later_byte}
 use Rattle.series_id.specs.Faults.{listed, last_name, MayFollow}
 use Rattle.series_id.specs.declared.id_err.IdErr.{IdErr}
@@ -14,16 +15,16 @@ wrong_at (b ∷ bs) = if is_first_byte b then 1 + prefix_len is_later_byte bs el
 
 -- a name behind so many tags and `at` bytes, after the name `before`: it is one too many, or no name, or not above that one
 abbrev pub IsAddedFault : ℕ → List ℕ → ℕ → List ℕ → IdErr → Type 0
-IsAddedFault number before at name errors.Long = number ≡ 32
-IsAddedFault number before at name (errors.Name place) = (number < 32) × (is_tag_name name ≡ false) × (place ≡ at + wrong_at name)
-IsAddedFault number before at name errors.Order = (number < 32) × IsTrue (is_tag_name name) × IsBelow name before
-IsAddedFault number before at name errors.Repeat = (number < 32) × IsTrue (is_tag_name name) × (name ≡ before)
+IsAddedFault number before at name errors.Long = number ≡ MOST_TAGS
+IsAddedFault number before at name (errors.Name place) = (number < MOST_TAGS) × (is_tag_name name ≡ false) × (place ≡ at + wrong_at name)
+IsAddedFault number before at name errors.Order = (number < MOST_TAGS) × IsTrue (is_tag_name name) × IsBelow name before
+IsAddedFault number before at name errors.Repeat = (number < MOST_TAGS) × IsTrue (is_tag_name name) × (name ≡ before)
 IsAddedFault number before at name _ = ⊥
 
 -- the fault that was found before stays; where there was none, it is that of the name
 abbrev pub IsLaterFault : ℕ → List ℕ → ℕ → List ℕ → Option IdErr → Option IdErr → Type 0
 IsLaterFault number before at name fault found = MatchOption fault
-    (MatchOption found ((number < 32) × IsTrue (is_tag_name name) × IsBelow before name) (IsAddedFault number before at name))
+    (MatchOption found ((number < MOST_TAGS) × IsTrue (is_tag_name name) × IsBelow before name) (IsAddedFault number before at name))
     (λ e. found ≡ Some e)
 
 -- some tags are right, and the next one has the fault
@@ -38,7 +39,7 @@ pub record HasFault (tags : List (List ℕ × List ℕ)) (e : IdErr) : Type 0 wh
 -- the names have their form, and ascend, and there aren't too many
 pub record IsFine (tags : List (List ℕ × List ℕ)) : Type 0 where
   pub follow : MayFollow [] tags
-  pub few : length tags ≤ 32
+  pub few : length tags ≤ MOST_TAGS
 
 -- what these tags spell, and the first fault of their names, if there is one
 pub record IsOutcome (tags : List (List ℕ × List ℕ)) (text : List ℕ) (fault : Option IdErr) : Type 0 where
@@ -49,5 +50,5 @@ pub record IsOutcome (tags : List (List ℕ × List ℕ)) (text : List ℕ) (fau
 -- there are no tags, or what they spell is too long, or the fault is the first one from the left
 abbrev pub IsGivenFault : List (List ℕ × List ℕ) → IdErr → Type 0
 IsGivenFault tags e = ((tags ≡ []) × (e ≡ errors.Name 1))
-    ⊎ (((512 < length (tags_text tags)) × (e ≡ errors.Long))
-    ⊎ ((length (tags_text tags) ≤ 512) × HasFault tags e))
+    ⊎ (((MOST_ID_BYTES < length (tags_text tags)) × (e ≡ errors.Long))
+    ⊎ ((length (tags_text tags) ≤ MOST_ID_BYTES) × HasFault tags e))

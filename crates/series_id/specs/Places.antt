@@ -2,6 +2,7 @@
 use Rattle.std.specs.Prelude.{◌≡◌, ℕ, ◌+◌, ◌<◌, ◌≤◌, List, [], ◌∷◌, ◌++◌, length, Option, MatchOption}
 use Rattle.m3_model.specs.Tags.{escaped, tag_text, tags_text, HasTags}
 use Rattle.m3_model.specs.Identifiers.{IsIdentifier}
+use Rattle.m3_model.specs.declared.limits.TheConstants.{MOST_TAGS}
 use Rattle.series_id.specs.Faults.{listed, last_name, MayFollow, GoesOn}
 use Rattle.series_id.specs.declared.place.Place.{Place}
 use Rattle.series_id.specs.declared.place.Tag.{Tag}
@@ -18,7 +19,7 @@ pub record Closes (text : List ℕ) (tags : List (List ℕ × List ℕ)) : Type 
   pub spelled : text ≡ tags_text tags
   pub follow : MayFollow [] tags
   pub some : 0 < length tags
-  pub few : length tags ≤ 32
+  pub few : length tags ≤ MOST_TAGS
 
 -- one tag more was read, and it is the last one or a place follows
 abbrev pub Reads : List ℕ → List (List ℕ × List ℕ) → Tag → Type 0

@@ -2,6 +2,7 @@ ghost use Rattle.std.specs.Prelude.{◌≡◌, ◌≢◌, ℕ, ◌<◌, ◌≤�
 ghost use Rattle.m3_model.specs.Members.{IsIn};
 ghost use Rattle.m3_model.specs.Tags.{escaped, HasTags};
 ghost use Rattle.m3_model.specs.Identifiers.{IsPlain, IsIdentifier};
+ghost use Rattle.m3_model.specs.declared.limits.TheConstants.{MOST_ID_BYTES};
 ghost use Rattle.series_id.specs.Faults.{IsFirstFault};
 ghost use Rattle.series_id.specs.Places.{Stands};
 ghost use Rattle.series_id.specs.declared.id_err.IdErr.TheVariants as errors;
@@ -9,17 +10,15 @@ ghost use Rattle.series_id.specs.declared.id_err.IdErr.TheVariants as errors;
 use crate::id_err::IdErr;
 use crate::place::{Place, Tag};
 use crate::scan::next_tag;
+use m3_model::limits::MOST_ID_BYTES;
 use m3_model::memory::Memory;
 use m3_model::text::Text;
 use std::alloc::Global;
 
-// The most bytes of an identifier.
-const BYTES: usize = 512;
-
 // The place of the first tag, if the text begins with `{`.
 fn first_place(text: &[u8]) -> Result<Option<Place<'_>>, IdErr>
     requires { IsUtf8 text.now }
-    ensures within { OnOk result (length text.now ≤ 512) }
+    ensures within { OnOk result (length text.now ≤ MOST_ID_BYTES) }
     ensures ok { IfOk result (λ place. MatchOption place (IsPlain text.now) (Stands text.now [])) }
     ensures fault { IfErr result (IsFirstFault text.now) }
     ensures refused { OnErr result (¬ IsIdentifier text.now) }
@@ -27,7 +26,7 @@ fn first_place(text: &[u8]) -> Result<Option<Place<'_>>, IdErr>
     if text.is_empty() {
         return Err(IdErr::Empty);
     }
-    if text.len() > BYTES {
+    if text.len() > MOST_ID_BYTES {
         return Err(IdErr::Long);
     }
     match text {

@@ -1,5 +1,6 @@
 ghost use Rattle.std.specs.Prelude.{◌≡◌, ℕ, ◌+◌, ◌<◌, ◌≤◌, ◌^◌, List, [], ◌∷◌, ◌++◌, length, codes, IsTrue, MatchOption, IfOk, IfErr};
 ghost use Rattle.m3_model.specs.Tags.{escaped};
+ghost use Rattle.m3_model.specs.declared.limits.TheConstants.{MOST_ID_BYTES, MOST_TAGS};
 ghost use Rattle.series_id.specs.Names.{begins_no_name, BeginsWithName, BeginsAbove};
 ghost use Rattle.series_id.specs.Faults.{escapes_nothing, IsNameFault, IsClosedAt, BeginsQuoted, IsSpellingFault, IsValueFault, IsTagFault, BeginsSpelled, IsEndFault, FaultsAfter};
 ghost use Rattle.series_id.specs.Places.{Stands, Reads};
@@ -7,10 +8,8 @@ ghost use Rattle.series_id.specs.Places.{Stands, Reads};
 use crate::bytes::{is_first_byte, name_len};
 use crate::id_err::IdErr;
 use crate::place::{Place, Tag};
+use m3_model::limits::MOST_TAGS;
 use std::cmp::Ordering;
-
-// The most tags of an identifier.
-const TAGS: u32 = 32;
 
 // What ends a value.
 const QUOTE: u8 = b'"';
@@ -93,7 +92,7 @@ fn read_tag<'a>(
     before: &[u8],
     at: usize,
 ) -> Result<(&'a [u8], &'a [u8], &'a [u8]), IdErr>
-    requires { at + length text.now ≤ 512 }
+    requires { at + length text.now ≤ MOST_ID_BYTES }
     ensures ok { IfOk result (λ parts. BeginsSpelled before.now text.now parts.0.now parts.1.now parts.2.now) }
     ensures err { IfErr result (λ e. IsTagFault before.now at text.now e) }
 {
@@ -104,13 +103,13 @@ fn read_tag<'a>(
 
 // What follows the tag of this number: nothing behind the closing `}`, and the next tag behind a `,`.
 fn read_end(text: &[u8], number: u32) -> Result<Option<&[u8]>, IdErr>
-    requires { number ≤ 32 }
-    ensures ok { IfOk result (λ next. MatchOption next (text.now ≡ 125 ∷ []) (λ rest. (text.now ≡ 44 ∷ rest.now) × (number < 32))) }
+    requires { number ≤ MOST_TAGS }
+    ensures ok { IfOk result (λ next. MatchOption next (text.now ≡ 125 ∷ []) (λ rest. (text.now ≡ 44 ∷ rest.now) × (number < MOST_TAGS))) }
     ensures err { IfErr result (λ e. IsEndFault number text.now e) }
 {
     match text {
         [b'}'] => Ok(None),
-        [b',', rest @ ..] if number < TAGS => Ok(Some(rest)),
+        [b',', rest @ ..] if (number as usize) < MOST_TAGS => Ok(Some(rest)),
         [b',', ..] => Err(IdErr::Long),
         _ => Err(IdErr::Brace),
     }
@@ -118,8 +117,8 @@ fn read_end(text: &[u8], number: u32) -> Result<Option<&[u8]>, IdErr>
 
 // The tag at the place.
 pub(crate) fn next_tag(place: Place<'_>) -> Result<Tag<'_>, IdErr>
-    requires within { place.at + length place.rest.now ≤ 512 }
-    requires few { place.number < 32 }
+    requires within { place.at + length place.rest.now ≤ MOST_ID_BYTES }
+    requires few { place.number < MOST_TAGS }
     ensures ok { IfOk result (λ read. (text : List ℕ) (tags : List (List ℕ × List ℕ)) → Stands text tags place.entry → Reads text tags read) }
     ensures err { IfErr result (λ e. (text : List ℕ) (tags : List (List ℕ × List ℕ)) → Stands text tags place.entry → FaultsAfter text tags place.entry.rest.now e) }
 {

@@ -1,20 +1,16 @@
 ghost use Rattle.std.specs.Prelude.{◌≡◌, ◌≢◌, false, ℕ, ◌+◌, ◌<◌, ◌≤◌, ◌^◌, List, [], ◌∷◌, ◌++◌, length, IfOk, IfErr, OnOk, MatchOption, IsTrue, string_bytes, ◌==◌, if◌then◌else◌, ⊤};
 ghost use Rattle.m3_model.specs.Tags.{IsBelow, is_tag_name, escaped, tag_text, IsSpelledBy};
+ghost use Rattle.m3_model.specs.declared.limits.TheConstants.{MOST_TAGS};
 ghost use Rattle.series_id.specs.Given.{wrong_at, IsAddedFault, IsLaterFault, IsOutcome, IsGivenFault};
 ghost use Rattle.series_id.specs.declared.id_err.IdErr.TheVariants as errors;
 
 use crate::bytes::{is_first_byte, name_len};
 use crate::id_err::IdErr;
+use m3_model::limits::{MOST_ID_BYTES, MOST_TAGS};
 use m3_model::memory::Memory;
 use m3_model::text::Text;
 use std::alloc::Global;
 use std::cmp::Ordering;
-
-// The most bytes of an identifier.
-const BYTES: usize = 512;
-
-// The most tags of an identifier.
-const TAGS: usize = 32;
 
 // Adds a byte of a value as it is spelled.
 fn push_byte(text: &mut Vec<u8>, byte: u8) -> Result<(), Memory>
@@ -73,11 +69,11 @@ fn wrong_byte(name: &[u8]) -> Option<usize>
 
 // The fault of a name behind `number` tags and `at` bytes, after the name `before`.
 fn added_fault(number: usize, before: &[u8], at: usize, name: &[u8]) -> Option<IdErr>
-    requires few { number ≤ 32 }
+    requires few { number ≤ MOST_TAGS }
     requires fits { at + length name.now < 2 ^ 64 }
-    ensures { MatchOption result ((number < 32) × IsTrue (is_tag_name name.now) × IsBelow before.now name.now) (IsAddedFault number before.now at name.now) }
+    ensures { MatchOption result ((number < MOST_TAGS) × IsTrue (is_tag_name name.now) × IsBelow before.now name.now) (IsAddedFault number before.now at name.now) }
 {
-    if number == TAGS {
+    if number == MOST_TAGS {
         return Some(IdErr::Long);
     }
     if let Some(wrong) = wrong_byte(name) {
@@ -98,7 +94,7 @@ fn later_fault(
     at: usize,
     name: &[u8],
 ) -> Option<IdErr>
-    requires few { MatchOption fault (number ≤ 32) (λ _. ⊤) }
+    requires few { MatchOption fault (number ≤ MOST_TAGS) (λ _. ⊤) }
     requires fits { at + length name.now < 2 ^ 64 }
     ensures { IsLaterFault number before.now at name.now fault result }
 {
@@ -145,7 +141,7 @@ pub(crate) fn spelled(alloc: Global, tags: &[(Text, Text)]) -> Result<String, Id
         return Err(IdErr::Name { at: 1 });
     }
     let (text, fault) = spell(alloc, tags)?;
-    if text.len() > BYTES {
+    if text.len() > MOST_ID_BYTES {
         return Err(IdErr::Long);
     }
     match fault {
