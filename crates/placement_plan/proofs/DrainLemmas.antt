@@ -8,6 +8,7 @@ use Rattle.std.proofs.lemmas.List.{take-append-le, drop_more}
 use Rattle.std.proofs.lemmas.Option.{slice_get_within, get_or_from_slice_get}
 use Rattle.m3_model.specs.declared.placement.Instance.{Instance}
 use Rattle.m3_model.specs.declared.placement.Placement.{Placement}
+use Rattle.m3_model.specs.declared.limits.TheConstants.{MOST_SHARDS}
 use Rattle.placement_core.specs.Shards.{Shard}
 use Rattle.placement_core.specs.Lawful.{IsSpread, IsLawful}
 use Rattle.placement_core.specs.Steps.{IsStep, IsShardStep}
@@ -85,7 +86,7 @@ drained_more instances version node old next table later n a b at moves follow b
       ];
     }
 
-pub drained_few : (old next : List Shard) (n : ℕ) → n ≤ length old → length next ≡ n → length old ≤ 64 → length (next ++ drop n old) ≤ 64
+pub drained_few : (old next : List Shard) (n : ℕ) → n ≤ length old → length next ≡ n → length old ≤ MOST_SHARDS → length (next ++ drop n old) ≤ MOST_SHARDS
 drained_few old next n le many few = omega (arith, length-append next (drop n old), length-drop n old, le, many, few)
 
 pub drained_all : (instances : List Instance) (version node : ℕ) (old next : List Shard) (table : List ℕ) (n : ℕ) → n ≤ length old → length old ≤ n → DrainedBelow instances version node old next table n → MakesAll (MovesAway instances old next version node) old next

@@ -12,6 +12,7 @@ use Rattle.m3_model.specs.Members.{IsIn}
 use Rattle.m3_model.proofs.MemberLemmas.{IsIn-map}
 use Rattle.m3_model.specs.declared.placement.Assignment.{Assignment}
 use Rattle.m3_model.specs.declared.placement.Instance.{Instance}
+use Rattle.m3_model.specs.declared.limits.TheConstants.{MOST_SHARDS}
 use Rattle.placement_core.specs.Shards.{Shard, is_staying}
 use Rattle.placement_plan.specs.Nodes.{Has, serves, load}
 use Rattle.placement_plan.specs.Choices.{group_of, IsLeastLoaded}
@@ -53,11 +54,11 @@ weight_other n node shard ne = ap one_if (serves_push n node shard ∙ ap (λ b.
 pub record PlacedBelow (instances : List Instance) (old table : List ℕ) (shard : Shard) (n : ℕ) : Type 0 where
   pub many : length shard ≡ n
   pub table_many : length table ≡ length instances
-  pub small : (k : ℕ) → slice_index table k ≤ 64 + n
+  pub small : (k : ℕ) → slice_index table k ≤ MOST_SHARDS + n
   pub loads : (lower : List Shard) → AreLoads (length instances) lower old → AreLoads (length instances) (lower ++ shard ∷ []) table
   pub each : (lower : List Shard) → AreLoads (length instances) lower old → (r : ℕ) (a : Assignment) → slice_get shard r ≡ Some a → IsPlaced instances (λ k. load k (lower ++ take r shard ∷ [])) (take r shard) a
 
-pub placed_none : (instances : List Instance) (old : List ℕ) → length old ≡ length instances → ((k : ℕ) → slice_index old k ≤ 64) → PlacedBelow instances old old [] 0
+pub placed_none : (instances : List Instance) (old : List ℕ) → length old ≡ length instances → ((k : ℕ) → slice_index old k ≤ MOST_SHARDS) → PlacedBelow instances old old [] 0
 placed_none instances old many small = record {
   many = refl;
   table_many = many;
@@ -76,7 +77,7 @@ placed_more instances old table later shard n node least raised below =
     record {
       many = omega (arith, length-append shard (first_at node ∷ []), below.many);
       table_many = raised.many ∙ below.table_many;
-      small = λ k. elim (cases_eq k node) as (λ _. slice_index later k ≤ 64 + (n + 1)) [
+      small = λ k. elim (cases_eq k node) as (λ _. slice_index later k ≤ MOST_SHARDS + (n + 1)) [
         | inl e ↦ omega (arith, ap (slice_index later) e ∙ raised.more, below.small node)
         | inr ne ↦ omega (arith, raised.others k ne, below.small k)
       ];
@@ -131,9 +132,9 @@ shards_more rf instances table later next shard n placed loads below = record {
   ];
 }
 
-pub shards_small : (rf : ℕ) (instances : List Instance) (table : List ℕ) (next : List Shard) (n k : ℕ) → n ≤ 64 → ShardsBelow rf instances table next n → slice_index table k ≤ 64
+pub shards_small : (rf : ℕ) (instances : List Instance) (table : List ℕ) (next : List Shard) (n k : ℕ) → n ≤ MOST_SHARDS → ShardsBelow rf instances table next n → slice_index table k ≤ MOST_SHARDS
 shards_small rf instances table next n k few below =
-    elim (cases_lt k (length instances)) as (λ _. slice_index table k ≤ 64) [
+    elim (cases_lt k (length instances)) as (λ _. slice_index table k ≤ MOST_SHARDS) [
       | inl lt ↦ omega (arith, (below.loads).each k lt, load_bound k next, below.many, few)
       | inr ge ↦ omega (arith, get_or_past table k 0 (omega (arith, (below.loads).many, ge)))
     ]

@@ -6,6 +6,7 @@ use Rattle.std.proofs.lemmas.List.Folds.{list_any-append}
 use Rattle.std.proofs.lemmas.List.Sums.{count_by-le-length, sum_by-append, sum_by-cons}
 use Rattle.m3_model.specs.declared.placement.ShardState.TheVariants.{Leaving}
 use Rattle.m3_model.specs.declared.placement.Assignment.{Assignment}
+use Rattle.m3_model.specs.declared.limits.TheConstants.{MOST_SHARDS}
 use Rattle.placement_core.specs.Shards.{Shard, stays, is_staying}
 use Rattle.placement_core.specs.Lawful.{IsSteady}
 use Rattle.placement_core.specs.Steps.{turned}
@@ -138,9 +139,9 @@ loads_shifted nodes version from to old next shard steady has lacks shifted = λ
           ];
     }
 
-pub loads_small : (nodes : ℕ) (shards : List Shard) (table : List ℕ) (n : ℕ) → AreLoads nodes shards table → length shards ≤ 64 → slice_index table n ≤ 64
+pub loads_small : (nodes : ℕ) (shards : List Shard) (table : List ℕ) (n : ℕ) → AreLoads nodes shards table → length shards ≤ MOST_SHARDS → slice_index table n ≤ MOST_SHARDS
 loads_small nodes shards table n loads few =
-    elim (cases_lt n nodes) as (λ _. slice_index table n ≤ 64) [
+    elim (cases_lt n nodes) as (λ _. slice_index table n ≤ MOST_SHARDS) [
       | inl lt ↦ omega (arith, loads.each n lt, load_bound n shards, few)
       | inr ge ↦ omega (arith, get_or_past table n 0 (omega (arith, loads.many, ge)))
     ]

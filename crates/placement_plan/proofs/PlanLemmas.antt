@@ -9,6 +9,7 @@ use Rattle.m3_model.proofs.MemberLemmas.{map-IsIn}
 use Rattle.m3_model.specs.declared.placement.Assignment.{Assignment}
 use Rattle.m3_model.specs.declared.placement.Instance.{Instance}
 use Rattle.m3_model.specs.declared.placement.Placement.{Placement}
+use Rattle.m3_model.specs.declared.limits.TheConstants.{MOST_NODES}
 use Rattle.placement_core.specs.Shards.{Shard}
 use Rattle.placement_core.specs.Lawful.{IsSpread, IsShard, IsLawful}
 use Rattle.placement_core.specs.Steps.{KeepsNames, IsDoneList, IsShardStep, IsStep, Ends, done_at}
@@ -40,7 +41,7 @@ none_done shards = record { ascending = tt; within = λ d m. absurd m }
 
 -- few nodes with names of their own
 pub record AreNodes (nodes : List Instance) : Type 0 where
-  pub few : length nodes ≤ 16
+  pub few : length nodes ≤ MOST_NODES
   pub named : (node : Instance) → IsIn nodes node → IsTrue (is_name node.name) × IsTrue (is_name node.group)
   pub distinct : Ascends (λ a b. a.name ≢ b.name) nodes
 

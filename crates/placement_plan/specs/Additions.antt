@@ -6,6 +6,7 @@ use Rattle.std.specs.declared.cmp.Ordering.{Ordering}
 use Rattle.placement_core.specs.NodeNames.{is_listed, name_of}
 use Rattle.m3_model.specs.declared.placement.Instance.{Instance}
 use Rattle.m3_model.specs.declared.placement.Placement.{Placement}
+use Rattle.m3_model.specs.declared.limits.TheConstants.{NUMBER_END}
 use Rattle.placement_core.specs.Shards.{Shard, is_steady}
 use Rattle.placement_plan.specs.Nodes.{Has, load, Joins, IsFirst}
 use Rattle.placement_plan.specs.Choices.{MayTake, moved}
@@ -56,7 +57,7 @@ pub record IsAddition (old : Placement) (name group : List ℕ) (next : Placemen
   pub node : ℕ
   pub joins : Joins old.instances name group next.instances node
   pub version : next.version ≡ suc old.version
-  pub version_fits : next.version < 2 ^ 62
+  pub version_fits : next.version < NUMBER_END
   pub rf : next.rf ≡ old.rf
   pub moves : List (ℕ × ℕ)
   pub rebalances : Rebalances next.instances next.version node moves old.shards next.shards

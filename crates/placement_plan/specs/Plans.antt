@@ -5,6 +5,7 @@ use Rattle.placement_core.specs.NodeNames.{is_listed}
 use Rattle.m3_model.specs.declared.placement.Instance.{Instance}
 use Rattle.m3_model.specs.declared.placement.Assignment.{Assignment}
 use Rattle.m3_model.specs.declared.placement.Placement.{Placement}
+use Rattle.m3_model.specs.declared.limits.TheConstants.{MOST_NODES, NUMBER_END}
 use Rattle.placement_core.specs.Shards.{Shard, is_steady}
 use Rattle.placement_core.specs.Lawful.{IsJoiningFrom}
 use Rattle.placement_core.specs.Steps.{IsCancelOf, Ends, done_at}
@@ -19,7 +20,7 @@ pub record MakesAll {X : Type 0} (Made : ℕ → X → X → Type 0) (old next :
 -- the next placement has the next version, which is below 2^62, the same `rf`, and of each shard what is made of it
 pub record Follows (old next : Placement) (Made : ℕ → Shard → Shard → Type 0) : Type 0 where
   pub version : next.version ≡ suc old.version
-  pub version_fits : next.version < 2 ^ 62
+  pub version_fits : next.version < NUMBER_END
   pub rf : next.rf ≡ old.rf
   pub shards : MakesAll Made old.shards next.shards
 
@@ -104,13 +105,9 @@ pub record IsDrain (old : Placement) (name : List ℕ) (next : Placement) : Type
 
 -- ---- nodes that come
 
--- 16 node names may be known
-abbrev pub name_limit : ℕ
-name_limit = 16
-
 -- the name is known, or one more may be
 abbrev pub HasRoom : List Instance → List ℕ → Type 0
-HasRoom instances name = IsNewName instances name → length instances < name_limit
+HasRoom instances name = IsNewName instances name → length instances < MOST_NODES
 
 -- a shard that the node has moves to the other one
 abbrev pub MovesTo : ℕ → ℕ → ℕ → Shard → Shard → Type 0

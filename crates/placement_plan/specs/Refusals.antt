@@ -6,10 +6,11 @@ use Rattle.m3_model.specs.declared.placement.Assignment.{Assignment}
 use Rattle.m3_model.specs.declared.placement.Instance.{Instance}
 use Rattle.m3_model.specs.declared.placement.Placement.{Placement}
 use Rattle.m3_model.specs.declared.placement.ShardState.TheVariants.{Initializing}
+use Rattle.m3_model.specs.declared.limits.TheConstants.{MOST_NODES}
 use Rattle.placement_core.specs.Shards.{Shard, is_steady}
 use Rattle.placement_plan.specs.Nodes.{Lists, IsNewName, Has, IsFirst}
 use Rattle.placement_plan.specs.Choices.{IsFree, MayTake}
-use Rattle.placement_plan.specs.Plans.{IsReady, HasRoom, name_limit}
+use Rattle.placement_plan.specs.Plans.{IsReady, HasRoom}
 use Rattle.placement_plan.specs.declared.plan_err.PlaceErr.{PlaceErr}
 use Rattle.placement_plan.specs.declared.plan_err.PlaceErr.TheVariants.{Busy, Group, Unknown, Exists, Limit, Memory}
 
@@ -54,7 +55,7 @@ RefusesDrain place name _ = ⊥
 
 -- 16 names are known, and this isn't one of them
 abbrev pub IsPastLimit : List Instance → List ℕ → PlaceErr → Type 0
-IsPastLimit instances name (Limit limit) = IsNewName instances name × (name_limit ≤ length instances) × (limit ≡ name_limit)
+IsPastLimit instances name (Limit limit) = IsNewName instances name × (MOST_NODES ≤ length instances) × (limit ≡ MOST_NODES)
 IsPastLimit instances name _ = ⊥
 
 abbrev pub RefusesAdd : Placement → List ℕ → PlaceErr → Type 0

@@ -3,6 +3,7 @@ ghost use Rattle.std.specs.Prelude.{◌≡◌, ◌<◌, ◌≤◌, ◌↔◌, �
 ghost use Rattle.std.specs.Ordering.{is_lt};
 ghost use Rattle.m3_model.specs.Names.{is_name};
 ghost use Rattle.m3_model.specs.Members.{IsIn};
+ghost use Rattle.m3_model.specs.declared.limits.TheConstants.{MOST_NODES, MOST_SHARDS};
 ghost use Rattle.placement_core.specs.Shards.{Shard, is_steady};
 ghost use Rattle.placement_core.specs.Lawful.{IsShard, IsLawful};
 ghost use Rattle.placement_core.specs.Steps.{IsStep};
@@ -46,7 +47,7 @@ fn first_to_move(
     to: u8,
 ) -> Option<u32>
     requires to { to < length instances.now }
-    requires few { length shards.now ≤ 64 }
+    requires few { length shards.now ≤ MOST_SHARDS }
     ensures found { IfSome result (IsFirst (MayMove instances.now from to) shards.now) }
     ensures none { IfNone result ((shard : Shard) → IsIn shards.now shard → ¬ MayMove instances.now from to shard) }
 {
@@ -68,8 +69,8 @@ fn may_give(
     requires to { to < length instances.now }
     requires from { from < length instances.now }
     requires loads { length loads.now ≡ length instances.now }
-    requires small { slice_index loads.now to ≤ 64 }
-    requires few { length shards.now ≤ 64 }
+    requires small { slice_index loads.now to ≤ MOST_SHARDS }
+    requires few { length shards.now ≤ MOST_SHARDS }
     ensures { IsTrue result ↔ MayGive (slice_index loads.now) instances.now shards.now to from }
 {
     loads[to as usize] + 2 <= loads[from as usize]
@@ -94,11 +95,11 @@ fn heavier(instances: &[Instance], loads: &[usize], best: Option<u8>, node: u8) 
 
 // The node that gives a shard next.
 fn giver(instances: &[Instance], loads: &[usize], shards: &[Seq<Assignment>], to: u8) -> Option<u8>
-    requires many { length instances.now ≤ 16 }
+    requires many { length instances.now ≤ MOST_NODES }
     requires to { to < length instances.now }
     requires loads { length loads.now ≡ length instances.now }
-    requires small { slice_index loads.now to ≤ 64 }
-    requires few { length shards.now ≤ 64 }
+    requires small { slice_index loads.now to ≤ MOST_SHARDS }
+    requires few { length shards.now ≤ MOST_SHARDS }
     ensures found { IfSome result (IsGiver (slice_index loads.now) instances.now shards.now to) }
     ensures none { IfNone result ((from : ℕ) → ¬ MayGive (slice_index loads.now) instances.now shards.now to from) }
 {
@@ -119,11 +120,11 @@ fn next_move(
     shards: &[Seq<Assignment>],
     to: u8,
 ) -> Option<(u32, u8)>
-    requires many { length instances.now ≤ 16 }
+    requires many { length instances.now ≤ MOST_NODES }
     requires to { to < length instances.now }
     requires loads { length loads.now ≡ length instances.now }
-    requires small { slice_index loads.now to ≤ 64 }
-    requires few { length shards.now ≤ 64 }
+    requires small { slice_index loads.now to ≤ MOST_SHARDS }
+    requires few { length shards.now ≤ MOST_SHARDS }
     ensures found { IfSome result (λ m. IsNextMove (slice_index loads.now) instances.now shards.now to m.0 m.1) }
     ensures none { IfNone result ((from : ℕ) → ¬ MayGive (slice_index loads.now) instances.now shards.now to from) }
 {
@@ -142,9 +143,9 @@ fn rebalanced(
     version: u64,
     to: u8,
 ) -> Result<Seq<Seq<Assignment>>, PlaceErr>
-    requires many { length instances.now ≤ 16 }
+    requires many { length instances.now ≤ MOST_NODES }
     requires to { to < length instances.now }
-    requires few { length shards.now ≤ 64 }
+    requires few { length shards.now ≤ MOST_SHARDS }
     requires replicas { (shard : Shard) → IsIn shards.now shard → (rf : ℕ) × ((version : ℕ) × IsShard rf version shard) }
     ensures ok { IfOk result (λ next. (moves : List (ℕ × ℕ)) × Rebalances instances.now version to moves shards.now next) }
     ensures err { IfErr result IsMemory }

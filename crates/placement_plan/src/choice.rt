@@ -1,6 +1,7 @@
 //! Which node takes a shard.
 ghost use Rattle.std.specs.Prelude.{◌≡◌, ◌<◌, ◌≤◌, ◌↔◌, ℕ, IfSome, IfNone, IsTrue, length, slice_index, if◌then◌else◌};
 ghost use Rattle.std.specs.Ordering.{is_lt};
+ghost use Rattle.m3_model.specs.declared.limits.TheConstants.{MOST_NODES};
 ghost use Rattle.placement_core.specs.NodeNames.{name_of};
 ghost use Rattle.placement_plan.specs.Choices.{MayTake, IsLeastLoaded, taking_cmp};
 
@@ -50,7 +51,7 @@ pub fn may_take(instances: &[Instance], shard: &[Assignment], from: u8, node: u8
 /// Of the nodes that may take the shard from the source, the one with the least load, and of those the one with the
 /// smallest name.
 pub fn taker(instances: &[Instance], loads: &[usize], shard: &[Assignment], from: u8) -> Option<u8>
-    requires few { length instances.now ≤ 16 }
+    requires few { length instances.now ≤ MOST_NODES }
     requires loads { length loads.now ≡ length instances.now }
     ensures found { IfSome result (IsLeastLoaded instances.now (slice_index loads.now) (MayTake instances.now shard.now from)) }
     ensures none { IfNone result ((node : ℕ) → ¬ MayTake instances.now shard.now from node) }

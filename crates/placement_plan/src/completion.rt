@@ -1,5 +1,6 @@
 //! Moves that end, and moves that are cancelled.
 ghost use Rattle.std.specs.Prelude.{◌≡◌, ◌≤◌, ◌↔◌, [], All, IfOk, IfErr, IfSome, IsTrue, MatchOption, false, length, if◌then◌else◌};
+ghost use Rattle.m3_model.specs.declared.limits.TheConstants.{MOST_NODES};
 ghost use Rattle.placement_core.specs.Lawful.{IsLawful};
 ghost use Rattle.placement_core.specs.Steps.{IsStep, IsDoneList, Ends, done_at};
 ghost use Rattle.placement_plan.specs.Plans.{MakesAll, IsAvailable, IsJoiningPair, AreJoining, EndsAsNamed, IsCancel, IsJoining, CancelsJoining, GivesTo, IsFreed};
@@ -69,7 +70,7 @@ fn freed_nodes(
     shards: &[Seq<Assignment>],
     node: u8,
 ) -> Result<Seq<Instance>, Memory>
-    requires { length instances.now ≤ 16 }
+    requires { length instances.now ≤ MOST_NODES }
     ensures { IfOk result (MakesAll (IsFreed (GivesTo shards.now node)) instances.now) }
 {
     let mut next = Vec::new(alloc);

@@ -1,6 +1,7 @@
 //! Nodes whose shards all move away.
 ghost use Rattle.std.specs.Prelude.{◌≡◌, ◌<◌, ◌≤◌, ℕ, [], IfOk, IfErr, IfSome, IfNone, length, slice_index};
 ghost use Rattle.m3_model.specs.Members.{IsIn};
+ghost use Rattle.m3_model.specs.declared.limits.TheConstants.{MOST_NODES, MOST_SHARDS};
 ghost use Rattle.placement_core.specs.Shards.{Shard};
 ghost use Rattle.placement_core.specs.Lawful.{IsLawful, IsSteady};
 ghost use Rattle.placement_core.specs.Steps.{IsStep};
@@ -32,9 +33,9 @@ fn moved_away(
     version: u64,
     node: u8,
 ) -> Result<Option<Seq<Assignment>>, Memory>
-    requires few { length instances.now ≤ 16 }
+    requires few { length instances.now ≤ MOST_NODES }
     requires many { length loads.old.items ≡ length instances.now }
-    requires small { (n : ℕ) → slice_index loads.old.items n ≤ 64 }
+    requires small { (n : ℕ) → slice_index loads.old.items n ≤ MOST_SHARDS }
     requires within { Has node shard.now → node < length instances.now }
     requires steady { Has node shard.now → IsSteady shard.now }
     ensures moved { IfOk result (λ next. IfSome next (MovesBy instances.now (slice_index loads.old.items) version node shard.now)) }
@@ -60,8 +61,8 @@ fn all_moved_away(
     version: u64,
     node: u8,
 ) -> Result<Seq<Seq<Assignment>>, PlaceErr>
-    requires few { length instances.now ≤ 16 }
-    requires few_shards { length shards.now ≤ 64 }
+    requires few { length instances.now ≤ MOST_NODES }
+    requires few_shards { length shards.now ≤ MOST_SHARDS }
     requires node_in { node < length instances.now }
     requires steady { (shard : Shard) → IsIn shards.now shard → Has node shard → IsSteady shard }
     ensures moved { IfOk result (λ next. MakesAll (MovesAway instances.now shards.now next version node) shards.now next) }

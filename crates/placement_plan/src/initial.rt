@@ -1,6 +1,7 @@
 //! First placements.
 ghost use Rattle.std.specs.Prelude.{◌≡◌, ◌≢◌, ◌<◌, ◌≤◌, ◌↔◌, ℕ, List, [], ◌∷◌, ◌++◌, All, IfOk, IfErr, IfSome, IfNone, IsTrue, Some, length, slice_get, slice_index, take};
 ghost use Rattle.m3_model.specs.Limits.{IsInit};
+ghost use Rattle.m3_model.specs.declared.limits.TheConstants.{MOST_REPLICAS, MOST_SHARDS, MOST_NODES};
 ghost use Rattle.placement_plan.specs.First.{first_instances, IsFirstPlacement, MayHold, IsPlacedShard, IsInitial, HasGroups, IsShort, RefusesInitial};
 ghost use Rattle.placement_core.specs.Shards.{Shard};
 ghost use Rattle.placement_core.specs.Lawful.{IsLawful};
@@ -27,7 +28,7 @@ fn is_new_group(instances: &[Instance], shard: &[Assignment], node: u8) -> bool
 // Of the nodes whose group doesn't have the shard yet, the one with the least load, and of those the one with the
 // smallest name.
 fn holder(instances: &[Instance], loads: &[usize], shard: &[Assignment]) -> Option<u8>
-    requires few { length instances.now ≤ 16 }
+    requires few { length instances.now ≤ MOST_NODES }
     requires loads { length loads.now ≡ length instances.now }
     ensures found { IfSome result (IsLeastLoaded instances.now (slice_index loads.now) (MayHold instances.now shard.now)) }
     ensures none { IfNone result ((node : ℕ) → ¬ MayHold instances.now shard.now node) }
@@ -49,10 +50,10 @@ fn placed_shard(
     loads: &mut Vec<usize>,
     rf: u32,
 ) -> Result<Option<Seq<Assignment>>, Memory>
-    requires few { length instances.now ≤ 16 }
+    requires few { length instances.now ≤ MOST_NODES }
     requires many { length loads.old.items ≡ length instances.now }
-    requires small { (n : ℕ) → slice_index loads.old.items n ≤ 64 }
-    requires replicas { rf ≤ 5 }
+    requires small { (n : ℕ) → slice_index loads.old.items n ≤ MOST_SHARDS }
+    requires replicas { rf ≤ MOST_REPLICAS }
     ensures placed { IfOk result (λ shard. IfSome shard (λ shard. (lower : List Shard) → AreLoads (length instances.now) lower loads.old.items → IsPlacedShard rf instances.now lower shard)) }
     ensures loads { IfOk result (λ shard. IfSome shard (λ shard. (lower : List Shard) → AreLoads (length instances.now) lower loads.old.items → AreLoads (length instances.now) (lower ++ shard ∷ []) loads.new.items)) }
     ensures stuck { IfOk result (λ shard. IfNone shard (¬ HasGroups rf instances.now)) }
@@ -79,9 +80,9 @@ fn placed_shards(
     rf: u32,
     shards: u32,
 ) -> Result<Seq<Seq<Assignment>>, PlaceErr>
-    requires few { length instances.now ≤ 16 }
-    requires few_shards { shards ≤ 64 }
-    requires replicas { rf ≤ 5 }
+    requires few { length instances.now ≤ MOST_NODES }
+    requires few_shards { shards ≤ MOST_SHARDS }
+    requires replicas { rf ≤ MOST_REPLICAS }
     ensures count { IfOk result (λ next. length next ≡ shards) }
     ensures each { IfOk result (λ next. (s : ℕ) (shard : Shard) → slice_get next s ≡ Some shard → IsPlacedShard rf instances.now (take s next) shard) }
     ensures stuck { IfErr result (IsShort rf instances.now) }

@@ -1,5 +1,6 @@
 //! How many shards each node has.
 ghost use Rattle.std.specs.Prelude.{◌≡◌, ◌≢◌, ◌<◌, ◌≤◌, ◌^◌, IfOk, length, slice_index};
+ghost use Rattle.m3_model.specs.declared.limits.TheConstants.{MOST_NODES, MOST_SHARDS};
 ghost use Rattle.placement_plan.specs.Nodes.{serves, load};
 ghost use Rattle.placement_plan.specs.Loads.{AreLoads, IsShifted, IsRaised};
 
@@ -32,7 +33,7 @@ pub fn loads_of(
     nodes: usize,
     shards: &[Seq<Assignment>],
 ) -> Result<Vec<usize>, Memory>
-    requires { nodes ≤ 16 }
+    requires { nodes ≤ MOST_NODES }
     ensures { IfOk result (λ loads. AreLoads nodes shards.now loads.items) }
 {
     let mut loads = Vec::new(alloc);
@@ -47,7 +48,7 @@ pub fn shift(loads: &mut Vec<usize>, from: u8, to: u8)
     requires from { from < length loads.old.items }
     requires to { to < length loads.old.items }
     requires differ { from ≢ to }
-    requires small { slice_index loads.old.items to ≤ 64 }
+    requires small { slice_index loads.old.items to ≤ MOST_SHARDS }
     ensures { IsShifted loads.old.items loads.new.items from to }
 {
     loads[from as usize] = loads[from as usize].saturating_sub(1);

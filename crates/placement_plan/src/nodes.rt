@@ -3,6 +3,7 @@ ghost use Rattle.std.specs.Prelude.{◌≡◌, ◌≤◌, ◌<◌, length, IfSom
 ghost use Rattle.std.specs.Cmp.Lexicographic.{pointwise};
 ghost use Rattle.std.specs.List.{list_any};
 ghost use Rattle.m3_model.specs.declared.placement.Instance.{Instance as Node};
+ghost use Rattle.m3_model.specs.declared.limits.TheConstants.{MOST_NODES};
 ghost use Rattle.placement_core.specs.NodeNames.{name_of};
 ghost use Rattle.placement_plan.specs.Nodes.{Lists, IsNamed, IsNewName, CanHave, Joins};
 ghost use Rattle.placement_plan.specs.Choices.{group_of};
@@ -11,6 +12,7 @@ ghost use Rattle.placement_plan.specs.Refusals.{IsPastLimit};
 
 use crate::plan_err::PlaceErr;
 use m3_model::duplicate::Duplicate;
+use m3_model::limits::MOST_NODES;
 use m3_model::memory::Memory;
 use m3_model::placement::Instance;
 use m3_model::seq::Seq;
@@ -19,7 +21,7 @@ use std::alloc::Global;
 
 /// The number of the listed node of this name.
 pub fn listed_node(instances: &[Instance], name: &str) -> Option<u8>
-    requires { length instances.now ≤ 16 }
+    requires { length instances.now ≤ MOST_NODES }
     ensures found { IfSome result (Lists instances.now name.now) }
     ensures none { IfNone result (list_any (λ node. node.listed && pointwise nat_eq name.now node.name) instances.now ≡ false) }
 {
@@ -33,7 +35,7 @@ pub fn listed_node(instances: &[Instance], name: &str) -> Option<u8>
 
 /// The number of the node of this name, listed or not.
 pub fn named_node(instances: &[Instance], name: &str) -> Option<u8>
-    requires { length instances.now ≤ 16 }
+    requires { length instances.now ≤ MOST_NODES }
     ensures found { IfSome result (IsNamed instances.now name.now) }
     ensures none { IfNone result (IsNewName instances.now name.now) }
 {
@@ -45,20 +47,17 @@ pub fn named_node(instances: &[Instance], name: &str) -> Option<u8>
     None
 }
 
-/// So many node names may be known.
-const NAME_LIMIT: usize = 16;
-
 /// The number that the node of the name has or gets. Refused `Limit` where the name is new and 16 names are known.
 pub fn number_for(instances: &[Instance], name: &str) -> Result<u8, PlaceErr>
-    requires { length instances.now ≤ 16 }
+    requires { length instances.now ≤ MOST_NODES }
     ensures ok { IfOk result (λ node. CanHave instances.now name.now node × HasRoom instances.now name.now) }
     ensures err { IfErr result (IsPastLimit instances.now name.now) }
 {
     match named_node(instances, name) {
         Some(node) => Ok(node),
-        None if instances.len() < NAME_LIMIT => Ok(instances.len() as u8),
+        None if instances.len() < MOST_NODES => Ok(instances.len() as u8),
         None => Err(PlaceErr::Limit {
-            limit: NAME_LIMIT as u64,
+            limit: MOST_NODES as u64,
         }),
     }
 }

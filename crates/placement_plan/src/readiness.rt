@@ -3,6 +3,7 @@ ghost use Rattle.std.specs.Prelude.{◌≡◌, ◌≢◌, ◌≤◌, ◌↔◌, 
 ghost use Rattle.m3_model.specs.Members.{IsIn};
 ghost use Rattle.m3_model.specs.declared.placement.Assignment.{Assignment as Replica};
 ghost use Rattle.m3_model.specs.declared.placement.ShardState.TheVariants.{Initializing};
+ghost use Rattle.m3_model.specs.declared.limits.TheConstants.{MOST_SHARDS};
 ghost use Rattle.placement_core.specs.Shards.{Shard, is_steady};
 ghost use Rattle.placement_core.specs.Lawful.{IsShard};
 ghost use Rattle.placement_plan.specs.Nodes.{Has, IsFirst};
@@ -43,7 +44,7 @@ fn busy_in(shard: &Seq<Assignment>, node: u8) -> Option<u8>
 
 /// The least shard that the node has and of which a move goes on, with the node that joins it.
 pub fn first_busy(shards: &[Seq<Assignment>], node: u8) -> Option<(u32, u8)>
-    requires few { length shards.now ≤ 64 }
+    requires few { length shards.now ≤ MOST_SHARDS }
     requires shards { (shard : Shard) → IsIn shards.now shard → (rf : ℕ) × ((version : ℕ) × IsShard rf version shard) }
     ensures found { IfSome result (λ busy. IsBusy shards.now node busy.0 busy.1) }
     ensures none { IfNone result (IsReady shards.now node) }
@@ -89,7 +90,7 @@ pub fn first_taken(
     node: u8,
     group: &str,
 ) -> Option<u32>
-    requires { length shards.now ≤ 64 }
+    requires { length shards.now ≤ MOST_SHARDS }
     ensures found { IfSome result (IsFirst (λ shard. Has node shard × ¬ IsFree instances.now shard node group.now) shards.now) }
     ensures none { IfNone result ((shard : Shard) → IsIn shards.now shard → ¬ (Has node shard × ¬ IsFree instances.now shard node group.now)) }
 {

@@ -2,6 +2,7 @@
 ghost use Rattle.std.specs.Prelude.{◌≡◌, ◌↔◌, ◌≤◌, length, IsTrue, IfOk, IfSome, IfNone, Some, Any, map, ℕ};
 ghost use Rattle.m3_model.specs.declared.placement.ShardState.TheVariants.{Initializing};
 ghost use Rattle.m3_model.specs.Members.{IsIn};
+ghost use Rattle.m3_model.specs.declared.limits.TheConstants.{MOST_SHARDS};
 ghost use Rattle.placement_core.specs.Shards.{Shard};
 ghost use Rattle.placement_core.specs.Lawful.{IsJoiningFrom};
 ghost use Rattle.placement_core.specs.Steps.{turned, without, settled};
@@ -29,7 +30,7 @@ pub fn has_node(shard: &[Assignment], node: u8) -> bool
 
 /// The least shard that the node has.
 pub fn first_shard_of(shards: &[Seq<Assignment>], node: u8) -> Option<u32>
-    requires { length shards.now ≤ 64 }
+    requires { length shards.now ≤ MOST_SHARDS }
     ensures found { IfSome result (IsFirst (Has node) shards.now) }
     ensures none { IfNone result ((shard : Shard) → IsIn shards.now shard → ¬ Has node shard) }
 {
