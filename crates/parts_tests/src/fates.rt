@@ -1,10 +1,11 @@
 use m3_model::act::Fate;
 use m3_model::duplicate::Duplicate;
+use m3_model::limits::MOST_LATE_WRITES;
 use m3_model::memory::Memory;
 use m3_model::point::Point;
 use m3_model::seq::Seq;
 use m3_model::text::Text;
-use net_plan::bag::{Bag, MOST_LATE};
+use net_plan::bag::Bag;
 use net_plan::calls::Calls;
 use net_plan::fate_key::FateKey;
 use net_plan::fates::{Fates, is_fates_row};
@@ -146,7 +147,7 @@ fn empty(bag: &mut Bag, out: &mut String) -> Result<(), Fail> {
 
 fn kept_and_emptied(alloc: Global, out: &mut String) -> Result<(), Fail> {
     let mut bag = Bag::new(alloc)?;
-    for writes in [MOST_LATE + 1, 0, 1] {
+    for writes in [MOST_LATE_WRITES + 1, 0, 1] {
         keep_all(alloc, &mut bag, writes, out)?;
         empty(&mut bag, out)?;
     }
