@@ -2,25 +2,26 @@
 use Rattle.std.proofs.Common.{◌≡◌, ◌≢◌, ⊎_elim, ℕ, zero, suc, ◌+◌, ◌*◌, ◌<◌, List, [], ◌∷◌, ◌++◌, length, Bool, true, false, ◌&&◌, cond, nat_eq, nat_lt, slice_set, get_or, refl, sym, ap, ◌∙◌, Some, None, Option, arith}
 use Rattle.std.specs.Prelude.{slice_get}
 use Rattle.std.proofs.lemmas.Bool.{and_parts, ltb-true, eqb-true, cases_eq}
+use Rattle.m3_model.specs.declared.limits.TheConstants.{MOST_NODES, MOST_SHARDS}
 use Rattle.m3_outside.specs.declared.slot.Slot.{Slot}
 use Rattle.mem_disk.specs.declared.place.Place.{Place}
-use Rattle.mem_disk.specs.Places.{place_of, at_place, held_in, counted_in, held_at, counted_at, AreEmpty}
+use Rattle.mem_disk.specs.Places.{meta_place, place_of, at_place, held_in, counted_in, held_at, counted_at, AreEmpty}
 use Rattle.m3_outside.specs.Slots.{Unused}
 use Rattle.mem_disk.specs.declared.place.Place.TheVariants.{Empty}
 
 data IsPlaceOf (s : Slot) (i : ℕ) : Type 0 where
-  OfShard : s.node < 16 → s.shard < 64 → i ≡ s.node * 64 + s.shard → IsPlaceOf s i
-  OfMeta : s.node ≡ 255 → s.shard ≡ 4294967295 → i ≡ 1024 → IsPlaceOf s i
+  OfShard : s.node < MOST_NODES → s.shard < MOST_SHARDS → i ≡ s.node * MOST_SHARDS + s.shard → IsPlaceOf s i
+  OfMeta : s.node ≡ 255 → s.shard ≡ 4294967295 → i ≡ meta_place → IsPlaceOf s i
 
 is_place : (s : Slot) (i : ℕ) → place_of s ≡ Some i → IsPlaceOf s i
-is_place s i e = shard (nat_lt s.node 16 && nat_lt s.shard 64) refl e
+is_place s i e = shard (nat_lt s.node MOST_NODES && nat_lt s.shard MOST_SHARDS) refl e
   where
-    meta : (b : Bool) → (nat_eq s.node 255 && nat_eq s.shard 4294967295) ≡ b → cond b (Some 1024) None ≡ Some i → IsPlaceOf s i
-    meta true is e = let parts = and_parts _ _ is in OfMeta (eqb-true _ _ parts.0) (eqb-true _ _ parts.1) (sym (let k : 1024 ≡ i = cc in k))
+    meta : (b : Bool) → (nat_eq s.node 255 && nat_eq s.shard 4294967295) ≡ b → cond b (Some meta_place) None ≡ Some i → IsPlaceOf s i
+    meta true is e = let parts = and_parts _ _ is in OfMeta (eqb-true _ _ parts.0) (eqb-true _ _ parts.1) (sym (let k : meta_place ≡ i = cc in k))
     meta false is e = absurd (cc)
 
-    shard : (b : Bool) → (nat_lt s.node 16 && nat_lt s.shard 64) ≡ b → cond b (Some (s.node * 64 + s.shard)) (cond (nat_eq s.node 255 && nat_eq s.shard 4294967295) (Some 1024) None) ≡ Some i → IsPlaceOf s i
-    shard true is e = let parts = and_parts _ _ is in OfShard (ltb-true _ _ parts.0) (ltb-true _ _ parts.1) (sym (let k : s.node * 64 + s.shard ≡ i = cc in k))
+    shard : (b : Bool) → (nat_lt s.node MOST_NODES && nat_lt s.shard MOST_SHARDS) ≡ b → cond b (Some (s.node * MOST_SHARDS + s.shard)) (cond (nat_eq s.node 255 && nat_eq s.shard 4294967295) (Some meta_place) None) ≡ Some i → IsPlaceOf s i
+    shard true is e = let parts = and_parts _ _ is in OfShard (ltb-true _ _ parts.0) (ltb-true _ _ parts.1) (sym (let k : s.node * MOST_SHARDS + s.shard ≡ i = cc in k))
     shard false is e = meta (nat_eq s.node 255 && nat_eq s.shard 4294967295) refl e
 
 same_slot : (s t : Slot) → s.node ≡ t.node → s.shard ≡ t.shard → s ≡ t

@@ -1,14 +1,19 @@
 -- The slots of a set of disks in memory.
 use Rattle.std.specs.Prelude.{◌≡◌, ℕ, ◌+◌, ◌*◌, ◌&&◌, true, nat_eq, nat_lt, if◌then◌else◌, List, [], ◌∷◌, Option, Some, None, slice_get, is_some}
+use Rattle.m3_model.specs.declared.limits.TheConstants.{MOST_NODES, MOST_SHARDS}
 use Rattle.m3_outside.specs.declared.slot.Slot.{Slot}
 use Rattle.m3_outside.specs.Slots.{Held, Unused, Here, Out}
 use Rattle.mem_disk.specs.declared.disk.MemDisk.{MemDisk}
 use Rattle.mem_disk.specs.declared.place.Place.{Place}
 use Rattle.mem_disk.specs.declared.place.Place.TheVariants.{Empty, Full, Lent}
 
+-- the place of the meta disk, behind those of all nodes and shards
+abbrev pub meta_place : ℕ
+meta_place = MOST_NODES * MOST_SHARDS
+
 -- the place of a slot: of a node below 16 and a shard below 64, or of the meta disk
 abbrev pub place_of : Slot → Option ℕ
-place_of s = if nat_lt s.node 16 && nat_lt s.shard 64 then Some (s.node * 64 + s.shard) else if nat_eq s.node 255 && nat_eq s.shard 4294967295 then Some 1024 else None
+place_of s = if nat_lt s.node MOST_NODES && nat_lt s.shard MOST_SHARDS then Some (s.node * MOST_SHARDS + s.shard) else if nat_eq s.node 255 && nat_eq s.shard 4294967295 then Some meta_place else None
 
 -- what lies in a place
 abbrev pub held_in : Option Place → Held MemDisk

@@ -1,7 +1,6 @@
 ghost use Rattle.std.specs.Prelude.{◌≡◌, ◌≤◌, [], None, OnOk, OnErr};
 ghost use Rattle.std.specs.FinMap as finite;
 
-use crate::file_bytes::FileBytes;
 use crate::file_table::FileTable;
 use crate::pending::PendingWrites;
 use crate::picks::apply;
@@ -9,6 +8,7 @@ use crate::settle::settle;
 use m3_model::memory::Memory;
 use m3_outside::file_name::FileName;
 use std::alloc::Global;
+use std::mem;
 
 // What a disk in memory holds at a moment: the files as reads give them, as they stand synced, and the writes between.
 #[derive(Drop)]
@@ -38,10 +38,8 @@ impl Content {
         ensures ok { OnOk result (self.new ≡ content_after_create name size self.old) }
         ensures err { OnErr result (self.new ≡ self.old) }
     {
-        let seen = FileBytes::zeros(alloc, size)?;
-        let synced = FileBytes::zeros(alloc, size)?;
-        self.seen.insert(name, seen)?;
-        match self.synced.insert(name, synced) {
+        self.seen.insert_zeros(alloc, name, size)?;
+        match self.synced.insert_zeros(alloc, name, size) {
             Ok(()) => Ok(()),
             Err(Memory) => {
                 self.seen.remove(name);
@@ -88,8 +86,8 @@ impl Content {
         let mut image = self.synced.copy()?;
         apply(alloc, &mut image, self.pending.as_slice(), pick)?;
         let seen = image.copy()?;
-        self.seen = seen;
-        self.synced = image;
+        drop(mem::replace(&mut self.seen, seen));
+        drop(mem::replace(&mut self.synced, image));
         self.pending.clear();
         Ok(())
     }

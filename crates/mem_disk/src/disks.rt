@@ -1,8 +1,8 @@
-ghost use Rattle.std.specs.Prelude.{◌≡◌, vec_len, IfOk};
-ghost use Rattle.mem_disk.specs.Places.{AreEmpty};
+ghost use Rattle.std.specs.Prelude.{◌≡◌, suc, vec_len, IfOk};
+ghost use Rattle.mem_disk.specs.Places.{meta_place, AreEmpty};
 
 use crate::disk::MemDisk;
-use crate::place::{Place, place_of};
+use crate::place::{PLACES, Place, place_of};
 use m3_model::memory::Memory;
 use m3_outside::disk::Disk;
 use m3_outside::disk_err::DiskErr;
@@ -17,19 +17,16 @@ pub struct MemDisks {
     alloc: Global,
     places: Vec<Place>,
     faults: u64,
-    ghost all_slots: { vec_len places ≡ 1025 },
+    ghost all_slots: { vec_len places ≡ suc meta_place },
 }
-
-// As many slots as there are nodes and shards, and that of the meta disk.
-const SLOTS: usize = 1025;
 
 // The places of all slots, in none of which a disk lies.
 fn empty_places(alloc: Global) -> Result<Vec<Place>, Memory>
-    ensures len { IfOk result (λ places. vec_len places ≡ 1025) }
+    ensures len { IfOk result (λ places. vec_len places ≡ suc meta_place) }
     ensures empty { IfOk result (λ places. AreEmpty places.items) }
 {
     let mut places = Vec::new(alloc);
-    for _ in 0..SLOTS {
+    for _ in 0..PLACES {
         places.push(Place::Empty)?;
     }
     Ok(places)

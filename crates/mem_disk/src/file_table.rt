@@ -1,4 +1,4 @@
-ghost use Rattle.std.specs.Prelude.{◌≡◌, IfOk, OnOk, OnErr, length};
+ghost use Rattle.std.specs.Prelude.{◌≡◌, IfOk, OnOk, OnErr, length, replicate};
 ghost use Rattle.std.specs.Option.{option_copied};
 ghost use Rattle.std.specs.FinMap as finite;
 ghost use Rattle.m3_outside.specs.Files.{IsInside};
@@ -45,12 +45,21 @@ impl FileTable {
         self.map.get(&name)
     }
 
-    pub fn insert(&mut self, name: FileName, bytes: FileBytes) -> Result<(), Memory>
+    fn insert(&mut self, name: FileName, bytes: FileBytes) -> Result<(), Memory>
         ensures ok { OnOk result (self.new ≡ finite.insert self.old name bytes) }
         ensures err { OnErr result (self.new ≡ self.old) }
     {
         self.map.insert(name, bytes)?;
         Ok(())
+    }
+
+    // Makes a file of so many zeros.
+    pub fn insert_zeros(&mut self, alloc: Global, name: FileName, size: usize) -> Result<(), Memory>
+        ensures ok { OnOk result (self.new ≡ finite.insert self.old name (replicate size 0)) }
+        ensures err { OnErr result (self.new ≡ self.old) }
+    {
+        let bytes = FileBytes::zeros(alloc, size)?;
+        self.insert(name, bytes)
     }
 
     pub fn remove(&mut self, name: FileName)
@@ -73,10 +82,7 @@ impl FileTable {
     pub fn names(&self, alloc: Global) -> Result<Vec<FileName>, Memory>
         ensures { IfOk result (λ names. names.items ≡ finite.keys self.now) }
     {
-        let mut names = Vec::new(alloc);
-        for name in self.map.keys() {
-            names.push(*name)?;
-        }
+        let mut names: Vec<FileName> = self.map.keys().copied().collect(alloc)?;
         names.sort_unstable();
         Ok(names)
     }

@@ -6,6 +6,7 @@ use m3_model::memory::Memory;
 use m3_outside::file_name::FileName;
 use std::alloc::Global;
 use std::marker::Model;
+use std::mem;
 
 // A write that no sync of its file has followed.
 #[derive(Drop)]
@@ -147,7 +148,7 @@ impl PendingWrites {
         if widest > self.widest {
             let mut buffers = Vec::new(self.alloc);
             add_buffers(self.alloc, &mut buffers, room, widest)?;
-            self.buffers = buffers;
+            drop(mem::replace(&mut self.buffers, buffers));
             self.widest = widest;
         } else {
             add_buffers(self.alloc, &mut self.buffers, room, self.widest)?;

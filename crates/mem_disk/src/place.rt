@@ -1,4 +1,4 @@
-ghost use Rattle.std.specs.Prelude.{◌≡◌, ◌<◌, Some, IfOk, OnOk, OnErr, IfSome, IsTrue, ◌↔◌};
+ghost use Rattle.std.specs.Prelude.{◌≡◌, suc, ◌<◌, Some, IfOk, OnOk, OnErr, IfSome, IsTrue, ◌↔◌};
 ghost use Rattle.m3_outside.specs.DiskState.{IsEmpty};
 ghost use Rattle.m3_outside.specs.Slots.{Unused, Out, MayGive};
 ghost use Rattle.mem_disk.specs.Calls.{unfailing};
@@ -6,6 +6,7 @@ ghost use Rattle.mem_disk.specs.Parts.{calls_of, state_of};
 ghost use Rattle.mem_disk.specs.Places as places;
 
 use crate::disk::MemDisk;
+use m3_model::limits::{MOST_NODES, MOST_SHARDS};
 use m3_model::memory::Memory;
 use m3_outside::disk::Disk;
 use m3_outside::slot::Slot;
@@ -20,15 +21,21 @@ pub enum Place {
     Lent(u64),
 }
 
+// The place of the meta disk, behind those of all nodes and shards.
+const META_PLACE: usize = MOST_NODES * MOST_SHARDS as usize;
+
+// How many places there are.
+pub const PLACES: usize = META_PLACE + 1;
+
 // The place of a slot.
 pub fn place_of(slot: Slot) -> Option<usize>
     ensures place { result ≡ places.place_of slot }
-    ensures below { IfSome result (λ i. i < 1025) }
+    ensures below { IfSome result (λ i. i < suc places.meta_place) }
 {
-    if slot.node < 16 && slot.shard < 64 {
-        Some(slot.node as usize * 64 + slot.shard as usize)
+    if (slot.node as usize) < MOST_NODES && slot.shard < MOST_SHARDS {
+        Some(slot.node as usize * MOST_SHARDS as usize + slot.shard as usize)
     } else if slot == Slot::META {
-        Some(1024)
+        Some(META_PLACE)
     } else {
         None
     }

@@ -1,6 +1,23 @@
-use Rattle.std.proofs.Common.{◌∙◌, sym, arith}
-use Rattle.mem_disk.proofs.PlaceLemmas.{held_here, held_other, counted_same}
+use Rattle.std.proofs.Common.{◌≡◌, ◌∙◌, Some, sym, ap, subst, arith}
+use Rattle.m3_outside.specs.DiskState.{IsEmpty}
+use Rattle.m3_outside.specs.Slots.{Held, MayGive}
+use Rattle.mem_disk.specs.declared.disk.MemDisk.{MemDisk}
+use Rattle.mem_disk.specs.Parts.{state_of}
+use Rattle.mem_disk.specs.Places.{held_in, held_at, counted_in, counted_at}
+use Rattle.mem_disk.proofs.PlaceLemmas.{held_here, held_other, held_place, counted_place, counted_same}
 use Rattle.mem_disk.proofs.disks.MemDisksDisks.take.Goals as goal
+
+pub returns-clause-disk : goal.returns-clause-disk
+returns-clause-disk c =
+    let d = c.args.self.now in
+    let there : held_at d.places.items c.args.slot ≡ held_in (Some c.index_mut.result.now) = held_place d.places.items c.args.slot c.in-Some.place c.index_mut.result.now (sym c.in-Some.ensures.place) (omega (arith, c.in-Some.ensures.below, d.places.ok.0)) c.index_mut.ensures.value in
+    subst (λ (h : Held MemDisk). MayGive (λ m. IsEmpty (state_of m)) h c.in_ok-disk.disk) (sym there) c.in_ok-disk.ensures.disk
+
+pub returns-clause-disk_faults : goal.returns-clause-disk_faults
+returns-clause-disk_faults c =
+    let d = c.args.self.now in
+    let there : counted_at d.places.items c.args.slot ≡ counted_in (Some c.index_mut.result.now) = counted_place d.places.items c.args.slot c.in-Some.place c.index_mut.result.now (sym c.in-Some.ensures.place) (omega (arith, c.in-Some.ensures.below, d.places.ok.0)) c.index_mut.ensures.value in
+    c.in_ok-disk.ensures.faults ∙ sym there
 
 pub returns-clause-out : goal.returns-clause-out
 returns-clause-out c =
@@ -14,3 +31,9 @@ pub returns-clause-counted : goal.returns-clause-counted
 returns-clause-counted c =
     let d = c.args.self.now in
     counted_same d.places.items c.args.slot c.in-Some.place c.index_mut.result.now c.take.new.self (sym c.in-Some.ensures.place) (omega (arith, c.in-Some.ensures.below, d.places.ok.0)) c.index_mut.ensures.value c.take.ensures.counted
+
+pub returns-clause-fresh : goal.returns-clause-fresh
+returns-clause-fresh c = λ unused.
+    let d = c.args.self.now in
+    let there : held_at d.places.items c.args.slot ≡ held_in (Some c.index_mut.result.now) = held_place d.places.items c.args.slot c.in-Some.place c.index_mut.result.now (sym c.in-Some.ensures.place) (omega (arith, c.in-Some.ensures.below, d.places.ok.0)) c.index_mut.ensures.value in
+    c.in_ok-disk.ensures.fresh (sym there ∙ unused)

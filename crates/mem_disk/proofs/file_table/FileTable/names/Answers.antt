@@ -9,7 +9,7 @@ use Rattle.mem_disk.proofs.file_table.FileTable.names.Goals as goal
 pub returns : goal.returns
 returns c =
     let es = c.self.inside.map.entries in
-    let made : c.loop-name.names.items ≡ keys_of es = search rules in
-    sorted_names es c.sort_unstable.new.self.items c.keys-name-items.ensures.unique
+    let made : c.in_ok-names.names.items ≡ keys_of es = search rules in
+    sorted_names es c.sort_unstable.new.self.items c.keys.ensures.unique
     (subst (λ (ks : List FileName). IsPermutation ks c.sort_unstable.new.self.items) made c.sort_unstable.ensures.permutation) c.sort_unstable.ensures.sorted
     ∙ ap (λ (m : Files). finite.keys m) c.self.view_is
