@@ -1,15 +1,15 @@
 -- What stands at a place in the first bytes of a segment.
 use Rattle.std.proofs.Common.{◌≡◌, inl, inr, ℕ, suc, ◌+◌, ◌-◌, ◌<◌, ◌≤◌, List, [], ◌∷◌, ◌++◌, length, take, drop, get_or, replicate, refl, sym, ap, subst, ◌∙◌, arith, append_assoc, append-nil, length-append, length-take, length-drop}
-use Rattle.std.proofs.lemmas.List.{take_at, drop-drop, drop_more, length-replicate, length-take-le, take-append-drop}
+use Rattle.std.proofs.lemmas.List.{take_at, drop-drop, drop_more, length-replicate, length-take-le, take-append-drop, take-append-le}
 use Rattle.std.proofs.Math.ListN.{drop_of_length-le}
 use Rattle.byteorder.specs.Endian.{big_bytes}
-use Rattle.wire_bytes.specs.Fields.{Stands, Begins, GoesOn, Misfits, StopsAt}
+use Rattle.wire_bytes.specs.Fields.{Stands, Begins, GoesOn, Misfits}
 use Rattle.wire_bytes.specs.Numbers.{ANumber}
 use Rattle.wire_bytes.proofs.FieldLemmas.{front_of, begins_take}
 use Rattle.commit_log.specs.Segment.{chunk_bytes, written, IsEnd, Reads, IsSegment}
 use Rattle.commit_log.specs.declared.chunk_read.ChunkAt.{ChunkAt}
 use Rattle.commit_log.specs.declared.chunk_read.ChunkAt.TheVariants as found
-use Rattle.commit_log.specs.Reading.{ChunkStands, EndStands, IsNext}
+use Rattle.commit_log.specs.Reading.{ChunkStands, EndStands, BadStands, IsNext}
 use Rattle.commit_log.proofs.Chunks.{cut_at, end_few, reads_all, take_sum, written_push}
 use Rattle.commit_log.proofs.LawLemmas.{both_parts, same_length, same_chunk, no_chunk, chunk_long}
 use Rattle.commit_log.proofs.Shapes.{reads_written, zeros_end}
@@ -213,19 +213,31 @@ module _ (cs : List (List ℕ)) (bytes : List ℕ) (at : ℕ) (short : length by
           let read = reads_behind cs g.whole.chunks (1 ∷ (x ++ g.rest)) (omega (arith, long)) (subst (Reads g.whole.chunks) whole g.whole.reads) in
           m.none (begins_number read.0 x g.rest (let t = length-take (suc n) later in omega (arith, t, n_few)) (let a = length-append (written cs) (1 ∷ (x ++ g.rest)) in omega (arith, a, long, place)) read.2)
 
-      pub bad_length : (at < bad) × (bad < length bytes) × StopsAt IsSegment bytes bad
+      no_chunk_there : (from next : ℕ) → ¬ (ChunkStands bytes at from next)
+      no_chunk_there from next s =
+          let r = chunk_room bytes at from next s in
+          let p = s.payload in
+          let field = big_bytes 4 (length p) in
+          let is : later ≡ field ++ (p ++ drop next bytes) = ap (λ (l : List ℕ). drop 1 l) (sym opened ∙ s.stands.split) ∙ append_assoc field p (drop next bytes) in
+          let few : length p ≤ 65536 - at - 5 = (let x = r.0 in let y = r.1 in omega (arith, x, y, short)) in
+          let cut : take (suc n) later ≡ take (suc n) field = ap (λ (l : List ℕ). take (suc n) l) is ∙ take-append-le (suc n) field (p ++ drop next bytes) (let f = n_few in omega (arith, f)) in
+          let whole : ANumber 4 0 (65536 - at - 5) field = record { n = length p; least = omega arith; most = few; spelled = refl } in
+          m.none (subst (Begins (ANumber 4 0 (65536 - at - 5))) (sym cut) (begins_take (ANumber 4 0 (65536 - at - 5)) (suc n) field (record { rest = []; whole = subst (ANumber 4 0 (65536 - at - 5)) (sym (append-nil field)) whole })))
+
+      pub bad_length : BadStands bytes at bad
       bad_length =
           let e : at + 1 + n ≡ bad = omega (arith, behind) in
-          let within : bad < length bytes = omega (arith, n_within, long_later, behind) in (
-            omega (arith, behind),
-            within,
-            record {
+          let within : bad < length bytes = omega (arith, n_within, long_later, behind) in
+          record {
+            none = no_chunk_there;
+            within = within;
+            stops = record {
               inside = omega (arith, within);
               begins = fit_number m.fits.whole.n (take n later) (m.fits.next ∷ m.fits.rest) (take bad bytes) m.fits.whole.most m.fits.whole.spelled (ap (λ (k : ℕ). take k bytes) (sym e) ∙ front n);
               stops = λ _ g. no_more g;
               none = λ whole. no_more (begins_take IsSegment (suc bad) bytes (record { rest = []; whole = subst IsSegment (sym (append-nil bytes)) whole }));
-            },
-          )
+            };
+          }
 
 -- one chunk more
 pub chunk_push : (cs : List (List ℕ)) (bytes : List ℕ) (at from next : ℕ) (s : ChunkStands bytes at from next) → take at bytes ≡ written cs → take next bytes ≡ written (cs ++ s.payload ∷ [])
@@ -246,3 +258,7 @@ pub end_stands : (cs : List (List ℕ)) (bytes : List ℕ) (at : ℕ) (x : Chunk
 end_stands cs bytes at (found.Chunk from next) is chunk bad = absurd (chunk from next refl)
 end_stands cs bytes at found.End is chunk bad = is
 end_stands cs bytes at (found.Bad place) is chunk bad = absurd (bad place refl)
+
+-- whole chunks begin a segment, where it has room for them
+pub chunks_fit : (cs : List (List ℕ)) → length (written cs) ≤ 65536 → Begins IsSegment (written cs)
+chunks_fit cs le = end_fits cs [] (written cs) (sym (append-nil (written cs))) le (zeros_end (65536 - length (written cs)))

@@ -23,11 +23,17 @@ pub record EndStands (chunks : List (List ℕ)) (bytes : List ℕ) (at : ℕ) : 
   pub fits : Begins IsSegment bytes
   pub ends : length bytes ≡ SEGMENT_BYTES → Reads chunks bytes
 
+-- no chunk stands at the place, and no segment goes on with the byte at the other one
+pub record BadStands (bytes : List ℕ) (at place : ℕ) : Type 0 where
+  pub none : (from next : ℕ) → ¬ (ChunkStands bytes at from next)
+  pub within : place < length bytes
+  pub stops : StopsAt IsSegment bytes place
+
 -- what stands behind these chunks in the first bytes of a segment
 abbrev pub IsNext : List (List ℕ) → List ℕ → ℕ → ChunkAt → Type 0
 IsNext chunks bytes at (found.Chunk from next) = ChunkStands bytes at from next
 IsNext chunks bytes at found.End = EndStands chunks bytes at
-IsNext chunks bytes at (found.Bad place) = (at < place) × (place < length bytes) × StopsAt IsSegment bytes place
+IsNext chunks bytes at (found.Bad place) = BadStands bytes at place
 
 -- the file's first bytes, at most as many as a segment has, and whether it has just so many
 pub record IsFront (front : List ℕ) (whole : Bool) (file : List ℕ) : Type 0 where

@@ -34,7 +34,7 @@ returns-in-Bad c =
     record {
       ok = tt;
       no_fault = λ e. absurd (cc);
-      err = λ file f. (refl, front_bad c.args.front.now.bytes.items file c.args.front.now.is_whole c.in-Bad.at f (subst (λ (l : List ℕ). c.in-Bad.at < length l) same bad.1) (subst (λ (l : List ℕ). StopsAt IsSegment l c.in-Bad.at) same bad.2));
+      err = λ file f. (refl, front_bad c.args.front.now.bytes.items file c.args.front.now.is_whole c.in-Bad.at f (subst (λ (l : List ℕ). c.in-Bad.at < length l) same bad.within) (subst (λ (l : List ℕ). StopsAt IsSegment l c.in-Bad.at) same bad.stops));
     }
 
 pub returns-then-not-front : goal.returns-then-not-front
