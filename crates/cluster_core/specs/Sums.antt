@@ -1,8 +1,7 @@
 -- The digests of the blocks of a content.
-use Rattle.std.specs.Prelude.{◌≡◌, ◌⊎◌, ◌↔◌, ◌<◌, ◌*◌, ℕ, List, ◌∷◌, ◌++◌, length, Some, slice_get}
+use Rattle.std.specs.Prelude.{◌≡◌, ◌⊎◌, ◌↔◌, ◌<◌, ◌*◌, ℕ, List, length, Some, slice_get}
 use Rattle.std.specs.FinMap as map
-use Rattle.std.specs.Int.{w16, w64, to_be_bytes, cast_unsigned}
-use Rattle.std.specs.List.{All, Any, flat_map}
+use Rattle.std.specs.List.{All, Any}
 use Rattle.sha2.specs.Sha256.{sha256}
 use Rattle.m3_model.specs.Ascends.{Ascends}
 use Rattle.m3_model.specs.Contents.{Contents, key_of}
@@ -12,14 +11,10 @@ use Rattle.m3_model.specs.declared.point.Point.{Point}
 use Rattle.m3_model.specs.declared.replica.BlockDigest.{BlockDigest}
 use Rattle.m3_model.specs.declared.rules.Rules.{Rules}
 use Rattle.m3_model.specs.declared.rules.Space.{Space}
+use Rattle.wire_bytes.specs.Entries.{points_bytes}
 use Rattle.cluster_core.specs.Answers.{IsBelow, IsInBlock}
 use Rattle.cluster_core.specs.Replicas.{Shows}
 use Rattle.cluster_core.specs.declared.replica_state.ReplicaState.{ReplicaState}
-
--- a point in bytes: the namespace, the length of the identifier in two bytes, the identifier, the time and the value in eight
--- each, the highest byte first
-abbrev pub point_bytes : Point → List ℕ
-point_bytes p = p.ns ∷ (to_be_bytes w16 (length p.id) ++ p.id ++ to_be_bytes w64 p.t ++ to_be_bytes w64 (cast_unsigned w64 p.v))
 
 -- an unexpired point of the content in the block that begins at this time; blocks begin at the multiples of their size
 pub record IsLiveIn (content : Contents) (rules : Rules) (ns start : ℕ) (p : Point) : Type 0 where
@@ -30,13 +25,13 @@ pub record IsLiveIn (content : Contents) (rules : Rules) (ns start : ℕ) (p : P
   pub in_block : IsInBlock ns start space.block p
   pub begins : (number : ℕ) × (start ≡ number * space.block)
 
--- the SHA-256 of the unexpired points of a block, by ascending key, of which there are some
+-- the SHA-256 of the bytes of the unexpired points of a block, by ascending key, of which there are some
 pub record IsDigestOf (content : Contents) (rules : Rules) (d : BlockDigest) : Type 0 where
   pub points : List Point
   pub some : 0 < length points
   pub all : (p : Point) → IsIn points p ↔ IsLiveIn content rules d.ns d.start p
   pub ascending : Ascends (λ a b. IsBelow (key_of a) (key_of b)) points
-  pub digest_is : d.digest ≡ sha256 (flat_map point_bytes points)
+  pub digest_is : d.digest ≡ sha256 (points_bytes points)
 
 -- one block stands before the other
 abbrev pub IsEarlierBlock : BlockDigest → BlockDigest → Type 0

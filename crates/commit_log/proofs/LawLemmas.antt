@@ -3,20 +3,19 @@ use Rattle.std.proofs.Common.{◌≡◌, inl, inr, ℕ, suc, ◌+◌, ◌^◌, �
 use Rattle.std.proofs.lemmas.List.{take_at, drop_at}
 use Rattle.byteorder.specs.Endian.{big_bytes, big_from}
 use Rattle.byteorder.specs.Numbers.{big_number-reads_back}
-use Rattle.commit_log.specs.Segment.{chunk_bytes, written, IsEnd, Reads}
-use Rattle.commit_log.specs.Contents.{BreaksAt}
+use Rattle.commit_log.specs.Segment.{chunk_bytes, IsEnd, Reads}
 
 -- a chunk at the head of bytes that reach to a segment's end has a length that its field can say
 head_same : (x y : ℕ) (r s : List ℕ) → x ∷ r ≡ y ∷ s → (x ≡ y) × (r ≡ s)
 head_same x y r s e = (ap (λ (l : List ℕ). get_or l 0 0) e, ap (λ (l : List ℕ). drop 1 l) e)
 
-both_parts : (a b c d : List ℕ) → length a ≡ length c → a ++ b ≡ c ++ d → (a ≡ c) × (b ≡ d)
+pub both_parts : (a b c d : List ℕ) → length a ≡ length c → a ++ b ≡ c ++ d → (a ≡ c) × (b ≡ d)
 both_parts a b c d same e = (
   sym (take_at a b (length a) refl) ∙ ap (λ (l : List ℕ). take (length a) l) e ∙ take_at c d (length a) (sym same),
   sym (drop_at a b (length a) refl) ∙ ap (λ (l : List ℕ). drop (length a) l) e ∙ drop_at c d (length a) (sym same),
 )
 
-same_length : (m n : ℕ) → m < 256 ^ 4 → n < 256 ^ 4 → big_bytes 4 m ≡ big_bytes 4 n → m ≡ n
+pub same_length : (m n : ℕ) → m < 256 ^ 4 → n < 256 ^ 4 → big_bytes 4 m ≡ big_bytes 4 n → m ≡ n
 same_length m n p q e = sym (big_number-reads_back 4 m [] p) ∙ ap (λ (l : List ℕ). big_from 0 4 (l ++ [])) e ∙ big_number-reads_back 4 n [] q
 
 pub same_chunk : (c d r s : List ℕ) → length c < 256 ^ 4 → length d < 256 ^ 4 → chunk_bytes c ++ r ≡ chunk_bytes d ++ s → (c ≡ d) × (r ≡ s)
@@ -46,28 +45,3 @@ one_reading (c ∷ cs) (d ∷ ds) bytes le a b =
     let same = same_chunk c d a.0 b.0 (chunk_long c a.0 bytes le a.1).0 (chunk_long d b.0 bytes le b.1).0 (sym a.1 ∙ b.1) in
     let rest = one_reading cs ds a.0 (chunk_long c a.0 bytes le a.1).1 a.2 (subst (Reads ds) (sym same.1) b.2) in
     λ i. same.0 i ∷ rest i
-
--- nothing is read of a segment that breaks
-pub broken_reads_nothing : (cs : List (List ℕ)) (bytes : List ℕ) (at : ℕ) → length bytes ≤ 65536 → BreaksAt bytes at → Reads cs bytes → ⊥
-broken_reads_nothing cs bytes at le broken reads = by broken.chunks cs bytes le broken.split reads
-  where
-    by : (done cs : List (List ℕ)) (bytes : List ℕ) → length bytes ≤ 65536 → bytes ≡ written done ++ 1 ∷ broken.rest → Reads cs bytes → ⊥
-    by [] [] bytes le split ends = first (subst IsEnd split ends)
-      where
-        first : IsEnd (1 ∷ broken.rest) → ⊥
-        first (inl shut) = shut refl
-        first (inr few) = omega (arith, broken.field)
-    by [] (c ∷ cs) bytes le split r =
-        let body : broken.rest ≡ big_bytes 4 (length c) ++ (c ++ r.0) = (head_same 1 1 _ _ (sym split ∙ r.1)).1 ∙ append_assoc (big_bytes 4 (length c)) c r.0 in
-        let long : length broken.rest ≡ 4 + (length c + length r.0) = ap length body ∙ (length-append (big_bytes 4 (length c)) (c ++ r.0) ∙ (let e = length-append c r.0 in omega (arith, e))) in
-        let small : length c < 256 ^ 4 = (let e = ap length split in omega (arith, e, long)) in
-        let n : big_from 0 4 broken.rest ≡ length c = ap (big_from 0 4) body ∙ big_number-reads_back 4 (length c) (c ++ r.0) small in
-        omega (arith, broken.beyond, n, long)
-    by (d ∷ done) [] bytes le split ends = no_chunk d (written done ++ 1 ∷ broken.rest) (subst IsEnd (split ∙ append_assoc (chunk_bytes d) (written done) (1 ∷ broken.rest)) ends)
-    by (d ∷ done) (c ∷ cs) bytes le split r =
-        let long : (k t : List ℕ) → bytes ≡ chunk_bytes k ++ t → (length k < 256 ^ 4) × (length t ≤ 65536) = λ (k t : List ℕ) e.
-        let l : length bytes ≡ suc (length (big_bytes 4 (length k) ++ k)) + length t = ap length e ∙ length-append (chunk_bytes k) t in
-        (omega (arith, length-append (big_bytes 4 (length k)) k), omega arith) in
-        let here = split ∙ append_assoc (chunk_bytes d) (written done) (1 ∷ broken.rest) in
-        let same = same_chunk c d r.0 (written done ++ 1 ∷ broken.rest) (long c r.0 r.1).0 (long d (written done ++ 1 ∷ broken.rest) here).0 (sym r.1 ∙ here) in
-        by done cs r.0 (long c r.0 r.1).1 same.1 r.2

@@ -5,8 +5,8 @@ use Rattle.std.proofs.lemmas.Result.{err_from_is_err_and}
 use Rattle.m3_outside.specs.DiskState.{DiskState}
 use Rattle.m3_outside.specs.DiskCalls.{LeavesFiles}
 use Rattle.m3_outside.proofs.Moments.{elapses_then}
-use Rattle.commit_log.specs.declared.log_err.LogErr.{LogErr}
-use Rattle.commit_log.specs.declared.log_err.LogErr.TheVariants as errors
+use Rattle.m3_outside.specs.declared.disk_err.DiskErr.{DiskErr}
+use Rattle.m3_outside.specs.declared.disk_err.DiskErr.TheVariants.{Memory, Failed as DiskFailed}
 
 pub leaves_none : (failed : Type 0) (d : DiskState) → (failed → ⊥) → LeavesFiles failed d d
 leaves_none failed d never = record {
@@ -20,10 +20,10 @@ leaves_none failed d never = record {
 }
 
 -- want of memory is no fault
-pub leaves_memory : {T : Type 0} (r : Result T LogErr) (d : DiskState) → IsErrAnd r (λ e. e ≡ errors.Memory) → LeavesFiles (IsErrOf r errors.Disk) d d
-leaves_memory {T} r d is = leaves_none (IsErrOf r errors.Disk) d (λ f. let p = err_from_is_err_and r is in both r p.0 p.1 p.2 f)
+pub leaves_memory : {T : Type 0} (r : Result T DiskErr) (d : DiskState) → IsErrAnd r (λ e. e ≡ Memory) → LeavesFiles (IsErrOf r DiskFailed) d d
+leaves_memory {T} r d is = leaves_none (IsErrOf r DiskFailed) d (λ f. let p = err_from_is_err_and r is in both r p.0 p.1 p.2 f)
   where
-    both : (r : Result T LogErr) (y : LogErr) → r ≡ Err y → y ≡ errors.Memory → r ≡ Err errors.Disk → ⊥
+    both : (r : Result T DiskErr) (y : DiskErr) → r ≡ Err y → y ≡ Memory → r ≡ Err DiskFailed → ⊥
     both r y a b f = cc
 
 pub leaves_as : (F G : Type 0) (a b : DiskState) → (G → F) → LeavesFiles F a b → LeavesFiles G a b

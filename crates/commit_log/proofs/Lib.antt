@@ -3,11 +3,11 @@ pub mod Append
 pub mod Begin
 pub mod Chunks
 pub mod LawLemmas
+pub mod Fronts
 pub mod Leaves
-pub mod Segments
+pub mod FileFronts
 pub mod Numbers
 pub mod Parts
-pub mod PlaceLemmas
 pub mod ReadLemmas
 pub mod CutLemmas
 pub mod LogLemmas

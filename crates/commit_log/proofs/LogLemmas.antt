@@ -11,11 +11,11 @@ use Rattle.m3_outside.specs.declared.file_name.FileName.{FileName}
 use Rattle.m3_outside.specs.Files.{Files, IsPresent, files_with_zeros}
 use Rattle.m3_outside.specs.DiskState.{DiskState, IsLawful, StepOf, Elapses}
 use Rattle.m3_outside.proofs.Names.{get_here, get_apart}
-use Rattle.commit_log.specs.Segment.{segment, written, Reads, HasChunks, OthersStay, MayAdd, Adds}
+use Rattle.commit_log.specs.Segment.{segment, written, Reads, HasChunks, OthersStay, MayAdd, Adds, IsSegment}
 use Rattle.commit_log.specs.LogEnd.{NoneAbove, MayBegin}
-use Rattle.commit_log.specs.Contents.{numbers, PartsHold, HasDamage, IsDamaged}
+use Rattle.commit_log.specs.Contents.{numbers, PartsHold, HasDamage}
 use Rattle.commit_log.specs.LogLaws.{NothingBehindGate, NumbersAreThere, LogIsOne, DamagedIsNone, ReaderFindsLog, IsLog, AppendGrowsLog, BeginLeavesLog}
-use Rattle.commit_log.proofs.LawLemmas.{one_reading, broken_reads_nothing}
+use Rattle.commit_log.proofs.LawLemmas.{one_reading}
 use Rattle.commit_log.proofs.Shapes.{reads_written, zeros_end}
 use Rattle.commit_log.proofs.Numbers.{in_there, there_in, ascend, same_members}
 use Rattle.commit_log.proofs.Parts.{Parted, parts_split, parts_same, parts_more, parts_one, has_one}
@@ -39,11 +39,7 @@ reader_finds_log chunks found number next files log holds = parts_one (numbers f
 -- damage of a segment that is there, and what is read of it
 damage_reads_nothing : (number at : ℕ) (files : Files) (chunks : List (List ℕ)) → HasDamage number at files → HasChunks (segment number) chunks files → ⊥
 damage_reads_nothing number at files chunks damage has =
-    by (subst (λ (l : List ℕ). IsDamaged l at) (ap (λ (o : Option (List ℕ)). unwrap_or o []) has.there) damage)
-  where
-    by : IsDamaged has.file at → ⊥
-    by (inl other) = other.0 has.size
-    by (inr broken) = broken_reads_nothing chunks has.file at (omega (arith, has.size)) broken.1 has.reads
+    damage.none (subst IsSegment (sym (ap (λ (o : Option (List ℕ)). unwrap_or o []) has.there)) (record { chunks = chunks; long = has.size; reads = has.reads }))
 
 pub damaged_is_none : DamagedIsNone
 damaged_is_none cs number at files damaged holds =

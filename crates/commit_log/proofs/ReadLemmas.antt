@@ -4,14 +4,15 @@ use Rattle.std.proofs.lemmas.List.{append-nil, take-append-drop, take_more}
 use Rattle.std.proofs.Math.Seq.{drop-cons}
 use Rattle.std.proofs.lemmas.Result.{err_from_is_err_and}
 use Rattle.m3_outside.specs.Files.{Files}
-use Rattle.commit_log.specs.Contents.{PartsHold, HasDamage}
-use Rattle.commit_log.specs.Reading.{FindsMore, FindsAll, MayBeDamaged, MayBeFirstDamage}
+use Rattle.m3_outside.specs.declared.disk_err.DiskErr.{DiskErr}
+use Rattle.m3_outside.specs.declared.disk_err.DiskErr.TheVariants.{Memory, Failed as DiskFailed}
+use Rattle.commit_log.specs.Errors.{log_err_of}
+use Rattle.commit_log.specs.Contents.{PartsHold, HasDamage, segment_bytes}
+use Rattle.commit_log.specs.Reading.{ReadsMore, MayBreak, FindsAll, MayBeFirstDamage}
 use Rattle.commit_log.specs.declared.log_err.LogErr.{LogErr}
 use Rattle.commit_log.specs.declared.log_err.LogErr.TheVariants as errors
-use Rattle.commit_log.specs.Places.{places_from, ArePlaced}
-use Rattle.commit_log.specs.declared.place.ChunkPlace.{ChunkPlace}
 use Rattle.commit_log.proofs.Parts.{parts_more}
-use Rattle.commit_log.proofs.PlaceLemmas.{segment_placed}
+use Rattle.commit_log.proofs.FileFronts.{has_chunks}
 
 -- one more of the list
 pub one_more : (ns : List ℕ) (i n : ℕ) → i < length ns → n ≡ get_or ns i 0 → take (i + 1) ns ≡ take i ns ++ n ∷ []
@@ -26,23 +27,20 @@ rest_at ns i n lt is = drop_first ns i lt ∙ ap (λ (k : ℕ). k ∷ drop (i + 
 pub split_at : (ns : List ℕ) (i n : ℕ) → i < length ns → n ≡ get_or ns i 0 → ns ≡ take i ns ++ n ∷ drop (i + 1) ns
 split_at ns i n lt is = sym (take-append-drop i ns) ∙ ap (λ (l : List ℕ). take i ns ++ l) (rest_at ns i n lt is)
 
-pub finds_none : (files : Files) (old : List (List ℕ)) (before : List ChunkPlace) → FindsAll [] files old old before before
-finds_none files old before = record { chunks = []; places = []; is = sym (append-nil old); are = sym (append-nil before); has = refl; placed = (refl, refl) }
+pub finds_none : (files : Files) (old : List (List ℕ)) → FindsAll [] files old old
+finds_none files old = record { chunks = []; is = sym (append-nil old); has = refl }
 
-pub finds_next : (ns : List ℕ) (i n : ℕ) (files : Files) (a b c : List (List ℕ)) (p q r : List ChunkPlace) → i < length ns → n ≡ get_or ns i 0 → FindsAll (take i ns) files a b p q → FindsMore n files b c q r → FindsAll (take (i + 1) ns) files a c p r
-finds_next ns i n files a b c p q r lt is all more = record {
+pub finds_next : (ns : List ℕ) (i n : ℕ) (files : Files) (a b c : List (List ℕ)) → i < length ns → n ≡ get_or ns i 0 → FindsAll (take i ns) files a b → ReadsMore (segment_bytes n files) b c → FindsAll (take (i + 1) ns) files a c
+finds_next ns i n files a b c lt is all more = record {
   chunks = all.chunks ++ more.chunks;
-  places = all.places ++ places_from n 0 more.chunks;
   is = more.is ∙ ap (λ (l : List (List ℕ)). l ++ more.chunks) all.is ∙ append_assoc a all.chunks more.chunks;
-  are = more.placed ∙ ap (λ (l : List ChunkPlace). l ++ places_from n 0 more.chunks) all.are ∙ append_assoc p all.places (places_from n 0 more.chunks);
-  has = subst (λ (l : List ℕ). PartsHold l files (all.chunks ++ more.chunks)) (sym (one_more ns i n lt is)) (parts_more (take i ns) n files all.chunks more.chunks all.has more.has);
-  placed = subst (λ (l : List ℕ). ArePlaced l files (all.chunks ++ more.chunks) (all.places ++ places_from n 0 more.chunks)) (sym (one_more ns i n lt is)) (segment_placed (take i ns) n files all.chunks more.chunks all.places all.placed more.has);
+  has = subst (λ (l : List ℕ). PartsHold l files (all.chunks ++ more.chunks)) (sym (one_more ns i n lt is)) (parts_more (take i ns) n files all.chunks more.chunks all.has (has_chunks n files more.chunks more.long more.reads));
 }
 
-pub first_damage : (ns : List ℕ) (i n : ℕ) (files : Files) (a b : List (List ℕ)) (p q : List ChunkPlace) → i < length ns → n ≡ get_or ns i 0 → FindsAll (take i ns) files a b p q → (e : LogErr) → MayBeDamaged n files e → MayBeFirstDamage ns files e
-first_damage ns i n files a b p q lt is all errors.Disk d = tt
-first_damage ns i n files a b p q lt is all errors.Memory d = tt
-first_damage ns i n files a b p q lt is all (errors.Form k at) d = record {
+pub first_damage : (ns : List ℕ) (i n : ℕ) (files : Files) (a b : List (List ℕ)) → i < length ns → n ≡ get_or ns i 0 → FindsAll (take i ns) files a b → (e : LogErr) → MayBreak n (segment_bytes n files) e → MayBeFirstDamage ns files e
+first_damage ns i n files a b lt is all errors.Disk d = absurd d
+first_damage ns i n files a b lt is all errors.Memory d = tt
+first_damage ns i n files a b lt is all (errors.Form k at) d = record {
   before = take i ns;
   after = drop (i + 1) ns;
   split = split_at ns i k lt (d.0 ∙ is);
@@ -60,3 +58,18 @@ passed_err {T} {U} {E} r q x d was is failed = let p = err_from_is_err_and r is 
 
 pub passed_on : {T : Type 0} (r : Result T LogErr) (x : LogErr) (P : LogErr → Type 0) → IsErrAnd r (λ e. e ≡ x) → P x → IfErr r P
 passed_on {T} r x P is p = let q = err_from_is_err_and r is in subst (λ (s : Result T LogErr). IfErr s P) (sym q.1) (subst P (sym q.2) p)
+
+-- a refusal of the disk that is passed on
+pub passed_fault : {T U : Type 0} (r : Result T LogErr) (q : Result U DiskErr) (x : DiskErr) → q ≡ Err x → IsErrAnd r (λ e. e ≡ log_err_of x) → r ≡ Err errors.Disk → q ≡ Err DiskFailed
+passed_fault {T} {U} r q x was is failed = let p = err_from_is_err_and r is in by x was p.0 p.1 p.2
+  where
+    by : (x : DiskErr) → q ≡ Err x → (y : LogErr) → r ≡ Err y → y ≡ log_err_of x → q ≡ Err DiskFailed
+    by DiskFailed was y a b = was
+    by Memory was y a b = absurd (let f = failed in let c : y ≡ errors.Memory = b in cc)
+
+pub passed_plain : {T : Type 0} (r : Result T LogErr) (x : DiskErr) (ns : List ℕ) (files : Files) → IsErrAnd r (λ e. e ≡ log_err_of x) → IfErr r (MayBeFirstDamage ns files)
+passed_plain {T} r x ns files is = passed_on r (log_err_of x) (MayBeFirstDamage ns files) is (by x)
+  where
+    by : (x : DiskErr) → MayBeFirstDamage ns files (log_err_of x)
+    by DiskFailed = tt
+    by Memory = tt

@@ -1,11 +1,11 @@
 -- What a log holds over all its segments, by ascending number.
-use Rattle.std.specs.Prelude.{◌≡◌, ◌⊎◌, ℕ, ◌+◌, ◌<◌, ◌≤◌, min, max, List, [], ◌∷◌, ◌++◌, map, length, unwrap_or, Bool, ◌==◌, ◌&&◌}
+use Rattle.std.specs.Prelude.{◌≡◌, ℕ, ◌+◌, max, List, [], ◌∷◌, ◌++◌, map, unwrap_or, Bool, ◌==◌, ◌&&◌}
 use Rattle.std.specs.List.{filter}
 use Rattle.std.specs.FinMap.{get, keys}
-use Rattle.byteorder.specs.Endian.{big_number}
 use Rattle.m3_outside.specs.Files.{Files}
 use Rattle.m3_outside.specs.declared.file_name.FileName.{FileName}
-use Rattle.commit_log.specs.Segment.{segment, written, HasChunks}
+use Rattle.wire_bytes.specs.Fields.{StopsAt}
+use Rattle.commit_log.specs.Segment.{segment, HasChunks, IsSegment}
 
 -- the chunks of the first segment, and then those of the later ones
 pub record FirstHolds (number : ℕ) (files : Files) (chunks : List (List ℕ)) (Later : List (List ℕ) → Type 0) : Type 0 where
@@ -41,22 +41,13 @@ pub record LogHolds (chunks : List (List ℕ)) (next : ℕ) (files : Files) : Ty
   pub parts : PartsHold (numbers files) files chunks
   pub next_is : next ≡ next_after (numbers files)
 
--- an open gate after whole chunks, whose length reaches beyond the segment's end
-pub record BreaksAt (bytes : List ℕ) (at : ℕ) : Type 0 where
-  pub chunks : List (List ℕ)
-  pub rest : List ℕ
-  pub split : bytes ≡ written chunks ++ 1 ∷ rest
-  pub place : at ≡ length (written chunks) + 1
-  pub field : 4 ≤ length rest
-  pub beyond : length rest < 4 + big_number 4 rest
+-- the bytes of the segment of this number; none where it isn't there
+abbrev pub segment_bytes : ℕ → Files → List ℕ
+segment_bytes number files = unwrap_or (get files (segment number)) []
 
--- the place from which on the bytes are no segment's: its length is another one, or a chunk reaches beyond its end
-abbrev pub IsDamaged : List ℕ → ℕ → Type 0
-IsDamaged bytes at = ((length bytes ≡ 65536 → ⊥) × (at ≡ min (length bytes) 65536)) ⊎ ((length bytes ≡ 65536) × BreaksAt bytes at)
-
--- the segment of this number is damaged at the place
+-- the bytes of the segment of this number are no segment's, by this place: some segment begins with those before it, and none with those up to it
 abbrev pub HasDamage : ℕ → ℕ → Files → Type 0
-HasDamage number at files = IsDamaged (unwrap_or (get files (segment number)) []) at
+HasDamage number at files = StopsAt IsSegment (segment_bytes number files) at
 
 -- of these segments the one of this number is damaged at the place, and those before it are whole
 pub record FirstDamaged (ns : List ℕ) (number at : ℕ) (files : Files) : Type 0 where

@@ -2,7 +2,6 @@ pub mod Segment
 pub mod LogEnd
 pub mod Contents
 pub mod Errors
-pub mod Places
 pub mod Reading
 pub mod Cutting
 pub mod LogLaws

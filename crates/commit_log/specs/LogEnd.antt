@@ -1,12 +1,9 @@
 -- The end of a log: the segment that chunks go into, and the place there.
-use Rattle.std.specs.Prelude.{◌≡◌, ◌⊎◌, ℕ, ◌<◌, ◌≤◌, ◌^◌, Bool, true}
+use Rattle.std.specs.Prelude.{◌≡◌, ◌⊎◌, ℕ, ◌<◌, ◌≤◌, Bool, true}
+use Rattle.m3_model.specs.declared.limits.TheConstants.{SEGMENT_BYTES}
 use Rattle.m3_outside.specs.Files.{Files, IsAbsent, DoneOrNot, files_with_zeros}
 use Rattle.m3_outside.specs.DiskState.{DiskState, Told, Becomes}
 use Rattle.commit_log.specs.Segment.{segment, IsKept, IsReady}
-
--- the numbers of segments are below this one
-abbrev pub segment_limit : ℕ
-segment_limit = 2 ^ 62
 
 pub record LogEnd : Type 0 where
   pub number : ℕ  -- the segment's
@@ -25,7 +22,7 @@ NoneAbove number files = (n : ℕ) → number < n → IsAbsent (segment n) files
 pub record Stands (log : LogEnd) (d : DiskState) : Type 0 where
   pub kept : log.clean ≡ true → IsKept log.number log.at d
   pub above : Told d (NoneAbove log.number)
-  pub within : log.at ≤ 65536
+  pub within : log.at ≤ SEGMENT_BYTES
 
 -- and a chunk of n bytes may be appended
 pub record IsReadyFor (log : LogEnd) (n : ℕ) (d : DiskState) : Type 0 where
@@ -35,8 +32,8 @@ pub record IsReadyFor (log : LogEnd) (n : ℕ) (d : DiskState) : Type 0 where
 
 -- the segment of this number is made, empty, or not; all other files stay
 abbrev pub MayBegin : ℕ → Files → Files → Type 0
-MayBegin number = DoneOrNot (files_with_zeros (segment number) 65536)
+MayBegin number = DoneOrNot (files_with_zeros (segment number) SEGMENT_BYTES)
 
 -- the segment of this number is there now, empty, for reads and in each image, or for neither; all other files stay
 abbrev pub BeganOrNot : ℕ → DiskState → DiskState → Type 0
-BeganOrNot number old new = Becomes (λ files. files) old new ⊎ Becomes (files_with_zeros (segment number) 65536) old new
+BeganOrNot number old new = Becomes (λ files. files) old new ⊎ Becomes (files_with_zeros (segment number) SEGMENT_BYTES) old new

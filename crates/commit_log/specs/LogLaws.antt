@@ -2,6 +2,7 @@
 use Rattle.std.specs.Prelude.{◌≡◌, ◌⊎◌, ◌↔◌, ℕ, ◌<◌, ◌≤◌, true, List, [], ◌∷◌, ◌++◌, length}
 use Rattle.m3_model.specs.Members.{IsIn}
 use Rattle.m3_model.specs.Ascends.{Ascends}
+use Rattle.m3_model.specs.declared.limits.TheConstants.{SEGMENT_BYTES}
 use Rattle.m3_outside.specs.Files.{Files, IsPresent}
 use Rattle.m3_outside.specs.DiskState.{DiskState, EachImage, StepOf, Elapses, Becomes}
 use Rattle.m3_outside.specs.Removal.{without_files, MayTakeAway}
@@ -12,7 +13,7 @@ use Rattle.commit_log.specs.Contents.{numbers, PartsHold, LogHolds, FirstDamaged
 
 -- what stands behind a gate that isn't open is never read
 abbrev pub NothingBehindGate : Type 0
-NothingBehindGate = (cs ds : List (List ℕ)) (gate : ℕ) (behind bytes : List ℕ) → bytes ≡ written cs ++ gate ∷ behind → length bytes ≤ 65536 → ¬ (gate ≡ 1) → Reads ds bytes → ds ≡ cs
+NothingBehindGate = (cs ds : List (List ℕ)) (gate : ℕ) (behind bytes : List ℕ) → bytes ≡ written cs ++ gate ∷ behind → length bytes ≤ SEGMENT_BYTES → ¬ (gate ≡ 1) → Reads ds bytes → ds ≡ cs
 
 -- the numbers by which a log is read ascend, and are those of the segments that are there
 pub record NumbersAreThere (files : Files) : Type 0 where

@@ -1,55 +1,66 @@
 -- What the reading of a segment finds.
-use Rattle.std.specs.Prelude.{◌≡◌, ⊤, ℕ, List, ◌++◌}
+use Rattle.std.specs.Prelude.{◌≡◌, ⊤, ℕ, ◌+◌, ◌<◌, ◌↔◌, List, ◌++◌, length, take, Bool, IsTrue}
+use Rattle.m3_model.specs.declared.limits.TheConstants.{SEGMENT_BYTES}
 use Rattle.m3_outside.specs.Files.{Files}
-use Rattle.commit_log.specs.Segment.{segment, Reads, HasChunks}
-use Rattle.commit_log.specs.Contents.{PartsHold, BreaksAt, HasDamage, FirstDamaged}
-use Rattle.commit_log.specs.Places.{places_from, ArePlaced}
-use Rattle.commit_log.specs.declared.place.ChunkPlace.{ChunkPlace}
+use Rattle.wire_bytes.specs.Fields.{Stands, Begins, StopsAt}
+use Rattle.commit_log.specs.Segment.{chunk_bytes, Reads, IsSegment}
+use Rattle.commit_log.specs.Contents.{PartsHold, FirstDamaged}
+use Rattle.commit_log.specs.declared.chunk_read.ChunkAt.{ChunkAt}
+use Rattle.commit_log.specs.declared.chunk_read.ChunkAt.TheVariants as found
 use Rattle.commit_log.specs.declared.log_err.LogErr.{LogErr}
 use Rattle.commit_log.specs.declared.log_err.LogErr.TheVariants as errors
 
--- the chunks of a segment with these bytes came behind those before, and so did their places
-pub record ReadsMore (number : ℕ) (bytes : List ℕ) (old new : List (List ℕ)) (old_places new_places : List ChunkPlace) : Type 0 where
+-- a whole chunk stands at the place, its payload from the one place to the other
+pub record ChunkStands (bytes : List ℕ) (at from next : ℕ) : Type 0 where
+  pub payload : List ℕ
+  pub behind : from ≡ at + 5
+  pub stands : Stands (chunk_bytes payload) bytes at next
+  pub named : Stands payload bytes from next
+
+-- Behind these chunks no other one stands, and some segment begins with all these bytes. Where they are as many as a segment has, they are one.
+pub record EndStands (chunks : List (List ℕ)) (bytes : List ℕ) (at : ℕ) : Type 0 where
+  pub none : (from next : ℕ) → ¬ (ChunkStands bytes at from next)
+  pub fits : Begins IsSegment bytes
+  pub ends : length bytes ≡ SEGMENT_BYTES → Reads chunks bytes
+
+-- no chunk stands at the place, and no segment goes on with the byte at the other one
+pub record BadStands (bytes : List ℕ) (at place : ℕ) : Type 0 where
+  pub none : (from next : ℕ) → ¬ (ChunkStands bytes at from next)
+  pub within : place < length bytes
+  pub stops : StopsAt IsSegment bytes place
+
+-- what stands behind these chunks in the first bytes of a segment
+abbrev pub IsNext : List (List ℕ) → List ℕ → ℕ → ChunkAt → Type 0
+IsNext chunks bytes at (found.Chunk from next) = ChunkStands bytes at from next
+IsNext chunks bytes at found.End = EndStands chunks bytes at
+IsNext chunks bytes at (found.Bad place) = BadStands bytes at place
+
+-- the file's first bytes, at most as many as a segment has, and whether it has just so many
+pub record IsFront (front : List ℕ) (whole : Bool) (file : List ℕ) : Type 0 where
+  pub is : front ≡ take SEGMENT_BYTES file
+  pub whole_is : IsTrue whole ↔ (length file ≡ SEGMENT_BYTES)
+
+-- the chunks of a segment with these bytes came behind those before
+pub record ReadsMore (bytes : List ℕ) (old new : List (List ℕ)) : Type 0 where
   pub chunks : List (List ℕ)
   pub is : new ≡ old ++ chunks
-  pub placed : new_places ≡ old_places ++ places_from number 0 chunks
+  pub long : length bytes ≡ SEGMENT_BYTES
   pub reads : Reads chunks bytes
 
--- these bytes break at the place; memory may always be wanted
+-- these bytes are no segment's, by the place; memory may always be wanted
 abbrev pub MayBreak : ℕ → List ℕ → LogErr → Type 0
 MayBreak number bytes errors.Disk = ⊥
 MayBreak number bytes errors.Memory = ⊤
-MayBreak number bytes (errors.Form n at) = (n ≡ number) × BreaksAt bytes at
+MayBreak number bytes (errors.Form n at) = (n ≡ number) × StopsAt IsSegment bytes at
 
--- the chunks of this segment came behind those before, and so did their places
-pub record FindsMore (number : ℕ) (files : Files) (old new : List (List ℕ)) (old_places new_places : List ChunkPlace) : Type 0 where
+-- the segments' chunks came behind those before
+pub record FindsAll (ns : List ℕ) (files : Files) (old new : List (List ℕ)) : Type 0 where
   pub chunks : List (List ℕ)
   pub is : new ≡ old ++ chunks
-  pub placed : new_places ≡ old_places ++ places_from number 0 chunks
-  pub has : HasChunks (segment number) chunks files
-
--- this segment is damaged at the place; a fault has its own cause, and memory may always be wanted
-abbrev pub MayBeDamaged : ℕ → Files → LogErr → Type 0
-MayBeDamaged number files errors.Disk = ⊤
-MayBeDamaged number files errors.Memory = ⊤
-MayBeDamaged number files (errors.Form n at) = (n ≡ number) × HasDamage number at files
-
--- the segments' chunks came behind those before, and so did their places
-pub record FindsAll (ns : List ℕ) (files : Files) (old new : List (List ℕ)) (old_places new_places : List ChunkPlace) : Type 0 where
-  pub chunks : List (List ℕ)
-  pub places : List ChunkPlace
-  pub is : new ≡ old ++ chunks
-  pub are : new_places ≡ old_places ++ places
   pub has : PartsHold ns files chunks
-  pub placed : ArePlaced ns files chunks places
 
 -- the first damaged one of these segments is so at the place; a fault has its own cause, and memory may always be wanted
 abbrev pub MayBeFirstDamage : List ℕ → Files → LogErr → Type 0
 MayBeFirstDamage ns files errors.Disk = ⊤
 MayBeFirstDamage ns files errors.Memory = ⊤
 MayBeFirstDamage ns files (errors.Form number at) = FirstDamaged ns number at files
-
-abbrev pub IsNoForm : LogErr → Type 0
-IsNoForm errors.Disk = ⊤
-IsNoForm errors.Memory = ⊤
-IsNoForm (errors.Form n at) = ⊥

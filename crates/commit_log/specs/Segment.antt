@@ -2,6 +2,7 @@
 use Rattle.std.specs.Prelude.{◌≡◌, ◌⊎◌, ⊤, ℕ, ◌+◌, ◌-◌, ◌<◌, ◌≤◌, List, [], ◌∷◌, ◌++◌, length, replicate, Some}
 use Rattle.std.specs.FinMap.{get}
 use Rattle.byteorder.specs.Endian.{big_bytes}
+use Rattle.m3_model.specs.declared.limits.TheConstants.{SEGMENT_BYTES}
 use Rattle.m3_outside.specs.declared.file_name.FileName.{FileName}
 use Rattle.m3_outside.specs.Files.{Files}
 use Rattle.m3_outside.specs.DiskState.{DiskState, Told, EachImage}
@@ -23,11 +24,17 @@ abbrev pub Reads : List (List ℕ) → List ℕ → Type 0
 Reads [] bytes = IsEnd bytes
 Reads (chunk ∷ chunks) bytes = (rest : List ℕ) × (bytes ≡ chunk_bytes chunk ++ rest) × Reads chunks rest
 
+-- the bytes of a segment: so many, chunks and then an end
+pub record IsSegment (bytes : List ℕ) : Type 0 where
+  pub chunks : List (List ℕ)
+  pub long : length bytes ≡ SEGMENT_BYTES
+  pub reads : Reads chunks bytes
+
 -- the segment is there and has these chunks
 pub record HasChunks (name : FileName) (chunks : List (List ℕ)) (files : Files) : Type 0 where
   pub file : List ℕ
   pub there : get files name ≡ Some file
-  pub size : length file ≡ 65536
+  pub size : length file ≡ SEGMENT_BYTES
   pub reads : Reads chunks file
 
 abbrev pub OthersStay : FileName → Files → Files → Type 0
@@ -56,7 +63,7 @@ written (chunk ∷ chunks) = chunk_bytes chunk ++ written chunks
 pub record IsAtRest (number at : ℕ) (files : Files) : Type 0 where
   pub chunks : List (List ℕ)
   pub place : length (written chunks) ≡ at
-  pub there : get files (segment number) ≡ Some (written chunks ++ replicate (65536 - at) 0)
+  pub there : get files (segment number) ≡ Some (written chunks ++ replicate (SEGMENT_BYTES - at) 0)
 
 -- the log's segment is at rest, and a stop leaves it so
 pub record IsKept (number at : ℕ) (w : DiskState) : Type 0 where
@@ -66,5 +73,5 @@ pub record IsKept (number at : ℕ) (w : DiskState) : Type 0 where
 -- and there is room for a chunk of n bytes
 pub record IsReady (number at : ℕ) (n : ℕ) (w : DiskState) : Type 0 where
   pub kept : IsKept number at w
-  pub room : at + 5 + n ≤ 65536
+  pub room : at + 5 + n ≤ SEGMENT_BYTES
   pub spare : 5 ≤ w.spare

@@ -9,13 +9,10 @@ use m3_outside::disk::Disk;
 use m3_outside::failed::Failed;
 use m3_outside::file_name::FileName;
 
-/// The bytes of a segment.
-pub const SEGMENT_BYTES: u64 = 65_536;
-
 /// The bytes of a chunk's gate and length.
 pub(crate) const HEAD_BYTES: u64 = 5;
 
-// An open gate.
+/// An open gate.
 pub(crate) const OPEN: u8 = 1;
 
 /// The file of the segment of this number.

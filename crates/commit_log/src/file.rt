@@ -1,64 +1,65 @@
-ghost use Rattle.std.specs.Prelude.{◌≡◌, ℕ, List, true, Some, length, option_map, take, unwrap_or, IfOk, IfErr, IsErrOf};
+ghost use Rattle.std.specs.Prelude.{◌≡◌, ◌≤◌, ℕ, List, true, Some, length, take, IfOk, IsErrOf};
 ghost use Rattle.std.specs.FinMap.{get};
+ghost use Rattle.m3_model.specs.declared.limits.TheConstants.{SEGMENT_BYTES};
 ghost use Rattle.m3_outside.specs.Files.{IsInside};
 ghost use Rattle.m3_outside.specs.DiskState.{DiskState, Told};
 ghost use Rattle.m3_outside.specs.DiskCalls.{LeavesFiles};
-ghost use Rattle.commit_log.specs.Segment.{segment};
-ghost use Rattle.commit_log.specs.Reading.{IsNoForm, MayBeDamaged};
-ghost use Rattle.commit_log.specs.declared.log_err.LogErr.TheVariants as errors;
+ghost use Rattle.m3_outside.specs.declared.disk_err.DiskErr.TheVariants.{Failed as DiskFailed};
+ghost use Rattle.commit_log.specs.Contents.{segment_bytes};
+ghost use Rattle.commit_log.specs.Reading.{IsFront};
 
-use crate::chunk::{SEGMENT_BYTES, segment_name};
-use crate::log_err::LogErr;
+use crate::chunk::segment_name;
+use m3_model::limits::SEGMENT_BYTES;
 use m3_outside::disk::Disk;
+use m3_outside::disk_err::DiskErr;
 use m3_outside::file_name::FileName;
 use std::alloc::Global;
 
-/// The first `size` bytes of a file.
-pub(crate) fn read_file<D: Disk>(
+/// The first bytes of a segment's file, at most as many as a segment has.
+#[derive(Drop)]
+pub struct Front {
+    pub bytes: Vec<u8>,
+    /// Whether the file has just as many bytes as a segment.
+    pub is_whole: bool,
+}
+
+// The first `size` bytes of a file.
+fn read_file<D: Disk>(
     alloc: Global,
     disk: &mut D,
     name: FileName,
     size: u64,
-) -> Result<Vec<u8>, LogErr>
+) -> Result<Vec<u8>, DiskErr>
     requires inside { Told (D.state disk.old) (IsInside name 0 size) }
-    ensures leaves { LeavesFiles (IsErrOf result errors.Disk) (D.state disk.old) (D.state disk.new) }
+    ensures leaves { LeavesFiles (IsErrOf result DiskFailed) (D.state disk.old) (D.state disk.new) }
     ensures ok { (D.state disk.old).tells ≡ true → IfOk result (λ v. (file : List ℕ) → get (D.state disk.old).files name ≡ Some file → v.items ≡ take size file) }
     ensures size { IfOk result (λ v. length v.items ≡ size) }
-    ensures err { IfErr result IsNoForm }
 {
     let mut bytes = vec![in alloc; 0u8; size as usize]?;
     disk.read(name, 0, &mut bytes)?;
     Ok(bytes)
 }
 
-/// The size of a file; 0 where it isn't there.
-pub(crate) fn size_of<D: Disk>(disk: &mut D, name: FileName) -> Result<u64, LogErr>
-    ensures leaves { LeavesFiles (IsErrOf result errors.Disk) (D.state disk.old) (D.state disk.new) }
-    ensures ok { (D.state disk.old).tells ≡ true → IfOk result (λ n. n ≡ unwrap_or (option_map length (get (D.state disk.old).files name)) 0) }
-    ensures err { IfErr result IsNoForm }
-{
-    let size = disk.size(name)?;
-    Ok(size.unwrap_or(0))
-}
-
-/// The bytes of the segment of this number.
-pub(crate) fn read_bytes<D: Disk>(
-    alloc: Global,
-    disk: &mut D,
-    number: u64,
-) -> Result<Vec<u8>, LogErr>
-    ensures leaves { LeavesFiles (IsErrOf result errors.Disk) (D.state disk.old) (D.state disk.new) }
-    ensures ok { (D.state disk.old).tells ≡ true → IfOk result (λ v. (get (D.state disk.old).files (segment number) ≡ Some v.items) × (length v.items ≡ 65536)) }
-    ensures size { IfOk result (λ v. length v.items ≡ 65536) }
-    ensures err { (D.state disk.old).tells ≡ true → IfErr result (λ e. MayBeDamaged number (D.state disk.old).files e) }
+/// The first bytes of the segment of this number. Of a segment that isn't there they are none.
+///
+/// # Errors
+///
+/// A fault, or want of memory. All files stay.
+pub fn read_front<D: Disk>(alloc: Global, disk: &mut D, number: u64) -> Result<Front, DiskErr>
+    ensures leaves { LeavesFiles (IsErrOf result DiskFailed) (D.state disk.old) (D.state disk.new) }
+    ensures ok { (D.state disk.old).tells ≡ true → IfOk result (λ front. IsFront front.bytes.items front.is_whole (segment_bytes number (D.state disk.old).files)) }
+    ensures short { IfOk result (λ front. length front.bytes.items ≤ SEGMENT_BYTES) }
 {
     let name = segment_name(number);
-    let size = size_of(disk, name)?;
-    if size != SEGMENT_BYTES {
-        return Err(LogErr::Form {
-            number,
-            at: size.min(SEGMENT_BYTES),
+    let Some(size) = disk.size(name)? else {
+        return Ok(Front {
+            bytes: Vec::new(alloc),
+            is_whole: false,
         });
-    }
-    read_file(alloc, disk, name, size)
+    };
+    let bytes = read_file(alloc, disk, name, size.min(SEGMENT_BYTES))?;
+    Ok(Front {
+        bytes,
+        is_whole: size == SEGMENT_BYTES,
+    })
 }

@@ -1,20 +1,15 @@
 //! Laws over the definitions of logs.
 ghost use Rattle.std.specs.Prelude.{◌≡◌, ℕ, ◌≤◌, List, length};
+ghost use Rattle.m3_model.specs.declared.limits.TheConstants.{SEGMENT_BYTES};
 ghost use Rattle.m3_outside.specs.Files.{Files};
 ghost use Rattle.commit_log.specs.Segment.{Reads};
-ghost use Rattle.commit_log.specs.Contents.{BreaksAt};
 ghost use Rattle.commit_log.specs.LogLaws.{NothingBehindGate, NumbersAreThere, LogIsOne, DamagedIsNone, ReaderFindsLog, AppendGrowsLog, BeginLeavesLog, CutLeavesEnd};
 
 use m3_outside::disk::Disk;
 
 /// A segment reads as at most one list of chunks.
 pub fn chunks_are_one()
-    ensures { (cs ds : List (List ℕ)) (bytes : List ℕ) → length bytes ≤ 65536 → Reads cs bytes → Reads ds bytes → cs ≡ ds }
-{}
-
-/// Nothing is read of a segment that breaks.
-pub fn broken_reads_nothing()
-    ensures { (cs : List (List ℕ)) (bytes : List ℕ) (at : ℕ) → length bytes ≤ 65536 → BreaksAt bytes at → ¬ Reads cs bytes }
+    ensures { (cs ds : List (List ℕ)) (bytes : List ℕ) → length bytes ≤ SEGMENT_BYTES → Reads cs bytes → Reads ds bytes → cs ≡ ds }
 {}
 
 /// Nothing from behind a gate that isn't open is ever read.

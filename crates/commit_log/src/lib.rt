@@ -2,17 +2,18 @@
 #![tactic(auto)]
 
 mod chunk;
+mod chunk_read;
 mod cut;
 mod file;
 pub mod laws;
 mod log;
 mod log_err;
-mod place;
 mod read;
 mod segment;
 
+pub use chunk_read::{ChunkAt, get_chunk};
 pub use cut::cut_before;
-pub use log::{Log, SEGMENT_LIMIT};
+pub use file::{Front, read_front};
+pub use log::Log;
 pub use log_err::LogErr;
-pub use place::ChunkPlace;
-pub use read::{Found, read_all};
+pub use read::{Found, Segments, list_segments, read_all};

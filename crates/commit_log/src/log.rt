@@ -1,20 +1,19 @@
 ghost use Rattle.std.specs.Prelude.{◌≡◌, ◌⊎◌, ℕ, ◌+◌, ◌<◌, ◌≤◌, Bool, true, false, ◌↔◌, IsTrue, length, IfOk, IsErr, IsErrOf, OnOk, OnErr};
+ghost use Rattle.m3_model.specs.declared.limits.TheConstants.{NUMBER_END, SEGMENT_BYTES};
 ghost use Rattle.m3_outside.specs.Files.{Files, files_with_zeros};
 ghost use Rattle.m3_outside.specs.Causes.{CountsFaults};
 ghost use Rattle.m3_outside.specs.DiskState.{DiskState, Told, Elapses, StepOf, Becomes};
 ghost use Rattle.m3_outside.specs.DiskCalls.{LeavesFiles};
 ghost use Rattle.m3_outside.specs.declared.disk_err.DiskErr.TheVariants.{Failed as DiskFailed, Memory as WantOfMemory};
 ghost use Rattle.commit_log.specs.Segment.{segment, MayAdd, Adds, OthersStay};
-ghost use Rattle.commit_log.specs.LogEnd.{segment_limit, NoneFrom, Stands, IsReadyFor, MayBegin, BeganOrNot};
+ghost use Rattle.commit_log.specs.LogEnd.{NoneFrom, Stands, IsReadyFor, MayBegin, BeganOrNot};
 
-use crate::chunk::{HEAD_BYTES, SEGMENT_BYTES, put_chunk, segment_name};
+use crate::chunk::{HEAD_BYTES, put_chunk, segment_name};
+use m3_model::limits::{NUMBER_END, SEGMENT_BYTES};
 use m3_outside::disk::Disk;
 use m3_outside::disk_err::DiskErr;
 use m3_outside::failed::Failed;
 use std::marker::Model;
-
-/// Numbers of segments are below this one.
-pub const SEGMENT_LIMIT: u64 = 1 << 62;
 
 // The device calls of an append that use up room.
 const CALLS: u64 = 5;
@@ -37,7 +36,7 @@ impl Model for Log {
 }
 
 impl Log {
-    /// Begins the segment of this number, empty, as the last of the disk. From the number `SEGMENT_LIMIT` on memory is said
+    /// Begins the segment of this number, empty, as the last of the disk. From the number `NUMBER_END` on memory is said
     /// to be wanted.
     ///
     /// # Errors
@@ -47,15 +46,15 @@ impl Log {
         requires { Told (D.state disk.old) (NoneFrom number) }
         ensures ok { IfOk result (λ log. log ≡ record { number = number; at = 0; clean = true }) }
         ensures stands { OnOk result (Stands (record { number = number; at = 0; clean = true }) (D.state disk.new)) }
-        ensures limit { OnOk result (number < segment_limit) }
-        ensures made { (D.state disk.old).tells ≡ true → OnOk result (Becomes (files_with_zeros (segment number) 65536) (D.state disk.old) (D.state disk.new)) }
+        ensures limit { OnOk result (number < NUMBER_END) }
+        ensures made { (D.state disk.old).tells ≡ true → OnOk result (Becomes (files_with_zeros (segment number) SEGMENT_BYTES) (D.state disk.old) (D.state disk.new)) }
         ensures memory { (D.state disk.old).tells ≡ true → IsErrOf result WantOfMemory → Becomes (λ files. files) (D.state disk.old) (D.state disk.new) }
         ensures files { (D.state disk.old).tells ≡ true → BeganOrNot number (D.state disk.old) (D.state disk.new) }
         ensures any_moment { (D.state disk.old).tells ≡ true → Elapses (MayBegin number) (D.state disk.old) (D.state disk.new) }
         ensures tells { (D.state disk.new).tells ≡ (D.state disk.old).tells }
         ensures faults { CountsFaults (IsErrOf result DiskFailed) (D.state disk.old).faults (D.state disk.new).faults }
     {
-        if number >= SEGMENT_LIMIT {
+        if number >= NUMBER_END {
             return Err(DiskErr::Memory);
         }
         disk.create(segment_name(number), SEGMENT_BYTES)?;
@@ -68,8 +67,8 @@ impl Log {
 
     // Whether the segment has room for a chunk of so many bytes.
     fn has_room(&self, len: u32) -> bool
-        requires { self.now.at ≤ 65536 }
-        ensures { IsTrue result ↔ ((self.now.clean ≡ true) × (self.now.at + 5 + len ≤ 65536)) }
+        requires { self.now.at ≤ SEGMENT_BYTES }
+        ensures { IsTrue result ↔ ((self.now.clean ≡ true) × (self.now.at + 5 + len ≤ SEGMENT_BYTES)) }
     {
         self.clean && self.at + HEAD_BYTES + u64::from(len) <= SEGMENT_BYTES
     }
@@ -82,15 +81,15 @@ impl Log {
         ensures end { (self.new ≡ self.old) ⊎ ((self.new.number ≡ self.old.number + 1) × (self.new.at ≡ 0)) }
         ensures memory { IsErrOf result WantOfMemory → self.new ≡ self.old }
         ensures unchanged { (D.state disk.old).tells ≡ true → IsErrOf result WantOfMemory → Becomes (λ files. files) (D.state disk.old) (D.state disk.new) }
-        ensures limit { OnOk result (self.new.number < segment_limit) }
-        ensures low { self.old.number < segment_limit → self.new.number < segment_limit }
+        ensures limit { OnOk result (self.new.number < NUMBER_END) }
+        ensures low { self.old.number < NUMBER_END → self.new.number < NUMBER_END }
         ensures spare { (D.state disk.old).spare ≤ (D.state disk.new).spare }
         ensures files { (D.state disk.old).tells ≡ true → BeganOrNot (self.old.number + 1) (D.state disk.old) (D.state disk.new) }
         ensures any_moment { (D.state disk.old).tells ≡ true → Elapses (MayBegin (self.old.number + 1)) (D.state disk.old) (D.state disk.new) }
         ensures tells { (D.state disk.new).tells ≡ (D.state disk.old).tells }
         ensures faults { CountsFaults (IsErrOf result DiskFailed) (D.state disk.old).faults (D.state disk.new).faults }
     {
-        if self.number >= SEGMENT_LIMIT - 1 {
+        if self.number >= NUMBER_END - 1 {
             return Err(DiskErr::Memory);
         }
         let next = self.number + 1;
@@ -117,24 +116,24 @@ impl Log {
     }
 
     /// Makes room for one chunk of `len` bytes, in a fresh segment where the present one has too little or its end isn't
-    /// known. A fresh one has the next number; where that would be `SEGMENT_LIMIT`, memory is said to be wanted.
+    /// known. A fresh one has the next number; where that would be `NUMBER_END`, memory is said to be wanted.
     ///
     /// # Errors
     ///
     /// A fault, after which all chunks stay, and the fresh segment is there or not. Want of memory, which leaves the log's
     /// end and all files as they were.
     pub fn ready<D: Disk>(&mut self, disk: &mut D, len: u32) -> Result<(), DiskErr>
-        requires short { len ≤ 65531 }
+        requires short { 5 + len ≤ SEGMENT_BYTES }
         requires stands { Stands self.old (D.state disk.old) }
         ensures ok { OnOk result (IsReadyFor self.new len (D.state disk.new)) }
         ensures stands { Stands self.new (D.state disk.new) }
-        ensures same { self.old.clean ≡ true → self.old.at + 5 + len ≤ 65536 → self.new ≡ self.old }
-        ensures stays { self.old.clean ≡ true → self.old.at + 5 + len ≤ 65536 → LeavesFiles (IsErrOf result DiskFailed) (D.state disk.old) (D.state disk.new) }
+        ensures same { self.old.clean ≡ true → self.old.at + 5 + len ≤ SEGMENT_BYTES → self.new ≡ self.old }
+        ensures stays { self.old.clean ≡ true → self.old.at + 5 + len ≤ SEGMENT_BYTES → LeavesFiles (IsErrOf result DiskFailed) (D.state disk.old) (D.state disk.new) }
         ensures fresh { OnOk result ((self.new ≡ self.old) ⊎ (self.new ≡ record { number = self.old.number + 1; at = 0; clean = true })) }
         ensures end { (self.new ≡ self.old) ⊎ ((self.new.number ≡ self.old.number + 1) × (self.new.at ≡ 0)) }
         ensures memory { IsErrOf result WantOfMemory → self.new ≡ self.old }
         ensures unchanged { (D.state disk.old).tells ≡ true → IsErrOf result WantOfMemory → Becomes (λ files. files) (D.state disk.old) (D.state disk.new) }
-        ensures limit { self.old.number < segment_limit → self.new.number < segment_limit }
+        ensures limit { self.old.number < NUMBER_END → self.new.number < NUMBER_END }
         ensures files { (D.state disk.old).tells ≡ true → BeganOrNot (self.old.number + 1) (D.state disk.old) (D.state disk.new) }
         ensures any_moment { (D.state disk.old).tells ≡ true → Elapses (MayBegin (self.old.number + 1)) (D.state disk.old) (D.state disk.new) }
         ensures tells { (D.state disk.new).tells ≡ (D.state disk.old).tells }

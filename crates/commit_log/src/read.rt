@@ -1,18 +1,18 @@
 ghost use Rattle.std.specs.Prelude.{◌≡◌, ◌<◌, ℕ, true, ◌↔◌, IsTrue, IfOk, OnOk, IfErr, IfSome, IsErrOf};
+ghost use Rattle.m3_model.specs.declared.limits.TheConstants.{NUMBER_END};
 ghost use Rattle.m3_outside.specs.DiskState.{DiskState, Told};
 ghost use Rattle.m3_outside.specs.DiskCalls.{LeavesFiles};
 ghost use Rattle.m3_outside.specs.declared.disk_err.DiskErr.TheVariants.{Failed as DiskFailed};
 ghost use Rattle.commit_log.specs.Contents as contents;
 ghost use Rattle.commit_log.specs.Contents.{LogHolds, numbers};
-ghost use Rattle.commit_log.specs.LogEnd.{segment_limit, NoneFrom};
-ghost use Rattle.commit_log.specs.Places.{ArePlaced, AreInside};
+ghost use Rattle.commit_log.specs.LogEnd.{NoneFrom};
 ghost use Rattle.commit_log.specs.Reading.{FindsAll, MayBeFirstDamage};
 ghost use Rattle.commit_log.specs.declared.log_err.LogErr.TheVariants as errors;
 
-use crate::log::SEGMENT_LIMIT;
+use crate::file::read_front;
 use crate::log_err::LogErr;
-use crate::place::ChunkPlace;
-use crate::segment::read_segment;
+use crate::segment::read_chunks;
+use m3_model::limits::NUMBER_END;
 use m3_model::seq::Seq;
 use m3_outside::disk::Disk;
 use m3_outside::disk_err::DiskErr;
@@ -24,8 +24,6 @@ use std::alloc::Global;
 pub struct Found {
     /// The chunks of all segments, by ascending number and place.
     pub chunks: Seq<Seq<u8>>,
-    /// Where each of them stands.
-    pub places: Seq<ChunkPlace>,
     /// The number for the next segment: one above all that are there, and 1 where none is.
     pub next: u64,
 }
@@ -54,11 +52,11 @@ pub(crate) fn segment_numbers<D: Disk>(alloc: Global, disk: &mut D) -> Result<Ve
 // One above all of these numbers, or 1 where there are none. None where that isn't below the limit.
 fn next_after(numbers: &[u64]) -> Option<u64>
     ensures next { IfSome result (λ next. next ≡ contents.next_after numbers.now) }
-    ensures limit { IfSome result (λ next. next < segment_limit) }
+    ensures limit { IfSome result (λ next. next < NUMBER_END) }
 {
     let mut next = 1;
     for number in numbers {
-        if *number >= SEGMENT_LIMIT - 1 {
+        if *number >= NUMBER_END - 1 {
             return None;
         }
         next = next.max(*number + 1);
@@ -66,51 +64,74 @@ fn next_after(numbers: &[u64]) -> Option<u64>
     Some(next)
 }
 
-// Appends the chunks of the segments of these numbers, and their places.
+/// The segments of a disk.
+#[derive(Drop)]
+pub struct Segments {
+    /// Their numbers, ascending.
+    pub numbers: Seq<u64>,
+    /// The number for the next segment: one above all that are there, and 1 where none is.
+    pub next: u64,
+}
+
+/// The numbers of the segments that are there. A log that was read goes on in a fresh segment of the number `next`, as
+/// `Log::begin` makes it, and never in one that was read.
+///
+/// # Errors
+///
+/// A fault. Want of memory, also where the number `next` would be `NUMBER_END` or a higher one. All files stay.
+pub fn list_segments<D: Disk>(alloc: Global, disk: &mut D) -> Result<Segments, DiskErr>
+    ensures leaves { LeavesFiles (IsErrOf result DiskFailed) (D.state disk.old) (D.state disk.new) }
+    ensures ok { (D.state disk.old).tells ≡ true → IfOk result (λ segments. segments.numbers ≡ numbers (D.state disk.old).files) }
+    ensures next { IfOk result (λ segments. segments.next ≡ contents.next_after segments.numbers) }
+    ensures limit { IfOk result (λ segments. segments.next < NUMBER_END) }
+    ensures fresh { IfOk result (λ segments. Told (D.state disk.new) (NoneFrom segments.next)) }
+{
+    let numbers = segment_numbers(alloc, disk)?;
+    match next_after(&numbers) {
+        None => Err(DiskErr::Memory),
+        Some(next) => Ok(Segments {
+            numbers: Seq::from_vec(numbers),
+            next,
+        }),
+    }
+}
+
+// Appends the chunks of the segments of these numbers.
 fn read_segments<D: Disk>(
     alloc: Global,
     disk: &mut D,
     numbers: &[u64],
     chunks: &mut Vec<Seq<u8>>,
-    places: &mut Vec<ChunkPlace>,
 ) -> Result<(), LogErr>
     ensures leaves { LeavesFiles (IsErrOf result errors.Disk) (D.state disk.old) (D.state disk.new) }
-    ensures ok { (D.state disk.old).tells ≡ true → OnOk result (FindsAll numbers.now (D.state disk.old).files chunks.old.items chunks.new.items places.old.items places.new.items) }
-    ensures inside { AreInside chunks.old.items places.old.items → OnOk result (AreInside chunks.new.items places.new.items) }
+    ensures ok { (D.state disk.old).tells ≡ true → OnOk result (FindsAll numbers.now (D.state disk.old).files chunks.old.items chunks.new.items) }
     ensures err { (D.state disk.old).tells ≡ true → IfErr result (MayBeFirstDamage numbers.now (D.state disk.old).files) }
 {
     for number in numbers {
-        read_segment(alloc, disk, *number, chunks, places)?;
+        let front = read_front(alloc, disk, *number)?;
+        read_chunks(alloc, *number, &front, chunks)?;
     }
     Ok(())
 }
 
-/// Reads the whole log. A chunk is there where its gate is open: what stands behind a closed gate is no part of it. The
-/// log goes on in a fresh segment of the number `next`, as `Log::begin` makes it, and never in one that was read.
+/// Reads the whole log. A chunk is there where its gate is open: what stands behind a closed gate is no part of it.
 ///
 /// # Errors
 ///
-/// A fault. Damage, which names the lowest segment that isn't in the grammar and the first place in it from which on it
-/// isn't. Want of memory, also where the number `next` would be `SEGMENT_LIMIT` or a higher one. All files stay.
+/// A fault. Damage, which names the lowest segment that isn't in the grammar and the first place in it at which no segment
+/// goes on. Want of memory, also where the number `next` would be `NUMBER_END` or a higher one. All files stay.
 pub fn read_all<D: Disk>(alloc: Global, disk: &mut D) -> Result<Found, LogErr>
     ensures leaves { LeavesFiles (IsErrOf result errors.Disk) (D.state disk.old) (D.state disk.new) }
     ensures ok { (D.state disk.old).tells ≡ true → IfOk result (λ found. LogHolds found.chunks found.next (D.state disk.old).files) }
-    ensures limit { IfOk result (λ found. found.next < segment_limit) }
-    ensures placed { (D.state disk.old).tells ≡ true → IfOk result (λ found. ArePlaced (numbers (D.state disk.old).files) (D.state disk.old).files found.chunks found.places) }
-    ensures inside { IfOk result (λ found. AreInside found.chunks found.places) }
+    ensures limit { IfOk result (λ found. found.next < NUMBER_END) }
     ensures fresh { IfOk result (λ found. Told (D.state disk.new) (NoneFrom found.next)) }
     ensures err { (D.state disk.old).tells ≡ true → IfErr result (MayBeFirstDamage (numbers (D.state disk.old).files) (D.state disk.old).files) }
 {
-    let numbers = segment_numbers(alloc, disk)?;
-    let Some(next) = next_after(&numbers) else {
-        return Err(LogErr::Memory);
-    };
+    let Segments { numbers, next } = list_segments(alloc, disk)?;
     let mut chunks = Vec::new(alloc);
-    let mut places = Vec::new(alloc);
-    read_segments(alloc, disk, &numbers, &mut chunks, &mut places)?;
+    read_segments(alloc, disk, numbers.as_slice(), &mut chunks)?;
     Ok(Found {
         chunks: Seq::from_vec(chunks),
-        places: Seq::from_vec(places),
         next,
     })
 }

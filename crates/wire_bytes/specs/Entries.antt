@@ -1,6 +1,7 @@
 -- Entries as bytes: points, a fence or a tenure.
 use Rattle.std.specs.Prelude.{◌≡◌, ℕ, ◌+◌, ◌<◌, ◌≤◌, ◌^◌, List, [], ◌∷◌, ◌++◌, length, ⊤}
 use Rattle.byteorder.specs.Endian.{big_bytes}
+use Rattle.m3_model.specs.declared.limits.TheConstants.{MOST_PAGE_POINTS}
 use Rattle.m3_model.specs.declared.point.Point.{Point}
 use Rattle.wire_bytes.specs.Fields.{Stands}
 use Rattle.wire_bytes.specs.Points.{IsPoint, point_bytes}
@@ -36,7 +37,7 @@ tenure_entry tenure = big_bytes 1 3 ++ big_bytes 8 tenure
 -- as many points as an entry may have
 pub record ArePoints (ps : List Point) : Type 0 where
   pub some : 1 ≤ length ps
-  pub most : length ps ≤ 64
+  pub most : length ps ≤ MOST_PAGE_POINTS
   pub bounded : AllBounded ps
 
 -- an entry's bytes

@@ -1,17 +1,18 @@
 -- Points as bytes.
-use Rattle.std.specs.Prelude.{◌≡◌, ℕ, ℤ, ◌+◌, ◌<◌, ◌≤◌, ◌^◌, List, ◌++◌, length, IsUtf8, FitsSigned}
+use Rattle.std.specs.Prelude.{◌≡◌, ℕ, ℤ, ◌+◌, ◌<◌, ◌≤◌, List, ◌++◌, length, IsUtf8, FitsSigned}
 use Rattle.std.specs.Int.{w64, cast_unsigned}
 use Rattle.byteorder.specs.Endian.{big_bytes}
+use Rattle.m3_model.specs.declared.limits.TheConstants.{MOST_ID_BYTES, MOST_NAMESPACES, TIME_END}
 use Rattle.wire_bytes.specs.Fields.{Stands}
 use Rattle.wire_bytes.specs.declared.points.PointAt.{PointAt}
 
 -- the values that a point may have
 pub record IsPoint (ns : ℕ) (id : List ℕ) (t : ℕ) (v : ℤ) : Type 0 where
-  pub namespace : ns < 8
+  pub namespace : ns < MOST_NAMESPACES
   pub some : 1 ≤ length id
-  pub most : length id ≤ 512
+  pub most : length id ≤ MOST_ID_BYTES
   pub utf8 : IsUtf8 id
-  pub time : t < 2 ^ 62
+  pub time : t < TIME_END
   pub value : FitsSigned w64 v
 
 -- its namespace, the length of its identifier, the identifier, its time and its value

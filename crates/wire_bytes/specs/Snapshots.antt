@@ -5,6 +5,7 @@ use Rattle.byteorder.specs.Endian.{big_bytes}
 use Rattle.m3_model.specs.Ascends.{Ascends}
 use Rattle.m3_model.specs.Contents.{key_of}
 use Rattle.m3_model.specs.Keys.{key_cmp}
+use Rattle.m3_model.specs.declared.limits.TheConstants.{NUMBER_END}
 use Rattle.m3_model.specs.declared.point.Point.{Point}
 use Rattle.wire_bytes.specs.Entries.{points_bytes, AllBounded}
 
@@ -21,7 +22,7 @@ snapshot_bytes s = big_bytes 1 1 ++ (big_bytes 8 s.number ++ (big_bytes 8 s.tenu
 
 -- what a snapshot has lies within the bounds of its fields; no two points have one key
 pub record IsSnapshot (s : Snapshot) : Type 0 where
-  pub number : s.number < 2 ^ 62
+  pub number : s.number < NUMBER_END
   pub tenure : s.tenure < 2 ^ 64
   pub fence : s.fence < 2 ^ 64
   pub first_segment : s.first_segment < 2 ^ 64

@@ -7,6 +7,7 @@ use Rattle.sha2.specs.Sha256.{sha256}
 use Rattle.m3_model.specs.Ascends.{Ascends}
 use Rattle.m3_model.specs.Members.{IsIn}
 use Rattle.m3_model.specs.Tags.{IsBelow}
+use Rattle.m3_model.specs.declared.limits.TheConstants.{DURATION_END, MOST_ID_BYTES, MOST_NAMESPACES, NUMBER_END, TIME_END}
 use Rattle.m3_model.specs.declared.point.Point.{Point}
 use Rattle.m3_model.specs.declared.point.Series.{Series}
 
@@ -23,13 +24,13 @@ pub record VolumeHead : Type 0 where
 -- a series of a block: its times ascend and lie in the block, and each of its counts fits its field
 pub record IsRow (start size : ℕ) (s : Series) : Type 0 where
   pub some : 1 ≤ length s.id
-  pub most : length s.id ≤ 512
+  pub most : length s.id ≤ MOST_ID_BYTES
   pub utf8 : IsUtf8 s.id
   pub counted : length s.points < 2 ^ 32
   pub long : 6 + length s.id + 16 * length s.points < 2 ^ 32
   pub low : (x : ℕ × ℤ) → IsIn s.points x → start ≤ x.0
   pub high : (x : ℕ × ℤ) → IsIn s.points x → x.0 < start + size
-  pub time : (x : ℕ × ℤ) → IsIn s.points x → x.0 < 2 ^ 62
+  pub time : (x : ℕ × ℤ) → IsIn s.points x → x.0 < TIME_END
   pub value : (x : ℕ × ℤ) → IsIn s.points x → FitsSigned w64 x.1
   pub times : Ascends (λ a b. a.0 < b.0) s.points
 
@@ -156,11 +157,11 @@ part_bytes Checkpoint v rows = checkpoint_bytes (digests_bytes v rows)
 -- what a head has lies within the bounds of its fields
 pub record IsHead (v : VolumeHead) : Type 0 where
   pub format : (v.format ≡ 1) ⊎ (v.format ≡ 2)
-  pub ns : v.ns < 8
-  pub start : v.start < 2 ^ 62
+  pub ns : v.ns < MOST_NAMESPACES
+  pub start : v.start < TIME_END
   pub size_low : 1 ≤ v.size
-  pub size_high : v.size < 2 ^ 40
-  pub number : v.number < 2 ^ 62
+  pub size_high : v.size < DURATION_END
+  pub number : v.number < NUMBER_END
 
 -- there is a series, they ascend by identifier, and each number of a part fits its field
 pub record IsVolume (v : VolumeHead) (rows : List Series) : Type 0 where

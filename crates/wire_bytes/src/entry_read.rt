@@ -4,6 +4,7 @@ ghost use Rattle.wire_bytes.specs.Fields.{Stands, IsFault};
 ghost use Rattle.wire_bytes.specs.Points.{APoint};
 ghost use Rattle.wire_bytes.specs.Entries.{AnEntry, EntryStands, PointsStand};
 ghost use Rattle.wire_bytes.specs.Bodies.{SomePoints, SomeCounted};
+ghost use Rattle.m3_model.specs.declared.limits.TheConstants.{MOST_PAGE_POINTS};
 ghost use Rattle.m3_model.specs.declared.point.Point.{Point as APointOf};
 ghost use Rattle.wire_bytes.specs.declared.wire_err.WireErr.{WireErr as Fault};
 ghost use Rattle.wire_bytes.specs.declared.entry_read.EntryAt.{EntryAt as Found};
@@ -12,6 +13,7 @@ use crate::entries::{FENCE, POINTS, TENURE};
 use crate::numbers::{get_between, get_number};
 use crate::points::get_point;
 use crate::wire_err::WireErr;
+use m3_model::limits::MOST_PAGE_POINTS;
 
 /// An entry that stands in some bytes. `next` is the place behind it.
 #[derive(Clone, Copy, Debug, PartialEq, Eq)]
@@ -47,10 +49,10 @@ fn behind_points(bytes: &[u8], from: usize, count: usize) -> Result<usize, WireE
 
 // The points behind their count, which stands at the place.
 fn read_points(bytes: &[u8], at: usize) -> Result<(usize, usize), WireErr>
-    ensures ok { IfOk result (λ r. (1 ≤ r.0) × (r.0 ≤ 64) × ((ps : List APointOf) × (length ps ≡ r.0) × Stands (big_bytes 2 r.0) bytes.now at (at + 2) × PointsStand ps bytes.now (at + 2) r.1)) }
+    ensures ok { IfOk result (λ r. (1 ≤ r.0) × (r.0 ≤ MOST_PAGE_POINTS) × ((ps : List APointOf) × (length ps ≡ r.0) × Stands (big_bytes 2 r.0) bytes.now at (at + 2) × PointsStand ps bytes.now (at + 2) r.1)) }
     ensures err { IfErr result (λ e. IsFault SomeCounted bytes.now at e) }
 {
-    let count = get_between(bytes, at, 2, 1, 64)? as usize;
+    let count = get_between(bytes, at, 2, 1, MOST_PAGE_POINTS as u64)? as usize;
     let next = behind_points(bytes, at + 2, count)?;
     Ok((count, next))
 }

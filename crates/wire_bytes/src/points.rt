@@ -7,16 +7,8 @@ ghost use Rattle.wire_bytes.specs.declared.points.PointAt.{PointAt as Found};
 use crate::numbers::{get_between, get_number, put_number};
 use crate::texts::find_text;
 use crate::wire_err::WireErr;
+use m3_model::limits::{MOST_ID_BYTES, MOST_NAMESPACES, TIME_END};
 use m3_model::memory::Memory;
-
-// Namespaces are below this one.
-const NAMESPACES: u64 = 8;
-
-// The most bytes of an identifier.
-const ID_BYTES: u64 = 512;
-
-// Times are below this one.
-const TIMES: u64 = 1 << 62;
 
 /// A point that stands in some bytes: its identifier is the bytes from `id_from` to `id_to`, and `next` is the place
 /// behind the point.
@@ -68,12 +60,12 @@ fn read_point(bytes: &[u8], at: usize) -> Result<PointAt, WireErr>
     ensures ok { IfOk result (λ p. PointStands bytes.now at p) }
     ensures err { IfErr result (λ e. IsFault APoint bytes.now at e) }
 {
-    let ns = get_between(bytes, at, 1, 0, NAMESPACES - 1)?;
-    let len = get_between(bytes, at + 1, 2, 1, ID_BYTES)?;
+    let ns = get_between(bytes, at, 1, 0, MOST_NAMESPACES as u64 - 1)?;
+    let len = get_between(bytes, at + 1, 2, 1, MOST_ID_BYTES as u64)?;
     let id_from = at + 3;
     find_text(bytes, id_from, len as usize)?;
     let id_to = id_from + len as usize;
-    let t = get_between(bytes, id_to, 8, 0, TIMES - 1)?;
+    let t = get_between(bytes, id_to, 8, 0, TIME_END - 1)?;
     let v = get_number(bytes, id_to + 8, 8)?;
     Ok(PointAt {
         ns: ns as u8,

@@ -1,5 +1,5 @@
 use Rattle.std.proofs.Common.{◌≡◌, ◌<◌, ◌≤◌, max, drop}
-use Rattle.commit_log.specs.LogEnd.{segment_limit}
+use Rattle.m3_model.specs.declared.limits.TheConstants.{NUMBER_END}
 use Rattle.commit_log.specs.Contents as contents
 use Rattle.commit_log.proofs.read.next_after.Given as goal
 
@@ -7,6 +7,6 @@ use Rattle.commit_log.proofs.read.next_after.Given as goal
 abbrev pub invariant-loop-number : goal.invariant-loop-number
 invariant-loop-number l = record {
   least : 1 ≤ l.next;
-  limit : l.next < segment_limit;
+  limit : l.next < NUMBER_END;
   rest : max l.next (contents.next_after (drop l.number-index l.numbers)) ≡ contents.next_after l.numbers;
 }

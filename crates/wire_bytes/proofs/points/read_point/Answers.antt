@@ -1,4 +1,4 @@
-use Rattle.std.proofs.Common.{◌+◌, ◌-◌, take, drop, ap, ◌∙◌, to_z, of_z, w64}
+use Rattle.std.proofs.Common.{◌+◌, take, drop, ap, ◌∙◌, to_z, of_z, w64}
 use Rattle.std.proofs.lemmas.Int.{of_z-to_z}
 use Rattle.wire_bytes.specs.Fields.{IsFault}
 use Rattle.wire_bytes.specs.Points.{APoint}
