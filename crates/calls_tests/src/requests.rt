@@ -1,4 +1,4 @@
-use m3_json::fault::LineErr;
+use line_fields::fault::LineErr;
 use m3_json::lines::read_line;
 use m3_model::act::Act;
 use m3_model::point::Matcher;
