@@ -336,9 +336,16 @@ fn tell_act(act: &Act, out: &mut String) -> Result<(), Fail> {
     Ok(())
 }
 
+fn tell_request(request: &Request, out: &mut String) -> Result<(), Fail> {
+    match request {
+        Request::One(act) => tell_act(act, out),
+        Request::Par { .. } => Ok(()),
+    }
+}
+
 fn tell_line(alloc: Global, line: &str, out: &mut String) -> Result<(), Fail> {
-    if let Ok(Request::One(act)) = read_line(alloc, line.as_bytes()) {
-        tell_act(&act, out)?;
+    if let Ok(request) = read_line(alloc, line.as_bytes()) {
+        tell_request(&request, out)?;
     }
     Ok(write!(out, " => {line}\n")?)
 }
