@@ -97,7 +97,10 @@ fn booted(alloc: Global, fuse: Option<u64>) -> Result<Machine<MemDisk>, Memory> 
     let mut machine = Machine::new(alloc, MemDisk::new(alloc, &[], fuse)?);
     match machine.boot(1) {
         Ok(_) => Ok(machine),
-        Err(_) => Err(Memory),
+        Err(_) => {
+            drop(machine);
+            Err(Memory)
+        }
     }
 }
 
@@ -110,7 +113,10 @@ fn add_machine(
     let machine = booted(alloc, fuse)?;
     match machines.insert(Slot { shard: 0, node }, machine) {
         Ok(()) => Ok(()),
-        Err(_) => Err(Memory),
+        Err(back) => {
+            drop(back);
+            Err(Memory)
+        }
     }
 }
 

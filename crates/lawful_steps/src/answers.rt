@@ -6,11 +6,11 @@ ghost use Rattle.m3_model.specs.Members.{IsIn};
 ghost use Rattle.cluster_core.specs.Answers.{IsWanted, IsFound, AsksFor, IsPast, IsUpTo, GoesOn, IsPage};
 ghost use Rattle.lawful_steps.specs.Shows.{IsAnswered, IsPaged};
 
-use crate::ascending::{ByKey, is_below, is_ordered};
-use crate::points::{covers, has_point, is_gone, is_wanted, points_in, space_picked};
 use cluster_core::event::StepCall;
 use cluster_core::replica_state::ReplicaState;
 use equality::same::Same;
+use event_facts::ascending::{ByKey, is_below, is_ordered};
+use event_facts::points::{covers, has_point, is_gone, is_wanted, points_in, space_picked};
 use m3_model::memory::Memory;
 use m3_model::point::{Key, Page, Pick, Point, Series};
 use m3_model::rules::Rules;

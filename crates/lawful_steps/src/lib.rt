@@ -2,8 +2,5 @@
 #![tactic(auto)]
 
 mod answers;
-pub mod ascending;
-pub mod earlier;
-pub mod points;
 mod refusals;
 pub mod rows;

@@ -1,10 +1,11 @@
 //! Why a replica refuses a call.
-ghost use Rattle.std.specs.Prelude.{◌≡◌, ◌≤◌, ◌<◌, ◌+◌, ◌↔◌, IsTrue, nat_le, slice_get};
+ghost use Rattle.std.specs.Prelude.{◌≡◌, ◌≤◌, ◌<◌, ◌↔◌, IsTrue, slice_get};
 ghost use Rattle.std.specs.Option.{option_or};
 ghost use Rattle.cluster_core.specs.Refusals.{shut, closed, unowned, untenured, outdated, outside, first_refusal, uses_disk, reads_files};
 
 use cluster_core::event::StepCall;
 use cluster_core::replica_state::ReplicaState;
+use event_facts::points::has_passed;
 use m3_model::point::Point;
 use m3_model::reason::Reason;
 use m3_model::replica::Standing;
@@ -55,13 +56,6 @@ fn outdated(fence: u64, version: u64) -> Option<Reason>
     } else {
         Some(Reason::Stale { fence })
     }
-}
-
-/// Whether so much time has passed since the start.
-pub fn has_passed(start: u64, long: u64, now: u64) -> bool
-    ensures { result ≡ nat_le (start + long) now }
-{
-    start <= now && long <= now - start
 }
 
 fn outside(rules: &Rules, point: &Point) -> Option<Reason>

@@ -11,11 +11,11 @@ ghost use Rattle.cluster_core.specs.declared.event.StepReply.TheVariants as repl
 ghost use Rattle.m3_model.specs.declared.replica.Standing.TheVariants as standing;
 
 use crate::answers::{is_found, is_page};
-use crate::earlier::{has_clock, has_page, has_send, has_tenure};
-use crate::points::{covers, has_point, in_window, is_gone};
 use crate::refusals::{first_refusal, reads_files, uses_disk};
 use cluster_core::event::{Event, StepCall, StepReply};
 use cluster_core::replica_state::ReplicaState;
+use event_facts::earlier::{has_clock, has_page, has_send, has_tenure};
+use event_facts::points::{covers, has_point, in_window, is_gone};
 use m3_model::memory::Memory;
 use m3_model::point::{Page, Point};
 use m3_model::reason::Reason;

@@ -1,7 +1,2 @@
-mod RestLemmas
 mod LoopLemmas
-mod CountLemmas
-mod CoverLemmas
-mod PeerLemmas
 mod LegalLemmas
-mod EarlierLemmas

@@ -1,4 +1,2 @@
-pub mod Joining
 pub mod Fetches
 pub mod Sumless
-pub mod Takes

@@ -1,12 +1,3 @@
-pub mod Keys
-pub mod Entries
-pub mod Steps
-pub mod ListLimits
-pub mod Differ
-pub mod NodeLimits
-pub mod MatcherLimits
-pub mod FateLimits
-pub mod Messages
 pub mod Meanings
 pub mod PutOff
 pub mod Served

@@ -4,12 +4,12 @@ use Rattle.std.specs.Prelude.{Option, Some, None, Result, Ok, Err, IsTrue, IsUtf
 use Rattle.std.proofs.lemmas.Bool.{both_ways}
 use Rattle.serde_json.specs.Data.{Data}
 use Rattle.serde_json.specs.Read.{read}
-use Rattle.m3_json.specs.declared.fault.LineErr.{LineErr}
-use Rattle.m3_json.specs.declared.fault.LineErr.TheVariants as errors
+use Rattle.line_fields.specs.declared.fault.LineErr.{LineErr}
+use Rattle.line_fields.specs.declared.fault.LineErr.TheVariants as errors
 use Rattle.m3_model.specs.declared.act.Act.{Act}
 use Rattle.m3_model.specs.declared.turn.Request.{Request}
 use Rattle.m3_model.specs.declared.turn.Request.TheVariants as request
-use Rattle.m3_json.specs.Fields.{Fails}
+use Rattle.line_fields.specs.Fields.{Fails}
 use Rattle.m3_json.specs.Laws.{HasOneMeaning}
 use Rattle.m3_json.specs.NotYet.{is_put_off}
 use Rattle.m3_json.specs.Requests.{NamesSeries, SpellsAct, SpellsNoAct, IsPutOff, Spells, SpellsNothing, LineMeans}

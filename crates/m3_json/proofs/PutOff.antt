@@ -1,6 +1,6 @@
 -- Which objects are put off.
 use Rattle.std.proofs.Common.{◌≡◌, ◌≢◌, ℕ, List, refl, sym, ap, ◌∙◌, inl, inr, false, true}
-use Rattle.std.specs.Prelude.{Option, Some, None, Result, Ok, Err, IsTrue, Bool, nat_eq, ◌⊎◌, if◌then◌else◌, codes, option_and_then, ◌^◌}
+use Rattle.std.specs.Prelude.{Option, Some, None, Result, Ok, Err, IsTrue, Bool, nat_eq, ◌⊎◌, if◌then◌else◌, codes, option_and_then, ◌+◌}
 use Rattle.std.specs.Option.{option_map_or}
 use Rattle.std.specs.Cmp.Lexicographic.{pointwise, bytes_decides}
 use Rattle.std.proofs.lemmas.Bool.{both_ways, false_from_ne_true}
@@ -11,18 +11,22 @@ use Rattle.m3_model.specs.declared.act.Fate.{Fate}
 use Rattle.m3_model.specs.declared.act.ReadLevel.{ReadLevel}
 use Rattle.m3_model.specs.declared.act.WriteLevel.{WriteLevel}
 use Rattle.m3_model.specs.declared.point.Matcher.{Matcher}
+use Rattle.m3_model.specs.declared.limits.TheConstants.{MOST_SHARDS, MOST_NODES, MOST_MATCHERS, MOST_FATES, MOST_CLIENTS, TIME_END}
 use Rattle.m3_model.specs.Names.{is_name}
 use Rattle.m3_model.specs.Tags.{is_tag_name}
-use Rattle.m3_json.specs.declared.fault.LineErr.{LineErr}
-use Rattle.m3_json.specs.declared.fault.LineErr.TheVariants as errors
-use Rattle.m3_json.specs.Fields.{◌>>=◌, needed, tested, is_one_of, text_of, name_of, number_of, field, text_at, name_at, number_at, value_at, optional_at}
-use Rattle.m3_json.specs.Lists.{has_count, items_at, entries_of, list_at}
-use Rattle.m3_json.specs.Rows.{node_of_two, node_of_items, node_of, names_differ, nodes_at, init_of, namespace_of, now_of, write_level_named, read_level_named, write_level_at, read_level_at, version_at, write_of, fetch_of, sign_named, matcher_of_three, matcher_of_items, matcher_of, matchers_at, match_of, stop_of, pick_at, restart_of, shard_at, bootstrap_of}
-use Rattle.m3_json.specs.Fates.{fate_named, fate_of_four, fate_of_items, fate_of, messages_differ, fates_at, fates_of, deliver_of}
+use Rattle.line_fields.specs.declared.fault.LineErr.{LineErr}
+use Rattle.line_fields.specs.declared.fault.LineErr.TheVariants as errors
+use Rattle.line_fields.specs.Fields.{◌>>=◌, needed, tested, is_one_of, text_of, name_in, number_of, field, text_at, name_at, number_at, value_at, optional_at}
+use Rattle.line_lists.specs.Lists.{has_count, items_at, entries_of, list_at}
+use Rattle.line_lists.specs.Nodes.{node_of_two, node_of_items, node_of, names_differ, nodes_at}
+use Rattle.line_lists.specs.Matchers.{sign_named, matcher_of_three, matcher_of_items, matcher_of, matchers_at}
+use Rattle.m3_json.specs.Rows.{init_of, namespace_of, now_of, write_level_named, read_level_named, write_level_at, read_level_at, version_at, write_of, fetch_of, match_of, stop_of, pick_at, restart_of, shard_asked, bootstrap_of}
+use Rattle.line_lists.specs.Fates.{fate_named, fate_of_four, fate_of_items, fate_of, messages_differ, fates_at}
+use Rattle.m3_json.specs.Fates.{fates_of, deliver_of}
 use Rattle.m3_json.specs.NotYet.{later_ops, refusal_of, is_put_off}
 use Rattle.m3_json.specs.Requests.{act_of, row_of, NamesSeries, IsPutOff}
 use Rattle.m3_json.specs.Laws.{HasLaterOp, HasLaterForm, PutsOffExactly}
-use Rattle.m3_json.proofs.Steps.{from_steps}
+use Rattle.line_lists.proofs.Steps.{from_steps}
 
 -- reading doesn't end in `Later`
 abbrev pub Decided : {A : Type 0} → Result A LineErr → Type 0
@@ -55,9 +59,9 @@ Decided-field key d = Decided-needed (get key d)
 Decided-text_of : (d : Data) → Decided (text_of d)
 Decided-text_of d = Decided-needed (as_str d)
 
-Decided-name_of : (d : Data) → Decided (name_of d)
-unfolding name_of
-Decided-name_of d = Decided-steps (text_of d) (tested is_name) (Decided-text_of d) (Decided-tested is_name)
+Decided-name_in : (d : Data) → Decided (name_in d)
+unfolding name_in
+Decided-name_in d = Decided-steps (text_of d) (tested is_name) (Decided-text_of d) (Decided-tested is_name)
 
 Decided-number_of : (from limit : ℕ) (d : Data) → Decided (number_of from limit d)
 unfolding number_of
@@ -69,7 +73,7 @@ Decided-text_at key d = Decided-steps (field key d) text_of (Decided-field key d
 
 Decided-name_at : (key : List ℕ) (d : Data) → Decided (name_at key d)
 unfolding name_at
-Decided-name_at key d = Decided-steps (field key d) name_of (Decided-field key d) Decided-name_of
+Decided-name_at key d = Decided-steps (field key d) name_in (Decided-field key d) Decided-name_in
 
 Decided-number_at : (key : List ℕ) (from limit : ℕ) (d : Data) → Decided (number_at key from limit d)
 unfolding number_at
@@ -109,10 +113,10 @@ Decided-read_level_at d =
 
 Decided-version_at : (d : Data) → Decided (version_at d)
 unfolding version_at
-Decided-version_at d = Decided-optional_at _ (codes "version") _ d (λ v. Decided-steps (number_of 0 (2 ^ 62) v) _ (Decided-number_of 0 (2 ^ 62) v) (λ n same. cc))
+Decided-version_at d = Decided-optional_at _ (codes "version") _ d (λ v. Decided-steps (number_of 0 TIME_END v) _ (Decided-number_of 0 TIME_END v) (λ n same. cc))
 
 Decided-node_of_two : (a b : Data) → Decided (node_of_two a b)
-Decided-node_of_two a b = Decided-steps (name_of a) _ (Decided-name_of a) (λ n. Decided-steps (name_of b) _ (Decided-name_of b) (λ g same. cc))
+Decided-node_of_two a b = Decided-steps (name_in a) _ (Decided-name_in a) (λ n. Decided-steps (name_in b) _ (Decided-name_in b) (λ g same. cc))
 
 Decided-node_of_items : (items : Items) → Decided (node_of_items items)
 Decided-node_of_items no_items = Decided-Form (List ℕ × List ℕ)
@@ -137,7 +141,7 @@ Decided-list_at row each key least most d = Decided-steps (items_at key least mo
 
 Decided-nodes_at : (key : List ℕ) (d : Data) → Decided (nodes_at key d)
 unfolding nodes_at
-Decided-nodes_at key d = Decided-steps (list_at node_of key 1 16 d) (tested names_differ) (Decided-list_at node_of Decided-node_of key 1 16 d) (Decided-tested names_differ)
+Decided-nodes_at key d = Decided-steps (list_at node_of key 1 MOST_NODES d) (tested names_differ) (Decided-list_at node_of Decided-node_of key 1 MOST_NODES d) (Decided-tested names_differ)
 
 Decided-sign_named : (sign : List ℕ) → Decided (sign_named sign)
 Decided-sign_named sign = Decided-if (pointwise nat_eq sign (codes "=")) _ _ (Decided-if (pointwise nat_eq sign (codes "!=")) _ _ (Decided-Form Bool))
@@ -161,7 +165,7 @@ Decided-matcher_of d = Decided-steps (needed (as_array d)) matcher_of_items (Dec
 
 Decided-matchers_at : (key : List ℕ) (d : Data) → Decided (matchers_at key d)
 unfolding matchers_at
-Decided-matchers_at key d = Decided-list_at matcher_of Decided-matcher_of key 0 16 d
+Decided-matchers_at key d = Decided-list_at matcher_of Decided-matcher_of key 0 MOST_MATCHERS d
 
 Decided-init_of : (d : Data) → Decided (init_of d)
 unfolding init_of
@@ -184,9 +188,9 @@ Decided-fate_named name = Decided-if (pointwise nat_eq name (codes "lose")) _ _ 
 
 Decided-fate_of_four : (a b c d : Data) → Decided (fate_of_four a b c d)
 Decided-fate_of_four a b c d =
-    Decided-steps (number_of 0 9 a) _ (Decided-number_of 0 9 a) (λ client.
-    Decided-steps (number_of 0 (2 ^ 62) b) _ (Decided-number_of 0 (2 ^ 62) b) (λ call.
-    Decided-steps (name_of c) _ (Decided-name_of c) (λ node.
+    Decided-steps (number_of 0 (MOST_CLIENTS + 1) a) _ (Decided-number_of 0 (MOST_CLIENTS + 1) a) (λ client.
+    Decided-steps (number_of 0 TIME_END b) _ (Decided-number_of 0 TIME_END b) (λ call.
+    Decided-steps (name_in c) _ (Decided-name_in c) (λ node.
     Decided-steps (text_of d >>= fate_named) _ (Decided-steps (text_of d) fate_named (Decided-text_of d) Decided-fate_named) (λ fate same. cc))))
 
 Decided-fate_of_items : (items : Items) → Decided (fate_of_items items)
@@ -203,7 +207,7 @@ Decided-fate_of d = Decided-steps (needed (as_array d)) fate_of_items (Decided-n
 
 Decided-fates_at : (key : List ℕ) (d : Data) → Decided (fates_at key d)
 unfolding fates_at
-Decided-fates_at key d = Decided-steps (list_at fate_of key 0 1024 d) (tested messages_differ) (Decided-list_at fate_of Decided-fate_of key 0 1024 d) (Decided-tested messages_differ)
+Decided-fates_at key d = Decided-steps (list_at fate_of key 0 MOST_FATES d) (tested messages_differ) (Decided-list_at fate_of Decided-fate_of key 0 MOST_FATES d) (Decided-tested messages_differ)
 
 Decided-fates_of : (d : Data) → Decided (fates_of d)
 unfolding fates_of
@@ -219,19 +223,19 @@ Decided-stop_of d = search (Decided-steps, Decided-Ok, Decided-tested, Decided-n
 
 Decided-pick_at : (d : Data) → Decided (pick_at d)
 unfolding pick_at
-Decided-pick_at d = Decided-optional_at _ (codes "pick") _ d (Decided-number_of 0 (2 ^ 62))
+Decided-pick_at d = Decided-optional_at _ (codes "pick") _ d (Decided-number_of 0 TIME_END)
 
 Decided-restart_of : (d : Data) → Decided (restart_of d)
 unfolding restart_of
 Decided-restart_of d = search (Decided-steps, Decided-Ok, Decided-tested, Decided-name_at, Decided-pick_at) depth 20
 
-Decided-shard_at : (d : Data) → Decided (shard_at d)
-unfolding shard_at
-Decided-shard_at d = Decided-optional_at _ (codes "shard") _ d (λ v. Decided-steps (number_of 0 64 v) _ (Decided-number_of 0 64 v) (λ n same. cc))
+Decided-shard_asked : (d : Data) → Decided (shard_asked d)
+unfolding shard_asked
+Decided-shard_asked d = Decided-optional_at _ (codes "shard") _ d (λ v. Decided-steps (number_of 0 MOST_SHARDS v) _ (Decided-number_of 0 MOST_SHARDS v) (λ n same. cc))
 
 Decided-bootstrap_of : (d : Data) → Decided (bootstrap_of d)
 unfolding bootstrap_of
-Decided-bootstrap_of d = search (Decided-steps, Decided-Ok, Decided-tested, Decided-name_at, Decided-shard_at) depth 20
+Decided-bootstrap_of d = search (Decided-steps, Decided-Ok, Decided-tested, Decided-name_at, Decided-shard_asked) depth 20
 
 -- where a chain of rows is answered `Later`, a row that decides isn't the one that was taken
 passes : {A : Type 0} (taken : Bool) (row others : Result A LineErr) → Decided row → (if taken then row else others) ≡ Err errors.Later → others ≡ Err errors.Later

@@ -6,11 +6,11 @@ use Rattle.m3_model.specs.Limits.{IsSameMessage}
 use Rattle.m3_model.specs.declared.act.Act.{Act}
 use Rattle.m3_model.specs.declared.act.Fate.{Fate}
 use Rattle.m3_model.specs.declared.turn.Request.{Request}
-use Rattle.m3_json.specs.declared.fault.LineErr.{LineErr}
-use Rattle.m3_json.specs.declared.fault.LineErr.TheVariants as errors
-use Rattle.m3_json.specs.Fields.{is_one_of, text_at}
-use Rattle.m3_json.specs.Rows.{names_differ}
-use Rattle.m3_json.specs.Fates.{messages_differ}
+use Rattle.line_fields.specs.declared.fault.LineErr.{LineErr}
+use Rattle.line_fields.specs.declared.fault.LineErr.TheVariants as errors
+use Rattle.line_fields.specs.Fields.{is_one_of, text_at}
+use Rattle.line_lists.specs.Nodes.{names_differ}
+use Rattle.line_lists.specs.Fates.{messages_differ}
 use Rattle.m3_json.specs.NotYet.{later_ops, is_put_off}
 use Rattle.m3_json.specs.Requests.{act_of, NamesSeries, IsPutOff, LineMeans}
 

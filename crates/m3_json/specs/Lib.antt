@@ -1,5 +1,3 @@
-pub mod Fields
-pub mod Lists
 pub mod Rows
 pub mod Fates
 pub mod NotYet

@@ -3,9 +3,9 @@ use Rattle.std.specs.Prelude.{ℕ, List, [], ◌∷◌, Bool, true, false, not, 
 use Rattle.m3_model.specs.declared.act.Act.{Act}
 use Rattle.m3_model.specs.declared.act.Act.TheVariants as act
 use Rattle.m3_model.specs.NotYet.{fills_its_nodes}
-use Rattle.m3_json.specs.declared.fault.LineErr.{LineErr}
-use Rattle.m3_json.specs.declared.fault.LineErr.TheVariants as errors
-use Rattle.m3_json.specs.Fields.{is_one_of}
+use Rattle.line_fields.specs.declared.fault.LineErr.{LineErr}
+use Rattle.line_fields.specs.declared.fault.LineErr.TheVariants as errors
+use Rattle.line_fields.specs.Fields.{is_one_of}
 
 -- the ops that are put off, whatever other fields stand with them
 abbrev pub later_ops : List (List ℕ)

@@ -8,9 +8,9 @@ use Rattle.m3_model.specs.declared.act.Act.{Act}
 use Rattle.m3_model.specs.declared.act.Act.TheVariants as act
 use Rattle.m3_model.specs.declared.turn.Request.{Request}
 use Rattle.m3_model.specs.declared.turn.Request.TheVariants as request
-use Rattle.m3_json.specs.declared.fault.LineErr.{LineErr}
-use Rattle.m3_json.specs.declared.fault.LineErr.TheVariants as errors
-use Rattle.m3_json.specs.Fields.{◌>>=◌, text_at}
+use Rattle.line_fields.specs.declared.fault.LineErr.{LineErr}
+use Rattle.line_fields.specs.declared.fault.LineErr.TheVariants as errors
+use Rattle.line_fields.specs.Fields.{◌>>=◌, text_at}
 use Rattle.m3_json.specs.Rows.{init_of, namespace_of, now_of, write_of, fetch_of, match_of, stop_of, restart_of, bootstrap_of}
 use Rattle.m3_json.specs.Fates.{fates_of, deliver_of}
 use Rattle.m3_json.specs.NotYet.{refusal_of, is_put_off}

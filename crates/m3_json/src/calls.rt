@@ -1,14 +1,14 @@
 ghost use Rattle.std.specs.Prelude.{◌≡◌, IfOk, IfSome};
 ghost use Rattle.serde_json.specs.View.{view};
 ghost use Rattle.m3_model.specs.Limits.{MeetsLimits, IsMoment};
-ghost use Rattle.m3_json.specs.Fields.{Gives};
+ghost use Rattle.line_fields.specs.Fields.{Gives};
 ghost use Rattle.m3_json.specs.Requests.{NamesSeries};
 ghost use Rattle.m3_json.specs.Rows.{write_level_named, read_level_named, write_level_at, read_level_at, version_at, write_of, fetch_of};
 
-use crate::fault::LineErr;
-use crate::fields::{has_only, name_at, number_at, number_of, text_at, text_of, value_at};
-use crate::moment::MOMENT_LIMIT;
+use line_fields::fault::LineErr;
+use line_fields::fields::{has_only, name_at, number_at, number_of, text_at, text_of, value_at};
 use m3_model::act::{Act, ReadLevel, WriteLevel};
+use m3_model::limits::TIME_END;
 use m3_model::text::Text;
 use serde_json::Value;
 use std::alloc::Global;
@@ -65,7 +65,7 @@ pub fn version_at(value: &Value) -> Result<Option<u64>, LineErr>
 {
     match value.get("version") {
         None => Ok(None),
-        Some(version) => Ok(Some(number_of(version, 0, MOMENT_LIMIT)?)),
+        Some(version) => Ok(Some(number_of(version, 0, TIME_END)?)),
     }
 }
 
@@ -80,7 +80,7 @@ pub fn write_of(alloc: Global, value: &Value) -> Result<Act, LineErr>
     }
     let ns = name_at(value, "ns")?;
     let id = text_at(value, "id")?;
-    let t = number_at(value, "t", 0, MOMENT_LIMIT)?;
+    let t = number_at(value, "t", 0, TIME_END)?;
     let v = value_at(value, "v")?;
     let level = write_level_at(value)?;
     let version = version_at(value)?;
@@ -105,8 +105,8 @@ pub fn fetch_of(alloc: Global, value: &Value) -> Result<Act, LineErr>
     }
     let ns = name_at(value, "ns")?;
     let id = text_at(value, "id")?;
-    let from = number_at(value, "from", 0, MOMENT_LIMIT)?;
-    let to = number_at(value, "to", 0, MOMENT_LIMIT)?;
+    let from = number_at(value, "from", 0, TIME_END)?;
+    let to = number_at(value, "to", 0, TIME_END)?;
     let level = read_level_at(value)?;
     let version = version_at(value)?;
     Ok(Act::Fetch {

@@ -2,19 +2,19 @@ ghost use Rattle.std.specs.Prelude.{◌≡◌, ◌↔◌, Ok, Err, IfOk, IfErr, 
 ghost use Rattle.serde_json.specs.View.{view};
 ghost use Rattle.m3_model.specs.Limits.{MeetsLimits, KeepsLimits};
 ghost use Rattle.m3_model.specs.NotYet.{IsServed};
-ghost use Rattle.m3_json.specs.Fields.{Gives};
+ghost use Rattle.line_fields.specs.Fields.{Gives};
 ghost use Rattle.m3_json.specs.Requests.{act_of, NamesSeries, ObjectMeans, LineMeans};
 
 use crate::calls::{fetch_of, write_of};
 use crate::fates::{deliver_of, fates_of};
-use crate::fault::LineErr;
-use crate::fields::text_at;
 use crate::init::init_of;
 use crate::matches::match_of;
 use crate::moment::now_of;
 use crate::namespace::namespace_of;
 use crate::nodes::{bootstrap_of, restart_of, stop_of};
 use crate::not_yet::{is_put_off, refusal_of};
+use line_fields::fault::LineErr;
+use line_fields::fields::text_at;
 use m3_model::act::Act;
 use m3_model::turn::Request;
 use serde_json::Value;

@@ -1,18 +1,16 @@
 ghost use Rattle.std.specs.Prelude.{◌≡◌, IfOk};
 ghost use Rattle.serde_json.specs.View.{view};
 ghost use Rattle.m3_model.specs.Limits.{MeetsLimits};
-ghost use Rattle.m3_json.specs.Fields.{Gives};
+ghost use Rattle.line_fields.specs.Fields.{Gives};
 ghost use Rattle.m3_json.specs.Rows.{namespace_of};
 
-use crate::fault::LineErr;
-use crate::fields::{has_only, name_at, number_at};
+use line_fields::fault::LineErr;
+use line_fields::fields::{has_only, name_at, number_at};
 use m3_model::act::Act;
+use m3_model::limits::DURATION_END;
 use m3_model::text::Text;
 use serde_json::Value;
 use std::alloc::Global;
-
-/// Above each duration.
-const DURATION_LIMIT: u64 = 1 << 40;
 
 /// The namespace that an object spells.
 #[tactic(auto, unfolding(crate::specs::Rows::namespace_of))]
@@ -27,10 +25,10 @@ pub fn namespace_of(alloc: Global, value: &Value) -> Result<Act, LineErr>
         return Err(LineErr::Form);
     }
     let name = name_at(value, "name")?;
-    let block = number_at(value, "block", 1, DURATION_LIMIT)?;
+    let block = number_at(value, "block", 1, DURATION_END)?;
     let past = number_at(value, "past", 0, block)?;
     let future = number_at(value, "future", 0, block)?;
-    let retention = number_at(value, "retention", block, DURATION_LIMIT)?;
+    let retention = number_at(value, "retention", block, DURATION_END)?;
     Ok(Act::Namespace {
         name: Text::from_str(alloc, name)?,
         block,

@@ -1,13 +1,14 @@
 ghost use Rattle.std.specs.Prelude.{◌≡◌, ◌<◌, IfOk, IfSome};
 ghost use Rattle.serde_json.specs.View.{view};
 ghost use Rattle.m3_model.specs.Limits.{MeetsLimits, IsMoment};
-ghost use Rattle.m3_json.specs.Fields.{Gives};
-ghost use Rattle.m3_json.specs.Rows.{stop_of, pick_at, restart_of, shard_at, bootstrap_of};
+ghost use Rattle.m3_model.specs.declared.limits.TheConstants.{MOST_SHARDS};
+ghost use Rattle.line_fields.specs.Fields.{Gives};
+ghost use Rattle.m3_json.specs.Rows.{stop_of, pick_at, restart_of, shard_asked, bootstrap_of};
 
-use crate::fault::LineErr;
-use crate::fields::{has_only, name_at, number_of};
-use crate::moment::MOMENT_LIMIT;
+use line_fields::fault::LineErr;
+use line_fields::fields::{has_only, name_at, number_of};
 use m3_model::act::Act;
+use m3_model::limits::{MOST_SHARDS, TIME_END};
 use m3_model::text::Text;
 use serde_json::Value;
 use std::alloc::Global;
@@ -27,9 +28,6 @@ pub fn stop_of(alloc: Global, value: &Value) -> Result<Act, LineErr>
     })
 }
 
-// How many shards there may be.
-const SHARD_LIMIT: u64 = 64;
-
 #[tactic(auto, unfolding(crate::specs::Rows::pick_at))]
 fn pick_at(value: &Value) -> Result<u64, LineErr>
     ensures gives { Gives (λ n. n) result (pick_at (view value.now)) }
@@ -37,7 +35,7 @@ fn pick_at(value: &Value) -> Result<u64, LineErr>
 {
     match value.get("pick") {
         None => Ok(0),
-        Some(pick) => number_of(pick, 0, MOMENT_LIMIT),
+        Some(pick) => number_of(pick, 0, TIME_END),
     }
 }
 
@@ -58,14 +56,14 @@ pub fn restart_of(alloc: Global, value: &Value) -> Result<Act, LineErr>
     })
 }
 
-#[tactic(auto, unfolding(crate::specs::Rows::shard_at))]
-fn shard_at(value: &Value) -> Result<Option<u32>, LineErr>
-    ensures gives { Gives (λ n. n) result (shard_at (view value.now)) }
-    ensures within { IfOk result (λ shard. IfSome shard (λ s. s < 64)) }
+#[tactic(auto, unfolding(crate::specs::Rows::shard_asked))]
+fn shard_asked(value: &Value) -> Result<Option<u32>, LineErr>
+    ensures gives { Gives (λ n. n) result (shard_asked (view value.now)) }
+    ensures within { IfOk result (λ shard. IfSome shard (λ s. s < MOST_SHARDS)) }
 {
     match value.get("shard") {
         None => Ok(None),
-        Some(shard) => Ok(Some(number_of(shard, 0, SHARD_LIMIT)? as u32)),
+        Some(shard) => Ok(Some(number_of(shard, 0, MOST_SHARDS as u64)? as u32)),
     }
 }
 
@@ -79,7 +77,7 @@ pub fn bootstrap_of(alloc: Global, value: &Value) -> Result<Act, LineErr>
         return Err(LineErr::Form);
     }
     let node = name_at(value, "node")?;
-    let shard = shard_at(value)?;
+    let shard = shard_asked(value)?;
     Ok(Act::Bootstrap {
         node: Text::from_str(alloc, node)?,
         shard,

@@ -10,7 +10,7 @@ use Rattle.m3_model.specs.declared.turn.Reply.TheVariants as reply
 use Rattle.m3_model.specs.declared.turn.Turn.{Turn}
 use Rattle.transcripts.specs.Record.{IsAnsweredBy, inner_turns}
 use Rattle.transcripts.specs.Placements.{placement_after, start_placement}
-use Rattle.m3_json.specs.declared.fault.LineErr.TheVariants as fault
+use Rattle.line_fields.specs.declared.fault.LineErr.TheVariants as fault
 use Rattle.m3_json.specs.Requests.{LineMeans}
 use Rattle.m3_replies.specs.Replies.{reply_text}
 

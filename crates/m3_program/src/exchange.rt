@@ -4,8 +4,8 @@ ghost use Rattle.m3_cluster.specs.Depots.{OwnsDisks};
 ghost use Rattle.m3_program.specs.Exchanges.{is_blank, reply_line};
 ghost use Rattle.m3_program.specs.Streams.{Advances, Drops, stage};
 
+use line_fields::fault::LineErr;
 use m3_cluster::cluster::Cluster;
-use m3_json::fault::LineErr;
 use m3_json::lines::read_line;
 use m3_model::answer::Answer;
 use m3_model::memory::Memory;

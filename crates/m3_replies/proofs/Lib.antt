@@ -1,4 +1,3 @@
-pub mod RollLemmas
 pub mod PlainLemmas
 pub mod PlainReplies
 pub mod TellingLemmas

@@ -11,9 +11,9 @@ use Rattle.serde_json.specs.Data.{Data, boolean, number, string, depth, items_de
 use Rattle.serde_json.specs.Find.{of_integer, is_float}
 use Rattle.serde_json.specs.View.{items_of}
 use Rattle.serde_json.specs.Written.{has_float, items_have_float, members_have_float}
-use Rattle.m3_replies.specs.Json.{members_in, object_of, array_of, list_of, natural}
-use Rattle.m3_replies.specs.Order.{by_name}
-use Rattle.m3_replies.proofs.RollLemmas.{put_item, by_name-fold}
+use Rattle.reply_values.specs.Json.{members_in, object_of, array_of, list_of, natural}
+use Rattle.reply_values.specs.Order.{by_name}
+use Rattle.reply_values.proofs.RollLemmas.{put_item, by_name-fold}
 
 pub record IsPlain (n : ℕ) (d : Data) : Type 0 where
   pub no_float : has_float d ≡ false

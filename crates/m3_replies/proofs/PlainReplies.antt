@@ -16,16 +16,17 @@ use Rattle.m3_model.specs.declared.reason.Reason.{Reason}
 use Rattle.m3_model.specs.declared.reason.Reason.TheVariants as reason
 use Rattle.m3_model.specs.declared.turn.Reply.{Reply}
 use Rattle.m3_model.specs.declared.turn.Reply.TheVariants as reply
-use Rattle.m3_replies.specs.Json.{list_of, natural}
-use Rattle.m3_replies.specs.Names.{name_of, node_data}
-use Rattle.m3_replies.specs.Outcomes.{outcome_data, merged_data, swept_data, failed_data}
-use Rattle.m3_replies.specs.Placements.{instance_item, assignment_item, source_items, shard_data, placement_data}
-use Rattle.m3_replies.specs.Reasons.{fence_items, reason_items, reason_data}
-use Rattle.m3_replies.specs.Refusals.{quorum_fields, corrupt_fields}
-use Rattle.m3_replies.specs.Repairs.{digest_data, repair_data}
+use Rattle.reply_values.specs.Json.{list_of, natural}
+use Rattle.reply_items.specs.Names.{node_name, node_data}
+use Rattle.reply_items.specs.Outcomes.{outcome_data, merged_data, swept_data, failed_data}
+use Rattle.reply_items.specs.Placements.{instance_item, assignment_item, source_items, shard_data, placement_data}
+use Rattle.reply_items.specs.Reasons.{fence_items, reason_items, reason_data}
+use Rattle.reply_values.specs.Refusals.{corrupt_fields}
+use Rattle.m3_replies.specs.Shortfalls.{quorum_fields}
+use Rattle.reply_items.specs.Repairs.{digest_data, repair_data}
 use Rattle.m3_replies.specs.Replies.{answer_fields, answer_data, reply_data}
-use Rattle.m3_replies.specs.Series.{pair_data, series_data}
-use Rattle.m3_replies.specs.Statuses.{status_data}
+use Rattle.reply_items.specs.Series.{pair_data, series_data}
+use Rattle.reply_items.specs.Statuses.{status_data}
 use Rattle.m3_replies.proofs.PlainLemmas.{IsPlain, ArePlain, HavePlain, plain_text, plain_flag, plain_natural, plain_integer, plain_higher, no_items_plain, item_plain, plain_array, plain_list, no_fields_plain, field_plain, plain_object, by_name_plain}
 
 pair_plain : (p : ℕ × ℤ) → IsPlain 1 (pair_data p)
@@ -44,7 +45,7 @@ reason_items_plain : (r : Reason) → ArePlain 0 (reason_items r)
 reason_items_plain r = item_plain (plain_text 0 _) (fence_plain r)
 
 node_plain : (n : ℕ) (instances : List Instance) (node : ℕ) → IsPlain n (node_data instances node)
-node_plain n instances node = plain_text n (name_of instances node)
+node_plain n instances node = plain_text n (node_name instances node)
 
 reason_plain : (instances : List Instance) (r : ℕ × Reason) → IsPlain 1 (reason_data instances r)
 reason_plain instances r = plain_array 0 (item_plain (node_plain 0 instances r.0) (reason_items_plain r.1))

@@ -5,10 +5,10 @@ use Rattle.serde_json.specs.Find.{of_integer}
 use Rattle.m3_model.specs.declared.answer.Answer.TheVariants as answer
 use Rattle.m3_model.specs.declared.placement.Instance.{Instance}
 use Rattle.m3_model.specs.declared.point.Series.{Series}
-use Rattle.m3_replies.specs.Json.{list_of}
-use Rattle.m3_replies.specs.Names.{name_of, node_data}
+use Rattle.reply_values.specs.Json.{list_of}
+use Rattle.reply_items.specs.Names.{node_name, node_data}
 use Rattle.m3_replies.specs.Replies.{answer_data}
-use Rattle.m3_replies.specs.Series.{pair_data, series_data}
+use Rattle.reply_items.specs.Series.{pair_data, series_data}
 
 -- lists with one JSON have what each element's JSON tells
 list_tells : {X Y : Type 0} (f : X → Data) (told : X → Y) → ((x y : X) → f x ≡ f y → told x ≡ told y) → (xs ys : List X) → list_of f xs ≡ list_of f ys → map told xs ≡ map told ys
@@ -49,7 +49,7 @@ series_tells s t e =
 same_read : (o : Option Data) (d e : Data) → o ≡ Some d → o ≡ Some e → d ≡ e
 same_read o d e p q = cc
 
-node_tells : (instances : List Instance) (m n : ℕ) → node_data instances m ≡ node_data instances n → name_of instances m ≡ name_of instances n
+node_tells : (instances : List Instance) (m n : ℕ) → node_data instances m ≡ node_data instances n → node_name instances m ≡ node_name instances n
 node_tells instances m n e = cc
 
 pub found_tells : (instances : List Instance) (s t : List Series) (a b : Bool) (o : Option Data) → o ≡ Some (answer_data instances (answer.Found s a)) → o ≡ Some (answer_data instances (answer.Found t b))
@@ -60,8 +60,8 @@ found_tells instances s t a b o p q =
     (sym (map_same s) ∙ list_tells series_data (λ x. x) series_tells s t lists ∙ map_same t, cc)
 
 pub acks_tell : (instances : List Instance) (m n : List ℕ) (o : Option Data) → o ≡ Some (answer_data instances (answer.Acks m)) → o ≡ Some (answer_data instances (answer.Acks n))
-    → map (name_of instances) m ≡ map (name_of instances) n
+    → map (node_name instances) m ≡ map (node_name instances) n
 acks_tell instances m n o p q =
     let same : answer_data instances (answer.Acks m) ≡ answer_data instances (answer.Acks n) = same_read o _ _ p q in
     let lists : list_of (node_data instances) m ≡ list_of (node_data instances) n = cc in
-    list_tells (node_data instances) (name_of instances) (node_tells instances) m n lists
+    list_tells (node_data instances) (node_name instances) (node_tells instances) m n lists

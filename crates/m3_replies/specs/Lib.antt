@@ -1,11 +1,2 @@
-pub mod Json
-pub mod Names
-pub mod Order
-pub mod Series
-pub mod Reasons
-pub mod Placements
-pub mod Outcomes
-pub mod Repairs
-pub mod Statuses
-pub mod Refusals
+pub mod Shortfalls
 pub mod Replies

@@ -8,14 +8,15 @@ use Rattle.m3_model.specs.declared.placement.Instance.{Instance}
 use Rattle.m3_model.specs.declared.placement.Placement.{Placement}
 use Rattle.m3_model.specs.declared.turn.Reply.{Reply}
 use Rattle.m3_model.specs.declared.turn.Reply.TheVariants as reply
-use Rattle.m3_replies.specs.Json.{object_of, list_of, natural}
-use Rattle.m3_replies.specs.Names.{instances_of, node_data}
-use Rattle.m3_replies.specs.Outcomes.{outcome_data, merged_data, swept_data, failed_data}
-use Rattle.m3_replies.specs.Placements.{placement_data}
-use Rattle.m3_replies.specs.Refusals.{plain_fields, unknown_fields, limit_fields, clock_fields, quorum_fields, replica_fields, group_fields, state_fields, corrupt_fields}
-use Rattle.m3_replies.specs.Repairs.{repair_data}
-use Rattle.m3_replies.specs.Series.{series_data}
-use Rattle.m3_replies.specs.Statuses.{status_data}
+use Rattle.reply_values.specs.Json.{object_of, list_of, natural}
+use Rattle.reply_values.specs.Refusals.{plain_fields, unknown_fields, limit_fields, clock_fields, replica_fields, group_fields, state_fields, corrupt_fields}
+use Rattle.reply_items.specs.Names.{instances_of, node_data}
+use Rattle.reply_items.specs.Outcomes.{outcome_data, merged_data, swept_data, failed_data}
+use Rattle.reply_items.specs.Placements.{placement_data}
+use Rattle.reply_items.specs.Repairs.{repair_data}
+use Rattle.reply_items.specs.Series.{series_data}
+use Rattle.m3_replies.specs.Shortfalls.{quorum_fields}
+use Rattle.reply_items.specs.Statuses.{status_data}
 
 -- the field that says that a request was served
 abbrev pub ok_field : List ℕ × Data

@@ -1,9 +1,9 @@
 //! Facts about the texts of replies. The functions do nothing.
 ghost use Rattle.std.specs.Prelude.{◌≡◌, map, Some};
 ghost use Rattle.serde_json.specs.Read.{read};
-ghost use Rattle.m3_replies.specs.Json.{KeysAscend};
-ghost use Rattle.m3_replies.specs.Names.{name_of};
-ghost use Rattle.m3_replies.specs.Placements.{placement_fields};
+ghost use Rattle.reply_values.specs.Json.{KeysAscend};
+ghost use Rattle.reply_items.specs.Names.{node_name};
+ghost use Rattle.reply_items.specs.Placements.{placement_fields};
 ghost use Rattle.m3_replies.specs.Replies.{reply_fields, answer_data};
 
 use m3_model::answer::Answer;
@@ -40,5 +40,5 @@ pub fn found_text_tells_content(
 pub fn acks_text_tells_names(text: &str, instances: &[Instance], acks: &[u8], others: &[u8])
     ensures { read text.now ≡ Some (answer_data instances.now (Answer.Acks acks.now))
         → read text.now ≡ Some (answer_data instances.now (Answer.Acks others.now))
-        → map (name_of instances.now) acks.now ≡ map (name_of instances.now) others.now }
+        → map (node_name instances.now) acks.now ≡ map (node_name instances.now) others.now }
 {}

@@ -1,4 +1,4 @@
-use Rattle.legal_events.specs.Takes.{HasTaken}
+use Rattle.past_events.specs.Takes.{HasTaken}
 use Rattle.legal_events.proofs.LegalLemmas.{acks_decided}
 use Rattle.legal_events.proofs.legal.acks_send.Goals as goal
 

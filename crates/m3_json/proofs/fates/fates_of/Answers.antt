@@ -1,4 +1,4 @@
-use Rattle.m3_json.proofs.FateLimits.{fates_at-MeetsLimits}
+use Rattle.line_lists.proofs.FateLimits.{fates_at-MeetsLimits}
 use Rattle.m3_json.proofs.fates.fates_of.Goals as goal
 
 pub returns-clause-within : goal.returns-clause-within

@@ -1,6 +1,6 @@
 use Rattle.std.proofs.Common.{arith, sym, ◌∙◌}
 use Rattle.m3_json.specs.Rows.{init_of}
-use Rattle.m3_json.proofs.NodeLimits.{nodes_at-AreNodes}
+use Rattle.line_lists.proofs.NodeLimits.{nodes_at-AreNodes}
 use Rattle.m3_json.proofs.init.init_of.Goals as goal
 
 pub returns-clause-gives : goal.returns-clause-gives

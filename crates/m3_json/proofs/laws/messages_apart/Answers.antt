@@ -1,4 +1,4 @@
-use Rattle.m3_json.proofs.FateLimits.{messages_differ-Ascends}
+use Rattle.line_lists.proofs.FateLimits.{messages_differ-Ascends}
 use Rattle.m3_json.proofs.laws.messages_apart.Goals as goal
 
 pub returns : goal.returns

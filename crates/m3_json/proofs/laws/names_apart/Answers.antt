@@ -1,4 +1,4 @@
-use Rattle.m3_json.proofs.NodeLimits.{names_differ-Ascends}
+use Rattle.line_lists.proofs.NodeLimits.{names_differ-Ascends}
 use Rattle.m3_json.proofs.laws.names_apart.Goals as goal
 
 pub returns : goal.returns

@@ -1,0 +1,4 @@
+pub mod Lists
+pub mod Nodes
+pub mod Matchers
+pub mod Fates

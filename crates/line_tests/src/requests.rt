@@ -1,0 +1,367 @@
+use line_fields::fault::LineErr;
+use m3_json::lines::read_line;
+use m3_model::act::Act;
+use m3_model::point::Matcher;
+use m3_model::turn::Request;
+use std::alloc::Global;
+use std::test::Fail;
+
+// Objects and their ops, each with its outcome before it.
+const OBJECTS: &str = r#"form {
+form []
+form "init"
+form {}
+form {"op":7}
+form {"op":null}
+form {"op":"frob"}
+later {"op":"tick"}
+later {"op":"tick","now":"x"}
+later {"op":"par"}
+form {"op":"tick","op":"frob"}
+later {"op":"frob","op":"status"}
+form {"op":"tick"} x
+form {"op":"tick","x":"\ud800"}
+later {"op":"tick","x":"\ud800\udc00"}"#;
+
+// Lines of init, each with its outcome before it.
+const INITS: &str =
+    r#"ok {"op":"init","rf":3,"shards":1,"seed":0,"nodes":[["a","x"],["b","y"],["c","z"]]}
+ok {"op":"init","rf":3,"shards":64,"seed":4294967295,"nodes":[["a","x"],["b","y"],["c","z"]]}
+ok {"op":"init","rf":1,"shards":8,"seed":0,"nodes":[["a","x"]]}
+ok {"op":"init","rf":5,"shards":64,"seed":0,"nodes":[["a","1"],["b","2"],["c","3"],["d","4"],["e","5"]]}
+form {"op":"init","rf":3,"shards":1,"seed":4294967296,"nodes":[["a","x"],["b","y"],["c","z"]]}
+later {"op":"init","rf":1,"shards":1,"seed":0,"nodes":[["a","x"],["b","y"],["c","z"]]}
+later {"op":"init","rf":5,"shards":64,"seed":0,"nodes":[["a","x"]]}
+form {"op":"init","rf":0,"shards":1,"seed":0,"nodes":[["a","x"],["b","y"],["c","z"]]}
+form {"op":"init","rf":6,"shards":1,"seed":0,"nodes":[["a","x"],["b","y"],["c","z"]]}
+form {"op":"init","rf":3,"shards":65,"seed":0,"nodes":[["a","x"],["b","y"],["c","z"]]}
+form {"op":"init","rf":3,"shards":0,"seed":0,"nodes":[["a","x"],["b","y"],["c","z"]]}
+form {"op":"init","rf":3,"shards":1,"seed":0,"nodes":[["a","x"],["a","y"],["c","z"]]}
+later {"op":"init","rf":3,"shards":1,"seed":0,"nodes":[["a","x"],["b","y"],["c","x"]]}
+later {"op":"init","rf":3,"shards":1,"seed":0,"nodes":[["a","x"],["b","y"]]}
+form {"op":"init","rf":3,"shards":1,"seed":0,"nodes":[["a","x"],["b","y"],["c"]]}
+form {"op":"init","rf":3,"shards":1,"seed":0,"nodes":[["a","x"],["b","y"],["c","z","u"]]}
+form {"op":"init","rf":3,"shards":1,"seed":0,"nodes":[]}
+form {"op":"init","rf":3,"shards":1,"seed":0,"nodes":{}}
+later {"op":"init","rf":3,"shards":1,"seed":0,"nodes":[["1","g"],["2","g"],["3","g"],["4","g"],["5","g"],["6","g"],["7","g"],["8","g"],["9","g"],["10","g"],["11","g"],["12","g"],["13","g"],["14","g"],["15","g"],["16","g"]]}
+form {"op":"init","rf":3,"shards":1,"seed":0,"nodes":[["1","g"],["2","g"],["3","g"],["4","g"],["5","g"],["6","g"],["7","g"],["8","g"],["9","g"],["10","g"],["11","g"],["12","g"],["13","g"],["14","g"],["15","g"],["16","g"],["17","g"]]}"#;
+
+// Lines of namespace, each with its outcome before it.
+const NAMESPACES: &str =
+    r#"ok {"op":"namespace","name":"m","block":1,"past":0,"future":0,"retention":1}
+ok {"op":"namespace","name":"a_B-9","block":100,"past":99,"future":99,"retention":1099511627775}
+form {"op":"namespace","name":"m","block":0,"past":0,"future":0,"retention":1}
+form {"op":"namespace","name":"m","block":100,"past":100,"future":0,"retention":100}
+form {"op":"namespace","name":"m","block":100,"past":0,"future":100,"retention":100}
+form {"op":"namespace","name":"m","block":100,"past":0,"future":0,"retention":99}
+form {"op":"namespace","name":"m","block":100,"past":0,"future":0,"retention":1099511627776}
+form {"op":"namespace","name":"m.n","block":1,"past":0,"future":0,"retention":1}
+form {"op":"namespace","name":"","block":1,"past":0,"future":0,"retention":1}
+form {"op":"namespace","name":"m","block":1,"past":0,"future":0}
+form {"op":"namespace","name":"m","block":1,"past":0,"future":0,"retention":1,"x":1}"#;
+
+// Lines of now, each with its outcome before it.
+const MOMENTS: &str = r#"ok {"op":"now","now":0}
+ok {"op":"now","now":4611686018427387903}
+form {"op":"now","now":4611686018427387904}
+form {"op":"now","now":-1}
+form {"op":"now","now":"1"}
+form {"op":"now"}
+form {"op":"now","now":1,"x":1}
+ok {"op":"now","now":"x","now":1}"#;
+
+// Lines of write and fetch, each with its outcome before it.
+const CALLS: &str = r#"ok {"op":"write","ns":"m","id":"hello","t":100,"v":1}
+form {"op":"write","ns":"m","id":"hello","t":100,"v":1.5}
+form {"op":"write","ns":"m","id":"hello","t":100,"v":1.0}
+form {"op":"write","ns":"m","id":"hello","t":100,"v":-0}
+form {"op":"write","ns":"m","id":"hello","t":1e2,"v":1}
+form {"op":"write","ns":"m","id":"hello","t":-1,"v":1}
+ok {"op":"write","ns":"m","id":"hello","t":4611686018427387903,"v":1}
+form {"op":"write","ns":"m","id":"hello","t":4611686018427387904,"v":1}
+ok {"op":"write","ns":"m","id":"hello","t":100,"v":9223372036854775807}
+form {"op":"write","ns":"m","id":"hello","t":100,"v":9223372036854775808}
+ok {"op":"write","ns":"m","id":"hello","t":100,"v":-9223372036854775808}
+form {"op":"write","ns":"m","id":"hello","t":100,"v":-9223372036854775809}
+ok {"op":"write","ns":"m","id":"{dc=\"x\"}","t":100,"v":1}
+ok {"op":"write","ns":"m","id":"{dc=\"x\",host=\"\"}","t":100,"v":1}
+form {"op":"write","ns":"m","id":"{host=\"x\",dc=\"x\"}","t":100,"v":1}
+form {"op":"write","ns":"m","id":"{dc=\"x\"","t":100,"v":1,"level":"one"}
+ok {"op":"write","ns":"m","id":"{dc=\"x\"}","t":100,"v":1,"level":"one"}
+form {"op":"write","ns":"m","id":7,"t":100,"v":1}
+form {"op":"write","ns":"m","id":"{dc=\"x\"}","t":100,"v":1.5}
+form {"op":"write","ns":"m","id":"","t":100,"v":1}
+ok {"op":"write","ns":"m","id":"a","t":100,"v":1,"level":"all"}
+ok {"op":"write","ns":"m","id":"a","t":100,"v":1,"level":"majority"}
+later {"op":"write","ns":"m","id":"a","t":100,"v":1,"level":"one","version":1}
+form {"op":"write","ns":"m","id":"a","t":100,"v":1,"level":"unstrict"}
+form {"op":"write","ns":"m","id":"a","t":100,"v":1,"level":"frob"}
+form {"op":"write","ns":"m","id":"a","t":100,"v":1,"level":null}
+later {"op":"write","ns":"m","id":"a","t":100,"v":1,"version":1}
+form {"op":"write","ns":"m","id":"a","t":100,"v":1,"version":-1}
+form {"op":"write","ns":"m","id":"a","t":100,"v":1,"version":1,"level":"frob"}
+ok {"op":"write","ns":"m","id":"a","t":100,"v":1.5,"v":2}
+form {"op":"write","ns":"m","id":"a","t":100,"v":2,"v":1.5}
+form {"op":"write","ns":"m","id":"a","t":100}
+ok {"op":"fetch","ns":"m","id":"a","from":0,"to":4611686018427387903}
+ok {"op":"fetch","ns":"m","id":"a","from":9,"to":0}
+ok {"op":"fetch","ns":"m","id":"a","from":0,"to":9,"level":"unstrict"}
+ok {"op":"fetch","ns":"m","id":"a","from":0,"to":9,"level":"all"}
+later {"op":"fetch","ns":"m","id":"a","from":0,"to":9,"version":0}
+form {"op":"fetch","ns":"m","id":"a","from":0,"to":9,"level":"Majority"}
+form {"op":"fetch","ns":"m","id":"{","from":0,"to":9}
+form {"op":"fetch","ns":"m","id":"{}","from":0,"to":9,"version":1}
+ok {"op":"fetch","ns":"m","id":"{dc=\"\\\\\"}","from":0,"to":9}
+form {"op":"fetch","ns":"m","id":"a","from":0,"to":9,"t":1}"#;
+
+// Lines of match, each with its outcome before it.
+const MATCHES: &str = r#"ok {"op":"match","ns":"m","where":[],"from":0,"to":9}
+ok {"op":"match","ns":"m","where":[["dc","=","x"],["dc","=","x"],["_h1","!=",""]],"from":9,"to":0}
+form {"op":"match","ns":"m","from":0,"to":9}
+form {"op":"match","ns":"m","where":{},"from":0,"to":9}
+form {"op":"match","ns":"m","where":["dc","=","x"],"from":0,"to":9}
+form {"op":"match","ns":"m","where":[["dc","x"]],"from":0,"to":9}
+form {"op":"match","ns":"m","where":[["dc","=","x","y"]],"from":0,"to":9}
+form {"op":"match","ns":"m","where":[["1c","=","x"]],"from":0,"to":9}
+form {"op":"match","ns":"m","where":[["d-c","=","x"]],"from":0,"to":9}
+form {"op":"match","ns":"m","where":[["","=","x"]],"from":0,"to":9}
+form {"op":"match","ns":"m","where":[["dc","==","x"]],"from":0,"to":9}
+form {"op":"match","ns":"m","where":[["dc","!==","x"]],"from":0,"to":9}
+form {"op":"match","ns":"m","where":[["dc","=",1]],"from":0,"to":9}
+form {"op":"match","ns":"m","where":[],"from":0,"to":9,"id":"a"}
+form {"op":"match","ns":"m","where":[],"from":0,"to":4611686018427387904}
+ok {"op":"match","ns":"m","where":[],"from":0,"to":9,"level":"one"}
+form {"op":"match","ns":"m","where":[],"from":0,"to":9,"level":"some"}
+later {"op":"match","ns":"m","where":[],"from":0,"to":9,"version":1}
+ok {"op":"match","ns":"m","where":[["a","=",""],["a","=",""],["a","=",""],["a","=",""],["a","=",""],["a","=",""],["a","=",""],["a","=",""],["a","=",""],["a","=",""],["a","=",""],["a","=",""],["a","=",""],["a","=",""],["a","=",""],["a","=",""]],"from":0,"to":9}
+form {"op":"match","ns":"m","where":[["a","=",""],["a","=",""],["a","=",""],["a","=",""],["a","=",""],["a","=",""],["a","=",""],["a","=",""],["a","=",""],["a","=",""],["a","=",""],["a","=",""],["a","=",""],["a","=",""],["a","=",""],["a","=",""],["a","=",""]],"from":0,"to":9}"#;
+
+// Lines of fates, deliver and stop, each with its outcome before it.
+const FATES: &str = r#"ok {"op":"fates","list":[]}
+ok {"op":"fates","list":[[0,0,"b","late"],[0,0,"c","late"],[0,1,"b","lose"],[8,4611686018427387903,"b","twice"]]}
+form {"op":"fates","list":[[9,0,"b","late"]]}
+form {"op":"fates","list":[[0,4611686018427387904,"b","late"]]}
+form {"op":"fates","list":[[0,0,"b","deliver"]]}
+form {"op":"fates","list":[[0,0,"","late"]]}
+form {"op":"fates","list":[[0,0,"b"]]}
+form {"op":"fates","list":[[0,0,"b","late",0]]}
+form {"op":"fates","list":[[0,0,"b","late"],[0,1,"b","late"],[0,0,"b","lose"]]}
+form {"op":"fates"}
+form {"op":"fates","list":{}}
+form {"op":"fates","list":[],"x":1}
+ok {"op":"deliver"}
+form {"op":"deliver","list":[]}
+ok {"op":"stop","node":"a"}
+form {"op":"stop"}
+form {"op":"stop","node":"a b"}
+form {"op":"stop","node":"a","pick":0}
+form {"op":"stop","node":"a","shard":0}
+form {"op":"stop","node":"123456789012345678901234567890123"}"#;
+
+// Lines of restart and bootstrap, each with its outcome before it.
+const NODES: &str = r#"ok {"op":"restart","node":"a"}
+ok {"op":"restart","node":"12345678901234567890123456789012","pick":0}
+ok {"pick":4611686018427387903,"node":"a","op":"restart"}
+ok {"op":"restart","node":"a","pick":-1,"pick":7}
+form {"op":"restart","node":"a","pick":4611686018427387904}
+form {"op":"restart","node":"a","pick":-1}
+form {"op":"restart","node":"a","pick":1.0}
+form {"op":"restart","node":"a","pick":"0"}
+form {"op":"restart","node":"a","pick":null}
+form {"op":"restart"}
+form {"op":"restart","pick":0}
+form {"op":"restart","node":0}
+form {"op":"restart","node":""}
+form {"op":"restart","node":"a.b"}
+form {"op":"restart","node":"123456789012345678901234567890123"}
+form {"op":"restart","node":"a","shard":0}
+form {"op":"restart","node":"a","pick":0,"x":0}
+ok {"op":"bootstrap","node":"a"}
+ok {"op":"bootstrap","node":"12345678901234567890123456789012","shard":0}
+ok {"shard":63,"node":"a","op":"bootstrap"}
+form {"op":"bootstrap","node":"a","shard":64}
+form {"op":"bootstrap","node":"a","shard":4294967296}
+form {"op":"bootstrap","node":"a","shard":-1}
+form {"op":"bootstrap","node":"a","shard":0.0}
+form {"op":"bootstrap","node":"a","shard":"0"}
+form {"op":"bootstrap","node":"a","shard":null}
+form {"op":"bootstrap"}
+form {"op":"bootstrap","shard":0}
+form {"op":"bootstrap","node":["a"]}
+form {"op":"bootstrap","node":""}
+form {"op":"bootstrap","node":"a b"}
+form {"op":"bootstrap","node":"123456789012345678901234567890123"}
+form {"op":"bootstrap","node":"a","pick":0}
+form {"op":"bootstrap","node":"a","shard":0,"x":0}"#;
+
+fn outcome(alloc: Global, line: &[u8]) -> &'static str {
+    match read_line(alloc, line) {
+        Ok(_) => "ok",
+        Err(LineErr::Form) => "form",
+        Err(LineErr::Later) => "later",
+        Err(LineErr::Memory) => "memory",
+    }
+}
+
+// The first row whose line has another outcome.
+fn wrong_row(alloc: Global, rows: &str) -> Option<&str> {
+    rows.lines().find(|row| match row.split_once(' ') {
+        Some((want, line)) => outcome(alloc, line.as_bytes()) != want,
+        None => true,
+    })
+}
+
+#[test]
+fn rows(rt: HostRuntime) {
+    for rows in [
+        OBJECTS, INITS, NAMESPACES, MOMENTS, CALLS, MATCHES, FATES, NODES,
+    ] {
+        assert_eq!(rt; wrong_row(rt.alloc(), rows), None);
+    }
+}
+
+#[test]
+fn bytes(rt: HostRuntime) {
+    let table: [(&[u8], &str); 4] = [
+        (b"", "form"),
+        (b"{\"op\":\"tick\"}\r", "later"),
+        (b"\xef\xbb\xbf{\"op\":\"tick\"}", "form"),
+        (b"{\"op\":\"tick\",\"x\":\"\xff\"}", "form"),
+    ];
+    for (line, want) in table {
+        assert_eq!(rt; outcome(rt.alloc(), line), want);
+    }
+}
+
+// The outcome of a line whose middle is so many times the piece.
+fn long_outcome(
+    alloc: Global,
+    front: &str,
+    piece: &str,
+    count: usize,
+    back: &str,
+) -> Result<&'static str, Fail> {
+    let mut line = String::from_str(alloc, front)?;
+    for _ in 0..count {
+        line.push_str(piece)?;
+    }
+    line.push_str(back)?;
+    Ok(outcome(alloc, line.as_bytes()))
+}
+
+#[test]
+fn long_lines(rt: HostRuntime) -> Result<(), Fail> {
+    let id = r#"{"op":"write","ns":"m","id":""#;
+    let id_end = r#"","t":1,"v":1}"#;
+    let ns = r#"{"op":"write","ns":""#;
+    let ns_end = r#"","id":"a","t":1,"v":1}"#;
+    for (front, piece, count, back, want) in [
+        ("", "[", 10_000, "", "form"),
+        (r#"{"op":"tick","x":"#, "9", 400, "}", "form"),
+        (id, "x", 512, id_end, "ok"),
+        (id, "x", 513, id_end, "form"),
+        (ns, "m", 32, ns_end, "ok"),
+        (ns, "m", 33, ns_end, "form"),
+    ] {
+        let got = long_outcome(rt.alloc(), front, piece, count, back)?;
+        assert_eq!(rt; got, want, "{count} of {piece}");
+    }
+    Ok(())
+}
+
+// Lines of fields in another order, each with what is read of it before it.
+const FIELDS: &str =
+    r#"write m hello 100 -7 Majority None => {"v":-7,"t":100,"id":"hello","ns":"m","op":"write"}
+fetch m hello 2 9 Majority None => {"to":9,"from":2,"id":"hello","ns":"m","op":"fetch"}
+match m dc=x h!= 2 9 => {"where":[["dc","=","x"],["h","!=",""]],"to":9,"from":2,"ns":"m","op":"match"}"#;
+
+fn tell_matcher(matcher: &Matcher, out: &mut String) -> Result<(), Fail> {
+    let sign = if matcher.equal { "=" } else { "!=" };
+    Ok(write!(
+        out,
+        "{}{sign}{} ",
+        matcher.name.as_str(),
+        matcher.value.as_str()
+    )?)
+}
+
+fn tell_matchers(wanted: &[Matcher], out: &mut String) -> Result<(), Fail> {
+    for matcher in wanted {
+        tell_matcher(matcher, out)?;
+    }
+    Ok(())
+}
+
+fn tell_act(act: &Act, out: &mut String) -> Result<(), Fail> {
+    match act {
+        Act::Write {
+            ns,
+            id,
+            t,
+            v,
+            level,
+            version,
+        } => write!(
+            out,
+            "write {} {} {t} {v} {level:?} {version:?}",
+            ns.as_str(),
+            id.as_str()
+        )?,
+        Act::Fetch {
+            ns,
+            id,
+            from,
+            to,
+            level,
+            version,
+        } => write!(
+            out,
+            "fetch {} {} {from} {to} {level:?} {version:?}",
+            ns.as_str(),
+            id.as_str()
+        )?,
+        Act::Match {
+            ns,
+            wanted,
+            from,
+            to,
+            ..
+        } => {
+            write!(out, "match {} ", ns.as_str())?;
+            tell_matchers(wanted.as_slice(), out)?;
+            write!(out, "{from} {to}")?;
+        }
+        _ => {}
+    }
+    Ok(())
+}
+
+fn tell_request(request: &Request, out: &mut String) -> Result<(), Fail> {
+    match request {
+        Request::One(act) => tell_act(act, out),
+        Request::Par { .. } => Ok(()),
+    }
+}
+
+fn tell_line(alloc: Global, line: &str, out: &mut String) -> Result<(), Fail> {
+    if let Ok(request) = read_line(alloc, line.as_bytes()) {
+        tell_request(&request, out)?;
+    }
+    Ok(write!(out, " => {line}\n")?)
+}
+
+fn tell_rows(alloc: Global, rows: &str, out: &mut String) -> Result<(), Fail> {
+    for row in rows.lines() {
+        let (_, line) = row.split_once(" => ").unwrap_or(("", ""));
+        tell_line(alloc, line, out)?;
+    }
+    Ok(())
+}
+
+#[test]
+fn fields(rt: HostRuntime) -> Result<(), Fail> {
+    let mut out = String::new(rt.alloc());
+    tell_rows(rt.alloc(), FIELDS, &mut out)?;
+    assert_eq!(rt; out.as_str().trim_end(), FIELDS);
+    Ok(())
+}

@@ -1,0 +1,5 @@
+mod RestLemmas
+mod CountLemmas
+mod CoverLemmas
+mod PeerLemmas
+mod EarlierLemmas

@@ -1,0 +1,7 @@
+//! What the events before one tell of it: what was asked for, the placements and rules that stand, who took a point, and what a
+//! joining replica has merged.
+#![tactic(auto)]
+
+pub mod asks;
+pub mod earlier;
+pub mod joins;
