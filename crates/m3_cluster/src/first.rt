@@ -12,6 +12,7 @@ ghost use Rattle.m3_cluster.specs.Steps.{IsFirst};
 
 use crate::lending::{opened, slots_of};
 use crate::members::Members;
+use first_placement::initial::initial;
 use m3_model::answer::Answer;
 use m3_model::duplicate::Duplicate;
 use m3_model::memory::Memory;
@@ -23,7 +24,6 @@ use m3_outside::disk::Disk;
 use m3_outside::disks::Disks;
 use net_plan::bag::Bag;
 use net_plan::fates::Fates;
-use placement_plan::initial::initial;
 use session::net::Net;
 use session::slot::Slot;
 use std::alloc::Global;

@@ -2,6 +2,7 @@ ghost use Rattle.std.specs.Prelude.{◌≡◌, ◌≤◌, [], ◌∷◌, ◌++�
 ghost use Rattle.m3_model.specs.Names.{is_name};
 ghost use Rattle.placement_core.specs.Lawful.{IsLawful};
 
+use first_placement::initial::initial;
 use m3_model::memory::Memory;
 use m3_model::placement::{Assignment, Placement, ShardState};
 use m3_model::seq::Seq;
@@ -9,7 +10,6 @@ use m3_model::text::Text;
 use placement_plan::addition::add;
 use placement_plan::completion::cancel;
 use placement_plan::drainage::drain;
-use placement_plan::initial::initial;
 use placement_plan::plan_err::PlaceErr;
 use placement_plan::removal::remove;
 use placement_plan::replacement::replace;

@@ -8,7 +8,6 @@ pub mod ReplaceLemmas
 pub mod ChoiceLemmas
 pub mod LoadLemmas
 pub mod DrainLemmas
-pub mod FirstLemmas
 pub mod InitialLemmas
 pub mod AddLemmas
 pub mod PlanLaws

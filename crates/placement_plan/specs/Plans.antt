@@ -1,5 +1,5 @@
 -- The placement that each request leads to.
-use Rattle.std.specs.Prelude.{◌≡◌, ◌⊎◌, ℕ, suc, ◌^◌, ◌<◌, List, ◌++◌, length, take, drop, Some, true, false, MatchOption, slice_get, slice_set}
+use Rattle.std.specs.Prelude.{◌≡◌, ◌⊎◌, ℕ, suc, ◌<◌, List, ◌++◌, length, take, drop, Some, true, false, MatchOption, slice_get, slice_set}
 use Rattle.m3_model.specs.Members.{IsIn}
 use Rattle.placement_core.specs.NodeNames.{is_listed}
 use Rattle.m3_model.specs.declared.placement.Instance.{Instance}

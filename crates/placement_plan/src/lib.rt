@@ -2,13 +2,12 @@
 #![tactic(auto)]
 
 pub mod addition;
-mod choice;
+pub mod choice;
 pub mod completion;
 pub mod drainage;
-pub mod initial;
 pub mod laws;
-mod loads;
-mod nodes;
+pub mod loads;
+pub mod nodes;
 pub mod plan_err;
 mod readiness;
 pub mod removal;

@@ -1,8 +1,8 @@
 //! How many shards each node has.
-ghost use Rattle.std.specs.Prelude.{◌≡◌, ◌≢◌, ◌<◌, ◌≤◌, ◌^◌, IfOk, length, slice_index};
+ghost use Rattle.std.specs.Prelude.{◌≡◌, ◌≢◌, ◌<◌, ◌≤◌, IfOk, length, slice_index};
 ghost use Rattle.m3_model.specs.declared.limits.TheConstants.{MOST_NODES, MOST_SHARDS};
 ghost use Rattle.placement_plan.specs.Nodes.{serves, load};
-ghost use Rattle.placement_plan.specs.Loads.{AreLoads, IsShifted, IsRaised};
+ghost use Rattle.placement_plan.specs.Loads.{AreLoads, IsShifted};
 
 use m3_model::memory::Memory;
 use m3_model::placement::{Assignment, ShardState};
@@ -53,13 +53,4 @@ pub fn shift(loads: &mut Vec<usize>, from: u8, to: u8)
 {
     loads[from as usize] = loads[from as usize].saturating_sub(1);
     loads[to as usize] += 1;
-}
-
-/// The table where the node has one shard more.
-pub fn raise(loads: &mut Vec<usize>, node: u8)
-    requires node { node < length loads.old.items }
-    requires small { slice_index loads.old.items node < 2 ^ 32 }
-    ensures { IsRaised loads.old.items loads.new.items node }
-{
-    loads[node as usize] += 1;
 }

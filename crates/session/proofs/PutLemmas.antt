@@ -13,6 +13,7 @@ use Rattle.m3_model.specs.declared.act.WriteLevel.{WriteLevel}
 use Rattle.m3_model.specs.declared.point.Point.{Point}
 use Rattle.m3_model.specs.declared.reason.Reason.{Reason}
 use Rattle.m3_model.specs.declared.reason.Reason.TheVariants as reason
+use Rattle.m3_model.specs.declared.limits.TheConstants.{MOST_LATE_WRITES}
 use Rattle.m3_outside.specs.DiskState.{DiskState}
 use Rattle.m3_outside.specs.declared.disk.Disk.{Ghosts}
 use Rattle.wire_bytes.specs.Entries.{IsBounded}
@@ -104,7 +105,7 @@ bounded_kept false bag late h one = All-append IsBoundedLate bag (late ∷ []) h
 
 bounded_with : (make : ℕ → LateWrite) (b : Bool) (node : ℕ) (nodes : List ℕ) (bag : List LateWrite) → ((bag : List LateWrite) → All IsBoundedLate bag → All IsBoundedLate (filled bag (map make nodes)))
     → IsBoundedLate (make node) → All IsBoundedLate bag → All IsBoundedLate (filled bag (map make (cond b (node ∷ nodes) nodes)))
-bounded_with make true node nodes bag more one h = more (kept_in bag (make node)) (bounded_kept (nat_eq (length bag) 4096) bag (make node) h one)
+bounded_with make true node nodes bag more one h = more (kept_in bag (make node)) (bounded_kept (nat_eq (length bag) MOST_LATE_WRITES) bag (make node) h one)
 bounded_with make false node nodes bag more one h = more bag h
 
 -- a bag stays so as late messages with such a point are held back

@@ -9,6 +9,7 @@ use Rattle.m3_model.specs.declared.point.Point.{Point}
 use Rattle.m3_model.specs.declared.reason.Reason.{Reason}
 use Rattle.m3_model.specs.declared.rules.MetaState.{MetaState}
 use Rattle.m3_model.specs.declared.rules.Rules.{Rules}
+use Rattle.m3_model.specs.declared.limits.TheConstants.{MOST_LATE_WRITES}
 use Rattle.cluster_core.specs.declared.event.StepCall.{StepCall}
 use Rattle.cluster_core.specs.declared.event.StepCall.TheVariants as step
 use Rattle.net_plan.specs.Fates.{FateMap}
@@ -47,7 +48,7 @@ late_among fates call shard version p nodes = map (late_to call shard version p)
 
 -- a bag after one more late message: one that holds 4,096 loses it
 abbrev pub kept_in : List LateWrite → LateWrite → List LateWrite
-kept_in bag late = if nat_eq (length bag) 4096 then bag else bag ++ late ∷ []
+kept_in bag late = if nat_eq (length bag) MOST_LATE_WRITES then bag else bag ++ late ∷ []
 
 -- and after several
 abbrev pub filled : List LateWrite → List LateWrite → List LateWrite

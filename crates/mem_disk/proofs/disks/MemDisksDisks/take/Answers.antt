@@ -1,4 +1,4 @@
-use Rattle.std.proofs.Common.{◌≡◌, ◌∙◌, Some, sym, ap, subst, arith}
+use Rattle.std.proofs.Common.{◌≡◌, ◌∙◌, Some, sym, subst, arith}
 use Rattle.m3_outside.specs.DiskState.{IsEmpty}
 use Rattle.m3_outside.specs.Slots.{Held, MayGive}
 use Rattle.mem_disk.specs.declared.disk.MemDisk.{MemDisk}

@@ -3,8 +3,8 @@ use Rattle.placement_core.specs.Shards.{Shard}
 use Rattle.placement_plan.specs.Choices.{IsLeastLoaded}
 use Rattle.placement_plan.specs.Loads.{AreLoads}
 use Rattle.placement_plan.specs.First.{MayHold, IsPlacedShard}
-use Rattle.placement_plan.proofs.FirstLemmas.{PlacedBelow, placed_more, placed_all, too_few}
-use Rattle.placement_plan.proofs.initial.placed_shard.Goals as goal
+use Rattle.first_placement.proofs.FirstLemmas.{PlacedBelow, placed_more, placed_all, too_few}
+use Rattle.first_placement.proofs.initial.placed_shard.Goals as goal
 
 pub returns-in_default-clause-stuck : goal.returns-in_default-clause-stuck
 returns-in_default-clause-stuck c =

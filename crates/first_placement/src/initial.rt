@@ -1,21 +1,21 @@
 //! First placements.
-ghost use Rattle.std.specs.Prelude.{◌≡◌, ◌≢◌, ◌<◌, ◌≤◌, ◌↔◌, ℕ, List, [], ◌∷◌, ◌++◌, All, IfOk, IfErr, IfSome, IfNone, IsTrue, Some, length, slice_get, slice_index, take};
+ghost use Rattle.std.specs.Prelude.{◌≡◌, ◌≢◌, ◌<◌, ◌≤◌, ◌^◌, ◌↔◌, ℕ, List, [], ◌∷◌, ◌++◌, All, IfOk, IfErr, IfSome, IfNone, IsTrue, Some, length, slice_get, slice_index, take};
 ghost use Rattle.m3_model.specs.Limits.{IsInit};
 ghost use Rattle.m3_model.specs.declared.limits.TheConstants.{MOST_REPLICAS, MOST_SHARDS, MOST_NODES};
 ghost use Rattle.placement_plan.specs.First.{first_instances, IsFirstPlacement, MayHold, IsPlacedShard, IsInitial, HasGroups, IsShort, RefusesInitial};
 ghost use Rattle.placement_core.specs.Shards.{Shard};
 ghost use Rattle.placement_core.specs.Lawful.{IsLawful};
 ghost use Rattle.placement_plan.specs.Choices.{group_of, IsLeastLoaded};
-ghost use Rattle.placement_plan.specs.Loads.{AreLoads};
+ghost use Rattle.placement_plan.specs.Loads.{AreLoads, IsRaised};
 
-use crate::choice::better;
-use crate::loads::{loads_of, raise};
-use crate::nodes::group_of;
-use crate::plan_err::PlaceErr;
 use m3_model::memory::Memory;
 use m3_model::placement::{Assignment, Instance, Placement, ShardState};
 use m3_model::seq::Seq;
 use m3_model::text::Text;
+use placement_plan::choice::better;
+use placement_plan::loads::loads_of;
+use placement_plan::nodes::group_of;
+use placement_plan::plan_err::PlaceErr;
 use std::alloc::Global;
 
 fn is_new_group(instances: &[Instance], shard: &[Assignment], node: u8) -> bool
@@ -41,6 +41,15 @@ fn holder(instances: &[Instance], loads: &[usize], shard: &[Assignment]) -> Opti
         }
     }
     best
+}
+
+// The table where the node has one shard more.
+fn raise(loads: &mut Vec<usize>, node: u8)
+    requires node { node < length loads.old.items }
+    requires small { slice_index loads.old.items node < 2 ^ 32 }
+    ensures { IsRaised loads.old.items loads.new.items node }
+{
+    loads[node as usize] += 1;
 }
 
 // One more shard; nothing where there are too few groups.

@@ -1,5 +1,5 @@
-use Rattle.placement_plan.proofs.FirstLemmas.{PlacedBelow}
-use Rattle.placement_plan.proofs.initial.placed_shard.Given as goal
+use Rattle.first_placement.proofs.FirstLemmas.{PlacedBelow}
+use Rattle.first_placement.proofs.initial.placed_shard.Given as goal
 
 -- the replicas so far are placed, and the table has grown by them
 abbrev pub invariant-loop-count : goal.invariant-loop-count

@@ -2,8 +2,8 @@ use Rattle.std.proofs.Common.{◌≡◌, ◌+◌, ℕ, List, [], ◌∷◌, ◌+
 use Rattle.placement_core.specs.Shards.{Shard}
 use Rattle.placement_plan.specs.Loads.{AreLoads}
 use Rattle.placement_plan.specs.First.{IsPlacedShard}
-use Rattle.placement_plan.proofs.FirstLemmas.{ShardsBelow, shards_more}
-use Rattle.placement_plan.proofs.initial.placed_shards.Goals as goal
+use Rattle.first_placement.proofs.FirstLemmas.{ShardsBelow, shards_more}
+use Rattle.first_placement.proofs.initial.placed_shards.Goals as goal
 
 pub loop-number-preserved : goal.loop-number-preserved
 loop-number-preserved c =

@@ -1,5 +1,5 @@
-use Rattle.placement_plan.proofs.FirstLemmas.{ShardsBelow}
-use Rattle.placement_plan.proofs.initial.placed_shards.Given as goal
+use Rattle.first_placement.proofs.FirstLemmas.{ShardsBelow}
+use Rattle.first_placement.proofs.initial.placed_shards.Given as goal
 
 abbrev pub invariant-loop-number : goal.invariant-loop-number
 invariant-loop-number l = ShardsBelow l.rf l.instances l.loads.items l.next.items l.number

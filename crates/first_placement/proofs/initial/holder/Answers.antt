@@ -5,8 +5,8 @@ use Rattle.placement_core.proofs.ListLemmas.{each-from_All, All-from_each}
 use Rattle.placement_plan.specs.Choices.{group_of, taking_cmp}
 use Rattle.placement_plan.specs.First.{MayHold}
 use Rattle.placement_plan.proofs.ChoiceLemmas.{BestBelow, best_within, best_found, best_none, best_takes, best_skip, taking_total}
-use Rattle.placement_plan.proofs.initial.holder.Goals as goal
-use Rattle.placement_plan.proofs.initial.holder.Goals.{then-is_new_group, else-is_new_group}
+use Rattle.first_placement.proofs.initial.holder.Goals as goal
+use Rattle.first_placement.proofs.initial.holder.Goals.{then-is_new_group, else-is_new_group}
 
 pub better-requires : goal.better-requires
 better-requires c = record {

@@ -4,7 +4,7 @@ use Rattle.m3_model.specs.declared.placement.Instance.{Instance}
 use Rattle.placement_core.specs.Shards.{Shard}
 use Rattle.placement_plan.specs.First.{IsInitial, IsPlacedShard}
 use Rattle.placement_plan.proofs.InitialLemmas.{initial_lawful, initial_first}
-use Rattle.placement_plan.proofs.initial.initial.Goals as goal
+use Rattle.first_placement.proofs.initial.initial.Goals as goal
 
 pub returns : goal.returns
 returns c =

@@ -1,0 +1,4 @@
+//! The placement that a cluster begins with.
+#![tactic(auto)]
+
+pub mod initial;
