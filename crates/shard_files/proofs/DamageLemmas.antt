@@ -1,84 +1,61 @@
--- What is told of damage, and that damaged files hold nothing.
-use Rattle.std.proofs.Common.{◌≡◌, inl, inr, ℕ, suc, ◌+◌, ◌<◌, ◌≤◌, List, [], ◌∷◌, ◌++◌, length, get_or, map, refl, sym, ap, subst, ◌∙◌, arith, Some}
-use Rattle.std.specs.Prelude.{slice_get}
-use Rattle.std.proofs.lemmas.Option.{slice_get_within, get_or_from_slice_get}
+-- The first damage of a log's segments, and that damaged files hold nothing.
+use Rattle.std.proofs.Common.{◌≡◌, inl, ℕ, ◌+◌, ◌<◌, List, [], ◌∷◌, ◌++◌, length, take, drop, get_or, map, refl, sym, ap, subst, ◌∙◌, append_assoc, append-nil}
+use Rattle.std.proofs.lemmas.List.{map-append}
+use Rattle.m3_model.specs.Members.{IsIn}
+use Rattle.m3_model.proofs.MemberLemmas.{IsIn-append_right}
 use Rattle.m3_outside.specs.Files.{Files}
-use Rattle.wire_bytes.specs.Entries.{AnEntry, OfPoints, OfFence, OfTenure}
-use Rattle.commit_log.specs.Contents.{numbers}
-use Rattle.commit_log.specs.Places.{ArePlaced, AreInside}
-use Rattle.commit_log.specs.declared.place.ChunkPlace.{ChunkPlace}
-use Rattle.commit_log.proofs.LogLemmas.{damaged_is_none}
-use Rattle.commit_log.proofs.Parts.{parts_one}
-use Rattle.commit_log.proofs.PlaceLemmas.{placed_parts, place_of}
+use Rattle.commit_log.specs.Contents.{numbers, PartsHold, segment_bytes}
+use Rattle.commit_log.specs.Segment.{segment}
+use Rattle.commit_log.proofs.FileFronts.{has_chunks}
+use Rattle.commit_log.proofs.Parts.{parts_more}
+use Rattle.commit_log.proofs.ReadLemmas.{one_more, split_at}
 use Rattle.shard_files.specs.declared.entries.LogEntry.{LogEntry}
-use Rattle.shard_files.specs.declared.entries.LogEntry.TheVariants as entry
-use Rattle.shard_files.specs.declared.entries.EntriesErr.{EntriesErr}
-use Rattle.shard_files.specs.declared.entries.EntriesErr.TheVariants as broken
+use Rattle.shard_files.specs.Entries.{spelled}
+use Rattle.shard_files.specs.Held.{HoldsEntries, IsSound}
+use Rattle.shard_files.specs.Damage.{OfForm, FirstStop}
 use Rattle.shard_files.specs.declared.load_err.LoadErr.{LoadErr}
 use Rattle.shard_files.specs.declared.load_err.LoadErr.TheVariants as failures
-use Rattle.shard_files.specs.Entries.{spelled, IsWithin, AreWithin, FirstBreaks, OneMayBreak}
-use Rattle.shard_files.specs.Held.{IsSound}
-use Rattle.shard_files.specs.Loading.{EntryBreaks, IsDamagedAt, MayBeUnsound}
-
-is_an_entry : (bytes : List ℕ) (e : LogEntry) → IsWithin e → bytes ≡ spelled e → AnEntry bytes
-is_an_entry bytes (entry.Points ps) within is = OfPoints ps within is
-is_an_entry bytes (entry.Fence n) within is = OfFence n within is
-is_an_entry bytes (entry.Tenure n) within is = OfTenure n within is
-
--- a chunk among those of entries is one
-among : (before : List (List ℕ)) (chunk : List ℕ) (after : List (List ℕ)) (es : List LogEntry) → before ++ chunk ∷ after ≡ map spelled es → AreWithin es → AnEntry chunk
-among [] chunk after [] is within = absurd (cc)
-among [] chunk after (e ∷ es) is within = let same : chunk ≡ spelled e = cc in is_an_entry chunk e within.0 same
-among (b ∷ before) chunk after [] is within = absurd (cc)
-among (b ∷ before) chunk after (e ∷ es) is within = let rest : before ++ chunk ∷ after ≡ map spelled es = cc in among before chunk after es rest within.1
-
-entry_breaks : (number at : ℕ) (files : Files) → EntryBreaks number at files → IsSound files → ⊥
-entry_breaks number at files broken sound =
-    let holds = sound.held.holds in
-    let es = sound.held.entries in
-    let b = broken.breaks in
-    let same = parts_one (numbers files) files broken.chunks (map spelled es) (placed_parts (numbers files) files broken.chunks broken.places broken.placed) holds.parts in
-    b.breaks.none (among (map spelled b.before) b.chunk b.after es (sym b.split ∙ same) holds.within)
+use Rattle.shard_files.specs.Loading.{ReadsEntries, FindsEntries, MayBeBroken, IsDamagedAt, MayBeUnsound}
+use Rattle.shard_files.proofs.FirstDamageLemmas.{segment_unbroken}
+use Rattle.shard_files.proofs.SpellingLemmas.{within_both}
 
 pub damaged_is_unsound : (number at : ℕ) (files : Files) → IsDamagedAt number at files → IsSound files → ⊥
-damaged_is_unsound number at files (inl first) sound = damaged_is_none (map spelled sound.held.entries) number at files first sound.held.holds.parts
-damaged_is_unsound number at files (inr broken) sound = entry_breaks number at files broken sound
+damaged_is_unsound number at files first sound =
+    segment_unbroken (numbers files) files sound.held.entries sound.held.holds.within sound.held.holds.parts first.one
+    (subst (λ (l : List ℕ). IsIn l first.one) (sym first.split) (IsIn-append_right first.before (first.one ∷ first.after) first.one (inl refl))) (OfForm (segment number) at) first.found
 
--- ---- what is told
+-- ---- segments that are read one after another
 
-map_length : (es : List LogEntry) → length (map spelled es) ≡ length es
-map_length [] = refl
-map_length (e ∷ es) = ap suc (map_length es)
+pub found_none : (files : Files) (old : List LogEntry) → FindsEntries [] files old old
+found_none files old = record { entries = []; is = sym (append-nil old); within = tt; has = refl }
 
--- the place of a chunk that breaks
-pub record TellsPlace (places : List ChunkPlace) (index inner : ℕ) : Type 0 where
-  pub place : ChunkPlace
-  pub stands : slice_get places index ≡ Some place
-  pub inside : place.at + 5 + inner ≤ 65536
+pub found_next : (ns : List ℕ) (i n : ℕ) (files : Files) (a b c : List LogEntry) → i < length ns → n ≡ get_or ns i 0 → FindsEntries (take i ns) files a b → ReadsEntries (segment_bytes n files) b c → FindsEntries (take (i + 1) ns) files a c
+found_next ns i n files a b c lt is all more = record {
+  entries = all.entries ++ more.entries;
+  is = more.is ∙ ap (λ (l : List LogEntry). l ++ more.entries) all.is ∙ append_assoc a all.entries more.entries;
+  within = within_both all.entries more.entries all.within more.within;
+  has = subst (λ (l : List ℕ). PartsHold l files (map spelled (all.entries ++ more.entries))) (sym (one_more ns i n lt is))
+      (subst (PartsHold (take i ns ++ n ∷ []) files) (sym (map-append spelled all.entries more.entries))
+      (parts_more (take i ns) n files (map spelled all.entries) (map spelled more.entries) all.has (has_chunks n files (map spelled more.entries) more.long more.reads)));
+}
 
-module _ (chunks read : List (List ℕ)) (places listed : List ChunkPlace) (index inner : ℕ) (e : EntriesErr) (same : read ≡ chunks) (all_places : listed ≡ places) (all : AreInside chunks places) (may : OneMayBreak read e) (is : e ≡ broken.Form index inner) where
-  breaks : FirstBreaks chunks index inner
-  breaks = subst (λ (l : List (List ℕ)). OneMayBreak l (broken.Form index inner)) same (subst (OneMayBreak read) is may)
+pub found_damage : (ns : List ℕ) (i n : ℕ) (files : Files) (a b : List LogEntry) (at : ℕ) → ns ≡ numbers files → i < length ns → n ≡ get_or ns i 0 → FindsEntries (take i ns) files a b → FirstStop (segment_bytes n files) at → IsDamagedAt n at files
+found_damage ns i n files a b at all lt is found stop = record {
+  before = take i ns;
+  one = n;
+  after = drop (i + 1) ns;
+  split = sym all ∙ split_at ns i n lt is;
+  none = λ k m d breaks. segment_unbroken (take i ns) files found.entries found.within found.has k m d breaks;
+  found = record { at = at; stops = stop; is = refl };
+}
 
-  told : TellsPlace listed index inner
-  told =
-      let there = place_of (map spelled breaks.before) breaks.chunk breaks.after places (subst (λ (l : List (List ℕ)). AreInside l places) breaks.split all) in
-      let at : length (map spelled breaks.before) ≡ index = map_length breaks.before ∙ breaks.counted in
-      let within = breaks.breaks.inside in
-      record {
-        place = there.place;
-        stands = subst (λ (l : List ChunkPlace). slice_get l index ≡ Some there.place) (sym all_places) (subst (λ (n : ℕ). slice_get places n ≡ Some there.place) at there.stands);
-        inside = omega (arith, there.inside, within);
-      }
+pub found_broken : (ns : List ℕ) (i n : ℕ) (files : Files) (a b : List LogEntry) → ns ≡ numbers files → i < length ns → n ≡ get_or ns i 0 → FindsEntries (take i ns) files a b → (e : LoadErr) → MayBeBroken n files e → MayBeUnsound files e
+found_broken ns i n files a b all lt is found failures.Disk d = tt
+found_broken ns i n files a b all lt is found failures.Memory d = tt
+found_broken ns i n files a b all lt is found (failures.Form k at) d = subst (λ m. IsDamagedAt m at files) (sym d.0) (found_damage ns i n files a b at all lt is found d.1)
 
-  pub index_within : index < length listed
-  index_within = slice_get_within listed index told.place told.stands
-
-  pub place_inside : (d : ChunkPlace) → (get_or listed index d).at + 5 + inner ≤ 65536
-  place_inside d = subst (λ (p : ChunkPlace). p.at + 5 + inner ≤ 65536) (sym (get_or_from_slice_get listed index told.place d told.stands)) told.inside
-
-  pub entry_damage : (files : Files) (d : ChunkPlace) (answer : LoadErr) → ArePlaced (numbers files) files chunks places → answer ≡ failures.Form (get_or listed index d).number ((get_or listed index d).at + 5 + inner) → MayBeUnsound files answer
-  entry_damage files d answer placed answer_is =
-      let place_is : get_or listed index d ≡ told.place = get_or_from_slice_get listed index told.place d told.stands in
-      subst (MayBeUnsound files) (sym (answer_is ∙ ap (λ (p : ChunkPlace). failures.Form p.number (p.at + 5 + inner)) place_is))
-      (inr (record { chunks = chunks; places = places; placed = placed; index = index; inner = inner; breaks = breaks; place = told.place; stands = subst (λ (l : List ChunkPlace). slice_get l index ≡ Some told.place) all_places told.stands; number_is = refl; at_is = refl }))
+-- entries that all segments have
+pub all_entries : (files : Files) (old new : List LogEntry) → old ≡ [] → FindsEntries (numbers files) files old new → HoldsEntries new files
+all_entries files old new none found =
+    let same : found.entries ≡ new = sym (found.is ∙ ap (λ (l : List LogEntry). l ++ found.entries) none) in
+    subst (λ (l : List LogEntry). HoldsEntries l files) same (record { parts = found.has; within = found.within })

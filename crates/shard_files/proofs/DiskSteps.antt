@@ -2,7 +2,7 @@
 use Rattle.std.proofs.Common.{◌≡◌, List, sym, subst}
 use Rattle.m3_outside.specs.declared.file_name.FileName.{FileName}
 use Rattle.m3_outside.specs.Files.{Files}
-use Rattle.m3_outside.specs.DiskState.{DiskState, HaveSameNames, IsLawful}
+use Rattle.m3_outside.specs.DiskState.{DiskState, IsLawful}
 use Rattle.m3_outside.specs.Removal.{MayTakeAway}
 use Rattle.m3_outside.proofs.Moments.{elapses_as}
 use Rattle.shard_files.specs.StepLaws.{StepsKeep}

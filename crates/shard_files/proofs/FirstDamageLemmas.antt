@@ -20,7 +20,7 @@ use Rattle.wire_bytes.proofs.StopLemmas.{stops_one}
 use Rattle.shard_files.specs.declared.entries.LogEntry.{LogEntry}
 use Rattle.shard_files.specs.Entries.{spelled, IsWithin, AreWithin}
 use Rattle.shard_files.specs.Parts.{part_name, part_of, VolumeHolds, counted_volumes, counted_snapshots, snapshot_data, snapshot_checkpoint, SnapshotHolds, NewestIs}
-use Rattle.shard_files.specs.Damage.{Damage, OfForm, OfDigest, bytes_at, FirstFound, BreaksForm, BreaksDigest, IsGone, Differs, IsGate, IsInfo, IsSomeInfo, IsDerived, FormOf, kept_of, Look, AtForm, AtDigest, AtHead, looks, BreaksKept, LookFinds, IsBody, SnapshotLook, AtGate, AtKept, AtBody, SnapshotFinds, SegmentStops, Place, InVolume, InSnapshot, InSegment, last_of, places, PlaceFinds, DamagedHoldNothing, DamageIsOne, DigestsDiffer, ToldDigestsDiffer}
+use Rattle.shard_files.specs.Damage.{Damage, OfForm, OfDigest, bytes_at, FirstFound, BreaksForm, BreaksDigest, IsGone, Differs, IsGate, IsInfo, IsSomeInfo, IsDerived, FormOf, kept_of, Look, AtForm, AtDigest, AtHead, looks, BreaksKept, LookFinds, IsBody, SnapshotLook, AtGate, AtKept, AtBody, SnapshotFinds, SegmentStops, BreaksSegment, Place, InVolume, InSnapshot, InSegment, last_of, places, PlaceFinds, DamagedHoldNothing, DamageIsOne, DigestsDiffer, ToldDigestsDiffer}
 use Rattle.shard_files.proofs.SpellingLemmas.{bytes_are}
 use Rattle.shard_files.proofs.VolumeSteps.{of_name}
 
@@ -71,8 +71,8 @@ place_one : (files : Files) (place : Place) (d e : Damage) → PlaceFinds files 
 place_one files (InVolume name) d e a b = first_one (LookFinds name.ns name.block name.number files) (look_one name.ns name.block name.number files) d e looks a b
 place_one files (InSnapshot name) d e a b = first_one (SnapshotFinds name.number files) (snapshot_one name.number files) d e (AtGate ∷ AtKept ∷ AtBody ∷ []) a b
 place_one files (InSegment number) d e a b =
-    let low = a.first b.at b.stops in
-    let high = b.first a.at a.stops in
+    let low = a.stops.first b.at b.stops.stops in
+    let high = b.stops.first a.at a.stops.stops in
     let same : a.at ≡ b.at = omega (arith, low, high) in
     a.is ∙ ap (OfForm (segment number)) same ∙ sym b.is
 
@@ -232,7 +232,7 @@ reads_it (b ∷ before) (c ∷ cs) chunk rest bytes le r is =
     let same = same_chunk c b r.0 (written before ++ (chunk_bytes chunk ++ rest)) x.0 y.0 (sym r.1 ∙ joined) in
     inr (reads_it before cs chunk rest r.0 x.1 r.2 same.1)
 
-within_one : (es : List LogEntry) (e : LogEntry) → AreWithin es → IsIn es e → IsWithin e
+pub within_one : (es : List LogEntry) (e : LogEntry) → AreWithin es → IsIn es e → IsWithin e
 within_one [] e all m = absurd m
 within_one (d ∷ es) e all (inl same) = subst IsWithin same all.0
 within_one (d ∷ es) e all (inr m) = within_one es e all.1 m
@@ -244,6 +244,12 @@ whole_segment es bytes at all long reads (inr s) =
     let m = reads_it s.before (map spelled es) s.chunk s.rest bytes (omega (arith, long)) reads s.split in
     let e = IsIn-map spelled es s.chunk m in
     s.stops.none (subst AnEntry e.2 (bytes_are e.0 (within_one es e.0 all e.1)))
+
+-- nor does one among some that hold entries
+pub segment_unbroken : (ns : List ℕ) (files : Files) (es : List LogEntry) → AreWithin es → PartsHold ns files (map spelled es) → (n : ℕ) → IsIn ns n → (d : Damage) → BreaksSegment files n d → ⊥
+segment_unbroken ns files es within parts n m d b =
+    let s = entries_in ns files es within parts n m in
+    whole_segment s.entries s.has.file b.at s.within s.has.size s.has.reads (subst (λ l. SegmentStops l b.at) (ap (λ o. unwrap_or o []) s.has.there) b.stops.stops)
 
 -- ---- all files
 
@@ -273,9 +279,7 @@ damaged_hold_nothing files damage first points tenure fence held = by first.one 
         whole_snapshot s files is.holds g.one d g.found) (λ (none : ⊥). none) listed
 
     in_segment : (n : ℕ) → IsIn (numbers files) n → (d : Damage) → PlaceFinds files (InSegment n) d → ⊥
-    in_segment n m d f =
-        let s = entries_in (numbers files) files held.parts.entries held.holds.log.within held.holds.log.parts n m in
-        whole_segment s.entries s.has.file f.at s.within s.has.size s.has.reads (subst (λ l. SegmentStops l f.at) (ap (λ o. unwrap_or o []) s.has.there) f.stops)
+    in_segment n m d f = segment_unbroken (numbers files) files held.parts.entries held.holds.log.within held.holds.log.parts n m d f
 
     of_place : (place : Place) → ((name : FileName) × IsIn (counted_volumes files) name × (InVolume name ≡ place)) ⊎ (((name : FileName) × IsIn (last_of (counted_snapshots files)) name × (InSnapshot name ≡ place)) ⊎ ((n : ℕ) × IsIn (numbers files) n × (InSegment n ≡ place))) → (d : Damage)
         → PlaceFinds files place d → ⊥

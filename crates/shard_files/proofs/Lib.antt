@@ -1,6 +1,7 @@
 pub mod SpellingLemmas
 pub mod HeldLemmas
 pub mod DamageLemmas
+pub mod SegmentStops
 pub mod PlaceLemmas
 pub mod AmountLemmas
 pub mod GainLemmas

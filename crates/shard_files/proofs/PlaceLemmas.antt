@@ -1,10 +1,9 @@
 -- What stands at a place of some bytes, and where bytes break.
-use Rattle.std.proofs.Common.{◌≡◌, ℕ, suc, ◌+◌, ◌-◌, ◌<◌, List, [], ◌∷◌, ◌++◌, length, take, drop, get_or, map, refl, sym, ap, subst, ◌∙◌, arith, append_assoc, append-nil, length-append, length-take, length-drop}
-use Rattle.std.proofs.lemmas.List.{take_at, drop_at, drop-drop, take-take, take-append-drop, map_push}
+use Rattle.std.proofs.Common.{◌≡◌, ℕ, suc, ◌+◌, ◌-◌, ◌<◌, List, [], ◌∷◌, ◌++◌, length, take, drop, refl, sym, ap, subst, ◌∙◌, arith, append_assoc, append-nil, length-append, length-take, length-drop}
+use Rattle.std.proofs.lemmas.List.{take_at, drop_at, drop-drop, take-take, take-append-drop}
 use Rattle.std.proofs.Math.ListN.{drop_of_length-le}
-use Rattle.std.proofs.Math.Seq.{take-suc, drop-cons}
 use Rattle.m3_model.specs.declared.point.Point.{Point}
-use Rattle.wire_bytes.specs.Fields.{Stands, Begins, Misfits, IsFault}
+use Rattle.wire_bytes.specs.Fields.{Stands, Begins, Misfits, IsFault, StopsAt}
 use Rattle.wire_bytes.specs.Points.{APoint, PointStands}
 use Rattle.wire_bytes.specs.Entries.{IsBounded, bytes_of_point, points_bytes, AllBounded, ArePoints, points_entry, AnEntry, OfPoints, OfFence, OfTenure, PointsStand, EntryStands}
 use Rattle.wire_bytes.specs.declared.wire_err.WireErr.TheVariants as errors
@@ -15,12 +14,8 @@ use Rattle.wire_bytes.proofs.FieldLemmas.{begins_goes, begins_take, one_stands, 
 use Rattle.wire_bytes.proofs.PointLemmas.{point_ends}
 use Rattle.wire_bytes.proofs.VolumeLemmas.{point_bytes_are, points_front}
 use Rattle.wire_bytes.proofs.EntryLemmas.{entry_ends, points_more, bounded_more, stands_none}
-use Rattle.shard_files.specs.declared.entries.LogEntry.{LogEntry}
 use Rattle.shard_files.specs.declared.entries.LogEntry.TheVariants as entry
-use Rattle.shard_files.specs.declared.entries.EntryErr.{EntryErr}
-use Rattle.shard_files.specs.declared.entries.EntryErr.TheVariants as refused
-use Rattle.shard_files.specs.Entries.{spelled, IsEntry, AreEntries, BreaksAt, MayBreak, FirstBreaks, OneMayBreak, HasPoint, HavePoints, end_of, in_chunk}
-use Rattle.shard_files.proofs.SpellingLemmas.{within_more}
+use Rattle.shard_files.specs.Entries.{IsEntry, HasPoint, HavePoints, end_of}
 
 -- two fields that stand one after the other
 pub stands_apart : (a b bytes : List ℕ) (at next : ℕ) → Stands (a ++ b) bytes at next → Stands a bytes at (at + length a) × Stands b bytes (at + length a) next
@@ -105,7 +100,7 @@ begun : (bytes : List ℕ) → AnEntry bytes → Begins AnEntry bytes
 begun bytes a = record { rest = []; whole = subst AnEntry (sym (append-nil bytes)) a }
 
 -- something stands behind the entry
-pub breaks_behind : (bytes : List ℕ) (e : EntryAt) → EntryStands bytes 0 e → end_of e < length bytes → BreaksAt bytes (end_of e)
+pub breaks_behind : (bytes : List ℕ) (e : EntryAt) → EntryStands bytes 0 e → end_of e < length bytes → StopsAt AnEntry bytes (end_of e)
 breaks_behind bytes e st lt =
     let w = said bytes 0 e st in
     let n = end_of e in
@@ -124,7 +119,7 @@ breaks_behind bytes e st lt =
     }
 
 -- an entry goes on beyond the bytes
-pub breaks_short : (bytes : List ℕ) → IsFault AnEntry bytes 0 errors.Short → BreaksAt bytes (length bytes)
+pub breaks_short : (bytes : List ℕ) → IsFault AnEntry bytes 0 errors.Short → StopsAt AnEntry bytes (length bytes)
 breaks_short bytes g = record {
   inside = omega arith;
   begins = begins_take AnEntry (length bytes) bytes (begins_goes AnEntry bytes g);
@@ -133,7 +128,7 @@ breaks_short bytes g = record {
 }
 
 -- no entry has the byte at the place
-pub breaks_bad : (bytes : List ℕ) (at : ℕ) → IsFault AnEntry bytes 0 (errors.Bad at) → BreaksAt bytes at
+pub breaks_bad : (bytes : List ℕ) (at : ℕ) → IsFault AnEntry bytes 0 (errors.Bad at) → StopsAt AnEntry bytes at
 breaks_bad bytes at f =
     let same : at - 0 ≡ at = omega arith in
     let m : Misfits AnEntry bytes at = subst (Misfits AnEntry bytes) same f.1 in
@@ -158,25 +153,3 @@ fence_whole bytes n next st all = record { within = st.0; is = whole_stands _ by
 
 pub tenure_whole : (bytes : List ℕ) (n next : ℕ) → EntryStands bytes 0 (found.Tenure n next) → next ≡ length bytes → IsEntry bytes (entry.Tenure n)
 tenure_whole bytes n next st all = record { within = st.0; is = whole_stands _ bytes next st.1 all }
-
--- one chunk more is read
-pub entries_more : (chunks : List (List ℕ)) (i : ℕ) (chunk : List ℕ) (es : List LogEntry) (e : LogEntry) → i < length chunks → chunk ≡ get_or chunks i chunk → AreEntries (take i chunks) es → IsEntry chunk e → AreEntries (take (suc i) chunks) (es ++ e ∷ [])
-entries_more chunks i chunk es e lt is done one = record {
-  within = within_more es e done.within one.within;
-  are = take-suc chunks i chunk lt ∙ ap (λ (c : List ℕ). take i chunks ++ c ∷ []) (sym is ∙ one.is) ∙ ap (λ (l : List (List ℕ)). l ++ spelled e ∷ []) done.are ∙ sym (map_push spelled es e);
-}
-
-entries_break : (chunks : List (List ℕ)) (i : ℕ) (chunk : List ℕ) (es : List LogEntry) (at : ℕ) → i < length chunks → chunk ≡ get_or chunks i chunk → AreEntries (take i chunks) es → BreaksAt chunk at → FirstBreaks chunks (length es) at
-entries_break chunks i chunk es at lt is done breaks = record {
-  before = es;
-  chunk = chunk;
-  after = drop (suc i) chunks;
-  within = done.within;
-  split = sym (take-append-drop i chunks) ∙ ap (λ (l : List (List ℕ)). l ++ drop i chunks) done.are ∙ ap (λ (l : List (List ℕ)). map spelled es ++ l) (drop-cons chunks i chunk lt ∙ ap (λ (c : List ℕ). c ∷ drop (suc i) chunks) (sym is));
-  counted = refl;
-  breaks = breaks;
-}
-
-pub entries_stop : (chunks : List (List ℕ)) (i : ℕ) (chunk : List ℕ) (es : List LogEntry) (e : EntryErr) → i < length chunks → chunk ≡ get_or chunks i chunk → AreEntries (take i chunks) es → MayBreak chunk e → OneMayBreak chunks (in_chunk (length es) e)
-entries_stop chunks i chunk es refused.Memory lt is done breaks = tt
-entries_stop chunks i chunk es (refused.Form at) lt is done breaks = entries_break chunks i chunk es at lt is done breaks

@@ -37,6 +37,10 @@ pub within_more : (es : List LogEntry) (e : LogEntry) → AreWithin es → IsWit
 within_more [] e all one = (one, tt)
 within_more (d ∷ es) e all one = (all.0, within_more es e all.1 one)
 
+pub within_both : (ds es : List LogEntry) → AreWithin ds → AreWithin es → AreWithin (ds ++ es)
+within_both [] es a b = b
+within_both (d ∷ ds) es a b = (a.0, within_both ds es a.1 b)
+
 -- an entry's bytes are an entry's
 pub bytes_are : (e : LogEntry) → IsWithin e → AnEntry (spelled e)
 bytes_are (entry.Points ps) w = OfPoints ps w refl

@@ -3,12 +3,13 @@ use Rattle.std.specs.Prelude.{◌≡◌, ◌⊎◌, ◌+◌, ◌<◌, ◌≤◌,
 use Rattle.std.specs.FinMap.{get}
 use Rattle.sha2.specs.Sha256.{sha256}
 use Rattle.m3_model.specs.Members.{IsIn}
+use Rattle.m3_model.specs.declared.limits.TheConstants.{SEGMENT_BYTES}
 use Rattle.m3_model.specs.declared.point.Point.{Point}
 use Rattle.m3_model.specs.declared.point.Series.{Series}
 use Rattle.m3_outside.specs.Files.{Files, IsAbsent}
 use Rattle.m3_outside.specs.declared.file_name.FileName.{FileName}
 use Rattle.commit_log.specs.Contents.{numbers}
-use Rattle.commit_log.specs.Segment.{segment, chunk_bytes, written, Reads}
+use Rattle.commit_log.specs.Segment.{segment, chunk_bytes, written, IsSegment}
 use Rattle.wire_bytes.specs.Fields.{StopsAt}
 use Rattle.wire_bytes.specs.Entries.{AnEntry}
 use Rattle.wire_bytes.specs.Volumes.{VolumeHead, IsHead, IsVolume, Part, Info, Summaries, Index, Data, Bloom, Digests, Checkpoint, info_of, data_bytes, part_bytes}
@@ -152,19 +153,13 @@ SnapshotFinds number files AtGate damage = BreaksForm IsGate files (snapshot_che
 SnapshotFinds number files AtKept damage = BreaksDigest (drop 1 (bytes_at files (snapshot_checkpoint number))) files (snapshot_data number) damage
 SnapshotFinds number files AtBody damage = BreaksForm (IsBody number) files (snapshot_data number) damage
 
--- the bytes of a segment of a log
-pub record IsSegment (bytes : List ℕ) : Type 0 where
-  pub chunks : List (List ℕ)
-  pub long : length bytes ≡ 65536
-  pub reads : Reads chunks bytes
-
 -- a whole chunk of a segment is no entry, by this place: that in the chunk, behind its gate and its length
 pub record EntryStops (bytes : List ℕ) (at : ℕ) : Type 0 where
   pub before : List (List ℕ)
   pub chunk : List ℕ
   pub rest : List ℕ
   pub split : bytes ≡ written before ++ (chunk_bytes chunk ++ rest)
-  pub inside : length (written before ++ chunk_bytes chunk) ≤ 65536
+  pub inside : length (written before ++ chunk_bytes chunk) ≤ SEGMENT_BYTES
   pub inner : ℕ
   pub stops : StopsAt AnEntry chunk inner
   pub place : at ≡ length (written before) + 5 + inner
@@ -173,11 +168,15 @@ pub record EntryStops (bytes : List ℕ) (at : ℕ) : Type 0 where
 abbrev pub SegmentStops : List ℕ → ℕ → Type 0
 SegmentStops bytes at = StopsAt IsSegment bytes at ⊎ EntryStops bytes at
 
--- the first such place of the segment
+-- the first such place
+pub record FirstStop (bytes : List ℕ) (at : ℕ) : Type 0 where
+  pub stops : SegmentStops bytes at
+  pub first : (other : ℕ) → SegmentStops bytes other → at ≤ other
+
+-- the first such place of the segment of this number
 pub record BreaksSegment (files : Files) (number : ℕ) (damage : Damage) : Type 0 where
   pub at : ℕ
-  pub stops : SegmentStops (bytes_at files (segment number)) at
-  pub first : (other : ℕ) → SegmentStops (bytes_at files (segment number)) other → at ≤ other
+  pub stops : FirstStop (bytes_at files (segment number)) at
   pub is : damage ≡ OfForm (segment number) at
 
 -- ---- all files

@@ -1,7 +1,7 @@
 -- Entries of a replica's log, as bytes.
-use Rattle.std.specs.Prelude.{◌≡◌, ⊤, ℕ, suc, ◌<◌, ◌≤◌, ◌^◌, List, [], ◌∷◌, ◌++◌, map, length, take}
+use Rattle.std.specs.Prelude.{◌≡◌, ⊤, ℕ, ◌-◌, ◌<◌, ◌≤◌, ◌^◌, List, [], ◌∷◌, length}
 use Rattle.m3_model.specs.declared.point.Point.{Point}
-use Rattle.wire_bytes.specs.Fields.{Begins}
+use Rattle.wire_bytes.specs.Fields.{StopsAt}
 use Rattle.wire_bytes.specs.Entries.{AnEntry, ArePoints, PointsStand, points_entry, fence_entry, tenure_entry}
 use Rattle.wire_bytes.specs.Points.{PointStands}
 use Rattle.wire_bytes.specs.declared.points.PointAt.{PointAt}
@@ -11,8 +11,6 @@ use Rattle.shard_files.specs.declared.entries.LogEntry.{LogEntry}
 use Rattle.shard_files.specs.declared.entries.LogEntry.TheVariants as entry
 use Rattle.shard_files.specs.declared.entries.EntryErr.{EntryErr}
 use Rattle.shard_files.specs.declared.entries.EntryErr.TheVariants as refused
-use Rattle.shard_files.specs.declared.entries.EntriesErr.{EntriesErr}
-use Rattle.shard_files.specs.declared.entries.EntriesErr.TheVariants as broken
 
 -- the bytes of an entry
 abbrev pub spelled : LogEntry → List ℕ
@@ -35,41 +33,15 @@ pub record IsEntry (bytes : List ℕ) (e : LogEntry) : Type 0 where
   pub within : IsWithin e
   pub is : bytes ≡ spelled e
 
--- these chunks are these entries
-pub record AreEntries (chunks : List (List ℕ)) (es : List LogEntry) : Type 0 where
-  pub within : AreWithin es
-  pub are : chunks ≡ map spelled es
-
--- The bytes are no entry: some entry begins with those before the place, and none with those up to it, or the bytes end there.
-pub record BreaksAt (bytes : List ℕ) (at : ℕ) : Type 0 where
-  pub inside : at ≤ length bytes
-  pub begins : Begins AnEntry (take at bytes)
-  pub stops : at < length bytes → ¬ (Begins AnEntry (take (suc at) bytes))
-  pub none : ¬ (AnEntry bytes)
-
--- these bytes break at the place; memory may always be wanted
+-- these bytes stop to be an entry at the place; memory may always be wanted
 abbrev pub MayBreak : List ℕ → EntryErr → Type 0
 MayBreak bytes refused.Memory = ⊤
-MayBreak bytes (refused.Form at) = BreaksAt bytes at
+MayBreak bytes (refused.Form at) = StopsAt AnEntry bytes at
 
--- the chunk behind so many entries breaks at the place
-pub record FirstBreaks (chunks : List (List ℕ)) (index at : ℕ) : Type 0 where
-  pub before : List LogEntry
-  pub chunk : List ℕ
-  pub after : List (List ℕ)
-  pub within : AreWithin before
-  pub split : chunks ≡ map spelled before ++ chunk ∷ after
-  pub counted : length before ≡ index
-  pub breaks : BreaksAt chunk at
-
--- one of the chunks is the first that breaks; memory may always be wanted
-abbrev pub OneMayBreak : List (List ℕ) → EntriesErr → Type 0
-OneMayBreak chunks broken.Memory = ⊤
-OneMayBreak chunks (broken.Form index at) = FirstBreaks chunks index at
-
-abbrev pub in_chunk : ℕ → EntryErr → EntriesErr
-in_chunk index refused.Memory = broken.Memory
-in_chunk index (refused.Form at) = broken.Form index at
+-- the same of bytes that stand at this place
+abbrev pub MayBreakFrom : ℕ → List ℕ → EntryErr → Type 0
+MayBreakFrom from bytes refused.Memory = ⊤
+MayBreakFrom from bytes (refused.Form at) = (from ≤ at) × StopsAt AnEntry bytes (at - from)
 
 -- the place behind the entry
 abbrev pub end_of : EntryAt → ℕ

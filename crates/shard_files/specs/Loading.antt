@@ -1,14 +1,16 @@
 -- What is found of the entries in files, or why none are.
-use Rattle.std.specs.Prelude.{◌≡◌, ◌⊎◌, ⊤, ℕ, ◌+◌, List, Some, slice_get}
+use Rattle.std.specs.Prelude.{◌≡◌, ⊤, ℕ, List, ◌++◌, map, length}
+use Rattle.m3_model.specs.declared.limits.TheConstants.{SEGMENT_BYTES}
 use Rattle.m3_outside.specs.Files.{Files}
 use Rattle.m3_outside.specs.declared.disk_err.DiskErr.{DiskErr}
 use Rattle.m3_outside.specs.declared.disk_err.DiskErr.TheVariants as disk
-use Rattle.commit_log.specs.Contents.{numbers, FirstDamaged}
-use Rattle.commit_log.specs.Places.{ArePlaced}
-use Rattle.commit_log.specs.declared.log_err.LogErr.{LogErr}
-use Rattle.commit_log.specs.declared.log_err.LogErr.TheVariants as errors
-use Rattle.commit_log.specs.declared.place.ChunkPlace.{ChunkPlace}
-use Rattle.shard_files.specs.Entries.{FirstBreaks}
+use Rattle.commit_log.specs.Contents.{numbers, PartsHold, segment_bytes}
+use Rattle.commit_log.specs.Segment.{segment, Reads}
+use Rattle.shard_files.specs.declared.entries.LogEntry.{LogEntry}
+use Rattle.shard_files.specs.declared.entries.EntryErr.{EntryErr}
+use Rattle.shard_files.specs.declared.entries.EntryErr.TheVariants as refused
+use Rattle.shard_files.specs.Entries.{spelled, AreWithin}
+use Rattle.shard_files.specs.Damage.{OfForm, FirstFound, FirstStop, BreaksSegment}
 use Rattle.shard_files.specs.declared.load_err.LoadErr.{LoadErr}
 use Rattle.shard_files.specs.declared.load_err.LoadErr.TheVariants as failures
 
@@ -16,29 +18,40 @@ abbrev pub of_disk : DiskErr → LoadErr
 of_disk disk.Failed = failures.Disk
 of_disk disk.Memory = failures.Memory
 
-abbrev pub of_log : LogErr → LoadErr
-of_log errors.Disk = failures.Disk
-of_log errors.Memory = failures.Memory
-of_log (errors.Form number at) = failures.Form number at
+-- the entries of a segment with these bytes came behind those before
+pub record ReadsEntries (bytes : List ℕ) (old new : List LogEntry) : Type 0 where
+  pub entries : List LogEntry
+  pub is : new ≡ old ++ entries
+  pub within : AreWithin entries
+  pub long : length bytes ≡ SEGMENT_BYTES
+  pub reads : Reads (map spelled entries) bytes
 
--- All segments are whole. Of their chunks the first that is no entry stands in the segment of this number, and breaks at this place there, counted from
--- the segment's begin: behind the chunk's gate and length.
-pub record EntryBreaks (number at : ℕ) (files : Files) : Type 0 where
-  pub chunks : List (List ℕ)
-  pub places : List ChunkPlace
-  pub placed : ArePlaced (numbers files) files chunks places
-  pub index : ℕ
-  pub inner : ℕ
-  pub breaks : FirstBreaks chunks index inner
-  pub place : ChunkPlace
-  pub stands : slice_get places index ≡ Some place
-  pub number_is : number ≡ place.number
-  pub at_is : at ≡ place.at + 5 + inner
+-- the first place at which these bytes stop to be a segment of entries is this one; memory may always be wanted
+abbrev pub MayStop : List ℕ → EntryErr → Type 0
+MayStop bytes refused.Memory = ⊤
+MayStop bytes (refused.Form at) = FirstStop bytes at
 
--- The first damage of a replica's files: the lowest segment that isn't in the grammar of a log or, where all are, the first chunk that is no entry; and the
--- first place in that segment at which no grammar goes on.
+-- this segment stops at the place; a fault has its own cause, and memory may always be wanted
+abbrev pub MayBeBroken : ℕ → Files → LoadErr → Type 0
+MayBeBroken number files failures.Disk = ⊤
+MayBeBroken number files failures.Memory = ⊤
+MayBeBroken number files (failures.Form n at) = (n ≡ number) × FirstStop (segment_bytes number files) at
+
+-- the same, of the segment of this number
+abbrev pub in_segment : ℕ → EntryErr → LoadErr
+in_segment number refused.Memory = failures.Memory
+in_segment number (refused.Form at) = failures.Form number at
+
+-- the entries of these segments came behind those before
+pub record FindsEntries (ns : List ℕ) (files : Files) (old new : List LogEntry) : Type 0 where
+  pub entries : List LogEntry
+  pub is : new ≡ old ++ entries
+  pub within : AreWithin entries
+  pub has : PartsHold ns files (map spelled entries)
+
+-- the lowest damaged segment has this number, and the first place at which it stops to be a segment of entries is this one
 abbrev pub IsDamagedAt : ℕ → ℕ → Files → Type 0
-IsDamagedAt number at files = FirstDamaged (numbers files) number at files ⊎ EntryBreaks number at files
+IsDamagedAt number at files = FirstFound (BreaksSegment files) (numbers files) (OfForm (segment number) at)
 
 -- why these files hold no entries; a fault has its own cause, and memory may always be wanted
 abbrev pub MayBeUnsound : Files → LoadErr → Type 0

@@ -1,7 +1,7 @@
 ghost use Rattle.std.specs.Prelude.{◌≡◌, ℕ, ◌≤◌, List, length, IfOk, IfErr};
 ghost use Rattle.wire_bytes.specs.Fields.{Stands};
 ghost use Rattle.wire_bytes.specs.Entries.{IsBounded, bytes_of_point, PointsStand, EntryStands};
-ghost use Rattle.shard_files.specs.Entries.{IsEntry, AreEntries, HasPoint, HavePoints, MayBreak, OneMayBreak, end_of, in_chunk};
+ghost use Rattle.shard_files.specs.Entries.{IsEntry, HasPoint, HavePoints, MayBreak, end_of};
 
 use m3_model::memory::Memory;
 use m3_model::point::Point;
@@ -21,23 +21,14 @@ pub enum LogEntry {
     Tenure { tenure: u64 },
 }
 
-/// Why some bytes aren't read as an entry.
+/// Why some bytes aren't read as an entry, or a segment as entries.
 #[derive(Clone, Copy, Debug, PartialEq, Eq)]
 pub enum EntryErr {
     /// Want of memory.
     Memory,
-    /// They are none: some entry begins with the bytes before the place `at`, and none goes on with the byte there, or
-    /// there is none.
+    /// They are none: some entry, or some segment of entries, begins with the bytes before the place `at`, and none goes on
+    /// with the byte there, or there is none.
     Form { at: usize },
-}
-
-/// Why some chunks aren't read as entries.
-#[derive(Clone, Copy, Debug, PartialEq, Eq)]
-pub enum EntriesErr {
-    /// Want of memory.
-    Memory,
-    /// The chunk of this index is the first that is no entry, by its byte at the place `at`, or for want of it.
-    Form { index: usize, at: usize },
 }
 
 impl From<Memory> for EntryErr {
@@ -51,14 +42,14 @@ impl From<Memory> for EntryErr {
     }
 }
 
-impl<T: Drop> From<AllocFailed<T>> for EntriesErr {
+impl<T: Drop> From<AllocFailed<T>> for EntryErr {
     ghost use Rattle.std.specs.Prelude.{◌≡◌};
-    ghost use Rattle.shard_files.specs.declared.entries.EntriesErr.TheVariants as broken;
+    ghost use Rattle.shard_files.specs.declared.entries.EntryErr.TheVariants as refused;
 
-    ghost from_gives = { λ _ e. e ≡ broken.Memory };
+    ghost from_gives = { λ _ e. e ≡ refused.Memory };
 
-    fn from(_: AllocFailed<T>) -> EntriesErr {
-        EntriesErr::Memory
+    fn from(_: AllocFailed<T>) -> EntryErr {
+        EntryErr::Memory
     }
 }
 
@@ -140,35 +131,4 @@ pub fn read_entry(alloc: Global, chunk: &[u8]) -> Result<LogEntry, EntryErr>
         EntryAt::Fence { fence, .. } => Ok(LogEntry::Fence { fence }),
         EntryAt::Tenure { tenure, .. } => Ok(LogEntry::Tenure { tenure }),
     }
-}
-
-impl EntryErr {
-    // The same of the chunk of this index.
-    fn in_chunk(self, index: usize) -> EntriesErr
-        ensures { result ≡ in_chunk index self }
-    {
-        match self {
-            EntryErr::Memory => EntriesErr::Memory,
-            EntryErr::Form { at } => EntriesErr::Form { index, at },
-        }
-    }
-}
-
-/// The entries that the chunks are, each with nothing behind it.
-///
-/// # Errors
-///
-/// Want of memory. The first chunk that is no entry, by its index, with the first place at which it breaks.
-pub fn read_entries(alloc: Global, chunks: &[Seq<u8>]) -> Result<Seq<LogEntry>, EntriesErr>
-    ensures ok { IfOk result (λ entries. AreEntries chunks.now entries) }
-    ensures err { IfErr result (OneMayBreak chunks.now) }
-{
-    let mut entries = Vec::new(alloc);
-    for chunk in chunks {
-        match read_entry(alloc, chunk.as_slice()) {
-            Ok(entry) => entries.push(entry)?,
-            Err(e) => return Err(e.in_chunk(entries.len())),
-        }
-    }
-    Ok(Seq::from_vec(entries))
 }

@@ -6,3 +6,4 @@ pub mod entries;
 pub mod file_laws;
 pub mod laws;
 pub mod load_err;
+pub mod segment_entries;

@@ -1,4 +1,3 @@
-use commit_log::LogErr;
 use m3_model::memory::Memory;
 use m3_outside::disk_err::DiskErr;
 
@@ -11,21 +10,6 @@ pub enum LoadErr {
     Memory,
     /// In the segment of this number no replica's log goes on with the byte at the place `at`, or for want of it.
     Form { number: u64, at: u64 },
-}
-
-impl From<LogErr> for LoadErr {
-    ghost use Rattle.std.specs.Prelude.{◌≡◌};
-    ghost use Rattle.shard_files.specs.Loading.{of_log};
-
-    ghost from_gives = { λ d e. e ≡ of_log d };
-
-    fn from(e: LogErr) -> LoadErr {
-        match e {
-            LogErr::Disk => LoadErr::Disk,
-            LogErr::Memory => LoadErr::Memory,
-            LogErr::Form { number, at } => LoadErr::Form { number, at },
-        }
-    }
 }
 
 impl From<DiskErr> for LoadErr {

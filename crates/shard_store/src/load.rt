@@ -1,25 +1,24 @@
-ghost use Rattle.std.specs.Prelude.{◌≡◌, ◌≤◌, ◌+◌, true, IfOk, IfErr, IsErrOf};
+ghost use Rattle.std.specs.Prelude.{◌≡◌, ◌≤◌, true, IfOk, OnOk, IfErr, IsErrOf};
 ghost use Rattle.m3_outside.specs.Causes.{CountsFaults};
 ghost use Rattle.m3_outside.specs.DiskState.{DiskState, Told, EachImage, Elapses};
 ghost use Rattle.m3_outside.specs.DiskCalls.{LeavesFiles};
 ghost use Rattle.m3_outside.specs.Files.{Stays};
+ghost use Rattle.commit_log.specs.Contents.{segment_bytes, numbers as numbers_in};
 ghost use Rattle.commit_log.specs.LogEnd.{NoneFrom};
 ghost use Rattle.shard_files.specs.Held.{HoldsEntries, Held};
-ghost use Rattle.shard_files.specs.Loading.{MayBeUnsound};
+ghost use Rattle.shard_files.specs.Loading.{ReadsEntries, FindsEntries, MayBeBroken, MayBeUnsound, in_segment};
 ghost use Rattle.shard_files.specs.declared.load_err.LoadErr.TheVariants as failures;
 
 use crate::sync::sync_all;
-use commit_log::{ChunkPlace, read_all};
+use commit_log::{Segments, list_segments, read_front};
 use m3_model::point::Point;
 use m3_model::seq::Seq;
 use m3_outside::disk::Disk;
 use shard_files::amount::join_entries;
-use shard_files::entries::{EntriesErr, LogEntry, read_entries};
+use shard_files::entries::{EntryErr, LogEntry};
 use shard_files::load_err::LoadErr;
+use shard_files::segment_entries::read_segment;
 use std::alloc::Global;
-
-// The bytes of a chunk in front of its entry.
-const HEAD_BYTES: u64 = 5;
 
 // What a replica's log holds.
 #[derive(Drop)]
@@ -30,15 +29,53 @@ struct HeldEntries {
     next: u64,
 }
 
-// The damage of a chunk that stands there, by its byte at the place `at`.
-fn damage(place: ChunkPlace, at: usize) -> LoadErr
-    requires { place.at + 5 + at ≤ 65536 }
-    ensures { result ≡ failures.Form place.number (place.at + 5 + at) }
+// The same of the segment of this number.
+fn in_segment(e: EntryErr, number: u64) -> LoadErr
+    ensures { result ≡ in_segment number e }
 {
-    LoadErr::Form {
-        number: place.number,
-        at: place.at + HEAD_BYTES + at as u64,
+    match e {
+        EntryErr::Memory => LoadErr::Memory,
+        EntryErr::Form { at } => LoadErr::Form {
+            number,
+            at: at as u64,
+        },
     }
+}
+
+// Appends the entries of the segment of this number.
+fn read_one<D: Disk>(
+    alloc: Global,
+    disk: &mut D,
+    number: u64,
+    entries: &mut Vec<LogEntry>,
+) -> Result<(), LoadErr>
+    ensures leaves { LeavesFiles (IsErrOf result failures.Disk) (D.state disk.old) (D.state disk.new) }
+    ensures ok { (D.state disk.old).tells ≡ true → OnOk result (ReadsEntries (segment_bytes number (D.state disk.old).files) entries.old.items entries.new.items) }
+    ensures err { (D.state disk.old).tells ≡ true → IfErr result (MayBeBroken number (D.state disk.old).files) }
+{
+    let front = read_front(alloc, disk, number)?;
+    match read_segment(alloc, &front, entries) {
+        Ok(()) => Ok(()),
+        Err(e) => Err(in_segment(e, number)),
+    }
+}
+
+// Appends the entries of the segments of these numbers, which are all that the disk has.
+fn read_segments<D: Disk>(
+    alloc: Global,
+    disk: &mut D,
+    numbers: &[u64],
+    entries: &mut Vec<LogEntry>,
+) -> Result<(), LoadErr>
+    requires { Told (D.state disk.old) (λ files. numbers.now ≡ numbers_in files) }
+    ensures leaves { LeavesFiles (IsErrOf result failures.Disk) (D.state disk.old) (D.state disk.new) }
+    ensures ok { (D.state disk.old).tells ≡ true → OnOk result (FindsEntries numbers.now (D.state disk.old).files entries.old.items entries.new.items) }
+    ensures err { (D.state disk.old).tells ≡ true → IfErr result (MayBeUnsound (D.state disk.old).files) }
+{
+    for number in numbers {
+        read_one(alloc, disk, *number, entries)?;
+    }
+    Ok(())
 }
 
 // Reads the entries of a whole log.
@@ -48,15 +85,13 @@ fn held_entries<D: Disk>(alloc: Global, disk: &mut D) -> Result<HeldEntries, Loa
     ensures fresh { IfOk result (λ held. Told (D.state disk.new) (NoneFrom held.next)) }
     ensures err { (D.state disk.old).tells ≡ true → IfErr result (MayBeUnsound (D.state disk.old).files) }
 {
-    let found = read_all(alloc, disk)?;
-    match read_entries(alloc, found.chunks.as_slice()) {
-        Ok(entries) => Ok(HeldEntries {
-            entries,
-            next: found.next,
-        }),
-        Err(EntriesErr::Memory) => Err(LoadErr::Memory),
-        Err(EntriesErr::Form { index, at }) => Err(damage(found.places.as_slice()[index], at)),
-    }
+    let Segments { numbers, next } = list_segments(alloc, disk)?;
+    let mut entries = Vec::new(alloc);
+    read_segments(alloc, disk, numbers.as_slice(), &mut entries)?;
+    Ok(HeldEntries {
+        entries: Seq::from_vec(entries),
+        next,
+    })
 }
 
 /// What a replica's disk holds.
@@ -95,9 +130,9 @@ fn read_disk<D: Disk>(alloc: Global, disk: &mut D) -> Result<Loaded, LoadErr>
 ///
 /// # Errors
 ///
-/// A fault. Damage: the lowest segment that isn't in the grammar of a log or, where there is none, the segment of the first
-/// chunk that is no entry, each with the first such place in it. Want of memory, also where a segment has the number 2^64 - 1. Reads give
-/// what they gave, and a stop leaves what it might have left before.
+/// A fault. Damage: the lowest damaged segment, and the first place in it at which no segment goes on or a whole chunk stops
+/// to be an entry. Want of memory, also where the next segment would have the number `NUMBER_END` or a higher one. Reads
+/// give what they gave, and a stop leaves what it might have left before.
 pub fn load<D: Disk>(alloc: Global, disk: &mut D) -> Result<Loaded, LoadErr>
     ensures ok { IfOk result (λ l. Told (D.state disk.new) (Held l.points l.tenure l.fence)) }
     ensures only { IfOk result (λ _. EachImage (D.state disk.new) (λ c. c ≡ (D.state disk.new).files)) }

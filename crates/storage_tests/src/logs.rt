@@ -1,5 +1,6 @@
 // A log on a disk in memory: its bytes, and what each stop within it leaves.
 use commit_log::{Found, Log, LogErr, cut_before, read_all};
+use m3_model::limits::SEGMENT_BYTES;
 use m3_model::memory::Memory;
 use m3_outside::disk::Disk;
 use m3_outside::disk_err::DiskErr;
@@ -15,8 +16,6 @@ const FIRST: FileName = FileName {
     block: 0,
     number: 1,
 };
-
-const SEGMENT_BYTES: u64 = 65_536;
 
 // How many appends were acknowledged, and how many were begun.
 #[derive(Clone, Copy)]
@@ -244,7 +243,7 @@ fn a_chunk_is_spelled_so(rt: HostRuntime) -> Result<(), Fail> {
 }
 
 // The beginnings of segments, and how many chunks are read there, or the place of the damage.
-const SEGMENTS: [(&[u8], Result<usize, u64>); 9] = [
+const SEGMENTS: [(&[u8], Result<usize, u64>); 10] = [
     (&[], Ok(0)),
     (&CHUNK, Ok(1)),
     (&[0, 0, 0, 0, 1, 97], Ok(0)),
@@ -255,7 +254,8 @@ const SEGMENTS: [(&[u8], Result<usize, u64>); 9] = [
         Ok(1),
     ),
     (&[1, 0, 0, 0xff, 0xfb], Ok(1)),
-    (&[1, 0, 0, 0xff, 0xfc], Err(1)),
+    (&[1, 0, 0, 0xff, 0xfc], Err(4)),
+    (&[1, 0, 1, 0, 0], Err(2)),
     (&[1, 0, 0, 0, 1, 97, 1, 1, 0, 0, 0, 98], Err(7)),
 ];
 

@@ -1,21 +1,15 @@
-use Rattle.shard_files.proofs.DamageLemmas.{index_within, place_inside, entry_damage}
+use Rattle.shard_files.specs.declared.load_err.LoadErr.TheVariants as failures
+use Rattle.commit_log.proofs.Leaves.{leaves_as, leaves_then}
+use Rattle.commit_log.proofs.ReadLemmas.{passed_err}
 use Rattle.shard_store.proofs.load.held_entries.Goals as goal
 
-pub bounds-as_slice-index : goal.bounds-as_slice-index
-bounds-as_slice-index g c =
-    let f = c.in_ok-found.found in
-    let e = c.in-Err-Form in
-    index_within f.chunks c.as_slice.result.now f.places c.as_slice-in-Err-Form.result.now e.index e.at e.field-0 c.as_slice.ensures c.as_slice-in-Err-Form.ensures c.in_ok-found.ensures.inside e.ensures.err e.field-0-is
+pub returns-in_err-read_segments-clause-leaves : goal.returns-in_err-read_segments-clause-leaves
+returns-in_err-read_segments-clause-leaves g c =
+    leaves_then _ _ (g.D.Disk.state c.args.disk.now) (g.D.Disk.state c.list_segments.new.disk) (g.D.Disk.state c.read_segments.new.disk) c.in_ok-numbers.ensures.leaves
+    (leaves_as _ _ (g.D.Disk.state c.list_segments.new.disk) (g.D.Disk.state c.read_segments.new.disk)
+    (λ f. passed_err c.from_residual-in_err-read_segments.result c.read_segments.result c.in_err-read_segments.field-0.0 failures.Disk c.in_err-read_segments.was c.from_residual-in_err-read_segments.ensures.1 f) c.read_segments.ensures.leaves)
 
-pub damage-requires : goal.damage-requires
-damage-requires g c =
-    let f = c.in_ok-found.found in
-    let e = c.in-Err-Form in
-    place_inside f.chunks c.as_slice.result.now f.places c.as_slice-in-Err-Form.result.now e.index e.at e.field-0 c.as_slice.ensures c.as_slice-in-Err-Form.ensures c.in_ok-found.ensures.inside e.ensures.err e.field-0-is _
-
-pub returns-clause-err : goal.returns-clause-err
-returns-clause-err g c = λ t.
-    let f = c.in_ok-found.found in
-    let e = c.in-Err-Form in
-    entry_damage f.chunks c.as_slice.result.now f.places c.as_slice-in-Err-Form.result.now e.index e.at e.field-0 c.as_slice.ensures c.as_slice-in-Err-Form.ensures c.in_ok-found.ensures.inside e.ensures.err e.field-0-is
-    (g.D.Disk.state c.args.disk.now).files _ c.damage.result (c.in_ok-found.ensures.placed t) c.damage.ensures
+pub returns-clause-leaves : goal.returns-clause-leaves
+returns-clause-leaves g c =
+    leaves_then _ _ (g.D.Disk.state c.args.disk.now) (g.D.Disk.state c.list_segments.new.disk) (g.D.Disk.state c.read_segments.new.disk) c.in_ok-numbers.ensures.leaves
+    (leaves_as _ _ (g.D.Disk.state c.list_segments.new.disk) (g.D.Disk.state c.read_segments.new.disk) (λ f. absurd (cc)) c.read_segments.ensures.leaves)

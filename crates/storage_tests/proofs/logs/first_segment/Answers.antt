@@ -1,8 +1,17 @@
-use Rattle.std.proofs.Common.{◌≡◌, ℕ, Option, length, unwrap_or, sym, ap, subst, ◌∙◌, arith}
-use Rattle.m3_outside.specs.Files.{IsInside}
+use Rattle.std.proofs.Common.{◌≡◌, ℕ, List, Option, Some, None, length, option_map, unwrap_or, refl, sym, ap, subst, ◌∙◌, arith}
+use Rattle.std.specs.FinMap.{get}
+use Rattle.m3_outside.specs.declared.file_name.FileName.{FileName}
+use Rattle.m3_outside.specs.Files.{Files, IsInside}
 use Rattle.commit_log.specs.Segment.{segment}
-use Rattle.commit_log.proofs.Segments.{file_inside}
 use Rattle.storage_tests.proofs.logs.first_segment.Goals as goal
+
+-- a file that has bytes is there
+file_inside : (files : Files) (name : FileName) (size : ℕ) → size ≡ unwrap_or (option_map length (get files name)) 0 → (size ≡ 0 → ⊥) → IsInside name 0 size files
+file_inside files name size is some = by (get files name) refl is
+  where
+    by : (o : Option (List ℕ)) → get files name ≡ o → size ≡ unwrap_or (option_map length o) 0 → IsInside name 0 size files
+    by None there is = absurd (some is)
+    by (Some file) there is = record { file = file; there = there; within = omega (arith, is) }
 
 pub read-requires : goal.read-requires
 read-requires g c = λ h.
