@@ -1,5 +1,5 @@
 -- The links that each act's answer gives: the steps that the machines took in its line.
-use Rattle.std.proofs.Common.{◌≡◌, ◌⊎◌, ℕ, List, [], ◌∷◌, ◌++◌, map, refl, ap, subst, length, inl, inr, true}
+use Rattle.std.proofs.Common.{◌≡◌, ◌⊎◌, ℕ, List, [], ◌∷◌, ◌++◌, map, refl, ap, subst, length, inl, inr, true, Bool, false}
 use Rattle.std.specs.Prelude.{Option, Some, None}
 use Rattle.m3_outside.specs.declared.disk.Disk.{Ghosts}
 use Rattle.transcripts.specs.Faults.{Fault, Taking}
@@ -37,7 +37,7 @@ use Rattle.m3_cluster.specs.Nodes.{IsBootstrapped, IsDelivered, IsFated, IsResta
 use Rattle.m3_cluster.specs.Steps.{IsFetched, IsMoved, IsNamed, IsWriteAnswer, IsWritten, NamedPoint, placed}
 use Rattle.m3_cluster.specs.declared.cluster.Cluster.{Cluster}
 use Rattle.m3_cluster.specs.declared.members.Members.{Members}
-use Rattle.m3_cluster.proofs.ReplicaLemmas.{fault_of, has_fault, steps_at}
+use Rattle.m3_cluster.proofs.ReplicaLemmas.{damage_of, fault_of, has_damage, has_fault, steps_at}
 
 -- ---- links one after the other
 
@@ -279,14 +279,15 @@ turn_taken state old _ b m g h = absurd h
 
 -- ---- faults of a line
 
--- each slot at which a step of the links was refused for the disk has its fault of this line
-abbrev pub ListsFaults : {D : Type 0} {G : Ghosts D} → List Turn → Members D G → List Link → List Fault → Type 0
-ListsFaults lines m links more = (s : Slot) → IsIn m.slots.items s → has_fault (steps_at s links) ≡ true → IsIn more (fault_of (length lines) s)
+-- Each slot at which a step of the links was refused for the disk has its fault of this line, and where disks don't tell, each at which one was for damage.
+pub record ListsFaults {D : Type 0} {G : Ghosts D} (tells : Bool) (lines : List Turn) (m : Members D G) (links : List Link) (more : List Fault) : Type 0 where
+  pub failed : (s : Slot) → IsIn m.slots.items s → has_fault (steps_at s links) ≡ true → IsIn more (fault_of (length lines) s)
+  pub damaged : tells ≡ false → (s : Slot) → IsIn m.slots.items s → has_damage (steps_at s links) ≡ true → IsIn more (damage_of (length lines) s)
 
 -- the faults of a turn's links are among these
-abbrev pub TurnLists : {D : Type 0} {G : Ghosts D} (state : D → DiskState) (lines : List Turn) (old : Cluster D G) (a : Act) (b : Answer) (new : Cluster D G) → TurnsOff old a b new ⊎ TurnsOn state old a b new → List Fault → Type 0
-TurnLists state lines old a b new (inl off) more = Unit {0}
-TurnLists state lines old a b new (inr on) more = ListsFaults lines on.m (turn_links state old a b on.m on.g on.turn) more
+abbrev pub TurnLists : {D : Type 0} {G : Ghosts D} (state : D → DiskState) (tells : Bool) (lines : List Turn) (old : Cluster D G) (a : Act) (b : Answer) (new : Cluster D G) → TurnsOff old a b new ⊎ TurnsOn state old a b new → List Fault → Type 0
+TurnLists state tells lines old a b new (inl off) more = Unit {0}
+TurnLists state tells lines old a b new (inr on) more = ListsFaults tells lines on.m (turn_links state old a b on.m on.g on.turn) more
 
 -- and the fault for which a disk couldn't be taken
 abbrev pub ListsTaken : {D : Type 0} {G : Ghosts D} (state : D → DiskState) (lines : List Turn) (now : Depot D) (old : Cluster D G) (rf shards seed : ℕ) (nodes : List (List ℕ × List ℕ)) (b : Answer) (after : Depot D) (new : Cluster D G)

@@ -75,23 +75,23 @@ pub record IsOpenAt {D : Type 0} {G : Ghosts D} (m : Members D G) (s : Slot) : T
 
 -- What is known of what the counted nodes of a shard were told: who answered was reached, its machine is open and nothing stands against the call
 -- itself, and who didn't has its cause.
-pub record Heard {D : Type 0} {G : Ghosts D} (more : List Fault) (p : TurnPlace) (m : Members D G) (shard : ℕ) (own : Option Reason) (told : List Told) : Type 0 where
+pub record Heard {D : Type 0} {G : Ghosts D} (tells : Bool) (more : List Fault) (p : TurnPlace) (m : Members D G) (shard : ℕ) (own : Option Reason) (told : List Told) : Type 0 where
   pub each : (n : ℕ) → IsIn (map (λ (x : Told). x.0) told) n → IsIn (counted_in m shard) n
   pub all : (n : ℕ) → IsIn (counted_in m shard) n → IsIn (map (λ (x : Told). x.0) told) n
   pub many : length told ≡ length (counted_in m shard)
   pub by_name : Ascends (IsNamedBelow m.net.state.place) (map (λ (x : Told). x.0) told)
   pub answered : (n : ℕ) → IsIn told (n, None) → (reaches p m.net.state.place n ≡ true) × (own ≡ None)
   pub opened : (n : ℕ) → IsIn told (n, None) → IsOpenAt m (slot_at n shard)
-  pub refused : (n : ℕ) (why : Reason) → IsIn told (n, Some why) → ((x : Reason) → own ≡ Some x → MayRefuse true more None p m.net.state.place shard n x) → MayRefuse true more None p m.net.state.place shard n why
+  pub refused : (n : ℕ) (why : Reason) → IsIn told (n, Some why) → ((x : Reason) → own ≡ Some x → MayRefuse tells more None p m.net.state.place shard n x) → MayRefuse tells more None p m.net.state.place shard n why
 
 -- what was told of the nodes that count, as the session says it
-heard_by : {D : Type 0} {G : Ghosts D} {state : D → DiskState} {faults : List Fault} {lines : List Turn} {c : Cluster D G} {m : Members D G} (h : At state faults lines c m) (more : List Fault) → AreAmong faults more → (a : Act) (b : Answer) → IsTrue (is_call a) → (shard : ℕ) (own : Option Reason) (nodes : List ℕ) (told : List Told)
+heard_by : {D : Type 0} {G : Ghosts D} {state : D → DiskState} {tells : Bool} {faults : List Fault} {lines : List Turn} {c : Cluster D G} {m : Members D G} (h : At state tells faults lines c m) (more : List Fault) → AreAmong faults more → (a : Act) (b : Answer) → IsTrue (is_call a) → (shard : ℕ) (own : Option Reason) (nodes : List ℕ) (told : List Told)
     → shard < length m.net.state.place.shards → AreCounted m.net.state.place shard nodes → map (λ (x : Told). x.0) told ≡ nodes
-    → ((n : ℕ) (outcome : Option Reason) → IsIn told (n, outcome) → (known : KnownNode state faults lines m shard n)
-    → (refused : Option Reason) × (refused ≡ against known.machine.standing own) × IsOutcome (is_cut (fate_to m.net.fates (next_call c None) n)) refused outcome)
+    → ((n : ℕ) (outcome : Option Reason) → IsIn told (n, outcome) → (known : KnownNode state tells faults lines m shard n)
+    → (refused : Option Reason) × (refused ≡ against known.machine.standing known.machine.fence own) × IsOutcome (is_cut (fate_to m.net.fates (next_call c None) n)) refused outcome)
     → ((n : ℕ) → IsIn told (n, Some reason.Disk) → IsIn (counted_in m shard) n → HasFailed more (place_after lines a b) shard n)
-    → Heard more (place_after lines a b) m shard own told
-heard_by {D} {G} {state} {faults} {lines} {c} {m} h more among a b calls shard own nodes told low counts same against_of failed_of =
+    → Heard tells more (place_after lines a b) m shard own told
+heard_by {D} {G} {state} {tells} {faults} {lines} {c} {m} h more among a b calls shard own nodes told low counts same against_of failed_of =
     let counted : (n : ℕ) → IsIn (map (λ (x : Told). x.0) told) n → IsIn (counted_in m shard) n = λ n i. permuted-IsIn (counted_in m shard) nodes counts.same n (subst (λ ns. IsIn ns n) same i) in
     record {
       each = counted;
@@ -115,9 +115,9 @@ heard_by {D} {G} {state} {faults} {lines} {c} {m} h more among a b calls shard o
     }
 
 -- of a write, whose faults are listed
-pub put_heard : {D : Type 0} {G : Ghosts D} {state : D → DiskState} {faults : List Fault} {lines : List Turn} {c : Cluster D G} {m : Members D G} (h : At state faults lines c m) (more : List Fault) → AreAmong faults more → (a : Act) (b : Answer) → IsTrue (is_call a) → (p : Point) (told : List Told) (new : Net D G) (sent : IsSent state m.net (next_call c None) p told new)
-    → ListsFaults lines m (sent_links state m.net (next_call c None) p told new sent) more → Heard more (place_after lines a b) m (shard_in m p.id) (outside m.net.state.rules p) told
-put_heard {D} {G} {state} {faults} {lines} {c} {m} h more among a b calls p told new sent lists =
+pub put_heard : {D : Type 0} {G : Ghosts D} {state : D → DiskState} {tells : Bool} {faults : List Fault} {lines : List Turn} {c : Cluster D G} {m : Members D G} (h : At state tells faults lines c m) (more : List Fault) → AreAmong faults more → (a : Act) (b : Answer) → IsTrue (is_call a) → (p : Point) (told : List Told) (new : Net D G) (sent : IsSent state m.net (next_call c None) p told new)
+    → ListsFaults tells lines m (sent_links state m.net (next_call c None) p told new sent) more → Heard tells more (place_after lines a b) m (shard_in m p.id) (outside m.net.state.rules p) told
+put_heard {D} {G} {state} {tells} {faults} {lines} {c} {m} h more among a b calls p told new sent lists =
     let shard = shard_in m p.id in
     let rules = m.net.state.rules in
     let call = next_call c None in
@@ -126,12 +126,12 @@ put_heard {D} {G} {state} {faults} {lines} {c} {m} h more among a b calls p told
     put_heard_each state m.net.fates call step shard sent.nodes told m.net.machines new.machines sent.put (distinct_by_name m.net.state.place sent.nodes (sent.counted.by_name (on h).well.lawful)) in
     heard_by h more among a b calls shard (outside rules p) sent.nodes told (shard_low h p.id) sent.counted (put_nodes state m.net.fates call step shard sent.nodes told m.net.machines new.machines sent.put)
     (λ n outcome i known. (_, put_against known call p (version_is h), (heard (n, outcome) i).outcome))
-    (λ n i counts. lists (slot_at n shard) (counted_slot h shard n counts) ((heard (n, Some reason.Disk) i).failed refl))
+    (λ n i counts. lists.failed (slot_at n shard) (counted_slot h shard n counts) ((heard (n, Some reason.Disk) i).failed refl))
 
 -- of a read, which meets no disk
-pub read_heard : {D : Type 0} {G : Ghosts D} {state : D → DiskState} {faults : List Fault} {lines : List Turn} {c : Cluster D G} {m : Members D G} (h : At state faults lines c m) (more : List Fault) → AreAmong faults more → (a : Act) (b : Answer) → IsTrue (is_call a) → (w : Wish) (shard : ℕ) (told : List Told) → shard < length m.net.state.place.shards
-    → IsAsked m.net (next_call c None) w shard told → Heard more (place_after lines a b) m shard None told
-read_heard {D} {G} {state} {faults} {lines} {c} {m} h more among a b calls w shard told low asked =
+pub read_heard : {D : Type 0} {G : Ghosts D} {state : D → DiskState} {tells : Bool} {faults : List Fault} {lines : List Turn} {c : Cluster D G} {m : Members D G} (h : At state tells faults lines c m) (more : List Fault) → AreAmong faults more → (a : Act) (b : Answer) → IsTrue (is_call a) → (w : Wish) (shard : ℕ) (told : List Told) → shard < length m.net.state.place.shards
+    → IsAsked m.net (next_call c None) w shard told → Heard tells more (place_after lines a b) m shard None told
+read_heard {D} {G} {state} {tells} {faults} {lines} {c} {m} h more among a b calls w shard told low asked =
     heard_by h more among a b calls shard None asked.nodes told low asked.counted asked.asked.one_each
     (λ n outcome i known. (_, read_against known (next_call c None) w (version_is h), asked.asked.each (n, outcome) i))
     (λ n i counts. absurd (asked.asked.no_fault (n, Some reason.Disk) i refl))
@@ -149,12 +149,12 @@ some_element [] some = absurd (omega (arith, some))
 some_element (n ∷ ns) some = (n, inl refl)
 
 -- where some node answered, nothing stands against the call itself
-own_none : {D : Type 0} {G : Ghosts D} {more : List Fault} {p : TurnPlace} {m : Members D G} {shard : ℕ} {own : Option Reason} {told : List Told} → Heard more p m shard own told → 0 < length (answering told) → own ≡ None
-own_none {D} {G} {more} {p} {m} {shard} {own} {told} heard some = let first = some_element (answering told) some in (heard.answered first.0 (answering-told told first.0 first.1)).1
+own_none : {D : Type 0} {G : Ghosts D} {tells : Bool} {more : List Fault} {p : TurnPlace} {m : Members D G} {shard : ℕ} {own : Option Reason} {told : List Told} → Heard tells more p m shard own told → 0 < length (answering told) → own ≡ None
+own_none {D} {G} {tells} {more} {p} {m} {shard} {own} {told} heard some = let first = some_element (answering told) some in (heard.answered first.0 (answering-told told first.0 first.1)).1
 
 -- who answered was reached
-pub reached_many : {D : Type 0} {G : Ghosts D} {more : List Fault} {p : TurnPlace} {m : Members D G} {shard : ℕ} {own : Option Reason} {told : List Told} → Heard more p m shard own told → length (answering told) ≤ reached_of p m.net.state.place shard
-reached_many {D} {G} {more} {p} {m} {shard} {own} {told} heard =
+pub reached_many : {D : Type 0} {G : Ghosts D} {tells : Bool} {more : List Fault} {p : TurnPlace} {m : Members D G} {shard : ℕ} {own : Option Reason} {told : List Told} → Heard tells more p m shard own told → length (answering told) ≤ reached_of p m.net.state.place shard
+reached_many {D} {G} {tells} {more} {p} {m} {shard} {own} {told} heard =
     let place = m.net.state.place in
     let nodes = counted_nodes place shard in
     let within : (n : ℕ) → IsIn (answering told) n → IsIn (filter (reaches p place) nodes) n = λ n i.
@@ -166,9 +166,9 @@ reached_many {D} {G} {more} {p} {m} {shard} {own} {told} heard =
 -- ---- those that didn't answer
 
 -- they have their reasons
-silent_due : {D : Type 0} {G : Ghosts D} {more : List Fault} {p : TurnPlace} {m : Members D G} {shard : ℕ} {own : Option Reason} {told : List Told} → Heard more p m shard own told → ((n : ℕ) (x : Reason) → own ≡ Some x → MayRefuse true more None p m.net.state.place shard n x)
-    → (reasons : List (ℕ × Reason)) → reasons ≡ refusing told → AreSilent true more None p m.net.state.place shard reasons
-silent_due {D} {G} {more} {p} {m} {shard} {own} {told} heard own_cause reasons reasons_are = record {
+silent_due : {D : Type 0} {G : Ghosts D} {tells : Bool} {more : List Fault} {p : TurnPlace} {m : Members D G} {shard : ℕ} {own : Option Reason} {told : List Told} → Heard tells more p m shard own told → ((n : ℕ) (x : Reason) → own ≡ Some x → MayRefuse tells more None p m.net.state.place shard n x)
+    → (reasons : List (ℕ × Reason)) → reasons ≡ refusing told → AreSilent tells more None p m.net.state.place shard reasons
+silent_due {D} {G} {tells} {more} {p} {m} {shard} {own} {told} heard own_cause reasons reasons_are = record {
   counted = λ r i. heard.each r.0 (map-IsIn (λ (x : Told). x.0) told (r.0, Some r.1) (refusing-told told r (ours r i)));
   by_name = subst (Ascends (λ x y. IsNamedBelow m.net.state.place x.0 y.0)) (sym reasons_are) (refusing_ascend (IsNamedBelow m.net.state.place) told heard.by_name);
   unreached = λ n counts quiet.
@@ -185,9 +185,9 @@ silent_due {D} {G} {more} {p} {m} {shard} {own} {told} heard own_cause reasons r
     silent_by n (Some why) i quiet = map-IsIn (λ (r : ℕ × Reason). r.0) (refusing told) (n, why) (told-refusing told n why i)
 
 -- the others are all that count
-others_due : {D : Type 0} {G : Ghosts D} {more : List Fault} {p : TurnPlace} {m : Members D G} {shard : ℕ} {own : Option Reason} {told : List Told} → Heard more p m shard own told → (got : ℕ) (reasons : List (ℕ × Reason)) → got ≡ length (answering told) → reasons ≡ refusing told
+others_due : {D : Type 0} {G : Ghosts D} {tells : Bool} {more : List Fault} {p : TurnPlace} {m : Members D G} {shard : ℕ} {own : Option Reason} {told : List Told} → Heard tells more p m shard own told → (got : ℕ) (reasons : List (ℕ × Reason)) → got ≡ length (answering told) → reasons ≡ refusing told
     → AreAnswers m.net.state.place shard got reasons
-others_due {D} {G} {more} {p} {m} {shard} {own} {told} heard got reasons got_is reasons_are =
+others_due {D} {G} {tells} {more} {p} {m} {shard} {own} {told} heard got reasons got_is reasons_are =
     let all = one_or_other told in
     let many = heard.many in
     let named : length reasons ≡ length (refusing told) = ap length reasons_are in
@@ -196,14 +196,14 @@ others_due {D} {G} {more} {p} {m} {shard} {own} {told} heard got reasons got_is 
 -- ---- too few
 
 -- fewer nodes than are needed answered a call that asks the shard
-pub missed_due : {D : Type 0} {G : Ghosts D} {state : D → DiskState} {faults : List Fault} {lines : List Turn} {c : Cluster D G} {m : Members D G} (h : At state faults lines c m) (more : List Fault) (a : Act) (b : Answer) (asking : Asking) (own : Option Reason) (shard needed got : ℕ) (reasons : List (ℕ × Reason)) (told : List Told)
-    → call_of a ≡ Some asking → asking.version ≡ None → Heard more (place_after lines a b) m shard own told
+pub missed_due : {D : Type 0} {G : Ghosts D} {state : D → DiskState} {tells : Bool} {faults : List Fault} {lines : List Turn} {c : Cluster D G} {m : Members D G} (h : At state tells faults lines c m) (more : List Fault) (a : Act) (b : Answer) (asking : Asking) (own : Option Reason) (shard needed got : ℕ) (reasons : List (ℕ × Reason)) (told : List Told)
+    → call_of a ≡ Some asking → asking.version ≡ None → Heard tells more (place_after lines a b) m shard own told
     → IsAskedOf asking.id (seed_after None (inner_turns lines)) (length m.net.state.place.shards) shard
     → ((lower : ℕ) → lower < shard → IsAskedOf asking.id (seed_after None (inner_turns lines)) (length m.net.state.place.shards) lower → needed ≤ reached_of (place_after lines a b) m.net.state.place lower)
     → needed ≡ asking.needed m.net.state.place.rf → got ≡ length (answering told) → got < needed → reasons ≡ refusing told
-    → ((n : ℕ) (x : Reason) → own ≡ Some x → MayRefuse true more None (place_after lines a b) m.net.state.place shard n x) → (own ≡ None → MayServe (rules_at None (place_after lines a b)) a)
-    → MissesLevel true more None (place_after lines a b) got needed reasons shard
-missed_due {D} {G} {state} {faults} {lines} {c} {m} h more a b asking own shard needed got reasons told of_act present heard asks first needed_is got_is fewer reasons_are own_cause serves =
+    → ((n : ℕ) (x : Reason) → own ≡ Some x → MayRefuse tells more None (place_after lines a b) m.net.state.place shard n x) → (own ≡ None → MayServe (rules_at None (place_after lines a b)) a)
+    → MissesLevel tells more None (place_after lines a b) got needed reasons shard
+missed_due {D} {G} {state} {tells} {faults} {lines} {c} {m} h more a b asking own shard needed got reasons told of_act present heard asks first needed_is got_is fewer reasons_are own_cause serves =
     let place = m.net.state.place in
     let p = place_after lines a b in
     record {
@@ -223,25 +223,25 @@ missed_due {D} {G} {state} {faults} {lines} {c} {m} h more a b asking own shard 
 -- ---- writes
 
 -- a point that nothing stands against is one that is taken
-takes_due : {D : Type 0} {G : Ghosts D} {state : D → DiskState} {faults : List Fault} {lines : List Turn} {c : Cluster D G} {m : Members D G} (h : At state faults lines c m) (a : Act) (b : Answer) (point : Point) → point_of (spaces_in m) a ≡ Some point → point.ns < length (spaces_in m) → outside m.net.state.rules point ≡ None → TakesPoint (rules_at None (place_after lines a b)) a
-takes_due {D} {G} {state} {faults} {lines} {c} {m} h a b point of_act known free = subst (λ r. TakesPoint r a) (sym (rules_there h a b)) (record { point = point; of_act = of_act; in_window = in_window m.net.state.rules point known free })
+takes_due : {D : Type 0} {G : Ghosts D} {state : D → DiskState} {tells : Bool} {faults : List Fault} {lines : List Turn} {c : Cluster D G} {m : Members D G} (h : At state tells faults lines c m) (a : Act) (b : Answer) (point : Point) → point_of (spaces_in m) a ≡ Some point → point.ns < length (spaces_in m) → outside m.net.state.rules point ≡ None → TakesPoint (rules_at None (place_after lines a b)) a
+takes_due {D} {G} {state} {tells} {faults} {lines} {c} {m} h a b point of_act known free = subst (λ r. TakesPoint r a) (sym (rules_there h a b)) (record { point = point; of_act = of_act; in_window = in_window m.net.state.rules point known free })
 
 -- what stands against a point is that it is too old or comes too early
-outside_due : {D : Type 0} {G : Ghosts D} {state : D → DiskState} {faults : List Fault} {lines : List Turn} {c : Cluster D G} {m : Members D G} (h : At state faults lines c m) (more : List Fault) (a : Act) (b : Answer) (point : Point) (shard n : ℕ) (x : Reason) → point_of (spaces_in m) a ≡ Some point → point.ns < length (spaces_in m) → outside m.net.state.rules point ≡ Some x
-    → MayRefuse true more None (place_after lines a b) m.net.state.place shard n x
-outside_due {D} {G} {state} {faults} {lines} {c} {m} h more a b point shard n x of_act known e =
-    outside_cause (MayRefuse true more None (place_after lines a b) m.net.state.place shard n) m.net.state.rules point x known e
+outside_due : {D : Type 0} {G : Ghosts D} {state : D → DiskState} {tells : Bool} {faults : List Fault} {lines : List Turn} {c : Cluster D G} {m : Members D G} (h : At state tells faults lines c m) (more : List Fault) (a : Act) (b : Answer) (point : Point) (shard n : ℕ) (x : Reason) → point_of (spaces_in m) a ≡ Some point → point.ns < length (spaces_in m) → outside m.net.state.rules point ≡ Some x
+    → MayRefuse tells more None (place_after lines a b) m.net.state.place shard n x
+outside_due {D} {G} {state} {tells} {faults} {lines} {c} {m} h more a b point shard n x of_act known e =
+    outside_cause (MayRefuse tells more None (place_after lines a b) m.net.state.place shard n) m.net.state.rules point x known e
     (λ past. subst (λ r. IsOutside IsPast r a) (sym (rules_there h a b)) (record { point = point; of_act = of_act; outside = past }))
     (λ future. subst (λ r. IsOutside IsFuture r a) (sym (rules_there h a b)) (record { point = point; of_act = of_act; outside = future }))
 
-shard_there : {D : Type 0} {G : Ghosts D} {state : D → DiskState} {faults : List Fault} {lines : List Turn} {c : Cluster D G} {m : Members D G} (h : At state faults lines c m) (id : List ℕ) → shard_of id (seed_after None (inner_turns lines)) (length m.net.state.place.shards) ≡ shard_in m id
-shard_there {D} {G} {state} {faults} {lines} {c} {m} h id = ap (λ seed. shard_of id seed (length m.net.state.place.shards)) (seed_there h)
+shard_there : {D : Type 0} {G : Ghosts D} {state : D → DiskState} {tells : Bool} {faults : List Fault} {lines : List Turn} {c : Cluster D G} {m : Members D G} (h : At state tells faults lines c m) (id : List ℕ) → shard_of id (seed_after None (inner_turns lines)) (length m.net.state.place.shards) ≡ shard_in m id
+shard_there {D} {G} {state} {tells} {faults} {lines} {c} {m} h id = ap (λ seed. shard_of id seed (length m.net.state.place.shards)) (seed_there h)
 
 -- the nodes that acknowledged a write
-pub acked_due : {D : Type 0} {G : Ghosts D} {state : D → DiskState} {faults : List Fault} {lines : List Turn} {c : Cluster D G} {m : Members D G} (h : At state faults lines c m) (more : List Fault) → AreAmong faults more → (ns id : List ℕ) (t : ℕ) (v : ℤ) (level : WriteLevel) (place : ℕ) (acks : List ℕ) (new : Net D G) → namespace_place ns (spaces_in m) ≡ Some place → place < length (spaces_in m)
+pub acked_due : {D : Type 0} {G : Ghosts D} {state : D → DiskState} {tells : Bool} {faults : List Fault} {lines : List Turn} {c : Cluster D G} {m : Members D G} (h : At state tells faults lines c m) (more : List Fault) → AreAmong faults more → (ns id : List ℕ) (t : ℕ) (v : ℤ) (level : WriteLevel) (place : ℕ) (acks : List ℕ) (new : Net D G) → namespace_place ns (spaces_in m) ≡ Some place → place < length (spaces_in m)
     → (done : IsAcknowledged state m.net (next_call c None) (written_point id place t v) level acks new)
-    → ListsFaults lines m (sent_links state m.net (next_call c None) (written_point id place t v) done.told new done.sent) more → IsAcked None (place_after lines (act.Write ns id t v level None) (answer.Acks acks)) id level None acks
-acked_due {D} {G} {state} {faults} {lines} {c} {m} h more among ns id t v level place acks new found known done lists =
+    → ListsFaults tells lines m (sent_links state m.net (next_call c None) (written_point id place t v) done.told new done.sent) more → IsAcked None (place_after lines (act.Write ns id t v level None) (answer.Acks acks)) id level None acks
+acked_due {D} {G} {state} {tells} {faults} {lines} {c} {m} h more among ns id t v level place acks new found known done lists =
     let a = act.Write ns id t v level None in
     let b = answer.Acks acks in
     let point = written_point id place t v in
@@ -262,17 +262,17 @@ acked_due {D} {G} {state} {faults} {lines} {c} {m} h more among ns id t v level 
     }
 
 -- too few nodes took a write
-pub unwritten_due : {D : Type 0} {G : Ghosts D} {state : D → DiskState} {faults : List Fault} {lines : List Turn} {c : Cluster D G} {m : Members D G} (h : At state faults lines c m) (more : List Fault) → AreAmong faults more → (ns id : List ℕ) (t : ℕ) (v : ℤ) (level : WriteLevel) (place shard needed got : ℕ) (reasons : List (ℕ × Reason)) (told : List Told) (new : Net D G)
+pub unwritten_due : {D : Type 0} {G : Ghosts D} {state : D → DiskState} {tells : Bool} {faults : List Fault} {lines : List Turn} {c : Cluster D G} {m : Members D G} (h : At state tells faults lines c m) (more : List Fault) → AreAmong faults more → (ns id : List ℕ) (t : ℕ) (v : ℤ) (level : WriteLevel) (place shard needed got : ℕ) (reasons : List (ℕ × Reason)) (told : List Told) (new : Net D G)
     → namespace_place ns (spaces_in m) ≡ Some place → place < length (spaces_in m) → (sent : IsSent state m.net (next_call c None) (written_point id place t v) told new)
-    → ListsFaults lines m (sent_links state m.net (next_call c None) (written_point id place t v) told new sent) more
-    → IsTooFew (needed_write level m.net.state.place.rf) (shard_in m id) told shard needed got reasons → MissesLevel true more None (place_after lines (act.Write ns id t v level None) (answer.Consistency got needed reasons shard)) got needed reasons shard
-unwritten_due {D} {G} {state} {faults} {lines} {c} {m} h more among ns id t v level place shard needed got reasons told new found known sent lists few =
+    → ListsFaults tells lines m (sent_links state m.net (next_call c None) (written_point id place t v) told new sent) more
+    → IsTooFew (needed_write level m.net.state.place.rf) (shard_in m id) told shard needed got reasons → MissesLevel tells more None (place_after lines (act.Write ns id t v level None) (answer.Consistency got needed reasons shard)) got needed reasons shard
+unwritten_due {D} {G} {state} {tells} {faults} {lines} {c} {m} h more among ns id t v level place shard needed got reasons told new found known sent lists few =
     let a = act.Write ns id t v level None in
     let b = answer.Consistency got needed reasons shard in
     let point = written_point id place t v in
     let of_act = written_of (spaces_in m) ns id t v level None place found in
     missed_due h more a b (record { id = Some id; version = None; needed = needed_write level }) (outside m.net.state.rules point) shard needed got reasons told refl refl
-    (subst (λ k. Heard more (place_after lines a b) m k (outside m.net.state.rules point) told) (sym few.shard_is) (put_heard h more among a b refl point told new sent lists))
+    (subst (λ k. Heard tells more (place_after lines a b) m k (outside m.net.state.rules point) told) (sym few.shard_is) (put_heard h more among a b refl point told new sent lists))
     (few.shard_is ∙ sym (shard_there h id))
     (λ lower below asks. let same : lower ≡ shard = asks ∙ shard_there h id ∙ sym few.shard_is in absurd (omega (arith, below, same)))
     few.needed_is few.got_is few.fewer few.reasons_are
@@ -292,14 +292,14 @@ read_within read.Majority rf some = omega arith
 read_within read.All rf some = omega arith
 
 -- the shards that are asked are there
-pub end_low : {D : Type 0} {G : Ghosts D} {state : D → DiskState} {faults : List Fault} {lines : List Turn} {c : Cluster D G} {m : Members D G} (h : At state faults lines c m) (pick : Pick) → end_asked m.net.state pick ≤ length m.net.state.place.shards
-end_low {D} {G} {state} {faults} {lines} {c} {m} h (pick.One ns id) = let low = shard_low h id in omega (arith, low)
-end_low {D} {G} {state} {faults} {lines} {c} {m} h (pick.Match ns wanted) = omega arith
+pub end_low : {D : Type 0} {G : Ghosts D} {state : D → DiskState} {tells : Bool} {faults : List Fault} {lines : List Turn} {c : Cluster D G} {m : Members D G} (h : At state tells faults lines c m) (pick : Pick) → end_asked m.net.state pick ≤ length m.net.state.place.shards
+end_low {D} {G} {state} {tells} {faults} {lines} {c} {m} h (pick.One ns id) = let low = shard_low h id in omega (arith, low)
+end_low {D} {G} {state} {tells} {faults} {lines} {c} {m} h (pick.Match ns wanted) = omega arith
 
 -- what a read found was found by enough nodes that it reached
-pub found_due : {D : Type 0} {G : Ghosts D} {state : D → DiskState} {faults : List Fault} {lines : List Turn} {c : Cluster D G} {m : Members D G} (h : At state faults lines c m) (more : List Fault) → AreAmong faults more → (a : Act) (b : Answer) → IsTrue (is_call a) → (id : Option (List ℕ)) (w : Wish) (level : ReadLevel) (series : List Series) (short : Bool)
-    → AsksWithin m id w.pick (seed_after None (inner_turns lines)) → IsFound m.net (next_call c None) w level series short → IsFoundFor true more None (place_after lines a b) id level None short
-found_due {D} {G} {state} {faults} {lines} {c} {m} h more among a b calls id w level series short within found =
+pub found_due : {D : Type 0} {G : Ghosts D} {state : D → DiskState} {tells : Bool} {faults : List Fault} {lines : List Turn} {c : Cluster D G} {m : Members D G} (h : At state tells faults lines c m) (more : List Fault) → AreAmong faults more → (a : Act) (b : Answer) → IsTrue (is_call a) → (id : Option (List ℕ)) (w : Wish) (level : ReadLevel) (series : List Series) (short : Bool)
+    → AsksWithin m id w.pick (seed_after None (inner_turns lines)) → IsFound m.net (next_call c None) w level series short → IsFoundFor tells more None (place_after lines a b) id level None short
+found_due {D} {G} {state} {tells} {faults} {lines} {c} {m} h more among a b calls id w level series short within found =
     let place = m.net.state.place in
     record {
       place = place;
@@ -332,17 +332,17 @@ found_due {D} {G} {state} {faults} {lines} {c} {m} h more among a b calls id w l
           ];
     }
   where
-    heard_at : (k : ℕ) → first_asked m.net.state w.pick ≤ k → k < end_asked m.net.state w.pick → Heard more (place_after lines a b) m k None (found.told k)
+    heard_at : (k : ℕ) → first_asked m.net.state w.pick ≤ k → k < end_asked m.net.state w.pick → Heard tells more (place_after lines a b) m k None (found.told k)
     heard_at k above below =
         let end = end_low h w.pick in
         let low : k < length m.net.state.place.shards = omega (arith, below, end) in
         read_heard h more among a b calls w k (found.told k) low (found.asked k above below)
 
 -- too few nodes answered a read, of the first shard where it is so
-pub unfound_due : {D : Type 0} {G : Ghosts D} {state : D → DiskState} {faults : List Fault} {lines : List Turn} {c : Cluster D G} {m : Members D G} (h : At state faults lines c m) (more : List Fault) → AreAmong faults more → (a : Act) → IsTrue (is_call a) → (asking : Asking) (w : Wish) (level : ReadLevel) (shard needed got : ℕ) (reasons : List (ℕ × Reason)) → call_of a ≡ Some asking → asking.version ≡ None
+pub unfound_due : {D : Type 0} {G : Ghosts D} {state : D → DiskState} {tells : Bool} {faults : List Fault} {lines : List Turn} {c : Cluster D G} {m : Members D G} (h : At state tells faults lines c m) (more : List Fault) → AreAmong faults more → (a : Act) → IsTrue (is_call a) → (asking : Asking) (w : Wish) (level : ReadLevel) (shard needed got : ℕ) (reasons : List (ℕ × Reason)) → call_of a ≡ Some asking → asking.version ≡ None
     → asking.needed m.net.state.place.rf ≡ needed_read level m.net.state.place.rf → ((r : Rules) → MayServe r a) → AsksWithin m asking.id w.pick (seed_after None (inner_turns lines))
-    → IsFirstShort m.net (next_call c None) w (needed_read level m.net.state.place.rf) shard needed got reasons → MissesLevel true more None (place_after lines a (answer.Consistency got needed reasons shard)) got needed reasons shard
-unfound_due {D} {G} {state} {faults} {lines} {c} {m} h more among a calls asking w level shard needed got reasons of_act present needs serves within short =
+    → IsFirstShort m.net (next_call c None) w (needed_read level m.net.state.place.rf) shard needed got reasons → MissesLevel tells more None (place_after lines a (answer.Consistency got needed reasons shard)) got needed reasons shard
+unfound_due {D} {G} {state} {tells} {faults} {lines} {c} {m} h more among a calls asking w level shard needed got reasons of_act present needs serves within short =
     let b = answer.Consistency got needed reasons shard in
     let p = place_after lines a b in
     let place = m.net.state.place in

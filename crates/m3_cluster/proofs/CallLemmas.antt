@@ -35,25 +35,25 @@ pub after_lines : (lines : List Turn) (a : Act) (b : Answer) → IsAfter (place_
 after_lines lines a b = record { others = []; some_of = tt; are = sym (append-nil (inner_turns lines)) }
 
 -- a cluster that stands after these lines
-pub record At {D : Type 0} {G : Ghosts D} (state : D → DiskState) (faults : List Fault) (lines : List Turn) (c : Cluster D G) (m : Members D G) : Type 0 where
-  pub stands : Stands state faults lines c
+pub record At {D : Type 0} {G : Ghosts D} (state : D → DiskState) (tells : Bool) (faults : List Fault) (lines : List Turn) (c : Cluster D G) (m : Members D G) : Type 0 where
+  pub stands : Stands state tells faults lines c
   pub members : c.members ≡ Some m
 
-pub on : {D : Type 0} {G : Ghosts D} {state : D → DiskState} {faults : List Fault} {lines : List Turn} {c : Cluster D G} {m : Members D G} → At state faults lines c m → StandsOn state faults lines m
-on {D} {G} {state} {faults} {lines} {c} {m} h = h.stands.members m h.members
+pub on : {D : Type 0} {G : Ghosts D} {state : D → DiskState} {tells : Bool} {faults : List Fault} {lines : List Turn} {c : Cluster D G} {m : Members D G} → At state tells faults lines c m → StandsOn state tells faults lines m
+on {D} {G} {state} {tells} {faults} {lines} {c} {m} h = h.stands.members m h.members
 
-pub place_at : {D : Type 0} {G : Ghosts D} {state : D → DiskState} {faults : List Fault} {lines : List Turn} {c : Cluster D G} {m : Members D G} (h : At state faults lines c m) (a : Act) (b : Answer) → placement_at None (place_after lines a b) ≡ Some m.net.state.place
+pub place_at : {D : Type 0} {G : Ghosts D} {state : D → DiskState} {tells : Bool} {faults : List Fault} {lines : List Turn} {c : Cluster D G} {m : Members D G} (h : At state tells faults lines c m) (a : Act) (b : Answer) → placement_at None (place_after lines a b) ≡ Some m.net.state.place
 place_at {D} {G} h a b = h.stands.place ∙ ap (option_map (λ (x : Members D G). x.net.state.place)) h.members
 
-pub rules_there : {D : Type 0} {G : Ghosts D} {state : D → DiskState} {faults : List Fault} {lines : List Turn} {c : Cluster D G} {m : Members D G} (h : At state faults lines c m) (a : Act) (b : Answer) → rules_at None (place_after lines a b) ≡ m.net.state.rules
+pub rules_there : {D : Type 0} {G : Ghosts D} {state : D → DiskState} {tells : Bool} {faults : List Fault} {lines : List Turn} {c : Cluster D G} {m : Members D G} (h : At state tells faults lines c m) (a : Act) (b : Answer) → rules_at None (place_after lines a b) ≡ m.net.state.rules
 rules_there {D} {G} h a b = h.stands.rules ∙ ap (λ o. option_map_or (λ (x : Members D G). x.net.state.rules) o (record { now = 0; spaces = [] })) h.members
 
-pub seed_there : {D : Type 0} {G : Ghosts D} {state : D → DiskState} {faults : List Fault} {lines : List Turn} {c : Cluster D G} {m : Members D G} (h : At state faults lines c m) → seed_after None (inner_turns lines) ≡ m.net.state.seed
+pub seed_there : {D : Type 0} {G : Ghosts D} {state : D → DiskState} {tells : Bool} {faults : List Fault} {lines : List Turn} {c : Cluster D G} {m : Members D G} (h : At state tells faults lines c m) → seed_after None (inner_turns lines) ≡ m.net.state.seed
 seed_there {D} {G} h = h.stands.seed ∙ ap (λ o. option_map_or (λ (x : Members D G). x.net.state.seed) o 0) h.members
 
 -- its placement is the one that a request may use
-pub stands_there : {D : Type 0} {G : Ghosts D} {state : D → DiskState} {faults : List Fault} {lines : List Turn} {c : Cluster D G} {m : Members D G} (h : At state faults lines c m) (a : Act) (b : Answer) → MayStand None (place_after lines a b) m.net.state.place
-stands_there {D} {G} {state} {faults} {lines} h a b = (inner_turns lines, after_lines lines a b, place_at h a b)
+pub stands_there : {D : Type 0} {G : Ghosts D} {state : D → DiskState} {tells : Bool} {faults : List Fault} {lines : List Turn} {c : Cluster D G} {m : Members D G} (h : At state tells faults lines c m) (a : Act) (b : Answer) → MayStand None (place_after lines a b) m.net.state.place
+stands_there {D} {G} {state} {tells} {faults} {lines} h a b = (inner_turns lines, after_lines lines a b, place_at h a b)
 
 -- ---- what becomes of a call's messages
 
@@ -80,9 +80,9 @@ counter_fate n list client name few =
     ]
 
 -- what the cluster finds for the message of the next call to a node is the fate that the turns list
-pub fate_is : {D : Type 0} {G : Ghosts D} {state : D → DiskState} {faults : List Fault} {lines : List Turn} {c : Cluster D G} {m : Members D G} (h : At state faults lines c m) (a : Act) (b : Answer) (version : Option ℕ) (node : ℕ) (one : Instance)
+pub fate_is : {D : Type 0} {G : Ghosts D} {state : D → DiskState} {tells : Bool} {faults : List Fault} {lines : List Turn} {c : Cluster D G} {m : Members D G} (h : At state tells faults lines c m) (a : Act) (b : Answer) (version : Option ℕ) (node : ℕ) (one : Instance)
     → slice_get m.net.state.place.instances node ≡ Some one → fate_to m.net.fates (next_call c version) node ≡ fate_at (place_after lines a b) one.name
-fate_is {D} {G} {state} {faults} {lines} {c} {m} h a b version node one there =
+fate_is {D} {G} {state} {tells} {faults} {lines} {c} {m} h a b version node one there =
     let list = (numbering_after 0 lines).fates in
     let made = (numbering_after 0 lines).calls in
     let none_more : made ≡ made + 0 = omega arith in
@@ -92,5 +92,5 @@ fate_is {D} {G} {state} {faults} {lines} {c} {m} h a b version node one there =
     ∙ ap (λ k. fate_in list 0 k one.name) none_more
 
 -- the next call uses the first version
-pub version_is : {D : Type 0} {G : Ghosts D} {state : D → DiskState} {faults : List Fault} {lines : List Turn} {c : Cluster D G} {m : Members D G} (h : At state faults lines c m) → version_of m.net.state.place (next_call c None) ≡ 1
+pub version_is : {D : Type 0} {G : Ghosts D} {state : D → DiskState} {tells : Bool} {faults : List Fault} {lines : List Turn} {c : Cluster D G} {m : Members D G} (h : At state tells faults lines c m) → version_of m.net.state.place (next_call c None) ≡ 1
 version_is h = (on h).well.version

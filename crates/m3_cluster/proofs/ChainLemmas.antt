@@ -16,6 +16,8 @@ use Rattle.replica_machine.specs.Machines.{MachineState}
 use Rattle.session.specs.Changes.{IsSteppedAt, IsBegunBy}
 use Rattle.session.specs.Slots.{MachineMap}
 use Rattle.session.specs.declared.slot.Slot.{Slot}
+use Rattle.replica_machine.specs.Damages.{IsFormDamage}
+use Rattle.transcripts.specs.Reasons.{IsShown}
 use Rattle.m3_cluster.specs.Boots.{IsRestartTried, IsBootTried}
 use Rattle.m3_cluster.specs.Chains.{Link, TakesLinks, IsUnrestarted, Boot, boot_link, first_tenure, EndsBoots, IsPassed, AreBooted, IsUnbooted, restart_at, refused_restart_at}
 use Rattle.m3_cluster.specs.declared.boots.Refused.{Refused}
@@ -102,6 +104,7 @@ boot_refused state f slots i d refused old mid new low passes had tried = record
   booted = had;
   refused = tried.2;
   sound = tried.3;
+  shown = tried.4;
 }
 
 -- ---- one boot
@@ -111,15 +114,20 @@ pub boot_began : {D : Type 0} (state : D → DiskState) (s : Slot) (old new : Ma
     → ((answered : StepReply) × IsBegunBy (Ok v) answered × IsSteppedAt state s (record { call = call.Begin first_tenure; reply = answered } ∷ []) old new) → IsBootTried state s old new (Ok u)
 boot_began state s old new u v steps = (steps.0, subst IsPassed (sym steps.1.2) tt, steps.2)
 
+-- damage of a form carries no digests
+form_shown : (damage : Damage) → IsFormDamage damage → IsShown damage
+form_shown damage form = subst IsShown (sym form.2) tt
+
 -- it was refused, and passed over or not
 pub boot_told : {D : Type 0} (state : D → DiskState) (s : Slot) (old new : MachineMap D) (why : Reason) (result : Result ⊤ Refused)
     → ((answered : StepReply) × IsBegunBy (Err why) answered × IsSteppedAt state s (record { call = call.Begin first_tenure; reply = answered } ∷ []) old new)
-    → ((m : MachineState D) → get old s ≡ Some m → (damage : Damage) → why ≡ reason.Corrupt damage → Told (state m.disk) (λ files. ¬ IsSound files))
+    → ((m : MachineState D) → get old s ≡ Some m → (damage : Damage) → why ≡ reason.Corrupt damage → Told (state m.disk) (λ files. ¬ IsSound files)) → ((damage : Damage) → why ≡ reason.Corrupt damage → IsFormDamage damage)
     → OnOk result (¬ EndsBoots why) → IfErr result (λ refused. (refused.shard ≡ s.shard) × (refused.why ≡ why) × EndsBoots why) → IsBootTried state s old new result
-boot_told state s old new why (Ok u) steps sound passes told = (steps.0, subst IsPassed (sym steps.1) passes, steps.2)
-boot_told state s old new why (Err refused) steps sound passes told = (
+boot_told state s old new why (Ok u) steps sound form passes told = (steps.0, subst IsPassed (sym steps.1) passes, steps.2)
+boot_told state s old new why (Err refused) steps sound form passes told = (
   told.0,
   subst EndsBoots (sym told.1) told.2,
   subst (λ a. IsSteppedAt state s (record { call = call.Begin first_tenure; reply = a } ∷ []) old new) (steps.1 ∙ ap reply.Refused (sym told.1)) steps.2,
   λ m at damage e. sound m at damage (sym told.1 ∙ e),
+  λ damage e. form_shown damage (form damage (sym told.1 ∙ e)),
 )

@@ -70,8 +70,8 @@ same_flag : (x y : Bool) → Some x ≡ Some y → x ≡ y
 same_flag x y e = cc
 
 -- it is stopped as the turns tell it
-pub stopped_as_told : {D : Type 0} {G : Ghosts D} {state : D → DiskState} {faults : List Fault} {lines : List Turn} {c : Cluster D G} {m : Members D G} (h : At state faults lines c m) (name : List ℕ) (node : ℕ) (halted : Bool) → node_named name m.net.state.place.instances ≡ Some node → slice_get m.stopped.items node ≡ Some halted
+pub stopped_as_told : {D : Type 0} {G : Ghosts D} {state : D → DiskState} {tells : Bool} {faults : List Fault} {lines : List Turn} {c : Cluster D G} {m : Members D G} (h : At state tells faults lines c m) (name : List ℕ) (node : ℕ) (halted : Bool) → node_named name m.net.state.place.instances ≡ Some node → slice_get m.stopped.items node ≡ Some halted
     → is_stopped (inner_turns lines) name ≡ halted
-stopped_as_told {D} {G} {state} {faults} {lines} {c} {m} h name node halted found flag =
+stopped_as_told {D} {G} {state} {tells} {faults} {lines} {c} {m} h name node halted found flag =
     let at = node_found name m.net.state.place.instances node found in
     ap (is_stopped (inner_turns lines)) (sym at.name_is) ∙ same_flag (is_stopped (inner_turns lines) at.instance_.name) halted (sym ((on h).stops node at.instance_ at.stands) ∙ flag)

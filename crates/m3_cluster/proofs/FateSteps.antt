@@ -43,8 +43,8 @@ use Rattle.m3_cluster.proofs.ServingLemmas.{serving_stays}
 use Rattle.m3_cluster.proofs.StandLemmas.{Goes, Grows, Numbered}
 
 -- the names of nodes are different ones
-pub names_differ : {D : Type 0} {G : Ghosts D} {state : D → DiskState} {faults : List Fault} {lines : List Turn} {c : Cluster D G} {m : Members D G} → At state faults lines c m → Ascends (λ x y. x.name ≢ y.name) m.net.state.place.instances
-names_differ {D} {G} {state} {faults} h = (on h).well.lawful.limits.distinct
+pub names_differ : {D : Type 0} {G : Ghosts D} {state : D → DiskState} {tells : Bool} {faults : List Fault} {lines : List Turn} {c : Cluster D G} {m : Members D G} → At state tells faults lines c m → Ascends (λ x y. x.name ≢ y.name) m.net.state.place.instances
+names_differ {D} {G} {state} {tells} {faults} h = (on h).well.lawful.limits.distinct
 
 fate_test : (client call : ℕ) (name : List ℕ) (f : ℕ × ℕ × List ℕ × Fate) → is_fate_of client call name f ≡ true → (f.0 ≡ client) × (f.1 ≡ call) × (f.2 ≡ name)
 fate_test client call name f e = by_parts (nat_eq f.0 client) (nat_eq f.1 call) (pointwise nat_eq f.2 name) refl refl refl e
@@ -98,9 +98,9 @@ numbered_fate instances (f ∷ list) (item ∷ items) distinct h client call nod
 numbered_fate instances [] (item ∷ items) distinct h client call node one there = absurd h
 numbered_fate instances (f ∷ list) [] distinct h client call node one there = absurd h
 
-fated_grows : {D : Type 0} {G : Ghosts D} {state : D → DiskState} {faults : List Fault} {lines : List Turn} {c : Cluster D G} {m g : Members D G} (more : List Fault) → AreAmong faults more → TellAll state → (h : At state faults lines c m)
-    → (list : List (ℕ × ℕ × List ℕ × Fate)) (items : List Item) → AreNumbered m.net.state.place.instances list items → g.net.fates ≡ fates_of items → KeepsButFates m g → Grows state more lines m (act.Fates list) answer.Done g
-fated_grows {D} {G} {state} {faults} {lines} {c} {m} {g} more among tell h list items numbered fates keeps =
+fated_grows : {D : Type 0} {G : Ghosts D} {state : D → DiskState} {tells : Bool} {faults : List Fault} {lines : List Turn} {c : Cluster D G} {m g : Members D G} (more : List Fault) → AreAmong faults more → (tells ≡ true → TellAll state) → (h : At state tells faults lines c m)
+    → (list : List (ℕ × ℕ × List ℕ × Fate)) (items : List Item) → AreNumbered m.net.state.place.instances list items → g.net.fates ≡ fates_of items → KeepsButFates m g → Grows state tells more lines m (act.Fates list) answer.Done g
+fated_grows {D} {G} {state} {tells} {faults} {lines} {c} {m} {g} more among tell h list items numbered fates keeps =
     let extends = extends_same {g = g} h keeps.state refl in
     let same_place = ap (λ (s : MetaState). s.place) keeps.state in
     record {
@@ -132,10 +132,10 @@ fates_numbered {D} {G} lines new g list is limits calls =
     zero_count : 0 ≡ min 0 (2 ^ 64 - 1)
     zero_count = let low : 0 ≤ 2 ^ 64 - 1 = omega arith in sym (min-eq_left low)
 
-pub fates_goes : {D : Type 0} {G : Ghosts D} {state : D → DiskState} {faults : List Fault} {lines : List Turn} {old new : Cluster D G} {m g : Members D G} (more : List Fault) → AreAmong faults more → TellAll state → (h : At state faults lines old m) → new.members ≡ Some g → (list : List (ℕ × ℕ × List ℕ × Fate)) (b : Answer) → MeetsLimits (act.Fates list) → new.calls ≡ after_fates b old.calls
-    → IsFated m list b g → Goes state more lines old (act.Fates list) b new
-fates_goes {D} {G} {state} {faults} {lines} {old} {new} {m} {g} more among tell h is list answer.Done limits calls fated =
+pub fates_goes : {D : Type 0} {G : Ghosts D} {state : D → DiskState} {tells : Bool} {faults : List Fault} {lines : List Turn} {old new : Cluster D G} {m g : Members D G} (more : List Fault) → AreAmong faults more → (tells ≡ true → TellAll state) → (h : At state tells faults lines old m) → new.members ≡ Some g → (list : List (ℕ × ℕ × List ℕ × Fate)) (b : Answer) → MeetsLimits (act.Fates list) → new.calls ≡ after_fates b old.calls
+    → IsFated m list b g → Goes state tells more lines old (act.Fates list) b new
+fates_goes {D} {G} {state} {tells} {faults} {lines} {old} {new} {m} {g} more among tell h is list answer.Done limits calls fated =
     grown_goes h.stands h.members is (fated_grows more among tell h list fated.0 fated.1 fated.2 fated.3) (ap (λ (s : MetaState). s.rules) (sym fated.3.state)) refl (fates_numbered lines new g list is limits calls) (λ acks e. cc)
-fates_goes {D} {G} {state} {faults} {lines} {old} {new} {m} {g} more among tell h is list (answer.Unknown name) limits calls fated = quiet_change more among tell h.stands (tells_unknown (act.Fates list) name) refl (is ∙ ap Some fated.1 ∙ sym h.members) calls
-fates_goes {D} {G} {state} {faults} {lines} {old} {new} {m} {g} more among tell h is list answer.Memory limits calls fated = quiet_change more among tell h.stands (tells_memory (act.Fates list)) refl (is ∙ ap Some fated ∙ sym h.members) calls
-fates_goes {D} {G} {state} {faults} {lines} {old} {new} {m} {g} more among tell h is list _ limits calls fated = absurd fated
+fates_goes {D} {G} {state} {tells} {faults} {lines} {old} {new} {m} {g} more among tell h is list (answer.Unknown name) limits calls fated = quiet_change more among tell h.stands (tells_unknown (act.Fates list) name) refl (is ∙ ap Some fated.1 ∙ sym h.members) calls
+fates_goes {D} {G} {state} {tells} {faults} {lines} {old} {new} {m} {g} more among tell h is list answer.Memory limits calls fated = quiet_change more among tell h.stands (tells_memory (act.Fates list)) refl (is ∙ ap Some fated ∙ sym h.members) calls
+fates_goes {D} {G} {state} {tells} {faults} {lines} {old} {new} {m} {g} more among tell h is list _ limits calls fated = absurd fated

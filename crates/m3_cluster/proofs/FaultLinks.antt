@@ -2,6 +2,7 @@
 use Rattle.std.proofs.Common.{◌≡◌, ℕ, List, [], ◌∷◌, ◌++◌, map, refl, sym, ap, subst, ◌∙◌, inl, inr, Bool, true, false, cond, ◌||◌}
 use Rattle.std.specs.Prelude.{Option, Some}
 use Rattle.std.specs.FinMap as finite
+use Rattle.std.specs.List.{list_any}
 use Rattle.std.specs.Cmp.{tied_itself}
 use Rattle.std.specs.Ordering.{eq_by_cmp, is_eq}
 use Rattle.m3_outside.specs.DiskState.{DiskState}
@@ -15,6 +16,7 @@ use Rattle.m3_model.specs.declared.reason.Reason.TheVariants as reason
 use Rattle.m3_model.specs.declared.rules.Rules.{Rules}
 use Rattle.cluster_core.specs.Lists.{IsDistinct}
 use Rattle.cluster_core.specs.declared.event.StepCall.{StepCall}
+use Rattle.cluster_core.specs.declared.event.StepReply.{StepReply}
 use Rattle.net_plan.specs.Fates.{FateMap}
 use Rattle.net_plan.specs.declared.late_write.LateWrite.{LateWrite}
 use Rattle.session.specs.Changes.{ArePutSteps, Step, put_reply}
@@ -28,7 +30,7 @@ use Rattle.session.proofs.SlotLemmas.{slot_cmp_total}
 use Rattle.m3_cluster.specs.Chains.{Link}
 use Rattle.m3_cluster.proofs.ActLinks.{late_links, put_links}
 use Rattle.m3_cluster.proofs.OptionLemmas.{same_of_some}
-use Rattle.m3_cluster.proofs.ReplicaLemmas.{has_fault, is_fault, steps_at}
+use Rattle.m3_cluster.proofs.ReplicaLemmas.{has_damage, has_fault, is_damage, is_fault, steps_at}
 
 -- ---- a fault among the steps at a slot
 
@@ -40,42 +42,57 @@ or_right : (a b : Bool) → b ≡ true → (a || b) ≡ true
 or_right true b e = refl
 or_right false b e = e
 
-fault_first : (steps more : List Step) → has_fault steps ≡ true → has_fault (steps ++ more) ≡ true
-fault_first [] more e = cc
-fault_first (step ∷ steps) more e = by_first (is_fault step.reply) (fault_first steps more) e
+any_first : (test : StepReply → Bool) (steps more : List Step) → list_any (λ (x : Step). test x.reply) steps ≡ true → list_any (λ (x : Step). test x.reply) (steps ++ more) ≡ true
+any_first test [] more e = cc
+any_first test (step ∷ steps) more e = by_first (test step.reply) (any_first test steps more) e
   where
-    by_first : (here : Bool) → (has_fault steps ≡ true → has_fault (steps ++ more) ≡ true) → (here || has_fault steps) ≡ true → (here || has_fault (steps ++ more)) ≡ true
+    has : List Step → Bool
+    has = list_any (λ (x : Step). test x.reply)
+
+    by_first : (here : Bool) → (has steps ≡ true → has (steps ++ more) ≡ true) → (here || has steps) ≡ true → (here || has (steps ++ more)) ≡ true
     by_first true later t = refl
     by_first false later t = later t
 
-fault_later : (steps more : List Step) → has_fault more ≡ true → has_fault (steps ++ more) ≡ true
-fault_later [] more e = e
-fault_later (step ∷ steps) more e = or_right (is_fault step.reply) (has_fault (steps ++ more)) (fault_later steps more e)
+any_later : (test : StepReply → Bool) (steps more : List Step) → list_any (λ (x : Step). test x.reply) more ≡ true → list_any (λ (x : Step). test x.reply) (steps ++ more) ≡ true
+any_later test [] more e = e
+any_later test (step ∷ steps) more e = or_right (test step.reply) (list_any (λ (x : Step). test x.reply) (steps ++ more)) (any_later test steps more e)
 
 -- a slot is itself
 pub own_slot : (s : Slot) → eq_by_cmp slot_cmp s s ≡ true
 own_slot s = ap is_eq (tied_itself slot_cmp_total s)
 
--- a failure at later links is one
-fault_after : (s : Slot) (link : Link) (links : List Link) → has_fault (steps_at s links) ≡ true → has_fault (steps_at s (link ∷ links)) ≡ true
-fault_after s link links e = by_slot (eq_by_cmp slot_cmp link.slot s)
+-- a step at later links is one
+any_after : (test : StepReply → Bool) (s : Slot) (link : Link) (links : List Link) → list_any (λ (x : Step). test x.reply) (steps_at s links) ≡ true → list_any (λ (x : Step). test x.reply) (steps_at s (link ∷ links)) ≡ true
+any_after test s link links e = by_slot (eq_by_cmp slot_cmp link.slot s)
   where
-    by_slot : (b : Bool) → has_fault (cond b (link.steps ++ steps_at s links) (steps_at s links)) ≡ true
-    by_slot true = fault_later link.steps (steps_at s links) e
+    by_slot : (b : Bool) → list_any (λ (x : Step). test x.reply) (cond b (link.steps ++ steps_at s links) (steps_at s links)) ≡ true
+    by_slot true = any_later test link.steps (steps_at s links) e
     by_slot false = e
 
--- a link of the slot at which the disk failed is a failure at the slot
-pub link_fault : (s : Slot) (link : Link) (links : List Link) → IsIn links link → link.slot ≡ s → has_fault link.steps ≡ true → has_fault (steps_at s links) ≡ true
-link_fault s link [] among of_slot failed = absurd among
-link_fault s link (first ∷ links) among of_slot failed =
-    elim among as (λ _. has_fault (steps_at s (first ∷ links)) ≡ true) [
+fault_after : (s : Slot) (link : Link) (links : List Link) → has_fault (steps_at s links) ≡ true → has_fault (steps_at s (link ∷ links)) ≡ true
+fault_after = any_after is_fault
+
+-- a step of a link of the slot is one at the slot
+any_link : (test : StepReply → Bool) (s : Slot) (link : Link) (links : List Link) → IsIn links link → link.slot ≡ s → list_any (λ (x : Step). test x.reply) link.steps ≡ true → list_any (λ (x : Step). test x.reply) (steps_at s links) ≡ true
+any_link test s link [] among of_slot holds = absurd among
+any_link test s link (first ∷ links) among of_slot holds =
+    let has : List Step → Bool = list_any (λ (x : Step). test x.reply) in
+    elim among as (λ _. has (steps_at s (first ∷ links)) ≡ true) [
       | inl e ↦ (
           let is : first.slot ≡ s = ap (λ (l : Link). l.slot) e ∙ of_slot in
           let own : eq_by_cmp slot_cmp first.slot s ≡ true = ap (λ q. eq_by_cmp slot_cmp q s) is ∙ own_slot s in
-          let here : has_fault first.steps ≡ true = ap (λ (l : Link). has_fault l.steps) e ∙ failed in
-          ap (λ b. has_fault (cond b (first.steps ++ steps_at s links) (steps_at s links))) own ∙ fault_first first.steps (steps_at s links) here)
-      | inr later ↦ fault_after s first links (link_fault s link links later of_slot failed)
+          let here : has first.steps ≡ true = ap (λ (l : Link). has l.steps) e ∙ holds in
+          ap (λ b. has (cond b (first.steps ++ steps_at s links) (steps_at s links))) own ∙ any_first test first.steps (steps_at s links) here)
+      | inr later ↦ any_after test s first links (any_link test s link links later of_slot holds)
     ]
+
+-- a link of the slot at which the disk failed is a failure at the slot
+pub link_fault : (s : Slot) (link : Link) (links : List Link) → IsIn links link → link.slot ≡ s → has_fault link.steps ≡ true → has_fault (steps_at s links) ≡ true
+link_fault = any_link is_fault
+
+-- and one at which damage was found is a damage there
+pub link_damage : (s : Slot) (link : Link) (links : List Link) → IsIn links link → link.slot ≡ s → has_damage link.steps ≡ true → has_damage (steps_at s links) ≡ true
+link_damage = any_link is_damage
 
 -- ---- puts
 

@@ -2,7 +2,7 @@
 use Rattle.std.proofs.Common.{◌≡◌, ◌⊎◌, ◌+◌, ◌≤◌, ℕ, List, [], ◌∷◌, ◌++◌, length, length-append, map, min, refl, sym, ap, subst, ◌∙◌, inl, inr, arith, append-nil, append_assoc, Bool, true, false, cond, ◌||◌}
 use Rattle.std.specs.Prelude.{Option, Some, None, IsSome}
 use Rattle.std.specs.FinMap.{empty, get}
-use Rattle.std.specs.List.{All}
+use Rattle.std.specs.List.{All, list_any}
 use Rattle.std.proofs.lemmas.List.Elements.{All-append}
 use Rattle.std.proofs.lemmas.List.Sums.{sum_by-append}
 use Rattle.m3_outside.specs.Causes.{RoseBy, last_count}
@@ -28,7 +28,7 @@ use Rattle.m3_cluster.specs.Serves.{AreCounted, IsEarlier, machine_at}
 use Rattle.m3_cluster.specs.declared.cluster.Cluster.{Cluster}
 use Rattle.m3_cluster.specs.declared.members.Members.{Members}
 use Rattle.m3_cluster.proofs.LinkLemmas.{or_first, or_true, steps_among, steps_in}
-use Rattle.m3_cluster.proofs.ReplicaFaults.{came_before, count_next, different_both, earlier_more, fault_from, has_fault, is_fault, line_different, line_earlier, line_faults, machine_is, most_one, none_of, not_before, rose_less, rose_more}
+use Rattle.m3_cluster.proofs.ReplicaFaults.{came_before, count_next, different_both, earlier_more, fault_from, has_damage, has_fault, is_damage, is_fault, line_different, line_earlier, line_faults, machine_is, most_one, none_of, not_before, rose_less, rose_more}
 use Rattle.m3_cluster.proofs.ReplicaLinks.{steps_at}
 use Rattle.m3_cluster.proofs.SlotLists.{in_or_out}
 
@@ -62,12 +62,13 @@ booted_as {D} {state} {depot} {machines} slots each s i = by_place (in_or_out sl
 abbrev pub first_link : (Slot → StepReply) → Slot → Link
 first_link answers s = record { slot = s; steps = first_boot (answers s) ∷ [] }
 
-any_in : (steps : List Step) (step : Step) → IsIn steps step → is_fault step.reply ≡ true → has_fault steps ≡ true
-any_in [] step i fault = absurd i
-any_in (x ∷ steps) step i fault =
-    elim i as (λ _. (is_fault x.reply || has_fault steps) ≡ true) [
-      | inl same ↦ or_first (is_fault x.reply) (has_fault steps) (ap (λ (z : Step). is_fault z.reply) same ∙ fault)
-      | inr later ↦ ap (λ t. is_fault x.reply || t) (any_in steps step later fault) ∙ or_true (is_fault x.reply)
+any_in : (test : StepReply → Bool) (steps : List Step) (step : Step) → IsIn steps step → test step.reply ≡ true → list_any (λ (x : Step). test x.reply) steps ≡ true
+any_in test [] step i holds = absurd i
+any_in test (x ∷ steps) step i holds =
+    let rest = list_any (λ (z : Step). test z.reply) steps in
+    elim i as (λ _. (test x.reply || rest) ≡ true) [
+      | inl same ↦ or_first (test x.reply) rest (ap (λ (z : Step). test z.reply) same ∙ holds)
+      | inr later ↦ ap (λ t. test x.reply || t) (any_in test steps step later holds) ∙ or_true (test x.reply)
     ]
 
 in_any : (steps : List Step) → has_fault steps ≡ true → (step : Step) × IsIn steps step × (is_fault step.reply ≡ true)
@@ -81,7 +82,12 @@ in_any (x ∷ steps) e = by_test (is_fault x.reply) refl e (in_any steps)
 -- a slot has a fault among its steps exactly where its boot failed
 pub first_fault : (answers : Slot → StepReply) (slots : List Slot) (s : Slot) → IsIn slots s → is_fault (answers s) ≡ true → has_fault (steps_at s (map (first_link answers) slots)) ≡ true
 first_fault answers slots s i fault =
-    any_in (steps_at s (map (first_link answers) slots)) (first_boot (answers s)) (steps_in s (map (first_link answers) slots) (first_link answers s) (first_boot (answers s)) (map-IsIn (first_link answers) slots s i) refl (inl refl)) fault
+    any_in is_fault (steps_at s (map (first_link answers) slots)) (first_boot (answers s)) (steps_in s (map (first_link answers) slots) (first_link answers s) (first_boot (answers s)) (map-IsIn (first_link answers) slots s i) refl (inl refl)) fault
+
+-- and damage where its boot found it
+pub first_damage : (answers : Slot → StepReply) (slots : List Slot) (s : Slot) → IsIn slots s → is_damage (answers s) ≡ true → has_damage (steps_at s (map (first_link answers) slots)) ≡ true
+first_damage answers slots s i damage =
+    any_in is_damage (steps_at s (map (first_link answers) slots)) (first_boot (answers s)) (steps_in s (map (first_link answers) slots) (first_link answers s) (first_boot (answers s)) (map-IsIn (first_link answers) slots s i) refl (inl refl)) damage
 
 fault_first : (answers : Slot → StepReply) (slots : List Slot) (s : Slot) → has_fault (steps_at s (map (first_link answers) slots)) ≡ true → is_fault (answers s) ≡ true
 fault_first answers slots s has =

@@ -52,9 +52,9 @@ named_here {D} {G} {m} {name} {halted} n one there =
     let same : one.name ≡ name = ap (λ (x : Instance). x.name) (same_at m.net.state.place.instances n.node one found.instance_ there found.stands) ∙ found.name_is in
     (bytes_eq-Decides one.name name).1 same
 
-pub named_elsewhere : {D : Type 0} {G : Ghosts D} {state : D → DiskState} {faults : List Fault} {lines : List Turn} {c : Cluster D G} {m : Members D G} {name : List ℕ} {halted : Bool} (h : At state faults lines c m) (n : IsNode m name halted)
+pub named_elsewhere : {D : Type 0} {G : Ghosts D} {state : D → DiskState} {tells : Bool} {faults : List Fault} {lines : List Turn} {c : Cluster D G} {m : Members D G} {name : List ℕ} {halted : Bool} (h : At state tells faults lines c m) (n : IsNode m name halted)
     (node : ℕ) (one : Instance) → node ≢ n.node → slice_get m.net.state.place.instances node ≡ Some one → pointwise nat_eq one.name name ≡ false
-named_elsewhere {D} {G} {state} {faults} {lines} {c} {m} {name} {halted} h n node one other there = by_test (pointwise nat_eq one.name name) refl
+named_elsewhere {D} {G} {state} {tells} {faults} {lines} {c} {m} {name} {halted} h n node one other there = by_test (pointwise nat_eq one.name name) refl
   where
     by_test : (t : Bool) → pointwise nat_eq one.name name ≡ t → t ≡ false
     by_test true e =
@@ -79,9 +79,9 @@ cond_true false = refl
 
 -- ---- stops
 
-halted_stays : {D : Type 0} {G : Ghosts D} {state : D → DiskState} {faults : List Fault} {lines : List Turn} {c : Cluster D G} {m g : Members D G} (more : List Fault) → AreAmong faults more → (h : At state faults lines c m) (name : List ℕ) (halted : IsHalted state m name g)
-    (s : Slot) (x y : MachineState D) → IsIn m.slots.items s → IsServing state faults lines m s x → y.standing ≡ standing_after (steps_at s (map stop_at (slots_of_node halted.ran.node m.slots.items))) x.standing → StaysRight more lines m (act.Stop name) answer.Done g s y.standing
-halted_stays {D} {G} {state} {faults} {lines} {c} {m} {g} more among h name halted s x y slot serving how = elim (cases_eq s.node halted.ran.node) as (λ _. StaysRight more lines m (act.Stop name) answer.Done g s y.standing) [ inl same ↦ own same | inr other ↦ away other ]
+halted_stays : {D : Type 0} {G : Ghosts D} {state : D → DiskState} {tells : Bool} {faults : List Fault} {lines : List Turn} {c : Cluster D G} {m g : Members D G} (more : List Fault) → AreAmong faults more → (h : At state tells faults lines c m) (name : List ℕ) (halted : IsHalted state m name g)
+    (s : Slot) (x y : MachineState D) → IsIn m.slots.items s → IsServing state tells faults lines m s x → y.standing ≡ standing_after (steps_at s (map stop_at (slots_of_node halted.ran.node m.slots.items))) x.standing → StaysRight tells more lines m (act.Stop name) answer.Done g s y.standing
+halted_stays {D} {G} {state} {tells} {faults} {lines} {c} {m} {g} more among h name halted s x y slot serving how = elim (cases_eq s.node halted.ran.node) as (λ _. StaysRight tells more lines m (act.Stop name) answer.Done g s y.standing) [ inl same ↦ own same | inr other ↦ away other ]
   where
     place : Placement
     place = m.net.state.place
@@ -92,12 +92,12 @@ halted_stays {D} {G} {state} {faults} {lines} {c} {m} {g} more among h name halt
     lines_on : List Turn
     lines_on = and_then lines (act.Stop name) answer.Done
 
-    own : s.node ≡ node → StaysRight more lines m (act.Stop name) answer.Done g s y.standing
+    own : s.node ≡ node → StaysRight tells more lines m (act.Stop name) answer.Done g s y.standing
     own same =
         let found = node_found name place.instances node halted.ran.found in
         let down : y.standing ≡ standing.Down = how ∙ stops_standing (slots_of_node node m.slots.items) s x.standing (node_has node m.slots.items s slot same) in
         record {
-          shut = subst (λ z. IsShutFor more (next_place lines_on) place s z) (sym down) (inl (record {
+          shut = subst (λ z. IsShutFor tells more (next_place lines_on) place s z) (sym down) (inl (record {
             instance_ = found.instance_;
             stands = ap (slice_get place.instances) same ∙ found.stands;
             holds = stopped_push lines (act.Stop name) answer.Done found.instance_.name ∙ ap (λ t. cond t true (is_stopped (inner_turns lines) found.instance_.name)) (named_here halted.ran found.instance_ found.stands);
@@ -105,14 +105,14 @@ halted_stays {D} {G} {state} {faults} {lines} {c} {m} {g} more among h name halt
           halted = λ is. down;
         }
 
-    away : s.node ≢ node → StaysRight more lines m (act.Stop name) answer.Done g s y.standing
+    away : s.node ≢ node → StaysRight tells more lines m (act.Stop name) answer.Done g s y.standing
     away other =
         let none : steps_at s (map stop_at (slots_of_node node m.slots.items)) ≡ [] = steps_none s (map stop_at (slots_of_node node m.slots.items)) (λ link i same.
         let from = IsIn-map stop_at (slots_of_node node m.slots.items) link i in
         other (ap (λ (q : Slot). q.node) (sym (ap (λ (l : Link). l.slot) from.2 ∙ same)) ∙ of_node node m.slots.items from.0 from.1)) in
         let still : y.standing ≡ x.standing = how ∙ ap (λ steps. standing_after steps x.standing) none in
         record {
-          shut = subst (λ z. IsShutFor more (next_place lines_on) place s z) (sym still) (shut_on faults more lines (act.Stop name) answer.Done place s x.standing among (machine_placed h s slot) (record {
+          shut = subst (λ z. IsShutFor tells more (next_place lines_on) place s z) (sym still) (shut_on tells faults more lines (act.Stop name) answer.Done place s x.standing among (machine_placed h s slot) (record {
             restarts = λ one there. refl;
             stops = λ one there. cond_true (pointwise nat_eq one.name name);
             waits = λ one there. refl;
@@ -128,9 +128,9 @@ stop_asked Sent slots s step i =
     let at = IsIn-map stop_at slots from.0 from.1 in
     elim (subst (λ (l : Link). IsIn l.steps step) (sym at.2) from.3) as (λ _. IsAsked Sent step.call) [ inl same ↦ subst (λ (z : Step). IsAsked Sent z.call) same tt | inr none ↦ absurd none ]
 
-halted_grows : {D : Type 0} {G : Ghosts D} {state : D → DiskState} {faults : List Fault} {lines : List Turn} {c : Cluster D G} {m g : Members D G} (more : List Fault) → AreAmong faults more → TellAll state → (h : At state faults lines c m) (name : List ℕ) → IsHalted state m name g
-    → Grows state more lines m (act.Stop name) answer.Done g
-halted_grows {D} {G} {state} {faults} {lines} {c} {m} {g} more among tell h name halted =
+halted_grows : {D : Type 0} {G : Ghosts D} {state : D → DiskState} {tells : Bool} {faults : List Fault} {lines : List Turn} {c : Cluster D G} {m g : Members D G} (more : List Fault) → AreAmong faults more → (tells ≡ true → TellAll state) → (h : At state tells faults lines c m) (name : List ℕ) → IsHalted state m name g
+    → Grows state tells more lines m (act.Stop name) answer.Done g
+halted_grows {D} {G} {state} {tells} {faults} {lines} {c} {m} {g} more among tell h name halted =
     let extends = extends_same {g = g} h halted.keeps.state refl in
     let same_place = ap (λ (s : MetaState). s.place) halted.keeps.state in
     let slots = slots_of_node halted.ran.node m.slots.items in
@@ -161,11 +161,11 @@ halted_grows {D} {G} {state} {faults} {lines} {c} {m} {g} more among tell h name
               ∙ ap (λ t. Some (cond t true (is_stopped (inner_turns lines) one.name))) (sym test)
         ]
 
-pub stop_goes : {D : Type 0} {G : Ghosts D} {state : D → DiskState} {faults : List Fault} {lines : List Turn} {old new : Cluster D G} {m g : Members D G} (more : List Fault) → AreAmong faults more → TellAll state → (h : At state faults lines old m) → new.members ≡ Some g
-    → new.calls ≡ old.calls → (name : List ℕ) (b : Answer) → IsStopped state m name b g → Goes state more lines old (act.Stop name) b new
-stop_goes {D} {G} {state} {faults} {lines} {old} {new} {m} {g} more among tell h is calls name answer.Done halted =
+pub stop_goes : {D : Type 0} {G : Ghosts D} {state : D → DiskState} {tells : Bool} {faults : List Fault} {lines : List Turn} {old new : Cluster D G} {m g : Members D G} (more : List Fault) → AreAmong faults more → (tells ≡ true → TellAll state) → (h : At state tells faults lines old m) → new.members ≡ Some g
+    → new.calls ≡ old.calls → (name : List ℕ) (b : Answer) → IsStopped state m name b g → Goes state tells more lines old (act.Stop name) b new
+stop_goes {D} {G} {state} {tells} {faults} {lines} {old} {new} {m} {g} more among tell h is calls name answer.Done halted =
     grown_goes h.stands h.members is (halted_grows more among tell h name halted) (ap (λ (s : MetaState). s.rules) (sym halted.keeps.state)) refl
     (other_numbered h.stands refl (λ none. let bad : None ≡ Some g = sym none ∙ is in absurd (cc)) refl calls) (λ acks e. cc)
-stop_goes {D} {G} {state} {faults} {lines} {old} {new} {m} {g} more among tell h is calls name (answer.Unknown unknown) s = quiet_change more among tell h.stands (tells_unknown (act.Stop name) unknown) refl (is ∙ ap Some s.2 ∙ sym h.members) calls
-stop_goes {D} {G} {state} {faults} {lines} {old} {new} {m} {g} more among tell h is calls name (answer.State node) s = quiet_change more among tell h.stands (tells_state (act.Stop name) node) refl (is ∙ ap Some s.2 ∙ sym h.members) calls
-stop_goes {D} {G} {state} {faults} {lines} {old} {new} {m} {g} more among tell h is calls name _ s = absurd s
+stop_goes {D} {G} {state} {tells} {faults} {lines} {old} {new} {m} {g} more among tell h is calls name (answer.Unknown unknown) s = quiet_change more among tell h.stands (tells_unknown (act.Stop name) unknown) refl (is ∙ ap Some s.2 ∙ sym h.members) calls
+stop_goes {D} {G} {state} {tells} {faults} {lines} {old} {new} {m} {g} more among tell h is calls name (answer.State node) s = quiet_change more among tell h.stands (tells_state (act.Stop name) node) refl (is ∙ ap Some s.2 ∙ sym h.members) calls
+stop_goes {D} {G} {state} {tells} {faults} {lines} {old} {new} {m} {g} more among tell h is calls name _ s = absurd s

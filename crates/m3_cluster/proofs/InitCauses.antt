@@ -1,5 +1,5 @@
 -- What `init` answers is what is due.
-use Rattle.std.proofs.Common.{◌≡◌, ◌<◌, ℕ, zero, suc, List, [], ◌∷◌, map, refl, sym, ap, ◌∙◌, subst, inl, true, false}
+use Rattle.std.proofs.Common.{◌≡◌, ◌<◌, ℕ, zero, suc, List, [], ◌∷◌, map, refl, sym, ap, ◌∙◌, subst, inl, true, false, Bool}
 use Rattle.std.specs.Prelude.{Option, Some, None, IsSome, option_map, slice_get}
 use Rattle.m3_outside.specs.declared.disk.Disk.{Ghosts}
 use Rattle.m3_outside.specs.DiskState.{DiskState}
@@ -39,27 +39,27 @@ names_node rf shards nodes place node one first at =
     ((from.0).1, from.1 ∙ ap (λ (n : List ℕ). Some (n, (from.0).1)) (ap (λ (i : Instance). i.name) from.2))
 
 -- what `init` answers is caused
-pub made_caused : {D : Type 0} {G : Ghosts D} (state : D → DiskState) (lines : List Turn) (now : Depot D) (old : Cluster D G) (rf shards seed : ℕ) (nodes : List (List ℕ × List ℕ)) (b : Answer) (after : Depot D) (new : Cluster D G) (faults more : List Fault) → Stands state faults lines old
-    → (h : IsMade state now old rf shards seed nodes b after new) → ListsTaken state lines now old rf shards seed nodes b after new h more → CausedAt true more [] None [] (place_after lines (act.Init rf shards seed nodes) b)
-made_caused {D} {G} state lines now old rf shards seed nodes (answer.Placed place version) after new faults more s h lists =
+pub made_caused : {D : Type 0} {G : Ghosts D} (state : D → DiskState) (tells : Bool) (lines : List Turn) (now : Depot D) (old : Cluster D G) (rf shards seed : ℕ) (nodes : List (List ℕ × List ℕ)) (b : Answer) (after : Depot D) (new : Cluster D G) (faults more : List Fault) → Stands state tells faults lines old
+    → (h : IsMade state now old rf shards seed nodes b after new) → ListsTaken state lines now old rf shards seed nodes b after new h more → CausedAt tells more [] None [] (place_after lines (act.Init rf shards seed nodes) b)
+made_caused {D} {G} state tells lines now old rf shards seed nodes (answer.Placed place version) after new faults more s h lists =
     let a = act.Init rf shards seed nodes in
     let made = h.2 in
     let own : IsInitial rf shards nodes place = subst (IsInitial rf shards nodes) (sym made.3) made.2.initial in
     due_free s more a (answer.Placed place version) h.0 (λ versions rules stopped. refl) (own, h.1 ∙ sym own.version)
-made_caused {D} {G} state lines now old rf shards seed nodes answer.Order after new faults more s h lists = by_old old.members refl h.0
+made_caused {D} {G} state tells lines now old rf shards seed nodes answer.Order after new faults more s h lists = by_old old.members refl h.0
   where
-    by_old : (o : Option (Members D G)) → old.members ≡ o → IsSome o → CausedAt true more [] None [] (place_after lines (act.Init rf shards seed nodes) answer.Order)
+    by_old : (o : Option (Members D G)) → old.members ≡ o → IsSome o → CausedAt tells more [] None [] (place_after lines (act.Init rf shards seed nodes) answer.Order)
     by_old None is some = cc
     by_old (Some m) is some = due_there (standing s is) more [] (act.Init rf shards seed nodes) answer.Order (Some answer.Order) (λ versions. refl) refl
-made_caused {D} {G} state lines now old rf shards seed nodes (answer.Disk name shard) after new faults more s h lists =
+made_caused {D} {G} state tells lines now old rf shards seed nodes (answer.Disk name shard) after new faults more s h lists =
     let a = act.Init rf shards seed nodes in
     let b = answer.Disk name shard in
     let untaken = h.2 in
     let names : NamesNode nodes name untaken.node = subst (λ n. NamesNode nodes n untaken.node) (sym untaken.name_is) (names_node rf shards nodes untaken.place untaken.node untaken.instance_ untaken.first untaken.named) in
     let low : shard < shards = subst (λ k. shard < k) untaken.first.shards_are (slot_low untaken.place (slot_at untaken.node shard) untaken.of_slot) in
     due_free s more a b h.0 (λ versions rules stopped. refl) (untaken.node, names, low, lists)
-made_caused state lines now old rf shards seed nodes answer.Memory after new faults more s h lists = inl refl
-made_caused state lines now old rf shards seed nodes _ after new faults more s h lists = absurd h
+made_caused state tells lines now old rf shards seed nodes answer.Memory after new faults more s h lists = inl refl
+made_caused state tells lines now old rf shards seed nodes _ after new faults more s h lists = absurd h
 
 -- it finds nothing
 made_nothing : {D : Type 0} {G : Ghosts D} (state : D → DiskState) (now : Depot D) (old : Cluster D G) (rf shards seed : ℕ) (nodes : List (List ℕ × List ℕ)) (b : Answer) (after : Depot D) (new : Cluster D G) → IsMade state now old rf shards seed nodes b after new → found_of b ≡ None

@@ -1,5 +1,5 @@
 -- What a turn keeps: a read keeps what was acknowledged before, and any other act finds nothing.
-use Rattle.std.proofs.Common.{◌≡◌, ℕ, suc, ◌<◌, ◌≤◌, List, [], ◌++◌, arith, refl, sym, ap, ◌∙◌, subst, append-nil, inl, inr}
+use Rattle.std.proofs.Common.{◌≡◌, ℕ, suc, ◌<◌, ◌≤◌, List, [], ◌++◌, arith, refl, sym, ap, ◌∙◌, subst, append-nil, inl, inr, Bool, true}
 use Rattle.std.specs.Prelude.{Option, Some, None, option_map}
 use Rattle.std.specs.List.{filter_map}
 use Rattle.m3_outside.specs.declared.disk.Disk.{Ghosts}
@@ -49,8 +49,8 @@ record Keeps (rules : Rules) (rf : ℕ) (turns : List InnerTurn) (a : Act) (foun
   pub keeps : KeepsPoints rules (filter_map (acked_point rf rules.spaces) turns) (filter_map (sent_point rules.spaces) turns) read found
 
 -- the same, as the turns tell the rules and the placement
-kept_there : {D : Type 0} {G : Ghosts D} {state : D → DiskState} {faults : List Fault} {lines : List Turn} {c : Cluster D G} {m : Members D G} (h : At state faults lines c m) (a : Act) (b : Answer) (found : Found) → Keeps m.net.state.rules m.net.state.place.rf (inner_turns lines) a found → KeepsRead [] None (place_after lines a b) found
-kept_there {D} {G} {state} {faults} {lines} {c} {m} h a b found keeps =
+kept_there : {D : Type 0} {G : Ghosts D} {state : D → DiskState} {tells : Bool} {faults : List Fault} {lines : List Turn} {c : Cluster D G} {m : Members D G} (h : At state tells faults lines c m) (a : Act) (b : Answer) (found : Found) → Keeps m.net.state.rules m.net.state.place.rf (inner_turns lines) a found → KeepsRead [] None (place_after lines a b) found
+kept_there {D} {G} {state} {tells} {faults} {lines} {c} {m} h a b found keeps =
     let p = place_after lines a b in
     let rf_is : rf_at None p ≡ m.net.state.place.rf = ap replicas_of (place_at h a b) in
     let there : Keeps (rules_at None p) (rf_at None p) (inner_turns lines ++ []) a found =
@@ -74,10 +74,10 @@ as_read pick range level k = record { pick = pick k; from = range.from; to = ran
 not_found : (b other : Answer) (found : Found) → b ≡ other → found_of other ≡ None → found_of b ≡ Some found → ⊥
 not_found b other found is none e = let bad : None ≡ Some found = sym none ∙ ap found_of (sym is) ∙ e in cc
 
-fetched_keeps : {D : Type 0} {G : Ghosts D} {state : D → DiskState} {faults : List Fault} {lines : List Turn} {c : Cluster D G} {m : Members D G} (h : At state faults lines c m) → TellAll state → (a : Act) (ns : List ℕ) (pick : ℕ → Pick) (range : Range) (level : ReadLevel) (b : Answer)
+fetched_keeps : {D : Type 0} {G : Ghosts D} {state : D → DiskState} {tells : Bool} {faults : List Fault} {lines : List Turn} {c : Cluster D G} {m : Members D G} (h : At state tells faults lines c m) → tells ≡ true → TellAll state → (a : Act) (ns : List ℕ) (pick : ℕ → Pick) (range : Range) (level : ReadLevel) (b : Answer)
     → ((k : ℕ) (p : Point) → Matches (pick k) p → (first_asked m.net.state (pick k) ≤ shard_in m p.id) × (shard_in m p.id < end_asked m.net.state (pick k)))
     → read_of (spaces_in m) a ≡ option_map (as_read pick range level) (namespace_place ns (spaces_in m)) → IsFetched m (next_call c None) ns pick range level b → KeptAt [] None (place_after lines a b)
-fetched_keeps {D} {G} {state} {faults} {lines} {c} {m} h tell a ns pick range level b asks asked step found e =
+fetched_keeps {D} {G} {state} {tells} {faults} {lines} {c} {m} h all_tell tell a ns pick range level b asks asked step found e =
     elim step as (λ _. KeepsRead [] None (place_after lines a b) found) [
       | inl away ↦ absurd (not_found b (answer.Unknown ns) found away.1 refl e)
       | inr read ↦ kept_there h a b found (by_answer b read.0 read.1 read.2 e)
@@ -90,7 +90,7 @@ fetched_keeps {D} {G} {state} {faults} {lines} {c} {m} h tell a ns pick range le
           read = as_read pick range level place;
           asked = asked ∙ ap (option_map (as_read pick range level)) at;
           keeps = subst (KeepsPoints m.net.state.rules (filter_map (acked_point m.net.state.place.rf (spaces_in m)) (inner_turns lines)) (filter_map (sent_point (spaces_in m)) (inner_turns lines)) (as_read pick range level place)) same
-              (read_keeps h tell (wish (pick place) range) level series short (asks place) done);
+              (read_keeps h all_tell tell (wish (pick place) range) level series short (asks place) done);
         }
     by_answer _ place at done is = cc
 
@@ -148,31 +148,31 @@ nothing_kept p none found e = let bad : None ≡ Some found = sym none ∙ e in 
 -- ---- each act
 
 -- what a turn keeps where a cluster stands
-turn_kept : {D : Type 0} {G : Ghosts D} (state : D → DiskState) → TellAll state → (lines : List Turn) (old : Cluster D G) (a : Act) (b : Answer) (faults : List Fault) → IsServedAct a → Stands state faults lines old → (m g : Members D G) → old.members ≡ Some m
+turn_kept : {D : Type 0} {G : Ghosts D} (state : D → DiskState) (tells : Bool) → tells ≡ true → TellAll state → (lines : List Turn) (old : Cluster D G) (a : Act) (b : Answer) (faults : List Fault) → IsServedAct a → Stands state tells faults lines old → (m g : Members D G) → old.members ≡ Some m
     → IsTurn state old a b m g → KeptAt [] None (place_after lines a b)
-turn_kept state tell lines old (act.Namespace name block past future retention) b faults served s m g is turn =
+turn_kept state tells all_tell tell lines old (act.Namespace name block past future retention) b faults served s m g is turn =
     nothing_kept (place_after lines (act.Namespace name block past future retention) b) (named_nothing m g name block past future retention b turn)
-turn_kept state tell lines old (act.Now now) b faults served s m g is turn = nothing_kept (place_after lines (act.Now now) b) (moved_nothing m g now b turn)
-turn_kept state tell lines old (act.Write ns id t v level version) b faults served s m g is turn =
+turn_kept state tells all_tell tell lines old (act.Now now) b faults served s m g is turn = nothing_kept (place_after lines (act.Now now) b) (moved_nothing m g now b turn)
+turn_kept state tells all_tell tell lines old (act.Write ns id t v level version) b faults served s m g is turn =
     nothing_kept (place_after lines (act.Write ns id t v level version) b) (written_nothing state m g old (record { ns = ns; id = id; t = t; v = v }) version level b turn)
-turn_kept state tell lines old (act.Fetch ns id from to level None) b faults served s m g is turn =
-    fetched_keeps (standing s is) tell (act.Fetch ns id from to level None) ns (λ k. pick.One k id) (record { from = from; to = to }) level b (λ k p matches. own_shard m id p matches.1) refl turn.0
-turn_kept state tell lines old (act.Fetch ns id from to level (Some version)) b faults served s m g is turn = cc
-turn_kept state tell lines old (act.Match ns wanted from to level None) b faults served s m g is turn =
-    fetched_keeps (standing s is) tell (act.Match ns wanted from to level None) ns (λ k. pick.Match k wanted) (record { from = from; to = to }) level b
+turn_kept state tells all_tell tell lines old (act.Fetch ns id from to level None) b faults served s m g is turn =
+    fetched_keeps (standing s is) all_tell tell (act.Fetch ns id from to level None) ns (λ k. pick.One k id) (record { from = from; to = to }) level b (λ k p matches. own_shard m id p matches.1) refl turn.0
+turn_kept state tells all_tell tell lines old (act.Fetch ns id from to level (Some version)) b faults served s m g is turn = cc
+turn_kept state tells all_tell tell lines old (act.Match ns wanted from to level None) b faults served s m g is turn =
+    fetched_keeps (standing s is) all_tell tell (act.Match ns wanted from to level None) ns (λ k. pick.Match k wanted) (record { from = from; to = to }) level b
     (λ k p matches. (zero_least (shard_in m p.id), shard_low (standing s is) p.id)) refl turn.0
-turn_kept state tell lines old (act.Match ns wanted from to level (Some version)) b faults served s m g is turn = cc
-turn_kept state tell lines old (act.Fates list) b faults served s m g is turn = nothing_kept (place_after lines (act.Fates list) b) (fated_nothing m g list b turn)
-turn_kept state tell lines old act.Deliver b faults served s m g is turn = nothing_kept (place_after lines act.Deliver b) (brought_nothing state m g b turn)
-turn_kept state tell lines old (act.Stop node) b faults served s m g is turn = nothing_kept (place_after lines (act.Stop node) b) (stopped_nothing state m g node b turn)
-turn_kept state tell lines old (act.Restart node pick) b faults served s m g is turn = nothing_kept (place_after lines (act.Restart node pick) b) (restarted_nothing state m g node b turn)
-turn_kept state tell lines old (act.Bootstrap node shard) b faults served s m g is turn = nothing_kept (place_after lines (act.Bootstrap node shard) b) (bootstrapped_nothing state m g node shard b turn)
-turn_kept state tell lines old _ b faults served s m g is turn = absurd turn
+turn_kept state tells all_tell tell lines old (act.Match ns wanted from to level (Some version)) b faults served s m g is turn = cc
+turn_kept state tells all_tell tell lines old (act.Fates list) b faults served s m g is turn = nothing_kept (place_after lines (act.Fates list) b) (fated_nothing m g list b turn)
+turn_kept state tells all_tell tell lines old act.Deliver b faults served s m g is turn = nothing_kept (place_after lines act.Deliver b) (brought_nothing state m g b turn)
+turn_kept state tells all_tell tell lines old (act.Stop node) b faults served s m g is turn = nothing_kept (place_after lines (act.Stop node) b) (stopped_nothing state m g node b turn)
+turn_kept state tells all_tell tell lines old (act.Restart node pick) b faults served s m g is turn = nothing_kept (place_after lines (act.Restart node pick) b) (restarted_nothing state m g node b turn)
+turn_kept state tells all_tell tell lines old (act.Bootstrap node shard) b faults served s m g is turn = nothing_kept (place_after lines (act.Bootstrap node shard) b) (bootstrapped_nothing state m g node shard b turn)
+turn_kept state tells all_tell tell lines old _ b faults served s m g is turn = absurd turn
 
 -- what a read keeps at the only turn of the last line
-pub kept_after : {D : Type 0} {G : Ghosts D} (state : D → DiskState) → TellAll state → (lines : List Turn) (old new : Cluster D G) (a : Act) (b : Answer) (faults : List Fault) → IsServedAct a → Stands state faults lines old → Answers state old a b new → KeptAt [] None (place_after lines a b)
-kept_after state tell lines old new a b faults served s h =
+pub kept_after : {D : Type 0} {G : Ghosts D} (state : D → DiskState) (tells : Bool) → tells ≡ true → TellAll state → (lines : List Turn) (old new : Cluster D G) (a : Act) (b : Answer) (faults : List Fault) → IsServedAct a → Stands state tells faults lines old → Answers state old a b new → KeptAt [] None (place_after lines a b)
+kept_after state tells all_tell tell lines old new a b faults served s h =
     elim (turns state old a b new h) as (λ _. KeptAt [] None (place_after lines a b)) [
       | inl off ↦ nothing_kept (place_after lines a b) (ap found_of off.order)
-      | inr on ↦ turn_kept state tell lines old a b faults served s on.m on.g on.was on.turn
+      | inr on ↦ turn_kept state tells all_tell tell lines old a b faults served s on.m on.g on.was on.turn
     ]

@@ -240,9 +240,9 @@ pub record Delays {D : Type 0} {G : Ghosts D} (lines : List Turn) (m : Members D
 abbrev message_to : List Turn → Act → Answer → Placement → Point → ℕ → LateMessage
 message_to lines a b used point n = record { place = place_after lines a b; used = used; node = n; point = point }
 
-new_held : {D : Type 0} {G : Ghosts D} {state : D → DiskState} {faults : List Fault} {lines : List Turn} {c : Cluster D G} {m g : Members D G} (h : At state faults lines c m) {a : Act} {b : Answer} (e : Extends lines m a b g) (point : Point) (nodes : List ℕ) → Delays lines m a b point nodes
+new_held : {D : Type 0} {G : Ghosts D} {state : D → DiskState} {tells : Bool} {faults : List Fault} {lines : List Turn} {c : Cluster D G} {m g : Members D G} (h : At state tells faults lines c m) {a : Act} {b : Answer} (e : Extends lines m a b g) (point : Point) (nodes : List ℕ) → Delays lines m a b point nodes
     → (n : ℕ) → IsIn nodes n → is_late (fate_to m.net.fates (next_call c None) n) ≡ true → IsHeldBack g (and_then lines a b) (message_to lines a b m.net.state.place point n) (late_to (next_call c None) (shard_in m point.id) 1 point n)
-new_held {D} {G} {state} {faults} {lines} {c} {m} {g} h {a} {b} e point nodes d n i late =
+new_held {D} {G} {state} {tells} {faults} {lines} {c} {m} {g} h {a} {b} e point nodes d n i late =
     let known = known_node h (shard_in m point.id) n d.low (d.counted n i) in
     let to_shard : shard_of_message None (message_to lines a b m.net.state.place point n) ≡ shard_in m point.id = ap (λ (seed : ℕ). shard_of point.id seed (length m.net.state.place.shards)) (seed_there h) in
     record {
@@ -288,9 +288,9 @@ earlier_line {D} {G} m lines messages bag held message nodes of_line x y i j =
     omega (arith, here, before)
 
 -- the late messages of a write are behind those that were held back
-pub late_more : {D : Type 0} {G : Ghosts D} {state : D → DiskState} {faults : List Fault} {lines : List Turn} {c : Cluster D G} {m g : Members D G} (h : At state faults lines c m) {a : Act} {b : Answer} (e : Extends lines m a b g) (point : Point) (nodes : List ℕ) → Delays lines m a b point nodes
+pub late_more : {D : Type 0} {G : Ghosts D} {state : D → DiskState} {tells : Bool} {faults : List Fault} {lines : List Turn} {c : Cluster D G} {m g : Members D G} (h : At state tells faults lines c m) {a : Act} {b : Answer} (e : Extends lines m a b g) (point : Point) (nodes : List ℕ) → Delays lines m a b point nodes
     → g.net.bag ≡ filled m.net.bag (late_among m.net.fates (next_call c None) (shard_in m point.id) 1 point nodes) → HoldsLate g (and_then lines a b)
-late_more {D} {G} {state} {faults} {lines} {c} {m} {g} h {a} {b} e point nodes d is =
+late_more {D} {G} {state} {tells} {faults} {lines} {c} {m} {g} h {a} {b} e point nodes d is =
     let old = (on h).late in
     let late = late_to (next_call c None) (shard_in m point.id) 1 point in
     let to_node = message_to lines a b m.net.state.place point in

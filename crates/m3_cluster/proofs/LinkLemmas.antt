@@ -160,18 +160,18 @@ pub puts_asked : (Sent : Point → Type 0) (steps : List Step) → ((step : Step
 puts_asked Sent steps each step i = put_asked Sent step.call (each step i)
 
 -- one put leaves the standing, or closes the machine by a fault
-one_put : {D : Type 0} (state : D → DiskState) (Sent Later Sure : Point → Type 0) (c : StepCall) (r : StepReply) (x y : MachineState D) → IsPutOf Later c → IsStep state x c r y → HasReplica state Sent Sure x
+one_put : {D : Type 0} (state : D → DiskState) (tells : Bool) (Sent Later Sure : Point → Type 0) (c : StepCall) (r : StepReply) (x y : MachineState D) → IsPutOf Later c → IsStep state x c r y → HasReplica state tells Sent Sure x
     → (y.standing ≡ x.standing) ⊎ ((y.standing ≡ standing.Down) × (is_fault r ≡ true))
-one_put state Sent Later Sure (call.Put client number rules version p) (reply.Refused reason.Disk) x y put step has =
-    inr (standing_next state Sent Sure (record { call = call.Put client number rules version p; reply = reply.Refused reason.Disk } ∷ []) x y (y, step, refl) has, refl)
-one_put state Sent Later Sure (call.Put client number rules version p) (reply.Refused (reason.Corrupt damage)) x y put step has =
+one_put state tells Sent Later Sure (call.Put client number rules version p) (reply.Refused reason.Disk) x y put step has =
+    inr (standing_next state tells Sent Sure (record { call = call.Put client number rules version p; reply = reply.Refused reason.Disk } ∷ []) x y (y, step, refl) has, refl)
+one_put state tells Sent Later Sure (call.Put client number rules version p) (reply.Refused (reason.Corrupt damage)) x y put step has =
     let past : List Event = event.Clock rules ∷ event.Send version 0 p ∷ [] in
     let may = step.lawful has.r has.is_machine past 0 0 (Any-from_IsIn (IsClock rules) past (event.Clock rules) (inl refl) refl, Any-from_IsIn (IsSend version 0 p) past (event.Send version 0 p) (inr (inl refl)) refl) in
     let reads : false ≡ true = may.reads in
     absurd (cc)
-one_put state Sent Later Sure (call.Put client number rules version p) r x y put step has =
-    inl (standing_next state Sent Sure (record { call = call.Put client number rules version p; reply = r } ∷ []) x y (y, step, refl) has)
-one_put state Sent Later Sure _ r x y put step has = absurd put
+one_put state tells Sent Later Sure (call.Put client number rules version p) r x y put step has =
+    inl (standing_next state tells Sent Sure (record { call = call.Put client number rules version p; reply = r } ∷ []) x y (y, step, refl) has)
+one_put state tells Sent Later Sure _ r x y put step has = absurd put
 
 pub or_true : (b : Bool) → (b || true) ≡ true
 or_true true = refl
@@ -184,14 +184,14 @@ pub one_asked : (Later : Point → Type 0) (step : Step) → IsAsked Later step.
 one_asked Later step asked = All-from_each (λ (z : Step). IsAsked Later z.call) (step ∷ []) (λ z i. elim i as (λ _. IsAsked Later z.call) [ inl same ↦ subst (λ (q : Step). IsAsked Later q.call) same asked | inr none ↦ absurd none ])
 
 -- and so do several
-pub puts_shut : {D : Type 0} (state : D → DiskState) → TellAll state → (Sent Later Sure : Point → Type 0) → ((p : Point) → Sent p → Later p) → (steps : List Step) → ((step : Step) → IsIn steps step → IsPutOf Later step.call) → (x y : MachineState D) → TakesSteps state steps x y
-    → HasReplica state Sent Sure x → (y.standing ≡ x.standing) ⊎ ((y.standing ≡ standing.Down) × (has_fault steps ≡ true))
-puts_shut {D} state tell Sent Later Sure later [] puts x y taken has = inl (ap (λ (m : MachineState D). m.standing) taken)
-puts_shut {D} state tell Sent Later Sure later (step ∷ steps) puts x y taken has =
+pub puts_shut : {D : Type 0} (state : D → DiskState) (tells : Bool) → (tells ≡ true → TellAll state) → (Sent Later Sure : Point → Type 0) → ((p : Point) → Sent p → Later p) → (steps : List Step) → ((step : Step) → IsIn steps step → IsPutOf Later step.call) → (x y : MachineState D) → TakesSteps state steps x y
+    → HasReplica state tells Sent Sure x → (y.standing ≡ x.standing) ⊎ ((y.standing ≡ standing.Down) × (has_fault steps ≡ true))
+puts_shut {D} state tells tell Sent Later Sure later [] puts x y taken has = inl (ap (λ (m : MachineState D). m.standing) taken)
+puts_shut {D} state tells tell Sent Later Sure later (step ∷ steps) puts x y taken has =
     let mid = taken.0 in
-    let next = replica_next state tell Sent Later Sure later (step ∷ []) (one_asked Later step (put_asked Later step.call (puts step (inl refl)))) x mid (mid, taken.1, refl) has in
-    let rest = puts_shut state tell Later Later (λ p. Sure p ⊎ IsDone (step ∷ []) p) (λ p h. h) steps (λ z i. puts z (inr i)) mid y taken.2 next in
-    elim (one_put state Sent Later Sure step.call step.reply x mid (puts step (inl refl)) taken.1 has) as (λ _. (y.standing ≡ x.standing) ⊎ ((y.standing ≡ standing.Down) × ((is_fault step.reply || has_fault steps) ≡ true))) [
+    let next = replica_next state tells tell Sent Later Sure later (step ∷ []) (one_asked Later step (put_asked Later step.call (puts step (inl refl)))) x mid (mid, taken.1, refl) has in
+    let rest = puts_shut state tells tell Later Later (λ p. Sure p ⊎ IsDone (step ∷ []) p) (λ p h. h) steps (λ z i. puts z (inr i)) mid y taken.2 next in
+    elim (one_put state tells Sent Later Sure step.call step.reply x mid (puts step (inl refl)) taken.1 has) as (λ _. (y.standing ≡ x.standing) ⊎ ((y.standing ≡ standing.Down) × ((is_fault step.reply || has_fault steps) ≡ true))) [
       | inl same ↦ elim rest as (λ _. (y.standing ≡ x.standing) ⊎ ((y.standing ≡ standing.Down) × ((is_fault step.reply || has_fault steps) ≡ true))) [
         | inl still ↦ inl (still ∙ same)
         | inr down ↦ inr (down.0, ap (λ t. is_fault step.reply || t) down.1 ∙ or_true (is_fault step.reply))

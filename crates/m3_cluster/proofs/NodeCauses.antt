@@ -9,9 +9,10 @@ use Rattle.std.proofs.lemmas.Bool.{lt-ltb, le-ltb, eqb-true}
 use Rattle.std.proofs.lemmas.List.Elements.{All-cons, All-nil}
 use Rattle.m3_outside.specs.declared.disk.Disk.{Ghosts}
 use Rattle.m3_outside.specs.DiskState.{DiskState, IsLawful}
-use Rattle.transcripts.specs.Caused.{OnDisk}
-use Rattle.transcripts.specs.Faults.{Fault, Failing}
+use Rattle.transcripts.specs.Caused.{InFiles, IsReplicaOf, OnDisk}
+use Rattle.transcripts.specs.Faults.{Fault, Failing, Damaged}
 use Rattle.transcripts.specs.Placements.{has_replica}
+use Rattle.transcripts.specs.Reasons.{IsShown}
 use Rattle.transcripts.specs.Waiting.{is_covering}
 use Rattle.m3_model.specs.Members.{IsIn}
 use Rattle.placement_core.specs.NodeNames.{is_listed}
@@ -44,7 +45,7 @@ use Rattle.m3_cluster.specs.declared.cluster.Cluster.{Cluster}
 use Rattle.m3_cluster.specs.declared.members.Members.{Members}
 use Rattle.m3_cluster.proofs.ActLinks.{ListsFaults, refused_boot, unbooted_links, unstarted_links}
 use Rattle.m3_cluster.proofs.CallLemmas.{place_after, At, on, stands_there}
-use Rattle.m3_cluster.proofs.FaultLinks.{link_fault}
+use Rattle.m3_cluster.proofs.FaultLinks.{link_damage, link_fault}
 use Rattle.m3_cluster.proofs.KnownNodes.{some_there}
 use Rattle.m3_cluster.proofs.NodeLemmas.{node_found}
 use Rattle.m3_cluster.proofs.ReplicaLemmas.{IsAsked, IsDone, links_steps, replica_next, replica_sound, steps_at}
@@ -81,21 +82,27 @@ shard_away m (Some shard) name h = ap (λ b. cond b None (Some (decimal shard)))
 
 -- ---- whose disk failed
 
--- the slot's disk failed in this line
-pub on_disk : {D : Type 0} {G : Ghosts D} {state : D → DiskState} {faults : List Fault} {lines : List Turn} {c : Cluster D G} {m : Members D G} (h : At state faults lines c m) (more : List Fault) (a : Act) (b : Answer) (name : List ℕ) (halted : Bool) (is : IsNode m name halted)
-    (s : Slot) (shard : ℕ) → IsIn m.slots.items s → s.node ≡ is.node → s.shard ≡ shard → IsIn more (record { line = length lines; node = s.node; shard = s.shard; kind = Failing }) → OnDisk more None (place_after lines a b) name shard
-on_disk {D} {G} {state} {faults} {lines} {c} {m} h more a b name halted is s shard among of_node of_shard failed =
+-- the node of this name has the slot's replica
+replica_there : {D : Type 0} {G : Ghosts D} {state : D → DiskState} {tells : Bool} {faults : List Fault} {lines : List Turn} {c : Cluster D G} {m : Members D G} (h : At state tells faults lines c m) (a : Act) (b : Answer) (name : List ℕ) (halted : Bool) (is : IsNode m name halted)
+    (s : Slot) (shard : ℕ) → IsIn m.slots.items s → s.node ≡ is.node → s.shard ≡ shard → IsReplicaOf None (place_after lines a b) name is.node shard
+replica_there {D} {G} {state} {tells} {faults} {lines} {c} {m} h a b name halted is s shard among of_node of_shard =
     let at = node_found name m.net.state.place.instances is.node is.found in
-    let member = slot_replica m.net.state.place s (subst (λ (slots : List Slot). IsIn slots s) (on h).well.slots among) in (
-      is.node,
-      record {
-        place = m.net.state.place;
-        stands = stands_there h a b;
-        named = record { instance_ = at.instance_; stands = at.stands; holds = at.name_is };
-        member = subst (λ k. IsTrue (has_replica (Some m.net.state.place) k is.node)) of_shard (subst (λ n. IsTrue (has_replica (Some m.net.state.place) s.shard n)) of_node member);
-      },
-      subst (λ k. IsIn more (record { line = length lines; node = is.node; shard = k; kind = Failing })) of_shard (subst (λ n. IsIn more (record { line = length lines; node = n; shard = s.shard; kind = Failing })) of_node failed),
-    )
+    let member = slot_replica m.net.state.place s (subst (λ (slots : List Slot). IsIn slots s) (on h).well.slots among) in
+    record {
+      place = m.net.state.place;
+      stands = stands_there h a b;
+      named = record { instance_ = at.instance_; stands = at.stands; holds = at.name_is };
+      member = subst (λ k. IsTrue (has_replica (Some m.net.state.place) k is.node)) of_shard (subst (λ n. IsTrue (has_replica (Some m.net.state.place) s.shard n)) of_node member);
+    }
+
+-- the slot's disk failed in this line
+pub on_disk : {D : Type 0} {G : Ghosts D} {state : D → DiskState} {tells : Bool} {faults : List Fault} {lines : List Turn} {c : Cluster D G} {m : Members D G} (h : At state tells faults lines c m) (more : List Fault) (a : Act) (b : Answer) (name : List ℕ) (halted : Bool) (is : IsNode m name halted)
+    (s : Slot) (shard : ℕ) → IsIn m.slots.items s → s.node ≡ is.node → s.shard ≡ shard → IsIn more (record { line = length lines; node = s.node; shard = s.shard; kind = Failing }) → OnDisk more None (place_after lines a b) name shard
+on_disk {D} {G} {state} {tells} {faults} {lines} {c} {m} h more a b name halted is s shard among of_node of_shard failed = (
+  is.node,
+  replica_there h a b name halted is s shard among of_node of_shard,
+  subst (λ k. IsIn more (record { line = length lines; node = is.node; shard = k; kind = Failing })) of_shard (subst (λ n. IsIn more (record { line = length lines; node = n; shard = s.shard; kind = Failing })) of_node failed),
+)
 
 and_true : (a b : Bool) → (a && b) ≡ true → (a ≡ true) × (b ≡ true)
 and_true true true e = (refl, refl)
@@ -107,9 +114,9 @@ between : {X : Type 0} (all before : List X) (x : X) (later : List X) → all �
 between all before x later parts = subst (λ xs. IsIn xs x) (sym parts) (IsIn-append_right before (x ∷ later) x (inl refl))
 
 -- a start that the disk of a slot refused
-pub unstarted_due : {D : Type 0} {G : Ghosts D} {state : D → DiskState} {faults : List Fault} {lines : List Turn} {c : Cluster D G} {m : Members D G} (h : At state faults lines c m) (more : List Fault) (g : Members D G) (name : List ℕ) (pick shard : ℕ) (b : Answer)
-    (refused : IsUnstarted state m name shard reason.Disk g) → ListsFaults lines m (unstarted_links state m name shard reason.Disk g refused) more → OnDisk more None (place_after lines (act.Restart name pick) b) name shard
-unstarted_due {D} {G} {state} {faults} {lines} {c} {m} h more g name pick shard b refused lists =
+pub unstarted_due : {D : Type 0} {G : Ghosts D} {state : D → DiskState} {tells : Bool} {faults : List Fault} {lines : List Turn} {c : Cluster D G} {m : Members D G} (h : At state tells faults lines c m) (more : List Fault) (g : Members D G) (name : List ℕ) (pick shard : ℕ) (b : Answer)
+    (refused : IsUnstarted state m name shard reason.Disk g) → ListsFaults tells lines m (unstarted_links state m name shard reason.Disk g refused) more → OnDisk more None (place_after lines (act.Restart name pick) b) name shard
+unstarted_due {D} {G} {state} {tells} {faults} {lines} {c} {m} h more g name pick shard b refused lists =
     let node = refused.was.node in
     let step = refused.refused in
     let s = step.slot in
@@ -119,14 +126,14 @@ unstarted_due {D} {G} {state} {faults} {lines} {c} {m} h more g name pick shard 
     let link = refused_restart_at s reason.Disk in
     let there : IsIn (unstarted_links state m name shard reason.Disk g refused) link =
     IsIn-append_left (map restart_at step.before ++ link ∷ []) (map stop_at (slots_of_node node m.slots.items)) link (IsIn-append_right (map restart_at step.before) (link ∷ []) link (inl refl)) in
-    let failed = lists s among (link_fault s link (unstarted_links state m name shard reason.Disk g refused) there refl refl) in
+    let failed = lists.failed s among (link_fault s link (unstarted_links state m name shard reason.Disk g refused) there refl refl) in
     on_disk h more (act.Restart name pick) b name true refused.was s shard among of_node step.shard_is failed
 
 -- a bootstrap that the disk of a slot refused
-pub held_up_due : {D : Type 0} {G : Ghosts D} {state : D → DiskState} {faults : List Fault} {lines : List Turn} {c : Cluster D G} {m : Members D G} (h : At state faults lines c m) (more : List Fault) (g : Members D G) (name : List ℕ) (asked : Option ℕ) (shard : ℕ) (b : Answer)
-    (held : IsHeldUp state m name asked shard reason.Disk g) → ListsFaults lines m (unbooted_links state (covered_slots held.runs.node asked m.slots.items) shard reason.Disk m.net.machines g.net.machines held.refused) more
+pub held_up_due : {D : Type 0} {G : Ghosts D} {state : D → DiskState} {tells : Bool} {faults : List Fault} {lines : List Turn} {c : Cluster D G} {m : Members D G} (h : At state tells faults lines c m) (more : List Fault) (g : Members D G) (name : List ℕ) (asked : Option ℕ) (shard : ℕ) (b : Answer)
+    (held : IsHeldUp state m name asked shard reason.Disk g) → ListsFaults tells lines m (unbooted_links state (covered_slots held.runs.node asked m.slots.items) shard reason.Disk m.net.machines g.net.machines held.refused) more
     → IsTrue (is_covering shard asked) × OnDisk more None (place_after lines (act.Bootstrap name asked) b) name shard
-held_up_due {D} {G} {state} {faults} {lines} {c} {m} h more g name asked shard b held lists =
+held_up_due {D} {G} {state} {tells} {faults} {lines} {c} {m} h more g name asked shard b held lists =
     let node = held.runs.node in
     let step = held.refused in
     let s = step.slot in
@@ -137,9 +144,36 @@ held_up_due {D} {G} {state} {faults} {lines} {c} {m} h more g name asked shard b
     let link = refused_boot s reason.Disk in
     let links = unbooted_links state (covered_slots node asked m.slots.items) shard reason.Disk m.net.machines g.net.machines step in
     let there : IsIn links link = IsIn-append_right (map boot_link step.booted.boots) (link ∷ []) link (inl refl) in
-    let failed = lists s among (link_fault s link links there refl refl) in (
+    let failed = lists.failed s among (link_fault s link links there refl refl) in (
       subst (λ k. IsTrue (is_covering k asked)) step.shard_is both.1,
       on_disk h more (act.Bootstrap name asked) b name false held.runs s shard among (eqb-true s.node node both.0) step.shard_is failed,
+    )
+
+-- a bootstrap that found the files of a slot damaged, where disks don't tell
+pub damaged_due : {D : Type 0} {G : Ghosts D} {state : D → DiskState} {tells : Bool} {faults : List Fault} {lines : List Turn} {c : Cluster D G} {m : Members D G} (h : At state tells faults lines c m) → tells ≡ false → (more : List Fault) (g : Members D G) (name : List ℕ) (asked : Option ℕ) (shard : ℕ) (damage : Damage) (b : Answer)
+    (held : IsHeldUp state m name asked shard (reason.Corrupt damage) g) → ListsFaults tells lines m (unbooted_links state (covered_slots held.runs.node asked m.slots.items) shard (reason.Corrupt damage) m.net.machines g.net.machines held.refused) more
+    → IsTrue (is_covering shard asked) × InFiles more None (place_after lines (act.Bootstrap name asked) b) name shard × IsShown damage
+damaged_due {D} {G} {state} {tells} {faults} {lines} {c} {m} h free more g name asked shard damage b held lists =
+    let node = held.runs.node in
+    let step = held.refused in
+    let s = step.slot in
+    let test : Slot → Bool = λ q. nat_eq q.node node && is_covering q.shard asked in
+    let chosen_slot : IsIn (covered_slots node asked m.slots.items) s = between (covered_slots node asked m.slots.items) step.before s step.later step.parts in
+    let among = IsIn-filter test m.slots.items s chosen_slot in
+    let both = and_true (nat_eq s.node node) (is_covering s.shard asked) (chosen test m.slots.items s chosen_slot) in
+    let of_node = eqb-true s.node node both.0 in
+    let link = refused_boot s (reason.Corrupt damage) in
+    let links = unbooted_links state (covered_slots node asked m.slots.items) shard (reason.Corrupt damage) m.net.machines g.net.machines step in
+    let there : IsIn links link = IsIn-append_right (map boot_link step.booted.boots) (link ∷ []) link (inl refl) in
+    let found = lists.damaged free s among (link_damage s link links there refl refl) in
+    let replica = replica_there h (act.Bootstrap name asked) b name false held.runs s shard among of_node step.shard_is in (
+      subst (λ k. IsTrue (is_covering k asked)) step.shard_is both.1,
+      (
+        node,
+        replica,
+        subst (λ k. IsIn more (record { line = length lines; node = node; shard = k; kind = Damaged })) step.shard_is (subst (λ n. IsIn more (record { line = length lines; node = n; shard = s.shard; kind = Damaged })) of_node found),
+      ),
+      step.shown damage refl,
     )
 
 -- all that boots ask of a slot is to begin with the first tenure
@@ -155,17 +189,17 @@ boots_asked Sent s (b ∷ boots) = by_slot (eq_by_cmp slot_cmp b.slot s) (boots_
     by_slot false later = later
 
 -- the machine that is booted after others is a replica still
-booted_replica : {D : Type 0} (state : D → DiskState) → TellAll state → (Sent Sure : Point → Type 0) (boots : List Boot) (old mid : MachineMap D) → TakesLinks state (map boot_link boots) old mid → (s : Slot) (x : MachineState D) → finite.get old s ≡ Some x → HasReplica state Sent Sure x
-    → (y : MachineState D) × (finite.get mid s ≡ Some y) × HasReplica state Sent (λ p. Sure p ⊎ IsDone (steps_at s (map boot_link boots)) p) y
-booted_replica state tell Sent Sure boots old mid taken s x stands has =
+booted_replica : {D : Type 0} (state : D → DiskState) (tells : Bool) → (tells ≡ true → TellAll state) → (Sent Sure : Point → Type 0) (boots : List Boot) (old mid : MachineMap D) → TakesLinks state (map boot_link boots) old mid → (s : Slot) (x : MachineState D) → finite.get old s ≡ Some x → HasReplica state tells Sent Sure x
+    → (y : MachineState D) × (finite.get mid s ≡ Some y) × HasReplica state tells Sent (λ p. Sure p ⊎ IsDone (steps_at s (map boot_link boots)) p) y
+booted_replica state tells tell Sent Sure boots old mid taken s x stands has =
     let steps = steps_at s (map boot_link boots) in
     let stepped : IsStepped state steps (Some x) (finite.get mid s) = subst (λ o. IsStepped state steps o (finite.get mid s)) stands (links_steps state (map boot_link boots) old mid taken s) in
-    (stepped.0, stepped.1, replica_next state tell Sent Sent Sure (λ p sent. sent) steps (boots_asked Sent s boots) x stepped.0 stepped.2 has)
+    (stepped.0, stepped.1, replica_next state tells tell Sent Sent Sure (λ p sent. sent) steps (boots_asked Sent s boots) x stepped.0 stepped.2 has)
 
 -- no bootstrap finds damage where disks tell
-pub no_damage : {D : Type 0} {G : Ghosts D} {state : D → DiskState} {faults : List Fault} {lines : List Turn} {c : Cluster D G} {m : Members D G} (h : At state faults lines c m) → TellAll state → ((d : D) → IsLawful (state d)) → (g : Members D G) (name : List ℕ) (asked : Option ℕ) (shard : ℕ)
+pub no_damage : {D : Type 0} {G : Ghosts D} {state : D → DiskState} {tells : Bool} {faults : List Fault} {lines : List Turn} {c : Cluster D G} {m : Members D G} (h : At state tells faults lines c m) → tells ≡ true → TellAll state → ((d : D) → IsLawful (state d)) → (g : Members D G) (name : List ℕ) (asked : Option ℕ) (shard : ℕ)
     (damage : Damage) → IsHeldUp state m name asked shard (reason.Corrupt damage) g → ⊥
-no_damage {D} {G} {state} {faults} {lines} {c} {m} h tell lawful g name asked shard damage held =
+no_damage {D} {G} {state} {tells} {faults} {lines} {c} {m} h told tell lawful g name asked shard damage held =
     let node = held.runs.node in
     let step = held.refused in
     let s = step.slot in
@@ -174,6 +208,6 @@ no_damage {D} {G} {state} {faults} {lines} {c} {m} h tell lawful g name asked sh
     let manned = some_there (finite.get m.net.machines s) ((on h).well.manned s among) in
     let Sent : Point → Type 0 = WasSent (spaces_in m) (inner_turns lines) in
     let Sure : Point → Type 0 = WasAcked m (inner_turns lines) s in
-    let booted = booted_replica state tell Sent Sure step.booted.boots m.net.machines step.mid step.booted.taken s manned.0 manned.1 ((on h).serving s manned.0 manned.1).replica in
-    let sound = replica_sound state tell lawful Sent (λ p. Sure p ⊎ IsDone (steps_at s (map boot_link step.booted.boots)) p) booted.0 booted.2 in
+    let booted = booted_replica state tells (λ e. tell) Sent Sure step.booted.boots m.net.machines step.mid step.booted.taken s manned.0 manned.1 ((on h).serving s manned.0 manned.1).replica in
+    let sound = replica_sound state tells told tell lawful Sent (λ p. Sure p ⊎ IsDone (steps_at s (map boot_link step.booted.boots)) p) booted.0 booted.2 in
     step.sound booted.0 booted.1 damage refl (tell booted.0.disk) sound

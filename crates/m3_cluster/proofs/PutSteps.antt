@@ -1,5 +1,5 @@
 -- What the puts of a line leave of the machines.
-use Rattle.std.proofs.Common.{◌≡◌, ◌⊎◌, ℕ, List, [], ◌∷◌, map, refl, sym, ap, ap₂, subst, ◌∙◌, inl, inr}
+use Rattle.std.proofs.Common.{◌≡◌, ◌⊎◌, ℕ, List, [], ◌∷◌, map, refl, sym, ap, ap₂, subst, ◌∙◌, inl, inr, Bool, true, length}
 use Rattle.std.specs.Prelude.{Option, Some, None, slice_get}
 use Rattle.std.specs.FinMap as finite
 use Rattle.m3_outside.specs.declared.disk.Disk.{Ghosts}
@@ -41,7 +41,7 @@ use Rattle.m3_cluster.proofs.LateLemmas.{Extends}
 use Rattle.m3_cluster.proofs.LinkLemmas.{IsPutOf, puts_asked, puts_shut}
 use Rattle.m3_cluster.proofs.MoreFaults.{AreAmong}
 use Rattle.m3_cluster.proofs.NumberLemmas.{and_then}
-use Rattle.m3_cluster.proofs.ReplicaLemmas.{IsDone, standing_after, steps_at}
+use Rattle.m3_cluster.proofs.ReplicaLemmas.{fault_of, IsDone, standing_after, steps_at}
 use Rattle.m3_cluster.proofs.ServingLemmas.{Leaves, StaysRight, closed_now, machine_instance, machine_placed, machine_slot, placed_on, sent_on, serving_next, shut_on}
 
 -- ---- the steps of a put
@@ -123,29 +123,29 @@ late_calls state rules (one ∷ lates) [] old new h link i step j = absurd h
 
 -- ---- the machines after puts
 
-pub serving_puts : {D : Type 0} {G : Ghosts D} {state : D → DiskState} {faults : List Fault} {lines : List Turn} {c : Cluster D G} {m g : Members D G} {a : Act} {b : Answer} (more : List Fault) → AreAmong faults more → TellAll state → (h : At state faults lines c m)
-    → Extends lines m a b g → (links : List Link) → TakesLinks state links m.net.machines g.net.machines → ListsFaults lines m links more
+pub serving_puts : {D : Type 0} {G : Ghosts D} {state : D → DiskState} {tells : Bool} {faults : List Fault} {lines : List Turn} {c : Cluster D G} {m g : Members D G} {a : Act} {b : Answer} (more : List Fault) → AreAmong faults more → (tells ≡ true → TellAll state) → (h : At state tells faults lines c m)
+    → Extends lines m a b g → (links : List Link) → TakesLinks state links m.net.machines g.net.machines → ListsFaults tells lines m links more
     → ((s : Slot) (step : Step) → IsIn (steps_at s links) step → IsPutOf (WasSent (spaces_in g) (inner_turns (and_then lines a b))) step.call)
     → ((s : Slot) (p : Point) → WasAcked g (inner_turns (and_then lines a b)) s p → WasAcked m (inner_turns lines) s p ⊎ IsDone (steps_at s links) p)
-    → g.stopped.items ≡ m.stopped.items → ((s : Slot) → Leaves a b m.net.state.place s) → (s : Slot) (y : MachineState D) → finite.get g.net.machines s ≡ Some y → IsServing state more (and_then lines a b) g s y
-serving_puts {D} {G} {state} {faults} {lines} {c} {m} {g} {a} {b} more among tell h e links taken listed puts acked stopped leaves =
+    → g.stopped.items ≡ m.stopped.items → ((s : Slot) → Leaves a b m.net.state.place s) → (s : Slot) (y : MachineState D) → finite.get g.net.machines s ≡ Some y → IsServing state tells more (and_then lines a b) g s y
+serving_puts {D} {G} {state} {tells} {faults} {lines} {c} {m} {g} {a} {b} more among tell h e links taken listed puts acked stopped leaves =
     serving_next h more tell e links taken (λ s step i. puts_asked Later (steps_at s links) (puts s) step i) acked stays
   where
     Later : Point → Type 0
     Later = WasSent (spaces_in g) (inner_turns (and_then lines a b))
 
-    stays : (s : Slot) (x y : MachineState D) → finite.get m.net.machines s ≡ Some x → IsServing state faults lines m s x → TakesSteps state (steps_at s links) x y → y.standing ≡ standing_after (steps_at s links) x.standing → StaysRight more lines m a b g s y.standing
+    stays : (s : Slot) (x y : MachineState D) → finite.get m.net.machines s ≡ Some x → IsServing state tells faults lines m s x → TakesSteps state (steps_at s links) x y → y.standing ≡ standing_after (steps_at s links) x.standing → StaysRight tells more lines m a b g s y.standing
     stays s x y was serving taken_here how =
         let slot = machine_slot h s x was in
         let one = machine_instance h s slot in
         let later : (p : Point) → WasSent (spaces_in m) (inner_turns lines) p → Later p = λ p sent. sent_on lines a b (spaces_in m) e.more (spaces_in g) p e.spaces sent in
-        elim (puts_shut state tell (WasSent (spaces_in m) (inner_turns lines)) Later (WasAcked m (inner_turns lines) s) later (steps_at s links) (puts s) x y taken_here serving.replica) as (λ _. StaysRight more lines m a b g s y.standing) [
+        elim (puts_shut state tells tell (WasSent (spaces_in m) (inner_turns lines)) Later (WasAcked m (inner_turns lines) s) later (steps_at s links) (puts s) x y taken_here serving.replica) as (λ _. StaysRight tells more lines m a b g s y.standing) [
           | inl same ↦ record {
-            shut = subst (λ z. IsShutFor more (next_place (and_then lines a b)) m.net.state.place s z) (sym same) (shut_on faults more lines a b m.net.state.place s x.standing among (machine_placed h s slot) (leaves s) serving.shut);
+            shut = subst (λ z. IsShutFor tells more (next_place (and_then lines a b)) m.net.state.place s z) (sym same) (shut_on tells faults more lines a b m.net.state.place s x.standing among (machine_placed h s slot) (leaves s) serving.shut);
             halted = λ is. same ∙ serving.halted (ap (λ xs. slice_get xs s.node) (sym stopped) ∙ is);
           }
           | inr down ↦ record {
-            shut = subst (λ z. IsShutFor more (next_place (and_then lines a b)) m.net.state.place s z) (sym down.0) (inr (closed_now more lines a b m.net.state.place s one.0 one.1 (placed_on lines a b m.net.state.place s (machine_placed h s slot) (leaves s).prints) (listed s slot down.1)));
+            shut = subst (λ z. IsShutFor tells more (next_place (and_then lines a b)) m.net.state.place s z) (sym down.0) (inr (closed_now more lines a b m.net.state.place s one.0 one.1 (placed_on lines a b m.net.state.place s (machine_placed h s slot) (leaves s).prints) (fault_of (length lines) s) refl refl refl refl (listed.failed s slot down.1)));
             halted = λ is. down.0;
           }
         ]

@@ -130,34 +130,34 @@ tells_corrupt a node shard damage = record { not_done = λ e. cc; prints = refl;
 
 -- ---- parts that stay
 
-pub extends_by : {D : Type 0} {G : Ghosts D} {state : D → DiskState} {faults : List Fault} {lines : List Turn} {c : Cluster D G} {m g : Members D G} {a : Act} {b : Answer} → At state faults lines c m → (more : List Space) → spaces_in g ≡ spaces_in m ++ more → g.net.state.place ≡ m.net.state.place → g.net.state.seed ≡ m.net.state.seed
+pub extends_by : {D : Type 0} {G : Ghosts D} {state : D → DiskState} {tells : Bool} {faults : List Fault} {lines : List Turn} {c : Cluster D G} {m g : Members D G} {a : Act} {b : Answer} → At state tells faults lines c m → (more : List Space) → spaces_in g ≡ spaces_in m ++ more → g.net.state.place ≡ m.net.state.place → g.net.state.seed ≡ m.net.state.seed
     → rules_by a b m.net.state.rules ≡ g.net.state.rules → Extends lines m a b g
-extends_by {D} {G} {state} {faults} {lines} {c} {m} {g} {a} {b} h more spaces place seed rules =
+extends_by {D} {G} {state} {tells} {faults} {lines} {c} {m} {g} {a} {b} h more spaces place seed rules =
     record { more = more; spaces = spaces; place = place; seed = seed; rules_were = rules_there h a b; rules_are = rules_push lines a b ∙ ap (rules_by a b) (rules_there h a b) ∙ rules }
 
 -- the cluster's state stays whole
-pub extends_same : {D : Type 0} {G : Ghosts D} {state : D → DiskState} {faults : List Fault} {lines : List Turn} {c : Cluster D G} {m g : Members D G} {a : Act} {b : Answer} → At state faults lines c m → g.net.state ≡ m.net.state → rules_by a b m.net.state.rules ≡ m.net.state.rules → Extends lines m a b g
-extends_same {D} {G} {state} {faults} {lines} {c} {m} {g} {a} {b} h same rules =
+pub extends_same : {D : Type 0} {G : Ghosts D} {state : D → DiskState} {tells : Bool} {faults : List Fault} {lines : List Turn} {c : Cluster D G} {m g : Members D G} {a : Act} {b : Answer} → At state tells faults lines c m → g.net.state ≡ m.net.state → rules_by a b m.net.state.rules ≡ m.net.state.rules → Extends lines m a b g
+extends_same {D} {G} {state} {tells} {faults} {lines} {c} {m} {g} {a} {b} h same rules =
     extends_by h [] (ap (λ (s : MetaState). s.rules.spaces) same ∙ sym (append-nil (spaces_in m))) (ap (λ (s : MetaState). s.place) same) (ap (λ (s : MetaState). s.seed) same) (rules ∙ ap (λ (s : MetaState). s.rules) (sym same))
 
-pub fates_kept : {D : Type 0} {G : Ghosts D} {state : D → DiskState} {faults : List Fault} {lines : List Turn} {c : Cluster D G} {m : Members D G} (g : Members D G) (a : Act) (b : Answer) → At state faults lines c m → fates_set (request.One a) (reply.One b) ≡ None → g.net.state.place ≡ m.net.state.place → g.net.fates ≡ m.net.fates → (client call : ℕ)
+pub fates_kept : {D : Type 0} {G : Ghosts D} {state : D → DiskState} {tells : Bool} {faults : List Fault} {lines : List Turn} {c : Cluster D G} {m : Members D G} (g : Members D G) (a : Act) (b : Answer) → At state tells faults lines c m → fates_set (request.One a) (reply.One b) ≡ None → g.net.state.place ≡ m.net.state.place → g.net.fates ≡ m.net.fates → (client call : ℕ)
     → EachNode g (λ node name. fate_of g.net.fates (record { client = client; call = call; node = node }) ≡ fate_in (numbering_after 0 (and_then lines a b)).fates client call name)
-fates_kept {D} {G} {state} {faults} {lines} {c} {m} g a b h none place same client call = λ node one there.
+fates_kept {D} {G} {state} {tells} {faults} {lines} {c} {m} g a b h none place same client call = λ node one there.
     ap (λ fates. fate_of fates (record { client = client; call = call; node = node })) same
     ∙ (on h).fates client call node one (subst (λ (p : Placement). slice_get p.instances node ≡ Some one) place there)
     ∙ ap (λ (n : Numbering). fate_in n.fates client call one.name) (sym (numbering_more lines a b none))
 
-pub stops_kept : {D : Type 0} {G : Ghosts D} {state : D → DiskState} {faults : List Fault} {lines : List Turn} {c : Cluster D G} {m : Members D G} (g : Members D G) (a : Act) (b : Answer) → At state faults lines c m → ((name : List ℕ) (x : Bool) → stopped_by name a b x ≡ x) → g.net.state.place ≡ m.net.state.place → g.stopped.items ≡ m.stopped.items
+pub stops_kept : {D : Type 0} {G : Ghosts D} {state : D → DiskState} {tells : Bool} {faults : List Fault} {lines : List Turn} {c : Cluster D G} {m : Members D G} (g : Members D G) (a : Act) (b : Answer) → At state tells faults lines c m → ((name : List ℕ) (x : Bool) → stopped_by name a b x ≡ x) → g.net.state.place ≡ m.net.state.place → g.stopped.items ≡ m.stopped.items
     → EachNode g (λ node name. slice_get g.stopped.items node ≡ Some (is_stopped (inner_turns (and_then lines a b)) name))
-stops_kept {D} {G} {state} {faults} {lines} {c} {m} g a b h stays place same = λ node one there.
+stops_kept {D} {G} {state} {tells} {faults} {lines} {c} {m} g a b h stays place same = λ node one there.
     ap (λ xs. slice_get xs node) same ∙ (on h).stops node one (subst (λ (p : Placement). slice_get p.instances node ≡ Some one) place there)
     ∙ ap Some (sym (stopped_push lines a b one.name ∙ stays one.name (is_stopped (inner_turns lines) one.name)))
 
 -- ---- turns that change nothing
 
-quiet_grows : {D : Type 0} {G : Ghosts D} {state : D → DiskState} {faults : List Fault} {lines : List Turn} {c : Cluster D G} {m : Members D G} {a : Act} {b : Answer} (more : List Fault) → AreAmong faults more → TellAll state → At state faults lines c m → Tells a b
-    → Grows state more lines m a b m
-quiet_grows {D} {G} {state} {faults} {lines} {c} {m} {a} {b} more among tell h t =
+quiet_grows : {D : Type 0} {G : Ghosts D} {state : D → DiskState} {tells : Bool} {faults : List Fault} {lines : List Turn} {c : Cluster D G} {m : Members D G} {a : Act} {b : Answer} (more : List Fault) → AreAmong faults more → (tells ≡ true → TellAll state) → At state tells faults lines c m → Tells a b
+    → Grows state tells more lines m a b m
+quiet_grows {D} {G} {state} {tells} {faults} {lines} {c} {m} {a} {b} more among tell h t =
     let extends = extends_same {g = m} h refl (rules_stay a b m.net.state.rules t.not_done) in
     record {
       extends = extends;
@@ -170,9 +170,9 @@ quiet_grows {D} {G} {state} {faults} {lines} {c} {m} {a} {b} more among tell h t
       late = late_stays extends t.quiet refl (on h).late;
     }
 
-pub quiet_goes : {D : Type 0} {G : Ghosts D} {state : D → DiskState} {faults : List Fault} {lines : List Turn} {old new : Cluster D G} {a : Act} {b : Answer} (more : List Fault) → AreAmong faults more → TellAll state → Stands state faults lines old → Tells a b
-    → new.members ≡ old.members → Numbered lines a b new → Goes state more lines old a b new
-quiet_goes {D} {G} {state} {faults} {lines} {old} {new} {a} {b} more among tell s t same numbers = record {
+pub quiet_goes : {D : Type 0} {G : Ghosts D} {state : D → DiskState} {tells : Bool} {faults : List Fault} {lines : List Turn} {old new : Cluster D G} {a : Act} {b : Answer} (more : List Fault) → AreAmong faults more → (tells ≡ true → TellAll state) → Stands state tells faults lines old → Tells a b
+    → new.members ≡ old.members → Numbered lines a b new → Goes state tells more lines old a b new
+quiet_goes {D} {G} {state} {tells} {faults} {lines} {old} {new} {a} {b} more among tell s t same numbers = record {
   rules = rules_stay a b (rules_of old) t.not_done ∙ ap (λ o. option_map_or (λ (x : Members D G). x.net.state.rules) o (record { now = 0; spaces = [] })) (sym same);
   place = ap (λ o. later_placement o (place_of old)) t.prints ∙ ap (option_map (λ (x : Members D G). x.net.state.place)) (sym same);
   seed = seed_stays a b (seed_of old) t.prints ∙ ap (λ o. option_map_or (λ (x : Members D G). x.net.state.seed) o 0) (sym same);
@@ -184,22 +184,22 @@ quiet_goes {D} {G} {state} {faults} {lines} {old} {new} {a} {b} more among tell 
 }
 
 -- the same, of what isn't a call
-pub quiet_change : {D : Type 0} {G : Ghosts D} {state : D → DiskState} {faults : List Fault} {lines : List Turn} {old new : Cluster D G} {a : Act} {b : Answer} (more : List Fault) → AreAmong faults more → TellAll state → Stands state faults lines old → Tells a b
-    → is_call a ≡ false → new.members ≡ old.members → new.calls ≡ old.calls → Goes state more lines old a b new
-quiet_change {D} {G} {state} {faults} {lines} {old} {new} {a} {b} more among tell s t no_call same calls = quiet_goes more among tell s t same (other_numbered s (fates_stay a b t.not_done) (λ none. sym same ∙ none) no_call calls)
+pub quiet_change : {D : Type 0} {G : Ghosts D} {state : D → DiskState} {tells : Bool} {faults : List Fault} {lines : List Turn} {old new : Cluster D G} {a : Act} {b : Answer} (more : List Fault) → AreAmong faults more → (tells ≡ true → TellAll state) → Stands state tells faults lines old → Tells a b
+    → is_call a ≡ false → new.members ≡ old.members → new.calls ≡ old.calls → Goes state tells more lines old a b new
+quiet_change {D} {G} {state} {tells} {faults} {lines} {old} {new} {a} {b} more among tell s t no_call same calls = quiet_goes more among tell s t same (other_numbered s (fates_stay a b t.not_done) (λ none. sym same ∙ none) no_call calls)
 
 -- and of a call
-pub quiet_call : {D : Type 0} {G : Ghosts D} {state : D → DiskState} {faults : List Fault} {lines : List Turn} {old new : Cluster D G} {a : Act} {b : Answer} (more : List Fault) → AreAmong faults more → TellAll state → Stands state faults lines old → Tells a b
-    → is_call a ≡ true → new.members ≡ old.members → new.calls ≡ after_call old.calls → Goes state more lines old a b new
-quiet_call {D} {G} {state} {faults} {lines} {old} {new} {a} {b} more among tell s t call same calls = quiet_goes more among tell s t same (call_numbered s (fates_stay a b t.not_done) (λ none. sym same ∙ none) call calls)
+pub quiet_call : {D : Type 0} {G : Ghosts D} {state : D → DiskState} {tells : Bool} {faults : List Fault} {lines : List Turn} {old new : Cluster D G} {a : Act} {b : Answer} (more : List Fault) → AreAmong faults more → (tells ≡ true → TellAll state) → Stands state tells faults lines old → Tells a b
+    → is_call a ≡ true → new.members ≡ old.members → new.calls ≡ after_call old.calls → Goes state tells more lines old a b new
+quiet_call {D} {G} {state} {tells} {faults} {lines} {old} {new} {a} {b} more among tell s t call same calls = quiet_goes more among tell s t same (call_numbered s (fates_stay a b t.not_done) (λ none. sym same ∙ none) call calls)
 
 -- ---- turns that change a cluster that stands
 
 -- where the turn prints a placement, it is the one that stands
-pub grown_prints : {D : Type 0} {G : Ghosts D} {state : D → DiskState} {faults more : List Fault} {lines : List Turn} {old new : Cluster D G} {m g : Members D G} {a : Act} {b : Answer} → Stands state faults lines old → old.members ≡ Some m → new.members ≡ Some g
-    → Grows state more lines m a b g → rules_by a b m.net.state.rules ≡ g.net.state.rules → later_placement (printed b) (Some m.net.state.place) ≡ Some m.net.state.place → ((n : ℕ) → seed_by a b n ≡ n)
-    → Numbered lines a b new → ((acks : List ℕ) → b ≡ answer.Acks acks → IsKept new (turn_of a b) acks) → Goes state more lines old a b new
-grown_prints {D} {G} {state} {faults} {more} {lines} {old} {new} {m} {g} {a} {b} s was is grows rules prints seeds numbers acked =
+pub grown_prints : {D : Type 0} {G : Ghosts D} {state : D → DiskState} {tells : Bool} {faults more : List Fault} {lines : List Turn} {old new : Cluster D G} {m g : Members D G} {a : Act} {b : Answer} → Stands state tells faults lines old → old.members ≡ Some m → new.members ≡ Some g
+    → Grows state tells more lines m a b g → rules_by a b m.net.state.rules ≡ g.net.state.rules → later_placement (printed b) (Some m.net.state.place) ≡ Some m.net.state.place → ((n : ℕ) → seed_by a b n ≡ n)
+    → Numbered lines a b new → ((acks : List ℕ) → b ≡ answer.Acks acks → IsKept new (turn_of a b) acks) → Goes state tells more lines old a b new
+grown_prints {D} {G} {state} {tells} {faults} {more} {lines} {old} {new} {m} {g} {a} {b} s was is grows rules prints seeds numbers acked =
     let rules_in : Option (Members D G) → Rules = λ o. option_map_or (λ (x : Members D G). x.net.state.rules) o (record { now = 0; spaces = [] }) in
     let seed_in : Option (Members D G) → ℕ = λ o. option_map_or (λ (x : Members D G). x.net.state.seed) o 0 in
     record {
@@ -210,12 +210,12 @@ grown_prints {D} {G} {state} {faults} {more} {lines} {old} {new} {m} {g} {a} {b}
       seed = seeds (seed_of old) ∙ ap seed_in was ∙ sym (grows.extends).seed ∙ sym (ap seed_in is);
       numbers = numbers;
       no_stops = λ none. let bad : None ≡ Some g = sym none ∙ is in absurd (cc);
-      members = λ x x_is. subst (StandsOn state more (and_then lines a b)) (same_some new.members g x is x_is) (stands_on (s.members m was) grows);
+      members = λ x x_is. subst (StandsOn state tells more (and_then lines a b)) (same_some new.members g x is x_is) (stands_on (s.members m was) grows);
       kept = kept_on was is grows;
       acked = acked;
     }
 
-pub grown_goes : {D : Type 0} {G : Ghosts D} {state : D → DiskState} {faults more : List Fault} {lines : List Turn} {old new : Cluster D G} {m g : Members D G} {a : Act} {b : Answer} → Stands state faults lines old → old.members ≡ Some m → new.members ≡ Some g
-    → Grows state more lines m a b g → rules_by a b m.net.state.rules ≡ g.net.state.rules → printed b ≡ None → Numbered lines a b new → ((acks : List ℕ) → b ≡ answer.Acks acks → IsKept new (turn_of a b) acks) → Goes state more lines old a b new
-grown_goes {D} {G} {state} {faults} {more} {lines} {old} {new} {m} {g} {a} {b} s was is grows rules prints numbers acked =
+pub grown_goes : {D : Type 0} {G : Ghosts D} {state : D → DiskState} {tells : Bool} {faults more : List Fault} {lines : List Turn} {old new : Cluster D G} {m g : Members D G} {a : Act} {b : Answer} → Stands state tells faults lines old → old.members ≡ Some m → new.members ≡ Some g
+    → Grows state tells more lines m a b g → rules_by a b m.net.state.rules ≡ g.net.state.rules → printed b ≡ None → Numbered lines a b new → ((acks : List ℕ) → b ≡ answer.Acks acks → IsKept new (turn_of a b) acks) → Goes state tells more lines old a b new
+grown_goes {D} {G} {state} {tells} {faults} {more} {lines} {old} {new} {m} {g} {a} {b} s was is grows rules prints numbers acked =
     grown_prints s was is grows rules (ap (λ o. later_placement o (Some m.net.state.place)) prints) (λ n. seed_stays a b n prints) numbers acked

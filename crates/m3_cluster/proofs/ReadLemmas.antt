@@ -82,10 +82,10 @@ record Shared {D : Type 0} {G : Ghosts D} (m : Members D G) (shard : ℕ) (nodes
   holds : Holds machine.content p
 
 -- a point that a majority acknowledged stands in one of the open machines of each other majority of its shard
-held_in : {D : Type 0} {G : Ghosts D} {state : D → DiskState} {faults : List Fault} {lines : List Turn} {c : Cluster D G} {m : Members D G} (h : At state faults lines c m) → TellAll state → (nodes : List ℕ) (turn : InnerTurn) (p : Point) → shard_in m p.id < length m.net.state.place.shards
+held_in : {D : Type 0} {G : Ghosts D} {state : D → DiskState} {tells : Bool} {faults : List Fault} {lines : List Turn} {c : Cluster D G} {m : Members D G} (h : At state tells faults lines c m) → tells ≡ true → TellAll state → (nodes : List ℕ) (turn : InnerTurn) (p : Point) → shard_in m p.id < length m.net.state.place.shards
     → IsMajority m.net.state.place.rf (holders (shard_at m.net.state.place (shard_in m p.id))) nodes → ((n : ℕ) → IsIn nodes n → IsOpenAt m (slot_at n (shard_in m p.id))) → IsIn (inner_turns lines) turn
     → acked_point m.net.state.place.rf (spaces_in m) turn ≡ Some p → Shared m (shard_in m p.id) nodes p
-held_in {D} {G} {state} {faults} {lines} {c} {m} h tell nodes turn p low most opened i e = by_test (was_acked m.net.state.place.rf turn.answer) refl e
+held_in {D} {G} {state} {tells} {faults} {lines} {c} {m} h all_tell tell nodes turn p low most opened i e = by_test (was_acked m.net.state.place.rf turn.answer) refl e
   where
     by_kept : (acks : List ℕ) → turn.answer ≡ answer.Acks acks → majority m.net.state.place.rf ≤ length acks → point_of (spaces_in m) turn.act ≡ Some p → IsKept c turn acks → Shared m (shard_in m p.id) nodes p
     by_kept acks acked_is enough is kept =
@@ -105,7 +105,7 @@ held_in {D} {G} {state} {faults} {lines} {c} {m} h tell nodes turn p low most op
         let machine = opened shared.0 shared.2 in
         let serving = (on h).serving (slot_at shared.0 k) machine.machine machine.stands in
         let was : WasAcked m (inner_turns lines) (slot_at shared.0 k) p = record { turn = turn; served = i; acks = acks; acked = acked_is; of_act = is; of_shard = refl; by_node = shared.1 } in
-        let holds = sure_held state tell (WasSent (spaces_in m) (inner_turns lines)) (WasAcked m (inner_turns lines) (slot_at shared.0 k)) machine.machine serving.replica machine.open_ p was in
+        let holds = sure_held state tells all_tell tell (WasSent (spaces_in m) (inner_turns lines)) (WasAcked m (inner_turns lines) (slot_at shared.0 k)) machine.machine serving.replica machine.open_ p was in
         record { node = shared.0; among = shared.2; machine = machine.machine; stands = machine.stands; holds = holds }
 
     by_test : (b : Bool) → was_acked m.net.state.place.rf turn.answer ≡ b → cond b (point_of (spaces_in m) turn.act) None ≡ Some p → Shared m (shard_in m p.id) nodes p
@@ -117,11 +117,11 @@ covers_lower : (points : List Point) (p : Point) (v : ℤ) → p.v ≤ℤ v → 
 covers_lower points p v lower h = let higher : v ≤ℤ h.value = h.at_least in record { value = h.value; at_least = grind (arith, ints); stands = h.stands }
 
 -- a joined answer keeps the points of the turns so far
-pub read_keeps : {D : Type 0} {G : Ghosts D} {state : D → DiskState} {faults : List Fault} {lines : List Turn} {c : Cluster D G} {m : Members D G} (h : At state faults lines c m) → TellAll state → (w : Wish) (level : ReadLevel) (series : List Series) (short : Bool)
+pub read_keeps : {D : Type 0} {G : Ghosts D} {state : D → DiskState} {tells : Bool} {faults : List Fault} {lines : List Turn} {c : Cluster D G} {m : Members D G} (h : At state tells faults lines c m) → tells ≡ true → TellAll state → (w : Wish) (level : ReadLevel) (series : List Series) (short : Bool)
     → ((p : Point) → Matches w.pick p → (first_asked m.net.state w.pick ≤ shard_in m p.id) × (shard_in m p.id < end_asked m.net.state w.pick)) → IsFound m.net (next_call c None) w level series short
     → KeepsPoints m.net.state.rules (filter_map (acked_point m.net.state.place.rf (spaces_in m)) (inner_turns lines)) (filter_map (sent_point (spaces_in m)) (inner_turns lines))
     (record { pick = w.pick; from = w.from; to = w.to; level = level }) (record { series = series; short = short })
-read_keeps {D} {G} {state} {faults} {lines} {c} {m} h tell w level series short asks found =
+read_keeps {D} {G} {state} {tells} {faults} {lines} {c} {m} h all_tell tell w level series short asks found =
     let place = m.net.state.place in
     record {
       acknowledged = λ strong p i sought.
@@ -138,7 +138,7 @@ read_keeps {D} {G} {state} {faults} {lines} {c} {m} h tell w level series short 
             within = λ n a. counted_hold (shard_at place k) n (heard.each n (answering-asked told n a));
             enough = most;
           } in
-          let shared = held_in h tell (answering told) turn.0 p low answered (λ n a. heard.opened n (answering-told told n a)) turn.1 turn.2 in
+          let shared = held_in h all_tell tell (answering told) turn.0 p low answered (λ n a. heard.opened n (answering-told told n a)) turn.1 turn.2 in
           let higher : Point = record p { v = shared.holds.value } in
           let given : IsGiven m.net.state.rules w (finite.get m.net.machines (slot_at shared.node k)) higher = (
             shared.machine,
@@ -158,7 +158,7 @@ read_keeps {D} {G} {state} {faults} {lines} {c} {m} h tell w level series short 
           let same : opened.machine ≡ given.0 = same_some (finite.get m.net.machines (slot_at from.3.0 k)) opened.machine given.0 opened.stands given.1 in
           let open_ : (given.0).standing ≡ standing.Open = ap (λ (x : MachineState D). x.standing) (sym same) ∙ opened.open_ in
           let serving = (on h).serving (slot_at from.3.0 k) given.0 given.1 in
-          let sent = shown_sent state tell (WasSent (spaces_in m) (inner_turns lines)) (WasAcked m (inner_turns lines) (slot_at from.3.0 k)) given.0 serving.replica open_ p given.2.stands in (
+          let sent = shown_sent state tells all_tell tell (WasSent (spaces_in m) (inner_turns lines)) (WasAcked m (inner_turns lines) (slot_at from.3.0 k)) given.0 serving.replica open_ p given.2.stands in (
             filter_map-IsIn (sent_point (spaces_in m)) (inner_turns lines) sent.turn p sent.served sent.of_act,
             record { matches = given.2.matches; in_range = given.2.in_range; live = given.3 },
           );

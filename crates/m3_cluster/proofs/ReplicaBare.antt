@@ -1,5 +1,5 @@
 -- Disks before `init`, and what a boot of a machine over one makes of it.
-use Rattle.std.proofs.Common.{◌≡◌, ◌⊎◌, ⊎_elim, inl, inr, ℕ, ◌<◌, ◌≤◌, max, List, [], ◌∷◌, map, refl, sym, subst, arith}
+use Rattle.std.proofs.Common.{◌≡◌, ◌⊎◌, ⊎_elim, inl, inr, ℕ, ◌<◌, ◌≤◌, max, List, [], ◌∷◌, map, refl, sym, subst, arith, true, Bool, false}
 use Rattle.std.specs.List.{All, Any}
 use Rattle.std.proofs.lemmas.Bool.{cases_lt}
 use Rattle.std.proofs.lemmas.List.Elements.{All-nil, All-cons, All-map}
@@ -12,7 +12,7 @@ use Rattle.m3_outside.specs.Slots.{Held, Unused, Here, Out, MayGive}
 use Rattle.placement_core.proofs.ListLemmas.{All-from_each, each-from_All, Any-from_IsIn, IsIn-from_Any}
 use Rattle.shard_files.specs.Held.{Held as FilesHold}
 use Rattle.shard_files.proofs.HeldLemmas.{no_files_hold_nothing}
-use Rattle.cluster_core.specs.Replicas.{IsGone}
+use Rattle.cluster_core.specs.Replicas.{IsGone, fresh}
 use Rattle.cluster_core.specs.declared.event.StepReply.{StepReply}
 use Rattle.cluster_core.specs.declared.replica_state.ReplicaState.{ReplicaState}
 use Rattle.replica_machine.specs.Machines.{MachineState, MayHaveTenure, IsHeldBy, IsMachineOf, first_machine}
@@ -81,20 +81,32 @@ bare_ours Sent = record {
   doubt_sent = λ p m. absurd m;
 }
 
--- a machine over a bare disk that wasn't booted yet
-pub bare_replica : {D : Type 0} (state : D → DiskState) (disk : D) (Sent : Point → Type 0) → EachImage (state disk) HasNoPoints → HasReplica state Sent (λ p. ⊥) (first_machine disk)
-bare_replica state disk Sent none = record { r = bare; is_machine = bare_machine state disk none; ours = bare_ours Sent; sure = λ p m. absurd m }
+-- a machine that wasn't booted yet, over any disk, is a replica of which nothing is known
+fresh_machine : {D : Type 0} (state : D → DiskState) (disk : D) → IsMachineOf state fresh (first_machine disk)
+fresh_machine state disk = record {
+  stands = refl;
+  begun = record { none_higher = All-nil (λ one. one ≤ 0); one_of = inl refl };
+  below = All-nil (λ one. one ≤ 0);
+  empty = λ e. refl;
+  open_ = λ e. absurd (cc);
+  files = λ begun. absurd (begun refl);
+}
+
+-- a machine that wasn't booted yet, whose disk is bare where the disks tell
+pub bare_replica : {D : Type 0} (state : D → DiskState) (tells : Bool) (disk : D) (Sent : Point → Type 0) → (tells ≡ true → EachImage (state disk) HasNoPoints) → HasReplica state tells Sent (λ p. ⊥) (first_machine disk)
+bare_replica state true disk Sent none = record { r = bare; is_machine = bare_machine state disk (none refl); owns = λ e. absurd (cc); ours = λ e. bare_ours Sent; sure = λ e p m. absurd m }
+bare_replica state false disk Sent none = record { r = fresh; is_machine = fresh_machine state disk; owns = λ e. absurd (cc); ours = λ e. absurd (cc); sure = λ e p m. absurd m }
 
 boots_asked : (Sent : Point → Type 0) (answers : List StepReply) → All (λ (step : Step). IsAsked Sent step.call) (map first_boot answers)
 boots_asked Sent answers = All-map (λ (step : Step). IsAsked Sent step.call) first_boot answers (All-from_each (λ (answered : StepReply). IsAsked Sent (first_boot answered).call) answers (λ answered m. refl))
 
 -- a machine over a bare disk that was booted some times is a replica without points
-pub bare_opened : {D : Type 0} (state : D → DiskState) → TellAll state → (depot : Depot D) (s : Slot) (m : MachineState D) (Sent : Point → Type 0) → IsBare state (depot.held (place_of_slot s)) → IsOpened state depot s m → HasReplica state Sent (λ p. ⊥) m
+pub bare_opened : {D : Type 0} (state : D → DiskState) → TellAll state → (depot : Depot D) (s : Slot) (m : MachineState D) (Sent : Point → Type 0) → IsBare state (depot.held (place_of_slot s)) → IsOpened state depot s m → HasReplica state true Sent (λ p. ⊥) m
 bare_opened state tell depot s m Sent is opened =
     let none = given_bare state (depot.held (place_of_slot s)) opened.disk is opened.given in
     let steps = map first_boot opened.answers in
-    let after = replica_next state tell Sent Sent (λ p. ⊥) (λ p sent. sent) steps (boots_asked Sent opened.answers) (first_machine opened.disk) m opened.booted (bare_replica state opened.disk Sent none) in
-    replica_less state Sent Sent (λ p. ⊥ ⊎ IsDone steps p) (λ p. ⊥) (λ p sent. sent) (λ p none. absurd none) m after
+    let after = replica_next state true (λ e. tell) Sent Sent (λ p. ⊥) (λ p sent. sent) steps (boots_asked Sent opened.answers) (first_machine opened.disk) m opened.booted (bare_replica state true opened.disk Sent (λ e. none)) in
+    replica_less state true Sent Sent (λ p. ⊥ ⊎ IsDone steps p) (λ p. ⊥) (λ p sent. sent) (λ p none. absurd none) m after
 
 -- ---- what such a replica leaves
 
@@ -124,6 +136,7 @@ none_held r c ours held =
 
 -- its disk is bare still
 pub bare_back : {D : Type 0} (state : D → DiskState) → TellAll state → (depot : Depot D) (s : Slot) (m : MachineState D) → IsBare state (depot.held (place_of_slot s)) → IsOpened state depot s m → EachImage (state m.disk) HasNoPoints
-bare_back state tell depot s m is opened tells c image =
+bare_back state tell depot s m is opened told c image =
     let has = bare_opened state tell depot s m (λ p. ⊥) is opened in
-    none_held has.r c has.ours (has.is_machine.files has.ours.begun tells c image)
+    let ours = has.ours refl in
+    none_held has.r c ours (has.is_machine.files ours.begun told c image)

@@ -1,5 +1,5 @@
 -- The faults of a line, and how the counts of disks rise with them.
-use Rattle.std.proofs.Common.{◌≡◌, ⊎_elim, inl, inr, ℕ, ◌+◌, ◌≤◌, min, List, [], ◌∷◌, ◌++◌, length, map, filter, Bool, true, false, cond, ◌||◌, ◌&&◌, refl, sym, ap, subst, ◌∙◌, arith, append_assoc}
+use Rattle.std.proofs.Common.{◌≡◌, ⊎_elim, inl, inr, ℕ, ◌+◌, ◌≤◌, min, List, [], ◌∷◌, ◌++◌, length, map, filter, Bool, true, false, cond, ◌||◌, ◌&&◌, refl, sym, ap, subst, ◌∙◌, arith, append-nil, append_assoc}
 use Rattle.std.specs.Prelude.{◌≢◌, ◌<◌, Option, Some, None, IsSome, nat_eq}
 use Rattle.std.specs.FinMap.{get}
 use Rattle.std.specs.List.{All, list_any}
@@ -7,7 +7,7 @@ use Rattle.std.proofs.lemmas.Bool.{eqb-true, and_parts}
 use Rattle.std.proofs.lemmas.List.{length_push}
 use Rattle.std.proofs.lemmas.List.Elements.{All-append}
 use Rattle.std.proofs.lemmas.List.Sums.{sum_by-append}
-use Rattle.transcripts.specs.Faults.{Fault, FaultKind, Taking, Failing, AreDifferent}
+use Rattle.transcripts.specs.Faults.{Fault, FaultKind, Taking, Failing, Damaged, AreDifferent}
 use Rattle.m3_model.specs.Members.{IsIn}
 use Rattle.m3_model.specs.declared.reason.Reason.TheVariants as reason
 use Rattle.m3_model.specs.declared.turn.Turn.{Turn}
@@ -27,7 +27,7 @@ use Rattle.m3_outside.specs.Depots.{Depot}
 use Rattle.m3_cluster.specs.Depots.{place_of_slot, count_at}
 use Rattle.m3_cluster.specs.First.{AreApart}
 use Rattle.m3_cluster.specs.Replicas.{faults_at}
-use Rattle.m3_cluster.specs.Serves.{AreCounted, IsEarlier, machine_at}
+use Rattle.m3_cluster.specs.Serves.{AreCounted, AreDamages, IsEarlier, faults_of, machine_at}
 use Rattle.m3_cluster.specs.declared.cluster.Cluster.{Cluster}
 use Rattle.m3_cluster.specs.declared.members.Members.{Members}
 use Rattle.m3_cluster.proofs.ReplicaLinks.{steps_at, links_steps}
@@ -53,6 +53,51 @@ line_faults line links slots = map (fault_of line) (failing_slots links slots)
 
 pub fault_listed : (line : ℕ) (links : List Link) (slots : List Slot) (s : Slot) → IsIn slots s → has_fault (steps_at s links) ≡ true → IsIn (line_faults line links slots) (fault_of line s)
 fault_listed line links slots s among has = map-IsIn (fault_of line) (failing_slots links slots) s (filter-IsIn (λ s. has_fault (steps_at s links)) slots s among has)
+
+-- ---- damages
+
+-- a step was refused for damage
+abbrev pub is_damage : StepReply → Bool
+is_damage (reply.Refused (reason.Corrupt damage)) = true
+is_damage _ = false
+
+abbrev pub has_damage : List Step → Bool
+has_damage steps = list_any (λ step. is_damage step.reply) steps
+
+-- the damage of the slot's files, found in a line
+abbrev pub damage_of : ℕ → Slot → Fault
+damage_of line s = record { line = line; node = s.node; shard = s.shard; kind = Damaged }
+
+-- the slots at which a step of the links was refused for damage
+abbrev damaged_slots : List Link → List Slot → List Slot
+damaged_slots links slots = filter (λ s. has_damage (steps_at s links)) slots
+
+-- the damages of a line, where disks don't tell what they hold; where they do, none is found
+abbrev pub line_damages : Bool → ℕ → List Link → List Slot → List Fault
+line_damages tells line links slots = cond tells [] (map (damage_of line) (damaged_slots links slots))
+
+pub damage_listed : (tells : Bool) (line : ℕ) (links : List Link) (slots : List Slot) (s : Slot) → tells ≡ false → IsIn slots s → has_damage (steps_at s links) ≡ true → IsIn (line_damages tells line links slots) (damage_of line s)
+damage_listed true line links slots s e among has = cc
+damage_listed false line links slots s e among has = map-IsIn (damage_of line) (damaged_slots links slots) s (filter-IsIn (λ s. has_damage (steps_at s links)) slots s among has)
+
+-- a damage of the line is that of one of its slots
+damage_from : (tells : Bool) (line : ℕ) (links : List Link) (slots : List Slot) (fault : Fault) → IsIn (line_damages tells line links slots) fault → (s : Slot) × IsIn slots s × (damage_of line s ≡ fault)
+damage_from true line links slots fault i = absurd i
+damage_from false line links slots fault i = let from = IsIn-map (damage_of line) (damaged_slots links slots) fault i in (from.0, IsIn-filter (λ s. has_damage (steps_at s links)) slots from.0 from.1, from.2)
+
+damages_apart : (line : ℕ) (links : List Link) (s : Slot) (slots : List Slot) → ((t : Slot) → IsIn slots t → s ≢ t) → AreDifferent (map (damage_of line) (damaged_slots links slots)) → (b : Bool)
+    → AreDifferent (map (damage_of line) (cond b (s ∷ damaged_slots links slots) (damaged_slots links slots)))
+damages_apart line links s slots apart later true = (λ m. let from = damage_from false line links slots (damage_of line s) m in apart from.0 from.1 (λ i. record { shard = ap (λ (f : Fault). f.shard) (sym from.2) i; node = ap (λ (f : Fault). f.node) (sym from.2) i }), later)
+damages_apart line links s slots apart later false = later
+
+damages_different : (tells : Bool) (line : ℕ) (links : List Link) (slots : List Slot) → AreApart slots → AreDifferent (line_damages tells line links slots)
+damages_different true line links slots apart = tt
+damages_different false line links [] apart = tt
+damages_different false line links (s ∷ slots) apart = damages_apart line links s slots apart.0 (damages_different false line links slots apart.1) (has_damage (steps_at s links))
+
+none_found : (tells : Bool) (damaged : List Fault) (line : ℕ) (links : List Link) (slots : List Slot) → (tells ≡ true → damaged ≡ []) → tells ≡ true → damaged ++ line_damages tells line links slots ≡ []
+none_found true damaged line links slots none e = append-nil damaged ∙ none refl
+none_found false damaged line links slots none e = cc
 
 -- ---- counts
 
@@ -202,6 +247,37 @@ count_by_machine state now s steps k more before (Some x) new stepped none most 
     let next = count_next state steps x stepped.0 stepped.2 in
     let rose = rose_less last_count more (cond (has_fault steps) 1 0) (state x.disk).faults (state (stepped.0).disk).faults most next in
     subst (λ (o : Option (MachineState _)). RoseBy (k + more) before (count_at state now o s)) (sym stepped.1) (rose_more k more before (state x.disk).faults (state (stepped.0).disk).faults was rose)
+
+-- the damages of one more line
+pub damages_next : (tells : Bool) (lines : List Turn) (turn : Turn) (links : List Link) (slots : List Slot) (damaged : List Fault) → AreApart slots → AreDamages tells lines damaged
+    → AreDamages tells (lines ++ turn ∷ []) (damaged ++ line_damages tells (length lines) links slots)
+damages_next tells lines turn links slots damaged apart h = record {
+  different = different_both damaged found h.different (damages_different tells (length lines) links slots apart) (λ fault old new.
+      let low = (each-from_All (IsEarlier Damaged lines) damaged h.earlier fault old).line_low in
+      let line : length lines ≡ fault.line = ap (λ (f : Fault). f.line) (damage_from tells (length lines) links slots fault new).2 in
+      omega (arith, low, line));
+  earlier = All-append (IsEarlier Damaged (lines ++ turn ∷ [])) damaged found (earlier_more Damaged lines turn damaged h.earlier) (All-from_each (IsEarlier Damaged (lines ++ turn ∷ [])) found (λ fault m.
+      let from = damage_from tells (length lines) links slots fault m in
+      let line : length lines ≡ fault.line = ap (λ (f : Fault). f.line) from.2 in
+      record { line_low = omega (arith, line, length_push lines turn); kind_is = sym (ap (λ (f : Fault). f.kind) from.2) }));
+  none = none_found tells damaged (length lines) links slots h.none;
+}
+  where
+    found : List Fault
+    found = line_damages tells (length lines) links slots
+
+-- a line in which none was found
+pub damages_quiet : (tells : Bool) (lines : List Turn) (turn : Turn) (damaged : List Fault) → AreDamages tells lines damaged → AreDamages tells (lines ++ turn ∷ []) damaged
+damages_quiet tells lines turn damaged h = record { different = h.different; earlier = earlier_more Damaged lines turn damaged h.earlier; none = h.none }
+
+-- all faults and damages are different
+pub all_different : (tells : Bool) (lines : List Turn) (taking failing damaged : List Fault) → AreDifferent (taking ++ failing) → All (IsEarlier Taking lines) taking → All (IsEarlier Failing lines) failing → AreDamages tells lines damaged → AreDifferent (faults_of taking failing damaged)
+all_different tells lines taking failing damaged different first second h = different_both (taking ++ failing) damaged different h.different (λ fault old new.
+    let damage = (each-from_All (IsEarlier Damaged lines) damaged h.earlier fault new).kind_is in
+    elim (IsIn-append_cases taking failing fault old) as (λ _. ⊥) [
+      | inl a ↦ (let is = (each-from_All (IsEarlier Taking lines) taking first fault a).kind_is in let bad : Taking ≡ Damaged = sym is ∙ damage in cc)
+      | inr b ↦ (let is = (each-from_All (IsEarlier Failing lines) failing second fault b).kind_is in let bad : Failing ≡ Damaged = sym is ∙ damage in cc)
+    ])
 
 -- one more line, whose links the machines took
 pub counted_next : {D : Type 0} {G : Ghosts D} (state : D → DiskState) (first now : Depot D) (lines : List Turn) (turn : Turn) (old new : Cluster D G) (m g : Members D G) (taking failing : List Fault) (links : List Link)

@@ -1,5 +1,5 @@
 -- What the machine of a replica shows, and why it refuses to begin.
-use Rattle.std.proofs.Common.{◌≡◌, ◌≢◌, ◌⊎◌, ⊎_elim, inl, inr, ◌<◌, ◌≤◌, List, [], ◌∷◌, refl, sym, subst, ◌∙◌, arith, true}
+use Rattle.std.proofs.Common.{◌≡◌, ◌≢◌, ◌⊎◌, ⊎_elim, inl, inr, ◌<◌, ◌≤◌, List, [], ◌∷◌, refl, sym, subst, ◌∙◌, arith, true, Bool}
 use Rattle.std.specs.Prelude.{Some}
 use Rattle.std.specs.List.{All, Any}
 use Rattle.m3_model.specs.Answers.{HasPoint}
@@ -27,30 +27,30 @@ use Rattle.m3_outside.specs.Depots.{TellAll}
 use Rattle.m3_cluster.specs.Replicas.{HasReplica, IsOurs}
 use Rattle.m3_cluster.proofs.ReplicaSteps.{giving, gives, lawful_for}
 
-pub open_owns : {D : Type 0} (state : D → DiskState) (Sent Sure : Point → Type 0) (m : MachineState D) → HasReplica state Sent Sure m → m.standing ≡ standing.Open → (m.tenure ≡ Some 1) × (m.fence ≡ 1)
-open_owns state Sent Sure m has is =
+pub open_owns : {D : Type 0} (state : D → DiskState) (tells : Bool) (Sent Sure : Point → Type 0) (m : MachineState D) → HasReplica state tells Sent Sure m → m.standing ≡ standing.Open → (m.tenure ≡ Some 1) × (tells ≡ true → m.fence ≡ 1)
+open_owns state tells Sent Sure m has is =
     let all = has.is_machine.open_ is in
-    let owns = has.ours.owns (sym has.is_machine.stands ∙ is) in
-    (all.tenure ∙ owns.0, all.fence ∙ owns.1)
+    let open_ = sym has.is_machine.stands ∙ is in
+    (all.tenure ∙ has.owns open_, λ e. all.fence ∙ ((has.ours e).owns open_).1)
 
-shows_all : {D : Type 0} (state : D → DiskState) → TellAll state → (Sent Sure : Point → Type 0) (m : MachineState D) (has : HasReplica state Sent Sure m) → m.standing ≡ standing.Open → Shows has.r m.content
-shows_all state tell Sent Sure m has is = (has.is_machine.open_ is).shows (tell m.disk)
+shows_all : {D : Type 0} (state : D → DiskState) (tells : Bool) → tells ≡ true → TellAll state → (Sent Sure : Point → Type 0) (m : MachineState D) (has : HasReplica state tells Sent Sure m) → m.standing ≡ standing.Open → Shows has.r m.content
+shows_all state tells e tell Sent Sure m has is = (has.is_machine.open_ is).shows (tell m.disk)
 
-pub shown_sent : {D : Type 0} (state : D → DiskState) → TellAll state → (Sent Sure : Point → Type 0) (m : MachineState D) → HasReplica state Sent Sure m → m.standing ≡ standing.Open → (p : Point) → HasPoint m.content p → Sent p
-shown_sent state tell Sent Sure m has is p held = has.ours.sure_sent p ((shows_all state tell Sent Sure m has is).sure (key_of p) p.v held)
+pub shown_sent : {D : Type 0} (state : D → DiskState) (tells : Bool) → tells ≡ true → TellAll state → (Sent Sure : Point → Type 0) (m : MachineState D) → HasReplica state tells Sent Sure m → m.standing ≡ standing.Open → (p : Point) → HasPoint m.content p → Sent p
+shown_sent state tells e tell Sent Sure m has is p held = (has.ours e).sure_sent p ((shows_all state tells e tell Sent Sure m has is).sure (key_of p) p.v held)
 
 -- without ticks nothing expires
 not_gone : (r : ReplicaState) (p : Point) → r.ticks ≡ [] → ¬ IsGone r p
 not_gone r p none gone = let tick = IsIn-from_Any (λ (rules : Rules). HasExpired rules p) r.ticks gone in subst (λ (l : List Rules). IsIn l tick.0) none tick.1
 
-pub sure_held : {D : Type 0} (state : D → DiskState) → TellAll state → (Sent Sure : Point → Type 0) (m : MachineState D) → HasReplica state Sent Sure m → m.standing ≡ standing.Open → (p : Point) → Sure p → Holds m.content p
-sure_held state tell Sent Sure m has is p sure = (shows_all state tell Sent Sure m has is).all p (has.sure p sure) (not_gone has.r p has.ours.no_ticks)
+pub sure_held : {D : Type 0} (state : D → DiskState) (tells : Bool) → tells ≡ true → TellAll state → (Sent Sure : Point → Type 0) (m : MachineState D) → HasReplica state tells Sent Sure m → m.standing ≡ standing.Open → (p : Point) → Sure p → Holds m.content p
+sure_held state tells e tell Sent Sure m has is p sure = (shows_all state tells e tell Sent Sure m has is).all p (has.sure e p sure) (not_gone has.r p (has.ours e).no_ticks)
 
 -- its files are sound
-pub replica_sound : {D : Type 0} (state : D → DiskState) → TellAll state → ((d : D) → IsLawful (state d)) → (Sent Sure : Point → Type 0) (m : MachineState D) → HasReplica state Sent Sure m → IsSound (state m.disk).files
-replica_sound state tell lawful Sent Sure m has =
-    let tells = tell m.disk in
-    let held = has.is_machine.files has.ours.begun tells (state m.disk).files ((lawful m.disk).read_is_image tells) in
+pub replica_sound : {D : Type 0} (state : D → DiskState) (tells : Bool) → tells ≡ true → TellAll state → ((d : D) → IsLawful (state d)) → (Sent Sure : Point → Type 0) (m : MachineState D) → HasReplica state tells Sent Sure m → IsSound (state m.disk).files
+replica_sound state tells e tell lawful Sent Sure m has =
+    let told = tell m.disk in
+    let held = has.is_machine.files (has.ours e).begun told (state m.disk).files ((lawful m.disk).read_is_image told) in
     record { points = held.points; tenure = held.tenure; fence = held.fence; held = held.held }
 
 -- ---- refusals to begin
@@ -83,8 +83,8 @@ may_refuse Sent r reason.Down ours h = inr (inr (closed_for r.standing reason.Do
 may_refuse Sent r why ours h = inr (inr (closed_for r.standing why h))
 
 -- a replica at Boot or Open that is asked to begin with tenure 1 does so, unless its disk fails, it finds damage or wants memory; one that is down refuses for that
-pub begin_refused : {D : Type 0} (state : D → DiskState) → TellAll state → (Sent Sure : Point → Type 0) (x y : MachineState D) (why : _) → TakesSteps state (record { call = call.Begin 1; reply = reply.Refused why } ∷ []) x y → HasReplica state Sent Sure x
+pub begin_refused : {D : Type 0} (state : D → DiskState) (tells : Bool) → tells ≡ true → TellAll state → (Sent Sure : Point → Type 0) (x y : MachineState D) (why : _) → TakesSteps state (record { call = call.Begin 1; reply = reply.Refused why } ∷ []) x y → HasReplica state tells Sent Sure x
     → ((why ≡ reason.Memory) ⊎ (why ≡ reason.Disk)) ⊎ (((damage : _) × (why ≡ reason.Corrupt damage)) ⊎ ((why ≡ reason.Down) × (x.standing ≡ standing.Down)))
-begin_refused state tell Sent Sure x y why taken has =
+begin_refused state tells e tell Sent Sure x y why taken has =
     let row = lawful_for state tell x has.r (call.Begin 1) (reply.Refused why) taken.0 taken.1 has.is_machine (giving 1) 0 0 (gives 1) in
-    subst (λ (st : Standing). MayRefuseBegin st why) (sym has.is_machine.stands) (may_refuse Sent has.r why has.ours row)
+    subst (λ (st : Standing). MayRefuseBegin st why) (sym has.is_machine.stands) (may_refuse Sent has.r why (has.ours e) row)

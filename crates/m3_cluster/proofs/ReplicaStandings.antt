@@ -1,5 +1,5 @@
 -- How a machine stands after steps.
-use Rattle.std.proofs.Common.{◌≡◌, List, [], ◌∷◌, refl, sym, ap, ◌∙◌}
+use Rattle.std.proofs.Common.{◌≡◌, List, [], ◌∷◌, refl, sym, ap, ◌∙◌, Bool}
 use Rattle.std.specs.Prelude.{fold}
 use Rattle.m3_model.specs.declared.point.Point.{Point}
 use Rattle.m3_model.specs.declared.reason.Reason.TheVariants as reason
@@ -56,5 +56,5 @@ stands_after state r (step ∷ steps) x y taken is =
     let once : mid.standing ≡ standing_by step.call step.reply x.standing = next.stands ∙ after_stands r step.call step.reply ∙ ap (standing_by step.call step.reply) (sym is.stands) in
     stands_after state (after r step.call step.reply) steps mid y taken.2 next ∙ ap (standing_after steps) once
 
-pub standing_next : {D : Type 0} (state : D → DiskState) (Sent Sure : Point → Type 0) (steps : List Step) (x y : MachineState D) → TakesSteps state steps x y → HasReplica state Sent Sure x → y.standing ≡ standing_after steps x.standing
-standing_next state Sent Sure steps x y taken has = stands_after state has.r steps x y taken has.is_machine
+pub standing_next : {D : Type 0} (state : D → DiskState) (tells : Bool) (Sent Sure : Point → Type 0) (steps : List Step) (x y : MachineState D) → TakesSteps state steps x y → HasReplica state tells Sent Sure x → y.standing ≡ standing_after steps x.standing
+standing_next state tells Sent Sure steps x y taken has = stands_after state has.r steps x y taken has.is_machine

@@ -109,8 +109,8 @@ ours_less Sent Later r later ours = record {
 }
 
 -- the same replica, of which less is said
-pub replica_less : {D : Type 0} (state : D → DiskState) (Sent Later Sure Less : Point → Type 0) → ((p : Point) → Sent p → Later p) → ((p : Point) → Less p → Sure p) → (x : MachineState D) → HasReplica state Sent Sure x → HasReplica state Later Less x
-replica_less state Sent Later Sure Less later less x has = record { r = has.r; is_machine = has.is_machine; ours = ours_less Sent Later has.r later has.ours; sure = λ p l. has.sure p (less p l) }
+pub replica_less : {D : Type 0} (state : D → DiskState) (tells : Bool) (Sent Later Sure Less : Point → Type 0) → ((p : Point) → Sent p → Later p) → ((p : Point) → Less p → Sure p) → (x : MachineState D) → HasReplica state tells Sent Sure x → HasReplica state tells Later Less x
+replica_less state tells Sent Later Sure Less later less x has = record { r = has.r; is_machine = has.is_machine; owns = has.owns; ours = λ e. ours_less Sent Later has.r later (has.ours e); sure = λ e p l. has.sure e p (less p l) }
 
 -- ---- one step
 
@@ -214,6 +214,26 @@ module _ (Sent Later : Point → Type 0) (later : (p : Point) → Sent p → Lat
   ours_after call.Restart a asked lawful = less
   ours_after _ a asked lawful = absurd asked
 
+-- one that is open owns its shard by the first tenure, after each step that a line may ask
+owns_after : (Sent : Point → Type 0) (r : ReplicaState) → (r.standing ≡ standing.Open → r.tenure ≡ Some 1) → (c : StepCall) (a : StepReply) → IsAsked Sent c → (after r c a).standing ≡ standing.Open → (after r c a).tenure ≡ Some 1
+owns_after Sent r owns (call.Begin tenure) (reply.Began fence points) asked is = ap Some asked
+owns_after Sent r owns (call.Begin tenure) (reply.Refused reason.Disk) asked is = cc
+owns_after Sent r owns (call.Begin tenure) (reply.Refused (reason.Corrupt damage)) asked is = cc
+owns_after Sent r owns (call.Begin tenure) a asked is = owns is
+owns_after Sent r owns (call.Put client number rules version point) reply.Done asked is = owns is
+owns_after Sent r owns (call.Put client number rules version point) (reply.Refused reason.Disk) asked is = cc
+owns_after Sent r owns (call.Put client number rules version point) (reply.Refused (reason.Corrupt damage)) asked is = cc
+owns_after Sent r owns (call.Put client number rules version point) a asked is = owns is
+owns_after Sent r owns call.Stop reply.Done asked is = cc
+owns_after Sent r owns call.Stop (reply.Refused reason.Disk) asked is = cc
+owns_after Sent r owns call.Stop (reply.Refused (reason.Corrupt damage)) asked is = cc
+owns_after Sent r owns call.Stop a asked is = owns is
+owns_after Sent r owns call.Restart reply.Done asked is = cc
+owns_after Sent r owns call.Restart (reply.Refused reason.Disk) asked is = cc
+owns_after Sent r owns call.Restart (reply.Refused (reason.Corrupt damage)) asked is = cc
+owns_after Sent r owns call.Restart a asked is = owns is
+owns_after Sent r owns _ a asked is = absurd asked
+
 -- a point that was put is sure
 put_sure : (r : ReplicaState) (c : StepCall) (a : StepReply) (client number version : ℕ) (rules : Rules) (p : Point) → c ≡ call.Put client number rules version p → a ≡ reply.Done → IsIn (after r c a).sure p
 put_sure r c a client number version rules p is done =
@@ -227,13 +247,14 @@ done_sure r step p one =
 pub lawful_for : {D : Type 0} (state : D → DiskState) → TellAll state → (x : MachineState D) (r : ReplicaState) (c : StepCall) (a : StepReply) (y : MachineState D) → IsStep state x c a y → IsMachineOf state r x → IsLawfulFor r c a
 lawful_for state tell x r c a y step is past n s given = subst (λ (b : Bool). LawfulStep b past n s r c a) (tell x.disk) (step.lawful r is past n s given)
 
-replica_step : {D : Type 0} (state : D → DiskState) → TellAll state → (Sent Later Sure : Point → Type 0) → ((p : Point) → Sent p → Later p) → (step : Step) → IsAsked Later step.call → (x y : MachineState D) → IsStep state x step.call step.reply y
-    → HasReplica state Sent Sure x → HasReplica state Later (λ p. Sure p ⊎ IsDone (step ∷ []) p) y
-replica_step state tell Sent Later Sure later step asked x y is has = record {
+replica_step : {D : Type 0} (state : D → DiskState) (tells : Bool) → (tells ≡ true → TellAll state) → (Sent Later Sure : Point → Type 0) → ((p : Point) → Sent p → Later p) → (step : Step) → IsAsked Later step.call → (x y : MachineState D) → IsStep state x step.call step.reply y
+    → HasReplica state tells Sent Sure x → HasReplica state tells Later (λ p. Sure p ⊎ IsDone (step ∷ []) p) y
+replica_step state tells tell Sent Later Sure later step asked x y is has = record {
   r = after has.r step.call step.reply;
   is_machine = is.follows has.r has.is_machine;
-  ours = ours_after Sent Later later has.r has.ours step.call step.reply asked (lawful_for state tell x has.r step.call step.reply y is has.is_machine);
-  sure = λ p either. ⊎_elim (λ (old : Sure p). after_sure has.r step.call step.reply p (has.sure p old)) (λ (new : IsDone (step ∷ []) p). done_sure has.r step p new) either;
+  owns = owns_after Later has.r has.owns step.call step.reply asked;
+  ours = λ e. ours_after Sent Later later has.r (has.ours e) step.call step.reply asked (lawful_for state (tell e) x has.r step.call step.reply y is has.is_machine);
+  sure = λ e p either. ⊎_elim (λ (old : Sure p). after_sure has.r step.call step.reply p (has.sure e p old)) (λ (new : IsDone (step ∷ []) p). done_sure has.r step p new) either;
 }
 
 -- ---- all steps
@@ -245,15 +266,15 @@ done_cases step steps p one =
     (λ (later : IsIn steps (record { call = call.Put one.client one.number one.rules one.version p; reply = reply.Done })).
     inr (record { client = one.client; number = one.number; rules = one.rules; version = one.version; done = later })) one.done
 
-pub replica_next : {D : Type 0} (state : D → DiskState) → TellAll state → (Sent Later Sure : Point → Type 0) → ((p : Point) → Sent p → Later p) → (steps : List Step) → All (λ step. IsAsked Later step.call) steps → (x y : MachineState D)
-    → TakesSteps state steps x y → HasReplica state Sent Sure x → HasReplica state Later (λ p. Sure p ⊎ IsDone steps p) y
-replica_next state tell Sent Later Sure later [] asked x y taken has =
-    subst (HasReplica state Later (λ p. Sure p ⊎ IsDone [] p)) (sym taken)
-    (replica_less state Sent Later Sure (λ p. Sure p ⊎ IsDone [] p) later (λ p either. ⊎_elim (λ (sure : Sure p). sure) (λ (none : IsDone [] p). absurd none.done) either) x has)
-replica_next state tell Sent Later Sure later (step ∷ steps) asked x y taken has =
+pub replica_next : {D : Type 0} (state : D → DiskState) (tells : Bool) → (tells ≡ true → TellAll state) → (Sent Later Sure : Point → Type 0) → ((p : Point) → Sent p → Later p) → (steps : List Step) → All (λ step. IsAsked Later step.call) steps → (x y : MachineState D)
+    → TakesSteps state steps x y → HasReplica state tells Sent Sure x → HasReplica state tells Later (λ p. Sure p ⊎ IsDone steps p) y
+replica_next state tells tell Sent Later Sure later [] asked x y taken has =
+    subst (HasReplica state tells Later (λ p. Sure p ⊎ IsDone [] p)) (sym taken)
+    (replica_less state tells Sent Later Sure (λ p. Sure p ⊎ IsDone [] p) later (λ p either. ⊎_elim (λ (sure : Sure p). sure) (λ (none : IsDone [] p). absurd none.done) either) x has)
+replica_next state tells tell Sent Later Sure later (step ∷ steps) asked x y taken has =
     let mid = taken.0 in
-    let first = replica_step state tell Sent Later Sure later step (All-head (λ (one : Step). IsAsked Later one.call) step steps asked) x mid taken.1 has in
-    let rest = replica_next state tell Later Later (λ p. Sure p ⊎ IsDone (step ∷ []) p) (λ p sent. sent) steps (All-tail (λ (one : Step). IsAsked Later one.call) step steps asked) mid y taken.2 first in
-    replica_less state Later Later (λ p. (Sure p ⊎ IsDone (step ∷ []) p) ⊎ IsDone steps p) (λ p. Sure p ⊎ IsDone (step ∷ steps) p) (λ p sent. sent)
+    let first = replica_step state tells tell Sent Later Sure later step (All-head (λ (one : Step). IsAsked Later one.call) step steps asked) x mid taken.1 has in
+    let rest = replica_next state tells tell Later Later (λ p. Sure p ⊎ IsDone (step ∷ []) p) (λ p sent. sent) steps (All-tail (λ (one : Step). IsAsked Later one.call) step steps asked) mid y taken.2 first in
+    replica_less state tells Later Later (λ p. (Sure p ⊎ IsDone (step ∷ []) p) ⊎ IsDone steps p) (λ p. Sure p ⊎ IsDone (step ∷ steps) p) (λ p sent. sent)
     (λ p either. ⊎_elim (λ (sure : Sure p). inl (inl sure))
     (λ (done : IsDone (step ∷ steps) p). ⊎_elim (λ (here : IsDone (step ∷ []) p). inl (inr here)) (λ (there : IsDone steps p). inr there) (done_cases step steps p done)) either) y rest

@@ -1,5 +1,5 @@
 -- What a restart of a node leaves.
-use Rattle.std.proofs.Common.{◌≡◌, ◌≢◌, ℕ, List, [], ◌∷◌, ◌++◌, map, refl, sym, ap, subst, ◌∙◌, inl, inr, true, false, cond, ◌||◌}
+use Rattle.std.proofs.Common.{◌≡◌, ◌≢◌, ℕ, List, [], ◌∷◌, ◌++◌, map, refl, sym, ap, subst, ◌∙◌, inl, inr, true, false, cond, ◌||◌, Bool}
 use Rattle.std.specs.Prelude.{Some, None, nat_eq, slice_get, slice_set}
 use Rattle.std.specs.Cmp.Lexicographic.{pointwise}
 use Rattle.std.proofs.lemmas.Bool.{cases_eq}
@@ -55,11 +55,11 @@ restart_asked Sent slots s step i =
     let at = IsIn-map restart_at slots from.0 from.1 in
     elim (subst (λ (l : Link). IsIn l.steps step) (sym at.2) from.3) as (λ _. IsAsked Sent step.call) [ inl same ↦ subst (λ (z : Step). IsAsked Sent z.call) same tt | inr none ↦ absurd none ]
 
-started_stays : {D : Type 0} {G : Ghosts D} {state : D → DiskState} {faults : List Fault} {lines : List Turn} {c : Cluster D G} {m g : Members D G} (more : List Fault) → AreAmong faults more → (h : At state faults lines c m) (name : List ℕ) (pick : ℕ) (started : IsStarted state m name g)
-    (s : Slot) (x y : MachineState D) → IsIn m.slots.items s → IsServing state faults lines m s x → y.standing ≡ standing_after (steps_at s (map restart_at (slots_of_node started.was.node m.slots.items))) x.standing
-    → StaysRight more lines m (act.Restart name pick) answer.Done g s y.standing
-started_stays {D} {G} {state} {faults} {lines} {c} {m} {g} more among h name pick started s x y slot serving how =
-    elim (cases_eq s.node started.was.node) as (λ _. StaysRight more lines m (act.Restart name pick) answer.Done g s y.standing) [ inl same ↦ own same | inr other ↦ away other ]
+started_stays : {D : Type 0} {G : Ghosts D} {state : D → DiskState} {tells : Bool} {faults : List Fault} {lines : List Turn} {c : Cluster D G} {m g : Members D G} (more : List Fault) → AreAmong faults more → (h : At state tells faults lines c m) (name : List ℕ) (pick : ℕ) (started : IsStarted state m name g)
+    (s : Slot) (x y : MachineState D) → IsIn m.slots.items s → IsServing state tells faults lines m s x → y.standing ≡ standing_after (steps_at s (map restart_at (slots_of_node started.was.node m.slots.items))) x.standing
+    → StaysRight tells more lines m (act.Restart name pick) answer.Done g s y.standing
+started_stays {D} {G} {state} {tells} {faults} {lines} {c} {m} {g} more among h name pick started s x y slot serving how =
+    elim (cases_eq s.node started.was.node) as (λ _. StaysRight tells more lines m (act.Restart name pick) answer.Done g s y.standing) [ inl same ↦ own same | inr other ↦ away other ]
   where
     place : Placement
     place = m.net.state.place
@@ -73,13 +73,13 @@ started_stays {D} {G} {state} {faults} {lines} {c} {m} {g} more among h name pic
     lines_on : List Turn
     lines_on = and_then lines a answer.Done
 
-    own : s.node ≡ node → StaysRight more lines m a answer.Done g s y.standing
+    own : s.node ≡ node → StaysRight tells more lines m a answer.Done g s y.standing
     own same =
         let one = machine_instance h s slot in
         let boot : y.standing ≡ standing.Boot = how ∙ restarts_standing (slots_of_node node m.slots.items) s x.standing (node_has node m.slots.items s slot same) in
         let test = named_here started.was one.0 (subst (λ n. slice_get place.instances n ≡ Some one.0) same one.1) in
         record {
-          shut = subst (λ z. IsShutFor more (next_place lines_on) place s z) (sym boot) (record {
+          shut = subst (λ z. IsShutFor tells more (next_place lines_on) place s z) (sym boot) (λ told. record {
             instance_ = one.0;
             stands = one.1;
             holds = waits_push lines a answer.Done place s one.0.name (machine_placed h s slot) refl ∙ ap (λ t. t || (waiting_after (replica_at s one.0.name) None lines).waits) test;
@@ -89,14 +89,14 @@ started_stays {D} {G} {state} {faults} {lines} {c} {m} {g} more among h name pic
               let clash : Some true ≡ Some false = sym is ∙ runs in absurd (cc);
         }
 
-    away : s.node ≢ node → StaysRight more lines m a answer.Done g s y.standing
+    away : s.node ≢ node → StaysRight tells more lines m a answer.Done g s y.standing
     away other =
         let none : steps_at s (map restart_at (slots_of_node node m.slots.items)) ≡ [] = steps_none s (map restart_at (slots_of_node node m.slots.items)) (λ link i same.
         let from = IsIn-map restart_at (slots_of_node node m.slots.items) link i in
         other (ap (λ (q : Slot). q.node) (sym (ap (λ (l : Link). l.slot) from.2 ∙ same)) ∙ of_node node m.slots.items from.0 from.1)) in
         let still : y.standing ≡ x.standing = how ∙ ap (λ steps. standing_after steps x.standing) none in
         record {
-          shut = subst (λ z. IsShutFor more (next_place lines_on) place s z) (sym still) (shut_on faults more lines a answer.Done place s x.standing among (machine_placed h s slot) (record {
+          shut = subst (λ z. IsShutFor tells more (next_place lines_on) place s z) (sym still) (shut_on tells faults more lines a answer.Done place s x.standing among (machine_placed h s slot) (record {
             restarts = λ one there. named_elsewhere h started.was s.node one other there;
             stops = λ one there. ap (λ t. cond t false true) (named_elsewhere h started.was s.node one other there);
             waits = λ one there. or_true (pointwise nat_eq one.name name);
@@ -105,9 +105,9 @@ started_stays {D} {G} {state} {faults} {lines} {c} {m} {g} more among h name pic
           halted = λ is. still ∙ serving.halted (sym (set_elsewhere m.stopped.items node s.node false other) ∙ ap (λ xs. slice_get xs s.node) (sym started.stopped_now) ∙ is);
         }
 
-started_grows : {D : Type 0} {G : Ghosts D} {state : D → DiskState} {faults : List Fault} {lines : List Turn} {c : Cluster D G} {m g : Members D G} (more : List Fault) → AreAmong faults more → TellAll state → (h : At state faults lines c m) (name : List ℕ) (pick : ℕ) → IsStarted state m name g
-    → Grows state more lines m (act.Restart name pick) answer.Done g
-started_grows {D} {G} {state} {faults} {lines} {c} {m} {g} more among tell h name pick started =
+started_grows : {D : Type 0} {G : Ghosts D} {state : D → DiskState} {tells : Bool} {faults : List Fault} {lines : List Turn} {c : Cluster D G} {m g : Members D G} (more : List Fault) → AreAmong faults more → (tells ≡ true → TellAll state) → (h : At state tells faults lines c m) (name : List ℕ) (pick : ℕ) → IsStarted state m name g
+    → Grows state tells more lines m (act.Restart name pick) answer.Done g
+started_grows {D} {G} {state} {tells} {faults} {lines} {c} {m} {g} more among tell h name pick started =
     let a = act.Restart name pick in
     let extends = extends_same {g = g} h started.keeps.state refl in
     let same_place = ap (λ (s : MetaState). s.place) started.keeps.state in
@@ -182,11 +182,11 @@ unstarted_asked Sent before slots slot why s step i =
       | inr stopped ↦ stop_asked Sent slots s step stopped
     ]
 
-unstarted_stays : {D : Type 0} {G : Ghosts D} {state : D → DiskState} {faults : List Fault} {lines : List Turn} {c : Cluster D G} {m g : Members D G} {shard : ℕ} {why : Reason} (more : List Fault) → AreAmong faults more → (h : At state faults lines c m) (name : List ℕ) (a : Act) (b : Answer)
-    → Tells a b → (u : IsUnstarted state m name shard why g) (s : Slot) (x y : MachineState D) → IsIn m.slots.items s → IsServing state faults lines m s x → y.standing ≡ standing_after (steps_at s (unstarted_links state m name shard why g u)) x.standing
-    → StaysRight more lines m a b g s y.standing
-unstarted_stays {D} {G} {state} {faults} {lines} {c} {m} {g} {shard} {why} more among h name a b t u s x y slot serving how =
-    elim (cases_eq s.node u.was.node) as (λ _. StaysRight more lines m a b g s y.standing) [ inl same ↦ own same | inr other ↦ away other ]
+unstarted_stays : {D : Type 0} {G : Ghosts D} {state : D → DiskState} {tells : Bool} {faults : List Fault} {lines : List Turn} {c : Cluster D G} {m g : Members D G} {shard : ℕ} {why : Reason} (more : List Fault) → AreAmong faults more → (h : At state tells faults lines c m) (name : List ℕ) (a : Act) (b : Answer)
+    → Tells a b → (u : IsUnstarted state m name shard why g) (s : Slot) (x y : MachineState D) → IsIn m.slots.items s → IsServing state tells faults lines m s x → y.standing ≡ standing_after (steps_at s (unstarted_links state m name shard why g u)) x.standing
+    → StaysRight tells more lines m a b g s y.standing
+unstarted_stays {D} {G} {state} {tells} {faults} {lines} {c} {m} {g} {shard} {why} more among h name a b t u s x y slot serving how =
+    elim (cases_eq s.node u.was.node) as (λ _. StaysRight tells more lines m a b g s y.standing) [ inl same ↦ own same | inr other ↦ away other ]
   where
     place : Placement
     place = m.net.state.place
@@ -197,7 +197,7 @@ unstarted_stays {D} {G} {state} {faults} {lines} {c} {m} {g} {shard} {why} more 
     tries : List Link
     tries = map restart_at u.refused.before ++ refused_restart_at u.refused.slot why ∷ []
 
-    own : s.node ≡ u.was.node → StaysRight more lines m a b g s y.standing
+    own : s.node ≡ u.was.node → StaysRight tells more lines m a b g s y.standing
     own same =
         let one = machine_instance h s slot in
         let down : y.standing ≡ standing.Down =
@@ -205,7 +205,7 @@ unstarted_stays {D} {G} {state} {faults} {lines} {c} {m} {g} {shard} {why} more 
         ∙ stops_standing slots s (standing_after (steps_at s tries) x.standing) (node_has u.was.node m.slots.items s slot same) in
         let halted : is_stopped (inner_turns lines) one.0.name ≡ true = same_of_some (is_stopped (inner_turns lines) one.0.name) true (sym ((on h).stops s.node one.0 one.1) ∙ ap (slice_get m.stopped.items) same ∙ u.was.is) in
         record {
-          shut = subst (λ z. IsShutFor more (next_place (and_then lines a b)) place s z) (sym down) (inl (record {
+          shut = subst (λ z. IsShutFor tells more (next_place (and_then lines a b)) place s z) (sym down) (inl (record {
             instance_ = one.0;
             stands = one.1;
             holds = stopped_push lines a b one.0.name ∙ stopped_stays a b one.0.name (is_stopped (inner_turns lines) one.0.name) t.not_done ∙ halted;
@@ -213,19 +213,19 @@ unstarted_stays {D} {G} {state} {faults} {lines} {c} {m} {g} {shard} {why} more 
           halted = λ is. down;
         }
 
-    away : s.node ≢ u.was.node → StaysRight more lines m a b g s y.standing
+    away : s.node ≢ u.was.node → StaysRight tells more lines m a b g s y.standing
     away other =
         let links = unstarted_links state m name shard why g u in
         let none : steps_at s links ≡ [] = steps_none s links (λ link i same. other (ap (λ (q : Slot). q.node) (sym same) ∙ tried_slot u link i)) in
         let still : y.standing ≡ x.standing = how ∙ ap (λ steps. standing_after steps x.standing) none in
         record {
-          shut = subst (λ z. IsShutFor more (next_place (and_then lines a b)) place s z) (sym still) (shut_on faults more lines a b place s x.standing among (machine_placed h s slot) (leaves_all a b place t.not_done t.prints s) serving.shut);
+          shut = subst (λ z. IsShutFor tells more (next_place (and_then lines a b)) place s z) (sym still) (shut_on tells faults more lines a b place s x.standing among (machine_placed h s slot) (leaves_all a b place t.not_done t.prints s) serving.shut);
           halted = λ is. still ∙ serving.halted (ap (λ xs. slice_get xs s.node) (sym u.stays) ∙ is);
         }
 
-unstarted_grows : {D : Type 0} {G : Ghosts D} {state : D → DiskState} {faults : List Fault} {lines : List Turn} {c : Cluster D G} {m g : Members D G} {shard : ℕ} {why : Reason} (more : List Fault) → AreAmong faults more → TellAll state → (h : At state faults lines c m) (name : List ℕ) (a : Act) (b : Answer)
-    → Tells a b → IsUnstarted state m name shard why g → Grows state more lines m a b g
-unstarted_grows {D} {G} {state} {faults} {lines} {c} {m} {g} {shard} {why} more among tell h name a b t u =
+unstarted_grows : {D : Type 0} {G : Ghosts D} {state : D → DiskState} {tells : Bool} {faults : List Fault} {lines : List Turn} {c : Cluster D G} {m g : Members D G} {shard : ℕ} {why : Reason} (more : List Fault) → AreAmong faults more → (tells ≡ true → TellAll state) → (h : At state tells faults lines c m) (name : List ℕ) (a : Act) (b : Answer)
+    → Tells a b → IsUnstarted state m name shard why g → Grows state tells more lines m a b g
+unstarted_grows {D} {G} {state} {tells} {faults} {lines} {c} {m} {g} {shard} {why} more among tell h name a b t u =
     let extends = extends_same {g = g} h u.keeps.state (rules_stay a b m.net.state.rules t.not_done) in
     let same_place = ap (λ (s : MetaState). s.place) u.keeps.state in
     let links = unstarted_links state m name shard why g u in
@@ -246,23 +246,23 @@ unstarted_grows {D} {G} {state} {faults} {lines} {c} {m} {g} {shard} {why} more 
 
 -- ---- all of it
 
-unstarted_goes : {D : Type 0} {G : Ghosts D} {state : D → DiskState} {faults : List Fault} {lines : List Turn} {old new : Cluster D G} {m g : Members D G} {shard : ℕ} {why : Reason} (more : List Fault) → AreAmong faults more → TellAll state → (h : At state faults lines old m) → new.members ≡ Some g
-    → new.calls ≡ old.calls → (name : List ℕ) (pick : ℕ) (b : Answer) → Tells (act.Restart name pick) b → IsUnstarted state m name shard why g → Goes state more lines old (act.Restart name pick) b new
-unstarted_goes {D} {G} {state} {faults} {lines} {old} {new} {m} {g} {shard} {why} more among tell h is calls name pick b t u =
+unstarted_goes : {D : Type 0} {G : Ghosts D} {state : D → DiskState} {tells : Bool} {faults : List Fault} {lines : List Turn} {old new : Cluster D G} {m g : Members D G} {shard : ℕ} {why : Reason} (more : List Fault) → AreAmong faults more → (tells ≡ true → TellAll state) → (h : At state tells faults lines old m) → new.members ≡ Some g
+    → new.calls ≡ old.calls → (name : List ℕ) (pick : ℕ) (b : Answer) → Tells (act.Restart name pick) b → IsUnstarted state m name shard why g → Goes state tells more lines old (act.Restart name pick) b new
+unstarted_goes {D} {G} {state} {tells} {faults} {lines} {old} {new} {m} {g} {shard} {why} more among tell h is calls name pick b t u =
     grown_goes h.stands h.members is (unstarted_grows more among tell h name (act.Restart name pick) b t u) (rules_stay (act.Restart name pick) b m.net.state.rules t.not_done ∙ ap (λ (s : MetaState). s.rules) (sym u.keeps.state)) t.prints
     (other_numbered h.stands (fates_stay (act.Restart name pick) b t.not_done) (λ none. let bad : None ≡ Some g = sym none ∙ is in absurd (cc)) refl calls) (λ acks e. absurd (t.no_acks acks e))
 
-pub restart_goes : {D : Type 0} {G : Ghosts D} {state : D → DiskState} {faults : List Fault} {lines : List Turn} {old new : Cluster D G} {m g : Members D G} (more : List Fault) → AreAmong faults more → TellAll state → (h : At state faults lines old m) → new.members ≡ Some g
-    → new.calls ≡ old.calls → (name : List ℕ) (pick : ℕ) (b : Answer) → IsRestarted state m name b g → Goes state more lines old (act.Restart name pick) b new
-restart_goes {D} {G} {state} {faults} {lines} {old} {new} {m} {g} more among tell h is calls name pick answer.Done started =
+pub restart_goes : {D : Type 0} {G : Ghosts D} {state : D → DiskState} {tells : Bool} {faults : List Fault} {lines : List Turn} {old new : Cluster D G} {m g : Members D G} (more : List Fault) → AreAmong faults more → (tells ≡ true → TellAll state) → (h : At state tells faults lines old m) → new.members ≡ Some g
+    → new.calls ≡ old.calls → (name : List ℕ) (pick : ℕ) (b : Answer) → IsRestarted state m name b g → Goes state tells more lines old (act.Restart name pick) b new
+restart_goes {D} {G} {state} {tells} {faults} {lines} {old} {new} {m} {g} more among tell h is calls name pick answer.Done started =
     grown_goes h.stands h.members is (started_grows more among tell h name pick started) (ap (λ (s : MetaState). s.rules) (sym started.keeps.state)) refl
     (other_numbered h.stands refl (λ none. let bad : None ≡ Some g = sym none ∙ is in absurd (cc)) refl calls) (λ acks e. cc)
-restart_goes {D} {G} {state} {faults} {lines} {old} {new} {m} {g} more among tell h is calls name pick (answer.Unknown unknown) s =
+restart_goes {D} {G} {state} {tells} {faults} {lines} {old} {new} {m} {g} more among tell h is calls name pick (answer.Unknown unknown) s =
     quiet_change more among tell h.stands (tells_unknown (act.Restart name pick) unknown) refl (is ∙ ap Some s.2 ∙ sym h.members) calls
-restart_goes {D} {G} {state} {faults} {lines} {old} {new} {m} {g} more among tell h is calls name pick (answer.State node) s =
+restart_goes {D} {G} {state} {tells} {faults} {lines} {old} {new} {m} {g} more among tell h is calls name pick (answer.State node) s =
     quiet_change more among tell h.stands (tells_state (act.Restart name pick) node) refl (is ∙ ap Some s.2 ∙ sym h.members) calls
-restart_goes {D} {G} {state} {faults} {lines} {old} {new} {m} {g} more among tell h is calls name pick (answer.Disk node shard) s =
+restart_goes {D} {G} {state} {tells} {faults} {lines} {old} {new} {m} {g} more among tell h is calls name pick (answer.Disk node shard) s =
     unstarted_goes more among tell h is calls name pick (answer.Disk node shard) (tells_disk (act.Restart name pick) node shard) s.1
-restart_goes {D} {G} {state} {faults} {lines} {old} {new} {m} {g} more among tell h is calls name pick answer.Memory s =
+restart_goes {D} {G} {state} {tells} {faults} {lines} {old} {new} {m} {g} more among tell h is calls name pick answer.Memory s =
     unstarted_goes more among tell h is calls name pick answer.Memory (tells_memory (act.Restart name pick)) s.1
-restart_goes {D} {G} {state} {faults} {lines} {old} {new} {m} {g} more among tell h is calls name pick _ s = absurd s
+restart_goes {D} {G} {state} {tells} {faults} {lines} {old} {new} {m} {g} more among tell h is calls name pick _ s = absurd s

@@ -1,12 +1,12 @@
 -- What the cluster keeps of the turns that it served, one turn on.
-use Rattle.std.proofs.Common.{◌≡◌, ◌+◌, ◌≤◌, ℕ, List, [], ◌++◌, length, min, replicate, refl, sym, ap, subst, ◌∙◌, arith, append-nil}
+use Rattle.std.proofs.Common.{◌≡◌, ◌+◌, ◌≤◌, ℕ, List, [], ◌++◌, length, min, replicate, refl, sym, ap, subst, ◌∙◌, arith, append-nil, Bool, true}
 use Rattle.std.specs.Prelude.{Some, None, IsSome, slice_index}
 use Rattle.std.specs.Option.{option_map, option_map_or}
 use Rattle.m3_outside.specs.Causes.{RoseBy, last_count}
 use Rattle.m3_outside.specs.declared.disk.Disk.{Ghosts}
 use Rattle.m3_outside.specs.DiskState.{DiskState, IsLawful}
 use Rattle.m3_outside.specs.declared.slot.Slot.{Slot as Place}
-use Rattle.transcripts.specs.Faults.{Fault, Taking, Failing}
+use Rattle.transcripts.specs.Faults.{Fault, Taking, Failing, Damaged}
 use Rattle.m3_model.specs.Limits.{MeetsLimits}
 use Rattle.m3_model.specs.NotYet.{IsServedAct}
 use Rattle.m3_model.specs.declared.act.Act.{Act}
@@ -21,57 +21,70 @@ use Rattle.m3_cluster.specs.Acts.{Answers, IsMade}
 use Rattle.m3_outside.specs.Depots.{Depot, TellAll}
 use Rattle.m3_cluster.specs.Depots.{place_of_slot, count_at}
 use Rattle.m3_cluster.specs.Replicas.{IsBare}
-use Rattle.m3_cluster.specs.Serves.{IsEarlier, Serves, machine_at}
+use Rattle.m3_cluster.specs.Serves.{IsEarlier, Serves, faults_of, machine_at}
 use Rattle.m3_cluster.specs.declared.cluster.Cluster.{Cluster}
 use Rattle.m3_cluster.specs.declared.members.Members.{Members}
 use Rattle.m3_cluster.proofs.CauseLemmas.{answers_caused}
 use Rattle.m3_cluster.proofs.InitCauses.{made_caused, made_kept}
 use Rattle.m3_cluster.proofs.KeptLemmas.{kept_after}
-use Rattle.m3_cluster.proofs.MadeLemmas.{among_both, made_next}
+use Rattle.m3_cluster.proofs.MadeLemmas.{made_next}
 use Rattle.m3_cluster.proofs.NumberLemmas.{and_then}
-use Rattle.m3_cluster.proofs.StepLemmas.{among_more, stands_next}
+use Rattle.m3_cluster.proofs.ReplicaLemmas.{all_different}
+use Rattle.m3_cluster.proofs.StepLemmas.{among_all, among_more, stands_next}
 use Rattle.m3_cluster.proofs.TurnFaults.{IsCausedLine, caused_next, kept_next}
 
 -- an act other than `init`
-pub serves_next : {D : Type 0} {G : Ghosts D} (state : D → DiskState) → TellAll state → ((d : D) → IsLawful (state d)) → (first now : Depot D) (lines : List Turn) (old new : Cluster D G) (a : Act) (b : Answer) → MeetsLimits a → IsServedAct a → Answers state old a b new
-    → Serves state first now lines old → Serves state first now (and_then lines a b) new
-serves_next {D} {G} state tell lawful first now lines old new a b limits served h s =
-    let next = stands_next state tell lawful first now lines old new a b s.taking s.failing limits served s.counted s.stands h in
-    let faults = s.taking ++ s.failing in
-    let more = s.taking ++ (s.failing ++ next.more) in
-    let among = among_more s.taking s.failing next.more in
-    let on = caused_next lines a b faults more next.counted.different among s.caused s.history (answers_caused state tell lawful lines old new a b faults more limits served s.stands h among next.lists) in
+pub serves_next : {D : Type 0} {G : Ghosts D} (state : D → DiskState) (tells : Bool) → ((d : D) → IsLawful (state d)) → (first now : Depot D) (lines : List Turn) (old new : Cluster D G) (a : Act) (b : Answer) → MeetsLimits a → IsServedAct a → Answers state old a b new
+    → Serves state tells first now lines old → Serves state tells first now (and_then lines a b) new
+serves_next {D} {G} state tells lawful first now lines old new a b limits served h s =
+    let tell = s.tell in
+    let next = stands_next state tells tell lawful first now lines old new a b s.taking s.failing s.damaged limits served s.counted s.damages s.stands h in
+    let faults = faults_of s.taking s.failing s.damaged in
+    let more = faults_of s.taking (s.failing ++ next.more) (s.damaged ++ next.found) in
+    let among = among_more s.taking s.failing next.more s.damaged next.found in
+    let counted = next.counted in
+    let different = all_different tells (and_then lines a b) s.taking (s.failing ++ next.more) (s.damaged ++ next.found) counted.different counted.taking_earlier counted.failing_earlier next.damages in
+    let on = caused_next tells lines a b faults more different among s.caused s.history (answers_caused state tells tell lawful lines old new a b faults more limits served s.stands h among next.lists) in
     record {
+      tell = tell;
       taking = s.taking;
       failing = s.failing ++ next.more;
-      counted = next.counted;
+      damaged = s.damaged ++ next.found;
+      counted = counted;
+      damages = next.damages;
       unmade = λ none.
           let before = next.none_more none in
           let unmade = s.unmade before.0 in
           record { bare = unmade.bare; none = ap (λ fs. s.failing ++ fs) before.1 ∙ append-nil s.failing ∙ unmade.none };
       stands = next.stands;
-      kept = kept_next lines a b s.kept (kept_after state tell lines old new a b faults served s.stands h);
+      kept = λ e. kept_next lines a b (s.kept e) (kept_after state tells e (tell e) lines old new a b faults served s.stands h);
       caused = on.caused;
       history = on.history;
     }
 
 -- an `init`
-pub serves_made : {D : Type 0} {G : Ghosts D} (state : D → DiskState) → TellAll state → ((d : D) → IsLawful (state d)) → (first now after : Depot D) (lines : List Turn) (old new : Cluster D G) (rf shards seed : ℕ) (nodes : List (List ℕ × List ℕ)) (b : Answer)
-    → IsMade state now old rf shards seed nodes b after new → Serves state first now lines old → Serves state first after (and_then lines (act.Init rf shards seed nodes) b) new
-serves_made {D} {G} state tell lawful first now after lines old new rf shards seed nodes b h s =
-    let next = made_next state tell lawful first now after lines old new rf shards seed nodes b s.taking s.failing s.counted s.unmade s.stands h in
-    let faults = s.taking ++ s.failing in
-    let more = (s.taking ++ next.taken) ++ (s.failing ++ next.failed) in
-    let line : IsCausedLine more lines (act.Init rf shards seed nodes) b =
-    record { messages = []; caused = made_caused state lines now old rf shards seed nodes b after new faults more s.stands h next.lists; were = λ m i. absurd i } in
-    let on = caused_next lines (act.Init rf shards seed nodes) b faults more next.counted.different (among_both s.taking next.taken s.failing next.failed) s.caused s.history line in
+pub serves_made : {D : Type 0} {G : Ghosts D} (state : D → DiskState) (tells : Bool) → ((d : D) → IsLawful (state d)) → (first now after : Depot D) (lines : List Turn) (old new : Cluster D G) (rf shards seed : ℕ) (nodes : List (List ℕ × List ℕ)) (b : Answer)
+    → IsMade state now old rf shards seed nodes b after new → Serves state tells first now lines old → Serves state tells first after (and_then lines (act.Init rf shards seed nodes) b) new
+serves_made {D} {G} state tells lawful first now after lines old new rf shards seed nodes b h s =
+    let tell = s.tell in
+    let next = made_next state tells tell lawful first now after lines old new rf shards seed nodes b s.taking s.failing s.damaged s.counted s.damages s.unmade s.stands h in
+    let faults = faults_of s.taking s.failing s.damaged in
+    let more = faults_of (s.taking ++ next.taken) (s.failing ++ next.failed) (s.damaged ++ next.found) in
+    let counted = next.counted in
+    let different = all_different tells (and_then lines (act.Init rf shards seed nodes) b) (s.taking ++ next.taken) (s.failing ++ next.failed) (s.damaged ++ next.found) counted.different counted.taking_earlier counted.failing_earlier next.damages in
+    let line : IsCausedLine tells more lines (act.Init rf shards seed nodes) b =
+    record { messages = []; caused = made_caused state tells lines now old rf shards seed nodes b after new faults more s.stands h next.lists; were = λ m i. absurd i } in
+    let on = caused_next tells lines (act.Init rf shards seed nodes) b faults more different (among_all s.taking next.taken s.failing next.failed s.damaged next.found) s.caused s.history line in
     record {
+      tell = tell;
       taking = s.taking ++ next.taken;
       failing = s.failing ++ next.failed;
-      counted = next.counted;
+      damaged = s.damaged ++ next.found;
+      counted = counted;
+      damages = next.damages;
       unmade = next.unmade;
       stands = next.stands;
-      kept = kept_next lines (act.Init rf shards seed nodes) b s.kept (made_kept state lines now old rf shards seed nodes b after new h);
+      kept = λ e. kept_next lines (act.Init rf shards seed nodes) b (s.kept e) (made_kept state lines now old rf shards seed nodes b after new h);
       caused = on.caused;
       history = on.history;
     }
@@ -80,10 +93,13 @@ rose_none : (last n : ℕ) → min (n + 0) last ≤ n
 rose_none last n = omega arith
 
 -- before the first turn
-pub serves_nothing : {D : Type 0} {G : Ghosts D} (state : D → DiskState) (first : Depot D) (c : Cluster D G) → ((place : Place) → IsBare state (first.held place)) → c.members ≡ None → c.calls ≡ replicate 9 0 → Serves state first first [] c
-serves_nothing {D} {G} state first c bare none calls = record {
+pub serves_nothing : {D : Type 0} {G : Ghosts D} (state : D → DiskState) (tells : Bool) (first : Depot D) (c : Cluster D G) → (tells ≡ true → TellAll state) → (tells ≡ true → (place : Place) → IsBare state (first.held place)) → c.members ≡ None → c.calls ≡ replicate 9 0 → Serves state tells first first [] c
+serves_nothing {D} {G} state tells first c tell bare none calls = record {
+  tell = tell;
   taking = [];
   failing = [];
+  damaged = [];
+  damages = record { different = tt; earlier = All-from_each (IsEarlier Damaged []) [] (λ f i. absurd i); none = λ e. refl };
   counted = record {
     different = tt;
     taking_earlier = All-from_each (IsEarlier Taking []) [] (λ f i. absurd i);
@@ -106,7 +122,7 @@ serves_nothing {D} {G} state first c bare none calls = record {
     members = λ m is. let bad : None ≡ Some m = sym none ∙ is in cc;
     acked = λ turn i acks e. absurd i;
   };
-  kept = λ p h. absurd (not_empty p.lines p.line h.after h.in_run);
+  kept = λ e p h. absurd (not_empty p.lines p.line h.after h.in_run);
   caused = record {
     different = tt;
     delivered = λ p. [];

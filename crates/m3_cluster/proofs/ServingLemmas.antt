@@ -8,7 +8,7 @@ use Rattle.std.proofs.lemmas.List.{take-append-le, take_all}
 use Rattle.std.proofs.lemmas.List.Sums.{fold_push, fold-append}
 use Rattle.m3_outside.specs.declared.disk.Disk.{Ghosts}
 use Rattle.m3_outside.specs.DiskState.{DiskState}
-use Rattle.transcripts.specs.Faults.{Fault, IsClosedByFault, is_restart}
+use Rattle.transcripts.specs.Faults.{Fault, IsClosedByFault, closes, is_restart}
 use Rattle.transcripts.specs.Waiting.{Replica, Waiting, is_assigned, is_member, waiting_after, waiting_by, waits_by}
 use Rattle.transcripts.specs.Placements.{has_replica, later_placement, placement_after, printed}
 use Rattle.transcripts.specs.Fates.{is_stopped, stopped_by}
@@ -42,7 +42,7 @@ use Rattle.m3_cluster.proofs.LateLemmas.{Extends, point_of-append, sent_point-ap
 use Rattle.m3_cluster.proofs.MoreFaults.{AreAmong}
 use Rattle.m3_cluster.proofs.NumberLemmas.{and_then, inner_turns-push, turn_of}
 use Rattle.m3_cluster.proofs.OptionLemmas.{same_some}
-use Rattle.m3_cluster.proofs.ReplicaLemmas.{IsAsked, IsDone, fault_of, links_steps, replica_less, replica_next, standing_after, standing_next, steps_at}
+use Rattle.m3_cluster.proofs.ReplicaLemmas.{IsAsked, IsDone, links_steps, replica_less, replica_next, standing_after, standing_next, steps_at}
 use Rattle.m3_cluster.proofs.SlotLists.{in_or_out, slot_instance, slot_replica}
 
 -- ---- what was sent and acknowledged
@@ -68,9 +68,9 @@ turn_cases lines a b turn i =
     ]
 
 -- what a node acknowledged in an earlier line was so before
-pub acked_before : {D : Type 0} {G : Ghosts D} {state : D → DiskState} {faults : List Fault} {lines : List Turn} {c : Cluster D G} {m g : Members D G} {a : Act} {b : Answer} (h : At state faults lines c m) → Extends lines m a b g → (s : Slot) (p : Point)
+pub acked_before : {D : Type 0} {G : Ghosts D} {state : D → DiskState} {tells : Bool} {faults : List Fault} {lines : List Turn} {c : Cluster D G} {m g : Members D G} {a : Act} {b : Answer} (h : At state tells faults lines c m) → Extends lines m a b g → (s : Slot) (p : Point)
     → (w : WasAcked g (inner_turns (and_then lines a b)) s p) → IsIn (inner_turns lines) w.turn → WasAcked m (inner_turns lines) s p
-acked_before {D} {G} {state} {faults} {lines} {c} {m} {g} {a} {b} h e s p w was =
+acked_before {D} {G} {state} {tells} {faults} {lines} {c} {m} {g} {a} {b} h e s p w was =
     let kept = h.stands.acked w.turn was w.acks w.acked in
     let same : kept.members ≡ m = same_some c.members kept.members m kept.stands h.members in
     let old : point_of (spaces_in m) w.turn.act ≡ Some kept.point = ap (λ (x : Members D G). point_of (spaces_in x) w.turn.act) (sym same) ∙ kept.of_act in
@@ -79,9 +79,9 @@ acked_before {D} {G} {state} {faults} {lines} {c} {m} {g} {a} {b} h e s p w was 
     record { turn = w.turn; served = was; acks = w.acks; acked = w.acked; of_act = old ∙ ap Some point_is; of_shard = w.of_shard ∙ shard_same e p.id; by_node = w.by_node }
 
 -- a turn that acknowledges nothing
-pub acked_none : {D : Type 0} {G : Ghosts D} {state : D → DiskState} {faults : List Fault} {lines : List Turn} {c : Cluster D G} {m g : Members D G} {a : Act} {b : Answer} (h : At state faults lines c m) → Extends lines m a b g
+pub acked_none : {D : Type 0} {G : Ghosts D} {state : D → DiskState} {tells : Bool} {faults : List Fault} {lines : List Turn} {c : Cluster D G} {m g : Members D G} {a : Act} {b : Answer} (h : At state tells faults lines c m) → Extends lines m a b g
     → ((acks : List ℕ) → b ≡ answer.Acks acks → ⊥) → (steps : List Step) (s : Slot) (p : Point) → WasAcked g (inner_turns (and_then lines a b)) s p → WasAcked m (inner_turns lines) s p ⊎ IsDone steps p
-acked_none {D} {G} {state} {faults} {lines} {c} {m} {g} {a} {b} h e none steps s p w =
+acked_none {D} {G} {state} {tells} {faults} {lines} {c} {m} {g} {a} {b} h e none steps s p w =
     elim (turn_cases lines a b w.turn w.served) as (λ _. WasAcked m (inner_turns lines) s p ⊎ IsDone steps p) [
       | inl was ↦ inl (acked_before h e s p w was)
       | inr now ↦ absurd (none w.acks (ap (λ (x : InnerTurn). x.answer) now ∙ w.acked))
@@ -171,23 +171,24 @@ closed_on faults more lines a b place s among free placed closed =
       };
     }
 
--- a fault of this very line
-pub closed_now : (more : List Fault) (lines : List Turn) (a : Act) (b : Answer) (place : Placement) (s : Slot) (one : Instance) → slice_get place.instances s.node ≡ Some one → IsPlaced (and_then lines a b) place s → IsIn more (fault_of (length lines) s)
+-- a fault or a damage of this very line
+pub closed_now : (more : List Fault) (lines : List Turn) (a : Act) (b : Answer) (place : Placement) (s : Slot) (one : Instance) → slice_get place.instances s.node ≡ Some one → IsPlaced (and_then lines a b) place s
+    → (fault : Fault) → fault.line ≡ length lines → fault.node ≡ s.node → fault.shard ≡ s.shard → IsTrue (closes fault.kind) → IsIn more fault
     → IsClosedByFault more None (next_place (and_then lines a b)) place s.shard s.node
-closed_now more lines a b place s one there placed among =
+closed_now more lines a b place s one there placed fault line_is node_is shard_is closing among =
     let later : length (and_then lines a b) ≡ length lines + 1 = length-append lines (line_of a b ∷ []) in
     record {
-      fault = fault_of (length lines) s;
+      fault = fault;
       among = among;
-      of_node = refl;
-      of_shard = refl;
-      closing = refl;
-      not_later = omega (arith, later);
-      was_there = λ _. there_on lines a b place s (length lines) placed (λ low. absurd (omega (arith, low)));
+      of_node = node_is;
+      of_shard = shard_is;
+      closing = closing;
+      not_later = omega (arith, later, line_is);
+      was_there = λ _. there_on lines a b place s fault.line placed (λ low. absurd (omega (arith, low, line_is)));
       not_restarted = record {
         instance_ = one;
         stands = there;
-        holds = ap (λ xs. list_any (is_restart one.name) (inner_turns xs)) (drop_all (and_then lines a b) (suc (length lines)) (omega (arith, later)));
+        holds = ap (λ xs. list_any (is_restart one.name) (inner_turns xs)) (drop_all (and_then lines a b) (suc fault.line) (omega (arith, later, line_is)));
       };
     }
 
@@ -215,51 +216,51 @@ waits_push lines a b place s name placed prints =
     ∙ ap (λ t. ((not t) && t) || waits_by x (t && t) a b before.waits) placed.member
 
 -- a machine that is down stays so for its cause
-pub down_on : (faults more : List Fault) (lines : List Turn) (a : Act) (b : Answer) (place : Placement) (s : Slot) → AreAmong faults more → ((one : Instance) → slice_get place.instances s.node ≡ Some one → is_restart one.name (turn_of a b) ≡ false)
-    → ((one : Instance) → slice_get place.instances s.node ≡ Some one → stopped_by one.name a b true ≡ true) → IsPlaced (and_then lines a b) place s → IsShutFor faults (next_place lines) place s standing.Down → IsShutFor more (next_place (and_then lines a b)) place s standing.Down
-down_on faults more lines a b place s among free stays placed (inl stopped) =
+pub down_on : (tells : Bool) (faults more : List Fault) (lines : List Turn) (a : Act) (b : Answer) (place : Placement) (s : Slot) → AreAmong faults more → ((one : Instance) → slice_get place.instances s.node ≡ Some one → is_restart one.name (turn_of a b) ≡ false)
+    → ((one : Instance) → slice_get place.instances s.node ≡ Some one → stopped_by one.name a b true ≡ true) → IsPlaced (and_then lines a b) place s → IsShutFor tells faults (next_place lines) place s standing.Down → IsShutFor tells more (next_place (and_then lines a b)) place s standing.Down
+down_on tells faults more lines a b place s among free stays placed (inl stopped) =
     inl (record { instance_ = stopped.instance_; stands = stopped.stands; holds = stopped_push lines a b stopped.instance_.name ∙ ap (stopped_by stopped.instance_.name a b) stopped.holds ∙ stays stopped.instance_ stopped.stands })
-down_on faults more lines a b place s among free stays placed (inr closed) = inr (closed_on faults more lines a b place s among free placed closed)
+down_on tells faults more lines a b place s among free stays placed (inr closed) = inr (closed_on faults more lines a b place s among free placed closed)
 
-pub shut_on : (faults more : List Fault) (lines : List Turn) (a : Act) (b : Answer) (place : Placement) (s : Slot) (how : Standing) → AreAmong faults more → IsPlaced lines place s → Leaves a b place s → IsShutFor faults (next_place lines) place s how
-    → IsShutFor more (next_place (and_then lines a b)) place s how
-shut_on faults more lines a b place s standing.Down among placed leaves shut = down_on faults more lines a b place s among leaves.restarts leaves.stops (placed_on lines a b place s placed leaves.prints) shut
-shut_on faults more lines a b place s standing.Boot among placed leaves waits = record {
+pub shut_on : (tells : Bool) (faults more : List Fault) (lines : List Turn) (a : Act) (b : Answer) (place : Placement) (s : Slot) (how : Standing) → AreAmong faults more → IsPlaced lines place s → Leaves a b place s → IsShutFor tells faults (next_place lines) place s how
+    → IsShutFor tells more (next_place (and_then lines a b)) place s how
+shut_on tells faults more lines a b place s standing.Down among placed leaves shut = down_on tells faults more lines a b place s among leaves.restarts leaves.stops (placed_on lines a b place s placed leaves.prints) shut
+shut_on tells faults more lines a b place s standing.Boot among placed leaves shut = λ told. (let waits = shut told in record {
   instance_ = waits.instance_;
   stands = waits.stands;
   holds = waits_push lines a b place s waits.instance_.name placed leaves.prints ∙ ap (waits_by (replica_at s waits.instance_.name) true a b) waits.holds ∙ leaves.waits waits.instance_ waits.stands;
-}
-shut_on faults more lines a b place s standing.Open among placed leaves open_ = tt
+})
+shut_on tells faults more lines a b place s standing.Open among placed leaves open_ = tt
 
 -- ---- the machine at a slot
 
 -- What a turn leaves of a machine that stands so at a slot.
-pub record StaysRight {D : Type 0} {G : Ghosts D} (more : List Fault) (lines : List Turn) (m : Members D G) (a : Act) (b : Answer) (g : Members D G) (s : Slot) (how : Standing) : Type 0 where
-  pub shut : IsShutFor more (next_place (and_then lines a b)) m.net.state.place s how
+pub record StaysRight {D : Type 0} {G : Ghosts D} (tells : Bool) (more : List Fault) (lines : List Turn) (m : Members D G) (a : Act) (b : Answer) (g : Members D G) (s : Slot) (how : Standing) : Type 0 where
+  pub shut : IsShutFor tells more (next_place (and_then lines a b)) m.net.state.place s how
   pub halted : slice_get g.stopped.items s.node ≡ Some true → how ≡ standing.Down
 
 -- the machines of a cluster that stands have their slots, and their nodes are there
-pub machine_slot : {D : Type 0} {G : Ghosts D} {state : D → DiskState} {faults : List Fault} {lines : List Turn} {c : Cluster D G} {m : Members D G} (h : At state faults lines c m) (s : Slot) (x : MachineState D) → get m.net.machines s ≡ Some x → IsIn m.slots.items s
-machine_slot {D} {G} {state} {faults} {lines} {c} {m} h s x is =
+pub machine_slot : {D : Type 0} {G : Ghosts D} {state : D → DiskState} {tells : Bool} {faults : List Fault} {lines : List Turn} {c : Cluster D G} {m : Members D G} (h : At state tells faults lines c m) (s : Slot) (x : MachineState D) → get m.net.machines s ≡ Some x → IsIn m.slots.items s
+machine_slot {D} {G} {state} {tells} {faults} {lines} {c} {m} h s x is =
     elim (in_or_out m.slots.items s) as (λ _. IsIn m.slots.items s) [ inl among ↦ among | inr out ↦ (let none = (on h).well.no_others s out in let bad : None ≡ Some x = sym none ∙ is in absurd (cc)) ]
 
-pub machine_instance : {D : Type 0} {G : Ghosts D} {state : D → DiskState} {faults : List Fault} {lines : List Turn} {c : Cluster D G} {m : Members D G} (h : At state faults lines c m) (s : Slot) → IsIn m.slots.items s
+pub machine_instance : {D : Type 0} {G : Ghosts D} {state : D → DiskState} {tells : Bool} {faults : List Fault} {lines : List Turn} {c : Cluster D G} {m : Members D G} (h : At state tells faults lines c m) (s : Slot) → IsIn m.slots.items s
     → (one : Instance) × (slice_get m.net.state.place.instances s.node ≡ Some one)
-machine_instance {D} {G} {state} {faults} {lines} {c} {m} h s among = slot_instance m.net.state.place (on h).well.lawful s (subst (λ slots. IsIn slots s) (on h).well.slots among)
+machine_instance {D} {G} {state} {tells} {faults} {lines} {c} {m} h s among = slot_instance m.net.state.place (on h).well.lawful s (subst (λ slots. IsIn slots s) (on h).well.slots among)
 
 -- and have replicas in the placement that stands
-pub machine_placed : {D : Type 0} {G : Ghosts D} {state : D → DiskState} {faults : List Fault} {lines : List Turn} {c : Cluster D G} {m : Members D G} (h : At state faults lines c m) (s : Slot) → IsIn m.slots.items s → IsPlaced lines m.net.state.place s
-machine_placed {D} {G} {state} {faults} {lines} {c} {m} h s among =
+pub machine_placed : {D : Type 0} {G : Ghosts D} {state : D → DiskState} {tells : Bool} {faults : List Fault} {lines : List Turn} {c : Cluster D G} {m : Members D G} (h : At state tells faults lines c m) (s : Slot) → IsIn m.slots.items s → IsPlaced lines m.net.state.place s
+machine_placed {D} {G} {state} {tells} {faults} {lines} {c} {m} h s among =
     record { stands = h.stands.place ∙ ap (option_map (λ (x : Members D G). x.net.state.place)) h.members; member = slot_replica m.net.state.place s (subst (λ slots. IsIn slots s) (on h).well.slots among) }
 
 -- by the steps that the machines took in the line
-pub serving_next : {D : Type 0} {G : Ghosts D} {state : D → DiskState} {faults : List Fault} {lines : List Turn} {c : Cluster D G} {m g : Members D G} {a : Act} {b : Answer} (h : At state faults lines c m) (more : List Fault) → TellAll state → Extends lines m a b g
+pub serving_next : {D : Type 0} {G : Ghosts D} {state : D → DiskState} {tells : Bool} {faults : List Fault} {lines : List Turn} {c : Cluster D G} {m g : Members D G} {a : Act} {b : Answer} (h : At state tells faults lines c m) (more : List Fault) → (tells ≡ true → TellAll state) → Extends lines m a b g
     → (links : List Link) → TakesLinks state links m.net.machines g.net.machines
     → ((s : Slot) (step : Step) → IsIn (steps_at s links) step → IsAsked (WasSent (spaces_in g) (inner_turns (and_then lines a b))) step.call)
     → ((s : Slot) (p : Point) → WasAcked g (inner_turns (and_then lines a b)) s p → WasAcked m (inner_turns lines) s p ⊎ IsDone (steps_at s links) p)
-    → ((s : Slot) (x y : MachineState D) → get m.net.machines s ≡ Some x → IsServing state faults lines m s x → TakesSteps state (steps_at s links) x y → y.standing ≡ standing_after (steps_at s links) x.standing → StaysRight more lines m a b g s y.standing)
-    → (s : Slot) (y : MachineState D) → get g.net.machines s ≡ Some y → IsServing state more (and_then lines a b) g s y
-serving_next {D} {G} {state} {faults} {lines} {c} {m} {g} {a} {b} h more tell e links taken asked acked stays s y is = by_old (get m.net.machines s) refl (links_steps state links m.net.machines g.net.machines taken s)
+    → ((s : Slot) (x y : MachineState D) → get m.net.machines s ≡ Some x → IsServing state tells faults lines m s x → TakesSteps state (steps_at s links) x y → y.standing ≡ standing_after (steps_at s links) x.standing → StaysRight tells more lines m a b g s y.standing)
+    → (s : Slot) (y : MachineState D) → get g.net.machines s ≡ Some y → IsServing state tells more (and_then lines a b) g s y
+serving_next {D} {G} {state} {tells} {faults} {lines} {c} {m} {g} {a} {b} h more tell e links taken asked acked stays s y is = by_old (get m.net.machines s) refl (links_steps state links m.net.machines g.net.machines taken s)
   where
     Sent : Point → Type 0
     Sent = WasSent (spaces_in m) (inner_turns lines)
@@ -267,7 +268,7 @@ serving_next {D} {G} {state} {faults} {lines} {c} {m} {g} {a} {b} h more tell e 
     Later : Point → Type 0
     Later = WasSent (spaces_in g) (inner_turns (and_then lines a b))
 
-    by_old : (o : Option (MachineState D)) → get m.net.machines s ≡ o → IsStepped state (steps_at s links) o (get g.net.machines s) → IsServing state more (and_then lines a b) g s y
+    by_old : (o : Option (MachineState D)) → get m.net.machines s ≡ o → IsStepped state (steps_at s links) o (get g.net.machines s) → IsServing state tells more (and_then lines a b) g s y
     by_old None was stepped = let bad : None ≡ Some y = sym stepped ∙ is in absurd (cc)
     by_old (Some x) was stepped =
         let serving = (on h).serving s x was in
@@ -275,20 +276,20 @@ serving_next {D} {G} {state} {faults} {lines} {c} {m} {g} {a} {b} h more tell e 
         let steps = steps_at s links in
         let taken_here : TakesSteps state steps x y = subst (TakesSteps state steps x) same stepped.2 in
         let later : (p : Point) → Sent p → Later p = λ p sent. sent_on lines a b (spaces_in m) e.more (spaces_in g) p e.spaces sent in
-        let next = replica_next state tell Sent Later (WasAcked m (inner_turns lines) s) later steps (All-from_each (λ (step : Step). IsAsked Later step.call) steps (asked s)) x y taken_here serving.replica in
-        let right = stays s x y was serving taken_here (standing_next state Sent (WasAcked m (inner_turns lines) s) steps x y taken_here serving.replica) in
+        let next = replica_next state tells tell Sent Later (WasAcked m (inner_turns lines) s) later steps (All-from_each (λ (step : Step). IsAsked Later step.call) steps (asked s)) x y taken_here serving.replica in
+        let right = stays s x y was serving taken_here (standing_next state tells Sent (WasAcked m (inner_turns lines) s) steps x y taken_here serving.replica) in
         record {
-          replica = replica_less state Later Later (λ p. WasAcked m (inner_turns lines) s p ⊎ IsDone steps p) (WasAcked g (inner_turns (and_then lines a b)) s) (λ p sent. sent) (λ p w. acked s p w) y next;
-          shut = subst (λ place. IsShutFor more (next_place (and_then lines a b)) place s y.standing) (sym e.place) right.shut;
+          replica = replica_less state tells Later Later (λ p. WasAcked m (inner_turns lines) s p ⊎ IsDone steps p) (WasAcked g (inner_turns (and_then lines a b)) s) (λ p sent. sent) (λ p w. acked s p w) y next;
+          shut = subst (λ place. IsShutFor tells more (next_place (and_then lines a b)) place s y.standing) (sym e.place) right.shut;
           halted = right.halted;
         }
 
 -- a machine that wasn't asked
-pub serving_stays : {D : Type 0} {G : Ghosts D} {state : D → DiskState} {faults : List Fault} {lines : List Turn} {c : Cluster D G} {m g : Members D G} {a : Act} {b : Answer} (h : At state faults lines c m) (more : List Fault) → AreAmong faults more → TellAll state
+pub serving_stays : {D : Type 0} {G : Ghosts D} {state : D → DiskState} {tells : Bool} {faults : List Fault} {lines : List Turn} {c : Cluster D G} {m g : Members D G} {a : Act} {b : Answer} (h : At state tells faults lines c m) (more : List Fault) → AreAmong faults more → (tells ≡ true → TellAll state)
     → Extends lines m a b g → g.net.machines ≡ m.net.machines → g.stopped.items ≡ m.stopped.items → ((acks : List ℕ) → b ≡ answer.Acks acks → ⊥) → ((s : Slot) → Leaves a b m.net.state.place s)
-    → (s : Slot) (y : MachineState D) → get g.net.machines s ≡ Some y → IsServing state more (and_then lines a b) g s y
-serving_stays {D} {G} {state} {faults} {lines} {c} {m} {g} {a} {b} h more among tell e same stopped none leaves =
+    → (s : Slot) (y : MachineState D) → get g.net.machines s ≡ Some y → IsServing state tells more (and_then lines a b) g s y
+serving_stays {D} {G} {state} {tells} {faults} {lines} {c} {m} {g} {a} {b} h more among tell e same stopped none leaves =
     serving_next h more tell e [] same (λ s step i. absurd i) (λ s p w. acked_none h e none [] s p w) (λ s x y was serving taken how. record {
-      shut = subst (λ z. IsShutFor more (next_place (and_then lines a b)) m.net.state.place s z) (sym how) (shut_on faults more lines a b m.net.state.place s x.standing among (machine_placed h s (machine_slot h s x was)) (leaves s) serving.shut);
+      shut = subst (λ z. IsShutFor tells more (next_place (and_then lines a b)) m.net.state.place s z) (sym how) (shut_on tells faults more lines a b m.net.state.place s x.standing among (machine_placed h s (machine_slot h s x was)) (leaves s) serving.shut);
       halted = λ is. how ∙ serving.halted (ap (λ xs. slice_get xs s.node) (sym stopped) ∙ is);
     })

@@ -1,5 +1,5 @@
 -- The shards of a placement, the slots of their replicas, and the nodes that count for them.
-use Rattle.std.proofs.Common.{◌≡◌, ◌≢◌, ◌<◌, ◌≤◌, ◌%◌, ◌+◌, ℕ, zero, suc, ℤ, List, [], ◌∷◌, length, filter, map, sym, ap, subst, ◌∙◌, inl, inr, arith}
+use Rattle.std.proofs.Common.{◌≡◌, ◌≢◌, ◌<◌, ◌≤◌, ◌%◌, ◌+◌, ℕ, zero, suc, ℤ, List, [], ◌∷◌, length, filter, map, sym, ap, subst, ◌∙◌, inl, inr, arith, Bool}
 use Rattle.std.specs.Prelude.{Some, Option, slice_get, slice_index_or, option_map}
 use Rattle.std.specs.Cmp.{tied_itself}
 use Rattle.std.specs.Cmp.Lexicographic.{nat_list_cmp_total}
@@ -38,8 +38,8 @@ use Rattle.m3_cluster.proofs.OptionLemmas.{same_of_some}
 -- ---- shards
 
 -- the shard of a point is there
-pub shard_low : {D : Type 0} {G : Ghosts D} {state : D → DiskState} {faults : List Fault} {lines : List Turn} {c : Cluster D G} {m : Members D G} (h : At state faults lines c m) (id : List ℕ) → shard_in m id < length m.net.state.place.shards
-shard_low {D} {G} {state} {faults} {lines} {c} {m} h id = mod_below (murmur3 id m.net.state.seed) (length m.net.state.place.shards) (on h).well.lawful.limits.some_shards
+pub shard_low : {D : Type 0} {G : Ghosts D} {state : D → DiskState} {tells : Bool} {faults : List Fault} {lines : List Turn} {c : Cluster D G} {m : Members D G} (h : At state tells faults lines c m) (id : List ℕ) → shard_in m id < length m.net.state.place.shards
+shard_low {D} {G} {state} {tells} {faults} {lines} {c} {m} h id = mod_below (murmur3 id m.net.state.seed) (length m.net.state.place.shards) (on h).well.lawful.limits.some_shards
   where
     mod_below : (n k : ℕ) → 1 ≤ k → n % k < k
     mod_below n k some = omega arith

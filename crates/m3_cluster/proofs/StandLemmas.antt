@@ -1,5 +1,5 @@
 -- The cluster is what the turns left, one turn after the other.
-use Rattle.std.proofs.Common.{◌≡◌, ◌+◌, ◌-◌, ◌^◌, ◌<◌, ℕ, List, [], ◌∷◌, length, min, sym, ap, subst, ◌∙◌, inl, inr, true, false, cond}
+use Rattle.std.proofs.Common.{◌≡◌, ◌+◌, ◌-◌, ◌^◌, ◌<◌, ℕ, List, [], ◌∷◌, length, min, sym, ap, subst, ◌∙◌, inl, inr, true, false, cond, Bool}
 use Rattle.std.specs.Prelude.{Some, None, IsSome, slice_get, slice_index}
 use Rattle.std.specs.FinMap.{get}
 use Rattle.std.proofs.lemmas.List.Sums.{fold_push}
@@ -42,18 +42,18 @@ use Rattle.m3_cluster.proofs.ServingLemmas.{stopped_push, turn_cases}
 -- ---- a cluster that stands
 
 -- What a turn may do to a cluster that stands.
-pub record Grows {D : Type 0} {G : Ghosts D} (state : D → DiskState) (more : List Fault) (lines : List Turn) (m : Members D G) (a : Act) (b : Answer) (g : Members D G) : Type 0 where
+pub record Grows {D : Type 0} {G : Ghosts D} (state : D → DiskState) (tells : Bool) (more : List Fault) (lines : List Turn) (m : Members D G) (a : Act) (b : Answer) (g : Members D G) : Type 0 where
   pub extends : Extends lines m a b g
   pub slots : g.slots.items ≡ m.slots.items
   pub manned : (s : Slot) → IsSome (get m.net.machines s) → IsSome (get g.net.machines s)
   pub none : (s : Slot) → get m.net.machines s ≡ None → get g.net.machines s ≡ None
-  pub serving : (s : Slot) (y : MachineState D) → get g.net.machines s ≡ Some y → IsServing state more (and_then lines a b) g s y
+  pub serving : (s : Slot) (y : MachineState D) → get g.net.machines s ≡ Some y → IsServing state tells more (and_then lines a b) g s y
   pub fates : (client call : ℕ) → EachNode g (λ node name. fate_of g.net.fates (record { client = client; call = call; node = node }) ≡ fate_in (numbering_after 0 (and_then lines a b)).fates client call name)
   pub stops : EachNode g (λ node name. slice_get g.stopped.items node ≡ Some (is_stopped (inner_turns (and_then lines a b)) name))
   pub late : HoldsLate g (and_then lines a b)
 
-pub well_on : {D : Type 0} {G : Ghosts D} {state : D → DiskState} {more : List Fault} {lines : List Turn} {m g : Members D G} {a : Act} {b : Answer} → IsWellFormed m → Grows state more lines m a b g → IsWellFormed g
-well_on {D} {G} {state} {more} {lines} {m} {g} {a} {b} well grows = record {
+pub well_on : {D : Type 0} {G : Ghosts D} {state : D → DiskState} {tells : Bool} {more : List Fault} {lines : List Turn} {m g : Members D G} {a : Act} {b : Answer} → IsWellFormed m → Grows state tells more lines m a b g → IsWellFormed g
+well_on {D} {G} {state} {tells} {more} {lines} {m} {g} {a} {b} well grows = record {
   lawful = subst IsLawful (sym (grows.extends).place) well.lawful;
   version = ap (λ (p : Placement). p.version) (grows.extends).place ∙ well.version;
   available = λ shard x i. well.available shard x (subst (λ (p : Placement). IsIn (shard_at p shard) x) (grows.extends).place i);
@@ -62,12 +62,12 @@ well_on {D} {G} {state} {more} {lines} {m} {g} {a} {b} well grows = record {
   no_others = λ s out. grows.none s (well.no_others s (λ i. out (subst (λ slots. IsIn slots s) (sym grows.slots) i)));
 }
 
-pub stands_on : {D : Type 0} {G : Ghosts D} {state : D → DiskState} {faults more : List Fault} {lines : List Turn} {m g : Members D G} {a : Act} {b : Answer} → StandsOn state faults lines m → Grows state more lines m a b g → StandsOn state more (and_then lines a b) g
-stands_on {D} {G} {state} {faults} {more} {lines} {m} {g} {a} {b} s grows = record { well = well_on s.well grows; fates = grows.fates; stops = grows.stops; serving = grows.serving; late = grows.late }
+pub stands_on : {D : Type 0} {G : Ghosts D} {state : D → DiskState} {tells : Bool} {faults more : List Fault} {lines : List Turn} {m g : Members D G} {a : Act} {b : Answer} → StandsOn state tells faults lines m → Grows state tells more lines m a b g → StandsOn state tells more (and_then lines a b) g
+stands_on {D} {G} {state} {tells} {faults} {more} {lines} {m} {g} {a} {b} s grows = record { well = well_on s.well grows; fates = grows.fates; stops = grows.stops; serving = grows.serving; late = grows.late }
 
 -- a write that was kept stays kept
-pub kept_on : {D : Type 0} {G : Ghosts D} {state : D → DiskState} {more : List Fault} {lines : List Turn} {old new : Cluster D G} {m g : Members D G} {a : Act} {b : Answer} → old.members ≡ Some m → new.members ≡ Some g → Grows state more lines m a b g → (turn : InnerTurn) (acks : List ℕ) → IsKept old turn acks → IsKept new turn acks
-kept_on {D} {G} {state} {more} {lines} {old} {new} {m} {g} {a} {b} was is grows turn acks kept =
+pub kept_on : {D : Type 0} {G : Ghosts D} {state : D → DiskState} {tells : Bool} {more : List Fault} {lines : List Turn} {old new : Cluster D G} {m g : Members D G} {a : Act} {b : Answer} → old.members ≡ Some m → new.members ≡ Some g → Grows state tells more lines m a b g → (turn : InnerTurn) (acks : List ℕ) → IsKept old turn acks → IsKept new turn acks
+kept_on {D} {G} {state} {tells} {more} {lines} {old} {new} {m} {g} {a} {b} was is grows turn acks kept =
     let same : kept.members ≡ m = same_some old.members kept.members m kept.stands was in
     let e = grows.extends in
     let k = shard_in m kept.point.id in
@@ -92,9 +92,9 @@ pub record Numbered {D : Type 0} {G : Ghosts D} (lines : List Turn) (a : Act) (b
   pub few_calls : (item : ℕ × ℕ × List ℕ × Fate) → IsIn (numbering_after 0 (and_then lines a b)).fates item → item.1 < 2 ^ 62
   pub no_fates : new.members ≡ None → (numbering_after 0 (and_then lines a b)).fates ≡ []
 
-numbered_by : {D : Type 0} {G : Ghosts D} {state : D → DiskState} {faults : List Fault} {lines : List Turn} {old new : Cluster D G} {a : Act} {b : Answer} → Stands state faults lines old → fates_set (request.One a) (reply.One b) ≡ None → (new.members ≡ None → old.members ≡ None)
+numbered_by : {D : Type 0} {G : Ghosts D} {state : D → DiskState} {tells : Bool} {faults : List Fault} {lines : List Turn} {old new : Cluster D G} {a : Act} {b : Answer} → Stands state tells faults lines old → fates_set (request.One a) (reply.One b) ≡ None → (new.members ≡ None → old.members ≡ None)
     → slice_index new.calls 0 ≡ min ((numbering_after 0 lines).calls + calls_in (a ∷ [])) (2 ^ 64 - 1) → length new.calls ≡ 9 → Numbered lines a b new
-numbered_by {D} {G} {state} {faults} {lines} {old} {new} {a} {b} s none still number nine =
+numbered_by {D} {G} {state} {tells} {faults} {lines} {old} {new} {a} {b} s none still number nine =
     let same = numbering_more lines a b none in
     record {
       number = number ∙ ap (λ (n : Numbering). min n.calls (2 ^ 64 - 1)) (sym same);
@@ -104,29 +104,29 @@ numbered_by {D} {G} {state} {faults} {lines} {old} {new} {a} {b} s none still nu
     }
 
 -- a call has the next number
-pub call_numbered : {D : Type 0} {G : Ghosts D} {state : D → DiskState} {faults : List Fault} {lines : List Turn} {old new : Cluster D G} {a : Act} {b : Answer} → Stands state faults lines old → fates_set (request.One a) (reply.One b) ≡ None → (new.members ≡ None → old.members ≡ None) → is_call a ≡ true
+pub call_numbered : {D : Type 0} {G : Ghosts D} {state : D → DiskState} {tells : Bool} {faults : List Fault} {lines : List Turn} {old new : Cluster D G} {a : Act} {b : Answer} → Stands state tells faults lines old → fates_set (request.One a) (reply.One b) ≡ None → (new.members ≡ None → old.members ≡ None) → is_call a ≡ true
     → new.calls ≡ after_call old.calls → Numbered lines a b new
-call_numbered {D} {G} {state} {faults} {lines} {old} {new} {a} {b} s none still calls is =
+call_numbered {D} {G} {state} {tells} {faults} {lines} {old} {new} {a} {b} s none still calls is =
     numbered_by s none still
     (number_on old.calls new.calls (numbering_after 0 lines).calls (calls_in (a ∷ [])) s.calls s.number is (ap (λ t. 0 + cond t 1 0) calls))
     (nine_on old.calls new.calls s.calls is)
 
 -- and what isn't a call has none
-pub other_numbered : {D : Type 0} {G : Ghosts D} {state : D → DiskState} {faults : List Fault} {lines : List Turn} {old new : Cluster D G} {a : Act} {b : Answer} → Stands state faults lines old → fates_set (request.One a) (reply.One b) ≡ None → (new.members ≡ None → old.members ≡ None) → is_call a ≡ false
+pub other_numbered : {D : Type 0} {G : Ghosts D} {state : D → DiskState} {tells : Bool} {faults : List Fault} {lines : List Turn} {old new : Cluster D G} {a : Act} {b : Answer} → Stands state tells faults lines old → fates_set (request.One a) (reply.One b) ≡ None → (new.members ≡ None → old.members ≡ None) → is_call a ≡ false
     → new.calls ≡ old.calls → Numbered lines a b new
-other_numbered {D} {G} {state} {faults} {lines} {old} {new} {a} {b} s none still calls is =
+other_numbered {D} {G} {state} {tells} {faults} {lines} {old} {new} {a} {b} s none still calls is =
     numbered_by s none still
     (number_stays old.calls new.calls (numbering_after 0 lines).calls (calls_in (a ∷ [])) s.number is (ap (λ t. 0 + cond t 1 0) calls))
     (ap length is ∙ s.calls)
 
 -- What a turn may do.
-pub record Goes {D : Type 0} {G : Ghosts D} (state : D → DiskState) (more : List Fault) (lines : List Turn) (old : Cluster D G) (a : Act) (b : Answer) (new : Cluster D G) : Type 0 where
+pub record Goes {D : Type 0} {G : Ghosts D} (state : D → DiskState) (tells : Bool) (more : List Fault) (lines : List Turn) (old : Cluster D G) (a : Act) (b : Answer) (new : Cluster D G) : Type 0 where
   pub rules : rules_by a b (rules_of old) ≡ rules_of new
   pub place : later_placement (printed b) (place_of old) ≡ place_of new
   pub seed : seed_by a b (seed_of old) ≡ seed_of new
   pub numbers : Numbered lines a b new
   pub no_stops : new.members ≡ None → (name : List ℕ) → stopped_by name a b (is_stopped (inner_turns lines) name) ≡ false
-  pub members : (g : Members D G) → new.members ≡ Some g → StandsOn state more (and_then lines a b) g
+  pub members : (g : Members D G) → new.members ≡ Some g → StandsOn state tells more (and_then lines a b) g
   pub kept : (turn : InnerTurn) (acks : List ℕ) → IsKept old turn acks → IsKept new turn acks
   pub acked : (acks : List ℕ) → b ≡ answer.Acks acks → IsKept new (turn_of a b) acks
 
@@ -134,8 +134,8 @@ pub record Goes {D : Type 0} {G : Ghosts D} (state : D → DiskState) (more : Li
 pub rules_push : (lines : List Turn) (a : Act) (b : Answer) → rules_after (start_rules None) (inner_turns (and_then lines a b)) ≡ rules_by a b (rules_after (start_rules None) (inner_turns lines))
 rules_push lines a b = ap (rules_after (start_rules None)) (inner_turns-push lines a b) ∙ fold_push _ (start_rules None) (inner_turns lines) (turn_of a b)
 
-pub stands_push : {D : Type 0} {G : Ghosts D} {state : D → DiskState} {faults more : List Fault} {lines : List Turn} {old new : Cluster D G} {a : Act} {b : Answer} → Stands state faults lines old → Goes state more lines old a b new → Stands state more (and_then lines a b) new
-stands_push {D} {G} {state} {faults} {more} {lines} {old} {new} {a} {b} s g = record {
+pub stands_push : {D : Type 0} {G : Ghosts D} {state : D → DiskState} {tells : Bool} {faults more : List Fault} {lines : List Turn} {old new : Cluster D G} {a : Act} {b : Answer} → Stands state tells faults lines old → Goes state tells more lines old a b new → Stands state tells more (and_then lines a b) new
+stands_push {D} {G} {state} {tells} {faults} {more} {lines} {old} {new} {a} {b} s g = record {
   rules = rules_push lines a b ∙ ap (rules_by a b) s.rules ∙ g.rules;
   place = ap (placement_after None) (inner_turns-push lines a b) ∙ fold_push _ None (inner_turns lines) (turn_of a b) ∙ ap (later_placement (printed b)) s.place ∙ g.place;
   seed = ap (seed_after None) (inner_turns-push lines a b) ∙ fold_push _ 0 (inner_turns lines) (turn_of a b) ∙ ap (seed_by a b) s.seed ∙ g.seed;

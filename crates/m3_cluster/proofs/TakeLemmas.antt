@@ -1,5 +1,5 @@
 -- What a write or a delivery leaves of the cluster.
-use Rattle.std.proofs.Common.{◌≡◌, ◌⊎◌, ℕ, List, [], ◌∷◌, ◌++◌, map, take, refl, sym, ap, subst, ◌∙◌, inl, inr, true, cond}
+use Rattle.std.proofs.Common.{◌≡◌, ◌⊎◌, ℕ, List, [], ◌∷◌, ◌++◌, map, take, refl, sym, ap, subst, ◌∙◌, inl, inr, true, cond, Bool}
 use Rattle.std.specs.Prelude.{Option, Some, None, IsSome, IsTrue, slice_index}
 use Rattle.std.specs.FinMap.{get}
 use Rattle.std.specs.List.{flat_map}
@@ -64,9 +64,9 @@ use Rattle.m3_cluster.proofs.StandLemmas.{Grows, Goes, call_numbered, other_numb
 abbrev write_of : NamedPoint → WriteLevel → Act
 write_of point level = act.Write point.ns point.id point.t point.v level None
 
-delays : {D : Type 0} {G : Ghosts D} {state : D → DiskState} {faults : List Fault} {lines : List Turn} {c : Cluster D G} {m : Members D G} (h : At state faults lines c m) (point : NamedPoint) (level : WriteLevel) (b : Answer) (place : ℕ) (nodes : List ℕ) → IsTrue (delivers_nothing (line_of (write_of point level) b)) → was_sent b ≡ true
+delays : {D : Type 0} {G : Ghosts D} {state : D → DiskState} {tells : Bool} {faults : List Fault} {lines : List Turn} {c : Cluster D G} {m : Members D G} (h : At state tells faults lines c m) (point : NamedPoint) (level : WriteLevel) (b : Answer) (place : ℕ) (nodes : List ℕ) → IsTrue (delivers_nothing (line_of (write_of point level) b)) → was_sent b ≡ true
     → point_of (spaces_in m) (write_of point level) ≡ Some (placed point place) → AreCounted m.net.state.place (shard_in m point.id) nodes → Delays lines m (write_of point level) b (placed point place) nodes
-delays {D} {G} {state} {faults} {lines} {c} {m} h point level b place nodes quiet sent of_act counts = record {
+delays {D} {G} {state} {tells} {faults} {lines} {c} {m} h point level b place nodes quiet sent of_act counts = record {
   of_act = of_act;
   was_sent = sent;
   quiet = quiet;
@@ -95,11 +95,11 @@ fewer {D} {G} {lines} {m} {a} {b} {point} {nodes} k d = record {
 same_acks : (acks more : List ℕ) → answer.Acks acks ≡ answer.Acks more → acks ≡ more
 same_acks acks more e = cc
 
-sent_grows : {D : Type 0} {G : Ghosts D} {state : D → DiskState} {faults : List Fault} {lines : List Turn} {c : Cluster D G} {m g : Members D G} (more : List Fault) → AreAmong faults more → TellAll state → (h : At state faults lines c m)
+sent_grows : {D : Type 0} {G : Ghosts D} {state : D → DiskState} {tells : Bool} {faults : List Fault} {lines : List Turn} {c : Cluster D G} {m g : Members D G} (more : List Fault) → AreAmong faults more → (tells ≡ true → TellAll state) → (h : At state tells faults lines c m)
     → (point : NamedPoint) (level : WriteLevel) (b : Answer) (put : IsPut state m (next_call c None) point level b g) (told : List Told) (sent : IsSent state m.net (next_call c None) (placed point put.place) told g.net)
-    → IsTrue (delivers_nothing (line_of (write_of point level) b)) → was_sent b ≡ true → ListsFaults lines m (sent_links state m.net (next_call c None) (placed point put.place) told g.net sent) more
-    → ((acks : List ℕ) → b ≡ answer.Acks acks → acks ≡ answering told) → ((s : Slot) → Leaves (write_of point level) b m.net.state.place s) → Grows state more lines m (write_of point level) b g
-sent_grows {D} {G} {state} {faults} {lines} {c} {m} {g} more among tell h point level b put told sent quiet was listed acks_are leaves =
+    → IsTrue (delivers_nothing (line_of (write_of point level) b)) → was_sent b ≡ true → ListsFaults tells lines m (sent_links state m.net (next_call c None) (placed point put.place) told g.net sent) more
+    → ((acks : List ℕ) → b ≡ answer.Acks acks → acks ≡ answering told) → ((s : Slot) → Leaves (write_of point level) b m.net.state.place s) → Grows state tells more lines m (write_of point level) b g
+sent_grows {D} {G} {state} {tells} {faults} {lines} {c} {m} {g} more among tell h point level b put told sent quiet was listed acks_are leaves =
     let same_place = ap (λ (s : MetaState). s.place) put.state_stays in
     let taken = sent_taken state m.net (next_call c None) p told g.net sent in
     record {
@@ -165,9 +165,9 @@ sent_grows {D} {G} {state} {faults} {lines} {c} {m} {g} more among tell h point 
         ]
 
 -- no machine was asked
-unsent_grows : {D : Type 0} {G : Ghosts D} {state : D → DiskState} {faults : List Fault} {lines : List Turn} {c : Cluster D G} {m g : Members D G} (more : List Fault) → AreAmong faults more → TellAll state → (h : At state faults lines c m)
-    → (point : NamedPoint) (level : WriteLevel) (put : IsPut state m (next_call c None) point level answer.Memory g) → IsUnsent m.net (next_call c None) (placed point put.place) g.net → Grows state more lines m (write_of point level) answer.Memory g
-unsent_grows {D} {G} {state} {faults} {lines} {c} {m} {g} more among tell h point level put unsent =
+unsent_grows : {D : Type 0} {G : Ghosts D} {state : D → DiskState} {tells : Bool} {faults : List Fault} {lines : List Turn} {c : Cluster D G} {m g : Members D G} (more : List Fault) → AreAmong faults more → (tells ≡ true → TellAll state) → (h : At state tells faults lines c m)
+    → (point : NamedPoint) (level : WriteLevel) (put : IsPut state m (next_call c None) point level answer.Memory g) → IsUnsent m.net (next_call c None) (placed point put.place) g.net → Grows state tells more lines m (write_of point level) answer.Memory g
+unsent_grows {D} {G} {state} {tells} {faults} {lines} {c} {m} {g} more among tell h point level put unsent =
     let a = write_of point level in
     let p = placed point put.place in
     let extends = extends_same {g = g} h put.state_stays refl in
@@ -189,9 +189,9 @@ unsent_grows {D} {G} {state} {faults} {lines} {c} {m} {g} more among tell h poin
     }
 
 -- what was acknowledged is kept
-acked_kept : {D : Type 0} {G : Ghosts D} {state : D → DiskState} {faults : List Fault} {lines : List Turn} {old new : Cluster D G} {m g : Members D G} (h : At state faults lines old m) → new.members ≡ Some g → (point : NamedPoint) (level : WriteLevel) (b : Answer) (put : IsPut state m (next_call old None) point level b g) (acks : List ℕ)
+acked_kept : {D : Type 0} {G : Ghosts D} {state : D → DiskState} {tells : Bool} {faults : List Fault} {lines : List Turn} {old new : Cluster D G} {m g : Members D G} (h : At state tells faults lines old m) → new.members ≡ Some g → (point : NamedPoint) (level : WriteLevel) (b : Answer) (put : IsPut state m (next_call old None) point level b g) (acks : List ℕ)
     → IsAcknowledged state m.net (next_call old None) (placed point put.place) level acks g.net → IsKept new (turn_of (write_of point level) b) acks
-acked_kept {D} {G} {state} {faults} {lines} {old} {new} {m} {g} h is point level b put acks done =
+acked_kept {D} {G} {state} {tells} {faults} {lines} {old} {new} {m} {g} h is point level b put acks done =
     let p = placed point put.place in
     let sent = done.sent in
     let same_place = ap (λ (s : MetaState). s.place) put.state_stays in
@@ -210,36 +210,36 @@ acked_kept {D} {G} {state} {faults} {lines} {old} {new} {m} {g} h is point level
       by_name = subst (λ place. Ascends (IsNamedBelow place) acks) (sym same_place) (subst (Ascends (IsNamedBelow m.net.state.place)) (sym done.acks_are) (answering_ascend (IsNamedBelow m.net.state.place) done.told told_by_name));
     }
 
-written_goes : {D : Type 0} {G : Ghosts D} {state : D → DiskState} {faults : List Fault} {lines : List Turn} {old new : Cluster D G} {m g : Members D G} (more : List Fault) → (h : At state faults lines old m) → new.members ≡ Some g → new.calls ≡ after_call old.calls
-    → (point : NamedPoint) (level : WriteLevel) (b : Answer) → Grows state more lines m (write_of point level) b g → printed b ≡ None → ((acks : List ℕ) → b ≡ answer.Acks acks → IsKept new (turn_of (write_of point level) b) acks)
-    → IsPut state m (next_call old None) point level b g → Goes state more lines old (write_of point level) b new
-written_goes {D} {G} {state} {faults} {lines} {old} {new} {m} {g} more h is calls point level b grows prints acked put =
+written_goes : {D : Type 0} {G : Ghosts D} {state : D → DiskState} {tells : Bool} {faults : List Fault} {lines : List Turn} {old new : Cluster D G} {m g : Members D G} (more : List Fault) → (h : At state tells faults lines old m) → new.members ≡ Some g → new.calls ≡ after_call old.calls
+    → (point : NamedPoint) (level : WriteLevel) (b : Answer) → Grows state tells more lines m (write_of point level) b g → printed b ≡ None → ((acks : List ℕ) → b ≡ answer.Acks acks → IsKept new (turn_of (write_of point level) b) acks)
+    → IsPut state m (next_call old None) point level b g → Goes state tells more lines old (write_of point level) b new
+written_goes {D} {G} {state} {tells} {faults} {lines} {old} {new} {m} {g} more h is calls point level b grows prints acked put =
     grown_goes h.stands h.members is grows (ap (λ (s : MetaState). s.rules) (sym put.state_stays)) prints
     (call_numbered h.stands refl (λ none. let bad : None ≡ Some g = sym none ∙ is in absurd (cc)) refl calls) acked
 
-put_goes : {D : Type 0} {G : Ghosts D} {state : D → DiskState} {faults : List Fault} {lines : List Turn} {old new : Cluster D G} {m g : Members D G} (more : List Fault) → AreAmong faults more → TellAll state → (h : At state faults lines old m) → new.members ≡ Some g
-    → new.calls ≡ after_call old.calls → (point : NamedPoint) (level : WriteLevel) (b : Answer) (put : IsPut state m (next_call old None) point level b g) → ListsFaults lines m (answer_links state m (next_call old None) (placed point put.place) level b g put.answers) more
-    → Goes state more lines old (write_of point level) b new
-put_goes {D} {G} {state} {faults} {lines} {old} {new} {m} {g} more among tell h is calls point level (answer.Acks acks) put listed =
+put_goes : {D : Type 0} {G : Ghosts D} {state : D → DiskState} {tells : Bool} {faults : List Fault} {lines : List Turn} {old new : Cluster D G} {m g : Members D G} (more : List Fault) → AreAmong faults more → (tells ≡ true → TellAll state) → (h : At state tells faults lines old m) → new.members ≡ Some g
+    → new.calls ≡ after_call old.calls → (point : NamedPoint) (level : WriteLevel) (b : Answer) (put : IsPut state m (next_call old None) point level b g) → ListsFaults tells lines m (answer_links state m (next_call old None) (placed point put.place) level b g put.answers) more
+    → Goes state tells more lines old (write_of point level) b new
+put_goes {D} {G} {state} {tells} {faults} {lines} {old} {new} {m} {g} more among tell h is calls point level (answer.Acks acks) put listed =
     let done = put.answers in
     written_goes more h is calls point level (answer.Acks acks)
     (sent_grows more among tell h point level (answer.Acks acks) put done.told done.sent refl refl listed (λ xs e. sym (same_acks acks xs e) ∙ done.acks_are) (λ s. record { restarts = λ one there. refl; stops = λ one there. refl; waits = λ one there. refl; prints = refl })) refl
     (λ xs e. subst (IsKept new (turn_of (write_of point level) (answer.Acks acks))) (same_acks acks xs e) (acked_kept h is point level (answer.Acks acks) put acks done)) put
-put_goes {D} {G} {state} {faults} {lines} {old} {new} {m} {g} more among tell h is calls point level (answer.Consistency got needed reasons shard) put listed =
+put_goes {D} {G} {state} {tells} {faults} {lines} {old} {new} {m} {g} more among tell h is calls point level (answer.Consistency got needed reasons shard) put listed =
     let done = put.answers in
     written_goes more h is calls point level (answer.Consistency got needed reasons shard)
     (sent_grows more among tell h point level (answer.Consistency got needed reasons shard) put done.0 done.1 refl refl listed (λ xs e. cc) (λ s. record { restarts = λ one there. refl; stops = λ one there. refl; waits = λ one there. refl; prints = refl })) refl (λ xs e. cc) put
-put_goes {D} {G} {state} {faults} {lines} {old} {new} {m} {g} more among tell h is calls point level answer.Memory put listed =
+put_goes {D} {G} {state} {tells} {faults} {lines} {old} {new} {m} {g} more among tell h is calls point level answer.Memory put listed =
     written_goes more h is calls point level answer.Memory (unsent_grows more among tell h point level put put.answers) refl (λ xs e. cc) put
-put_goes {D} {G} {state} {faults} {lines} {old} {new} {m} {g} more among tell h is calls point level _ put listed = absurd put.answers
+put_goes {D} {G} {state} {tells} {faults} {lines} {old} {new} {m} {g} more among tell h is calls point level _ put listed = absurd put.answers
 
-pub write_goes : {D : Type 0} {G : Ghosts D} {state : D → DiskState} {faults : List Fault} {lines : List Turn} {old new : Cluster D G} {m g : Members D G} (more : List Fault) → AreAmong faults more → TellAll state → (h : At state faults lines old m) → new.members ≡ Some g
-    → new.calls ≡ after_call old.calls → (point : NamedPoint) (level : WriteLevel) (b : Answer) (written : IsWritten state m (next_call old None) point level b g) → ListsFaults lines m (written_links state m (next_call old None) point level b g written) more
-    → Goes state more lines old (write_of point level) b new
-write_goes {D} {G} {state} {faults} {lines} {old} {new} {m} {g} more among tell h is calls point level b (inl unknown) listed =
-    subst (λ x. Goes state more lines old (write_of point level) x new) (sym unknown.1)
+pub write_goes : {D : Type 0} {G : Ghosts D} {state : D → DiskState} {tells : Bool} {faults : List Fault} {lines : List Turn} {old new : Cluster D G} {m g : Members D G} (more : List Fault) → AreAmong faults more → (tells ≡ true → TellAll state) → (h : At state tells faults lines old m) → new.members ≡ Some g
+    → new.calls ≡ after_call old.calls → (point : NamedPoint) (level : WriteLevel) (b : Answer) (written : IsWritten state m (next_call old None) point level b g) → ListsFaults tells lines m (written_links state m (next_call old None) point level b g written) more
+    → Goes state tells more lines old (write_of point level) b new
+write_goes {D} {G} {state} {tells} {faults} {lines} {old} {new} {m} {g} more among tell h is calls point level b (inl unknown) listed =
+    subst (λ x. Goes state tells more lines old (write_of point level) x new) (sym unknown.1)
     (quiet_call more among tell h.stands (tells_unknown (write_of point level) point.ns) refl (is ∙ ap Some unknown.2 ∙ sym h.members) calls)
-write_goes {D} {G} {state} {faults} {lines} {old} {new} {m} {g} more among tell h is calls point level b (inr put) listed = put_goes more among tell h is calls point level b put listed
+write_goes {D} {G} {state} {tells} {faults} {lines} {old} {new} {m} {g} more among tell h is calls point level b (inr put) listed = put_goes more among tell h is calls point level b put listed
 
 -- ---- deliveries
 
@@ -263,9 +263,9 @@ place-IsIn {lines} {p} at =
     subst (λ xs. IsIn (inner_turns xs) p.turn) (sym at.in_run) (flat-IsIn (λ (t : Turn). joined (lists_of t)) p.lines at.after p.line p.turn in_line)
 
 -- what a late write brings was sent, at the first version
-late_sent : {D : Type 0} {G : Ghosts D} {state : D → DiskState} {faults : List Fault} {lines : List Turn} {c : Cluster D G} {m : Members D G} (h : At state faults lines c m) (one : LateWrite) → IsIn m.net.bag one
+late_sent : {D : Type 0} {G : Ghosts D} {state : D → DiskState} {tells : Bool} {faults : List Fault} {lines : List Turn} {c : Cluster D G} {m : Members D G} (h : At state tells faults lines c m) (one : LateWrite) → IsIn m.net.bag one
     → (one.version ≡ 1) × WasSent (spaces_in m) (inner_turns lines) one.point
-late_sent {D} {G} {state} {faults} {lines} {c} {m} h one in_bag =
+late_sent {D} {G} {state} {tells} {faults} {lines} {c} {m} h one in_bag =
     let held = (on h).late in
     let from = message_of m lines held.messages m.net.bag held.held_back one in_bag in
     let message = from.0 in
@@ -281,9 +281,9 @@ late_sent {D} {G} {state} {faults} {lines} {c} {m} h one in_bag =
       },
     )
 
-delivered_grows : {D : Type 0} {G : Ghosts D} {state : D → DiskState} {faults : List Fault} {lines : List Turn} {c : Cluster D G} {m g : Members D G} (more : List Fault) → AreAmong faults more → TellAll state → (h : At state faults lines c m)
-    → (outcomes : List (ℕ × ℕ × Option Reason)) (d : IsDelivered state m (answer.Outcomes outcomes) g) → ListsFaults lines m (delivered_links state m (answer.Outcomes outcomes) g d) more → Grows state more lines m act.Deliver (answer.Outcomes outcomes) g
-delivered_grows {D} {G} {state} {faults} {lines} {c} {m} {g} more among tell h outcomes d listed =
+delivered_grows : {D : Type 0} {G : Ghosts D} {state : D → DiskState} {tells : Bool} {faults : List Fault} {lines : List Turn} {c : Cluster D G} {m g : Members D G} (more : List Fault) → AreAmong faults more → (tells ≡ true → TellAll state) → (h : At state tells faults lines c m)
+    → (outcomes : List (ℕ × ℕ × Option Reason)) (d : IsDelivered state m (answer.Outcomes outcomes) g) → ListsFaults tells lines m (delivered_links state m (answer.Outcomes outcomes) g d) more → Grows state tells more lines m act.Deliver (answer.Outcomes outcomes) g
+delivered_grows {D} {G} {state} {tells} {faults} {lines} {c} {m} {g} more among tell h outcomes d listed =
     let same_place = ap (λ (s : MetaState). s.place) d.1.state in
     let taken = delivered_taken state m b g d in
     record {
@@ -317,9 +317,9 @@ delivered_grows {D} {G} {state} {faults} {lines} {c} {m} {g} more among tell h o
         let sent = late_sent h found.0 (IsIn-filter _ m.net.bag found.0 found.1) in
         subst (IsPutOf Later) (sym found.2) (sent.0, sent_on lines act.Deliver b (spaces_in m) extends.more (spaces_in g) found.0.point extends.spaces sent.1)
 
-undelivered_grows : {D : Type 0} {G : Ghosts D} {state : D → DiskState} {faults : List Fault} {lines : List Turn} {c : Cluster D G} {m g : Members D G} (more : List Fault) → AreAmong faults more → TellAll state → (h : At state faults lines c m)
-    → late.IsUndelivered m.net g.net → KeepsButMachines m g → Grows state more lines m act.Deliver answer.Memory g
-undelivered_grows {D} {G} {state} {faults} {lines} {c} {m} {g} more among tell h undelivered keeps =
+undelivered_grows : {D : Type 0} {G : Ghosts D} {state : D → DiskState} {tells : Bool} {faults : List Fault} {lines : List Turn} {c : Cluster D G} {m g : Members D G} (more : List Fault) → AreAmong faults more → (tells ≡ true → TellAll state) → (h : At state tells faults lines c m)
+    → late.IsUndelivered m.net g.net → KeepsButMachines m g → Grows state tells more lines m act.Deliver answer.Memory g
+undelivered_grows {D} {G} {state} {tells} {faults} {lines} {c} {m} {g} more among tell h undelivered keeps =
     let extends = extends_same {g = g} h keeps.state refl in
     let same_place = ap (λ (s : MetaState). s.place) keeps.state in
     record {
@@ -333,12 +333,12 @@ undelivered_grows {D} {G} {state} {faults} {lines} {c} {m} {g} more among tell h
       late = elim undelivered.bag as (λ _. HoldsLate g (and_then lines act.Deliver answer.Memory)) [ inl same ↦ late_stays extends refl same (on h).late | inr none ↦ late_none g (and_then lines act.Deliver answer.Memory) none ];
     }
 
-pub deliver_goes : {D : Type 0} {G : Ghosts D} {state : D → DiskState} {faults : List Fault} {lines : List Turn} {old new : Cluster D G} {m g : Members D G} (more : List Fault) → AreAmong faults more → TellAll state → (h : At state faults lines old m) → new.members ≡ Some g
-    → new.calls ≡ old.calls → (b : Answer) (d : IsDelivered state m b g) → ListsFaults lines m (delivered_links state m b g d) more → Goes state more lines old act.Deliver b new
-deliver_goes {D} {G} {state} {faults} {lines} {old} {new} {m} {g} more among tell h is calls (answer.Outcomes outcomes) d listed =
+pub deliver_goes : {D : Type 0} {G : Ghosts D} {state : D → DiskState} {tells : Bool} {faults : List Fault} {lines : List Turn} {old new : Cluster D G} {m g : Members D G} (more : List Fault) → AreAmong faults more → (tells ≡ true → TellAll state) → (h : At state tells faults lines old m) → new.members ≡ Some g
+    → new.calls ≡ old.calls → (b : Answer) (d : IsDelivered state m b g) → ListsFaults tells lines m (delivered_links state m b g d) more → Goes state tells more lines old act.Deliver b new
+deliver_goes {D} {G} {state} {tells} {faults} {lines} {old} {new} {m} {g} more among tell h is calls (answer.Outcomes outcomes) d listed =
     grown_goes h.stands h.members is (delivered_grows more among tell h outcomes d listed) (ap (λ (s : MetaState). s.rules) (sym d.1.state)) refl
     (other_numbered h.stands refl (λ none. let bad : None ≡ Some g = sym none ∙ is in absurd (cc)) refl calls) (λ acks e. cc)
-deliver_goes {D} {G} {state} {faults} {lines} {old} {new} {m} {g} more among tell h is calls answer.Memory d listed =
+deliver_goes {D} {G} {state} {tells} {faults} {lines} {old} {new} {m} {g} more among tell h is calls answer.Memory d listed =
     grown_goes h.stands h.members is (undelivered_grows more among tell h d.0 d.1) (ap (λ (s : MetaState). s.rules) (sym d.1.state)) refl
     (other_numbered h.stands refl (λ none. let bad : None ≡ Some g = sym none ∙ is in absurd (cc)) refl calls) (λ acks e. cc)
-deliver_goes {D} {G} {state} {faults} {lines} {old} {new} {m} {g} more among tell h is calls _ d listed = absurd d
+deliver_goes {D} {G} {state} {tells} {faults} {lines} {old} {new} {m} {g} more among tell h is calls _ d listed = absurd d

@@ -1,10 +1,8 @@
--- The faults of a turn's line, and how what was kept and caused goes on by one turn.
-use Rattle.std.proofs.Common.{◌≡◌, ◌⊎◌, ◌+◌, ◌<◌, ◌≤◌, ℕ, zero, suc, List, [], ◌∷◌, ◌++◌, drop, length, length-append, sym, ap, subst, ◌∙◌, inl, inr, arith, true, false, cond}
+-- How what was kept and caused goes on by one turn.
+use Rattle.std.proofs.Common.{◌≡◌, ◌+◌, ◌<◌, ◌≤◌, ℕ, zero, suc, List, [], ◌∷◌, ◌++◌, drop, length, length-append, sym, ap, subst, ◌∙◌, inl, inr, arith, true, false, cond, Bool}
 use Rattle.std.specs.Prelude.{None, if◌then◌else◌, nat_lt}
 use Rattle.std.proofs.lemmas.Bool.{cases_lt}
 use Rattle.std.proofs.lemmas.Bool.Decides.{nat_tests}
-use Rattle.m3_outside.specs.declared.disk.Disk.{Ghosts}
-use Rattle.m3_outside.specs.DiskState.{DiskState}
 use Rattle.transcripts.specs.Caused.{Caused, CausedAt, IsRefusedWhole}
 use Rattle.transcripts.specs.Deliveries.{LateMessage, IsSameMessage, IsSamePlace}
 use Rattle.transcripts.specs.Faults.{AreDifferent, Fault}
@@ -14,32 +12,12 @@ use Rattle.m3_model.specs.Members.{IsIn}
 use Rattle.m3_model.specs.declared.act.Act.{Act}
 use Rattle.m3_model.specs.declared.answer.Answer.{Answer}
 use Rattle.m3_model.specs.declared.turn.Turn.{Turn}
-use Rattle.m3_model.proofs.MemberLemmas.{IsIn-append_right}
 use Rattle.m3_model.proofs.SplitLemmas.{split_push}
 use Rattle.transcripts.proofs.PlaceLemmas.{IsOnly, at_push, only_place}
 use Rattle.m3_cluster.specs.Serves.{IsHistory, WasDelivered, life_of}
-use Rattle.m3_cluster.specs.declared.cluster.Cluster.{Cluster}
-use Rattle.m3_cluster.proofs.ActLinks.{TurnLists, TurnsOff, TurnsOn, turn_links}
 use Rattle.m3_cluster.proofs.CallLemmas.{place_after}
 use Rattle.m3_cluster.proofs.MoreFaults.{AreAmong, caused_more}
 use Rattle.m3_cluster.proofs.NumberLemmas.{and_then}
-use Rattle.m3_cluster.proofs.ReplicaLemmas.{fault_listed, fault_of, line_faults}
-
--- the faults of the disks in a turn's line
-abbrev pub turn_faults : {D : Type 0} {G : Ghosts D} (state : D → DiskState) (lines : List Turn) (old : Cluster D G) (a : Act) (b : Answer) (new : Cluster D G) → TurnsOff old a b new ⊎ TurnsOn state old a b new → List Fault
-turn_faults state lines old a b new (inl off) = []
-turn_faults state lines old a b new (inr on) = line_faults (length lines) (turn_links state old a b on.m on.g on.turn) on.m.slots.items
-
--- they are listed where they are added
-pub turn_lists : {D : Type 0} {G : Ghosts D} (state : D → DiskState) (lines : List Turn) (old : Cluster D G) (a : Act) (b : Answer) (new : Cluster D G) (t : TurnsOff old a b new ⊎ TurnsOn state old a b new) (taking failing : List Fault)
-    → TurnLists state lines old a b new t (taking ++ (failing ++ turn_faults state lines old a b new t))
-turn_lists state lines old a b new (inl off) taking failing = tt
-turn_lists state lines old a b new (inr on) taking failing =
-    let links = turn_links state old a b on.m on.g on.turn in
-    let slots = on.m.slots.items in
-    let more = line_faults (length lines) links slots in
-    λ s among failed.
-    IsIn-append_right taking (failing ++ more) (fault_of (length lines) s) (IsIn-append_right failing more (fault_of (length lines) s) (fault_listed (length lines) links slots s among failed))
 
 place_is : (lines : List Turn) (a : Act) (b : Answer) (p : TurnPlace) → IsOnly lines (record { act = a; answer = b }) p → place_after lines a b ≡ p
 place_is lines a b p h = λ i. record { lines = sym h.lines_are i; line = sym h.line_is i; client = sym h.client_is i; earlier = sym h.earlier_is i; beside = sym h.beside_is i; turn = sym h.turn_is i }
@@ -102,14 +80,14 @@ delivered_now turns delivered messages p is =
 -- ---- one more turn
 
 -- Why the answer of a line is what it is, and which late messages its turn delivered.
-pub record IsCausedLine (more : List Fault) (turns : List Turn) (a : Act) (b : Answer) : Type 0 where
+pub record IsCausedLine (tells : Bool) (more : List Fault) (turns : List Turn) (a : Act) (b : Answer) : Type 0 where
   pub messages : List LateMessage
-  pub caused : CausedAt true more [] None messages (place_after turns a b)
+  pub caused : CausedAt tells more [] None messages (place_after turns a b)
   pub were : (m : LateMessage) → IsIn messages m → WasDelivered (place_after turns a b) m
 
 -- What was caused is caused with one more turn and its faults.
-pub record IsCausedOn (turns : List Turn) (more : List Fault) : Type 0 where
-  pub caused : Caused true (life_of turns) more
+pub record IsCausedOn (tells : Bool) (turns : List Turn) (more : List Fault) : Type 0 where
+  pub caused : Caused tells (life_of turns) more
   pub history : IsHistory turns caused.delivered
 
 whole_next : (turns : List Turn) (a : Act) (b : Answer) → ((before : List Turn) (line : Turn) (after : List Turn) → turns ≡ before ++ line ∷ after → IsRefusedWhole None before line.request line.reply)
@@ -120,26 +98,26 @@ whole_next turns a b old before line after e =
       | inr there ↦ old before line there.0 there.1
     ]
 
-pub history_next : (turns : List Turn) (a : Act) (b : Answer) (more : List Fault) (delivered : TurnPlace → List LateMessage) → IsHistory turns delivered → (line : IsCausedLine more turns a b) → IsHistory (and_then turns a b) (delivered_with turns delivered line.messages)
-history_next turns a b more delivered h line = record {
+pub history_next : (tells : Bool) (turns : List Turn) (a : Act) (b : Answer) (more : List Fault) (delivered : TurnPlace → List LateMessage) → IsHistory turns delivered → (line : IsCausedLine tells more turns a b) → IsHistory (and_then turns a b) (delivered_with turns delivered line.messages)
+history_next tells turns a b more delivered h line = record {
   lone = at_push (λ p. (p.client ≡ 0) × (p.earlier ≡ [])) turns (line_of a b) h.lone (λ p last. let only = only_place turns a b p last in (only.client_is, only.earlier_is));
   were = at_push (λ p. (m : LateMessage) → IsIn (delivered_with turns delivered line.messages p) m → WasDelivered p m) turns (line_of a b)
       (λ p at m i. h.were p at m (subst (λ ms. IsIn ms m) (delivered_before turns delivered line.messages p at) i))
       (λ p last m i. subst (λ q. WasDelivered q m) (place_is turns a b p (only_place turns a b p last)) (line.were m (subst (λ ms. IsIn ms m) (delivered_now turns delivered line.messages p last.lines_are) i)));
 }
 
-pub caused_next : (turns : List Turn) (a : Act) (b : Answer) (faults more : List Fault) → AreDifferent more → AreAmong faults more → (caused : Caused true (life_of turns) faults) → IsHistory turns caused.delivered → IsCausedLine more turns a b → IsCausedOn (and_then turns a b) more
-caused_next turns a b faults more different among caused history line =
+pub caused_next : (tells : Bool) (turns : List Turn) (a : Act) (b : Answer) (faults more : List Fault) → AreDifferent more → AreAmong faults more → (caused : Caused tells (life_of turns) faults) → IsHistory turns caused.delivered → IsCausedLine tells more turns a b → IsCausedOn tells (and_then turns a b) more
+caused_next tells turns a b faults more different among caused history line =
     let delivered = delivered_with turns caused.delivered line.messages in
-    let later : IsHistory (and_then turns a b) delivered = history_next turns a b more caused.delivered history line in
+    let later : IsHistory (and_then turns a b) delivered = history_next tells turns a b more caused.delivered history line in
     record {
       caused = record {
         different = different;
         delivered = delivered;
-        each = at_push (λ p. CausedAt true more [] None (delivered p) p) turns (line_of a b)
-            (λ p at. subst (λ ms. CausedAt true more [] None ms p) (sym (delivered_before turns caused.delivered line.messages p at)) (caused_more true faults more among [] None (caused.delivered p) p (caused.each p at)))
-            (λ p last. subst (λ ms. CausedAt true more [] None ms p) (sym (delivered_now turns caused.delivered line.messages p last.lines_are))
-            (subst (CausedAt true more [] None line.messages) (place_is turns a b p (only_place turns a b p last)) line.caused));
+        each = at_push (λ p. CausedAt tells more [] None (delivered p) p) turns (line_of a b)
+            (λ p at. subst (λ ms. CausedAt tells more [] None ms p) (sym (delivered_before turns caused.delivered line.messages p at)) (caused_more tells faults more among [] None (caused.delivered p) p (caused.each p at)))
+            (λ p last. subst (λ ms. CausedAt tells more [] None ms p) (sym (delivered_now turns caused.delivered line.messages p last.lines_are))
+            (subst (CausedAt tells more [] None line.messages) (place_is turns a b p (only_place turns a b p last)) line.caused));
         once = once_by (and_then turns a b) delivered later;
         whole = whole_next turns a b caused.whole;
       };

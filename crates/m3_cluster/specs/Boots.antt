@@ -1,6 +1,7 @@
 -- What a restart or a bootstrap answers where a shard of the node is refused.
 use Rattle.std.specs.Prelude.{◌≡◌, ⊤, ℕ, List, [], ◌∷◌, Some, Result, Ok, Err, decimal}
 use Rattle.std.specs.FinMap.{get}
+use Rattle.transcripts.specs.Reasons.{IsShown}
 use Rattle.m3_model.specs.declared.answer.Answer.{Answer}
 use Rattle.m3_model.specs.declared.answer.Answer.TheVariants as answer
 use Rattle.m3_model.specs.declared.reason.Damage.{Damage}
@@ -41,3 +42,4 @@ IsBootTried state slot old new (Ok u) = (answered : StepReply) × IsPassed answe
 IsBootTried {D} state slot old new (Err refused) =
     (refused.shard ≡ slot.shard) × EndsBoots refused.why × IsSteppedAt state slot (record { call = call.Begin first_tenure; reply = reply.Refused refused.why } ∷ []) old new
     × ((m : MachineState D) → get old slot ≡ Some m → (damage : Damage) → refused.why ≡ reason.Corrupt damage → Told (state m.disk) (λ files. ¬ IsSound files))
+    × ((damage : Damage) → refused.why ≡ reason.Corrupt damage → IsShown damage)

@@ -2,6 +2,7 @@
 use Rattle.std.specs.Prelude.{◌≡◌, ◌⊎◌, ⊤, ℕ, List, [], ◌∷◌, ◌++◌, map, filter, Option, Some, nat_eq, ◌&&◌}
 use Rattle.std.specs.FinMap.{get}
 use Rattle.std.specs.List.{All}
+use Rattle.transcripts.specs.Reasons.{IsShown}
 use Rattle.transcripts.specs.Waiting.{is_covering}
 use Rattle.m3_model.specs.declared.reason.Damage.{Damage}
 use Rattle.m3_model.specs.declared.reason.Reason.{Reason}
@@ -106,3 +107,4 @@ pub record IsUnbooted {D : Type 0} (state : D → DiskState) (slots : List Slot)
   pub booted : AreBooted state before old mid
   pub refused : IsSteppedAt state slot (record { call = call.Begin first_tenure; reply = reply.Refused why } ∷ []) mid new
   pub sound : (m : MachineState D) → get mid slot ≡ Some m → (damage : Damage) → why ≡ reason.Corrupt damage → Told (state m.disk) (λ files. ¬ IsSound files)
+  pub shown : (damage : Damage) → why ≡ reason.Corrupt damage → IsShown damage

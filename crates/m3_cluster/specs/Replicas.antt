@@ -1,5 +1,5 @@
 -- The replicas that a cluster's machines are: what each of them knows, and why one isn't open.
-use Rattle.std.specs.Prelude.{◌≡◌, ◌≢◌, ◌⊎◌, ◌≤◌, ℕ, ⊤, List, [], ◌∷◌, Some, None, count_by, nat_eq, ◌&&◌}
+use Rattle.std.specs.Prelude.{◌≡◌, ◌≢◌, ◌⊎◌, ◌≤◌, ℕ, ⊤, List, [], ◌∷◌, Some, None, Bool, true, count_by, nat_eq, ◌&&◌}
 use Rattle.std.specs.List.{All}
 use Rattle.transcripts.specs.Faults.{Fault, IsClosedByFault}
 use Rattle.transcripts.specs.Waiting.{WaitsForBoot}
@@ -53,23 +53,24 @@ pub record IsOurs (Sent : Point → Type 0) (r : ReplicaState) : Type 0 where
   pub sure_sent : (p : Point) → IsIn r.sure p → Sent p
   pub doubt_sent : (p : Point) → IsIn r.doubt p → Sent p
 
--- the machine is such a replica's, of which these points are sure
-pub record HasReplica {D : Type 0} (state : D → DiskState) (Sent Sure : Point → Type 0) (m : MachineState D) : Type 0 where
+-- The machine is a replica's, which owns its shard where it is open. Where the disks tell what they hold, it is such a replica, of which these points are sure.
+pub record HasReplica {D : Type 0} (state : D → DiskState) (tells : Bool) (Sent Sure : Point → Type 0) (m : MachineState D) : Type 0 where
   pub r : ReplicaState
   pub is_machine : IsMachineOf state r m
-  pub ours : IsOurs Sent r
-  pub sure : (p : Point) → Sure p → IsIn r.sure p
+  pub owns : r.standing ≡ standing.Open → r.tenure ≡ Some 1
+  pub ours : tells ≡ true → IsOurs Sent r
+  pub sure : tells ≡ true → (p : Point) → Sure p → IsIn r.sure p
 
 -- ---- why a machine isn't open
 
--- its node is stopped, or a fault closed it; or it waits for a bootstrap
-abbrev pub IsShutFor : List Fault → TurnPlace → Placement → Slot → Standing → Type 0
-IsShutFor faults p place s standing.Down = IsStoppedAt p place s.node ⊎ IsClosedByFault faults None p place s.shard s.node
-IsShutFor faults p place s standing.Boot = WaitsForBoot None p place s.shard s.node
-IsShutFor faults p place s standing.Open = ⊤
+-- its node is stopped, or a fault or damage closed it; or it waits for a bootstrap, where the disks tell what they hold
+abbrev pub IsShutFor : Bool → List Fault → TurnPlace → Placement → Slot → Standing → Type 0
+IsShutFor tells faults p place s standing.Down = IsStoppedAt p place s.node ⊎ IsClosedByFault faults None p place s.shard s.node
+IsShutFor tells faults p place s standing.Boot = tells ≡ true → WaitsForBoot None p place s.shard s.node
+IsShutFor tells faults p place s standing.Open = ⊤
 
 -- ---- faults of a slot
 
--- how many of these faults are of the slot's disk
+-- how many of these faults are at the slot
 abbrev pub faults_at : Slot → List Fault → ℕ
 faults_at s faults = count_by (λ f. nat_eq f.node s.node && nat_eq f.shard s.shard) faults

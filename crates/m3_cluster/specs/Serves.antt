@@ -1,5 +1,5 @@
 -- What the machines keep of the turns that were served.
-use Rattle.std.specs.Prelude.{◌≡◌, ℕ, suc, ◌-◌, ◌^◌, ◌<◌, ◌≤◌, List, [], ◌∷◌, ◌++◌, length, drop, Option, Some, None, IsTrue, IsSome, option_map, min, slice_get, slice_index, true, false}
+use Rattle.std.specs.Prelude.{◌≡◌, ℕ, suc, ◌-◌, ◌^◌, ◌<◌, ◌≤◌, List, [], ◌∷◌, ◌++◌, length, drop, Option, Some, None, IsTrue, IsSome, option_map, min, slice_get, slice_index, Bool, true, false}
 use Rattle.std.specs.List.{All}
 use Rattle.std.specs.Option.{option_map_or}
 use Rattle.std.specs.FinMap.{get}
@@ -9,7 +9,7 @@ use Rattle.transcripts.specs.Caused.{Caused}
 use Rattle.transcripts.specs.Deliveries.{LateMessage, IsLateMessage, IsLateBefore, delivers_nothing, shard_of_message}
 use Rattle.placement_core.specs.NodeNames.{IsNamedBelow}
 use Rattle.transcripts.specs.Fates.{numbering_after, fate_in, is_stopped}
-use Rattle.transcripts.specs.Faults.{Fault, FaultKind, Taking, Failing, AreDifferent}
+use Rattle.transcripts.specs.Faults.{Fault, FaultKind, Taking, Failing, Damaged, AreDifferent}
 use Rattle.m3_model.specs.Hash.{shard_of}
 use Rattle.transcripts.specs.Kept.{Kept}
 use Rattle.m3_model.specs.Members.{IsIn}
@@ -39,7 +39,7 @@ use Rattle.placement_core.specs.Shards.{shard_at, counted}
 use Rattle.replica_machine.specs.Machines.{MachineState}
 use Rattle.session.specs.Slots.{slot_at}
 use Rattle.session.specs.declared.slot.Slot.{Slot}
-use Rattle.m3_outside.specs.Depots.{Depot}
+use Rattle.m3_outside.specs.Depots.{Depot, TellAll}
 use Rattle.m3_cluster.specs.Depots.{count_at, place_of_slot}
 use Rattle.m3_cluster.specs.First.{slots_of}
 use Rattle.m3_cluster.specs.Replicas.{HasReplica, IsBare, IsShutFor, faults_at}
@@ -140,21 +140,21 @@ pub record HoldsLate {D : Type 0} {G : Ghosts D} (m : Members D G) (lines : List
 
 -- What is so of the machine at a slot after these lines: it is a replica whose points were sent, and of which each point that its node acknowledged is sure; where it
 -- isn't open, that has its cause; and it is down where its node is stopped.
-pub record IsServing {D : Type 0} {G : Ghosts D} (state : D → DiskState) (faults : List Fault) (lines : List Turn) (m : Members D G) (s : Slot) (machine : MachineState D) : Type 0 where
-  pub replica : HasReplica state (WasSent (spaces_in m) (inner_turns lines)) (WasAcked m (inner_turns lines) s) machine
-  pub shut : IsShutFor faults (next_place lines) m.net.state.place s machine.standing
+pub record IsServing {D : Type 0} {G : Ghosts D} (state : D → DiskState) (tells : Bool) (faults : List Fault) (lines : List Turn) (m : Members D G) (s : Slot) (machine : MachineState D) : Type 0 where
+  pub replica : HasReplica state tells (WasSent (spaces_in m) (inner_turns lines)) (WasAcked m (inner_turns lines) s) machine
+  pub shut : IsShutFor tells faults (next_place lines) m.net.state.place s machine.standing
   pub halted : slice_get m.stopped.items s.node ≡ Some true → machine.standing ≡ Down
 
 -- what is so of one that stands after these lines
-pub record StandsOn {D : Type 0} {G : Ghosts D} (state : D → DiskState) (faults : List Fault) (lines : List Turn) (m : Members D G) : Type 0 where
+pub record StandsOn {D : Type 0} {G : Ghosts D} (state : D → DiskState) (tells : Bool) (faults : List Fault) (lines : List Turn) (m : Members D G) : Type 0 where
   pub well : IsWellFormed m
   pub fates : (client call : ℕ) → EachNode m (λ node name. fate_of m.net.fates (record { client = client; call = call; node = node }) ≡ fate_in (numbering_after 0 lines).fates client call name)
   pub stops : EachNode m (λ node name. slice_get m.stopped.items node ≡ Some (is_stopped (inner_turns lines) name))
-  pub serving : (s : Slot) (machine : MachineState D) → get m.net.machines s ≡ Some machine → IsServing state faults lines m s machine
+  pub serving : (s : Slot) (machine : MachineState D) → get m.net.machines s ≡ Some machine → IsServing state tells faults lines m s machine
   pub late : HoldsLate m lines
 
 -- the cluster is what the lines left
-pub record Stands {D : Type 0} {G : Ghosts D} (state : D → DiskState) (faults : List Fault) (lines : List Turn) (c : Cluster D G) : Type 0 where
+pub record Stands {D : Type 0} {G : Ghosts D} (state : D → DiskState) (tells : Bool) (faults : List Fault) (lines : List Turn) (c : Cluster D G) : Type 0 where
   pub rules : rules_after (start_rules None) (inner_turns lines) ≡ rules_of c
   pub place : placement_after None (inner_turns lines) ≡ place_of c
   pub seed : seed_after None (inner_turns lines) ≡ seed_of c
@@ -163,7 +163,7 @@ pub record Stands {D : Type 0} {G : Ghosts D} (state : D → DiskState) (faults 
   pub few_calls : (item : ℕ × ℕ × List ℕ × Fate) → IsIn (numbering_after 0 lines).fates item → item.1 < 2 ^ 62
   pub no_fates : c.members ≡ None → (numbering_after 0 lines).fates ≡ []
   pub no_stops : c.members ≡ None → (name : List ℕ) → is_stopped (inner_turns lines) name ≡ false
-  pub members : (m : Members D G) → c.members ≡ Some m → StandsOn state faults lines m
+  pub members : (m : Members D G) → c.members ≡ Some m → StandsOn state tells faults lines m
   pub acked : (turn : InnerTurn) → IsIn (inner_turns lines) turn → (acks : List ℕ) → turn.answer ≡ answer.Acks acks → IsKept c turn acks
 
 -- ---- deliveries
@@ -205,22 +205,36 @@ pub record AreCounted {D : Type 0} {G : Ghosts D} (state : D → DiskState) (fir
   pub of_disks : (s : Slot) → RoseBy (faults_at s failing) (now.counted (place_of_slot s)) (count_at state now (machine_at c s) s)
   pub manned : All (λ f. IsSome (machine_at c (slot_at f.node f.shard))) failing
 
--- before `init` each disk is bare, and none has failed
-pub record IsUnmade {D : Type 0} (state : D → DiskState) (now : Depot D) (failing : List Fault) : Type 0 where
-  pub bare : (place : Place) → IsBare state (now.held place)
+-- The damages since the run began: each was found in one of these lines, no two alike; and there are none where the disks tell what they hold.
+pub record AreDamages (tells : Bool) (lines : List Turn) (damaged : List Fault) : Type 0 where
+  pub different : AreDifferent damaged
+  pub earlier : All (IsEarlier Damaged lines) damaged
+  pub none : tells ≡ true → damaged ≡ []
+
+-- before `init` none of the disks has failed, and each is bare where they tell what they hold
+pub record IsUnmade {D : Type 0} (state : D → DiskState) (tells : Bool) (now : Depot D) (failing : List Fault) : Type 0 where
+  pub bare : tells ≡ true → (place : Place) → IsBare state (now.held place)
   pub none : failing ≡ []
 
 -- a first run on empty disks that has done these turns
 abbrev pub life_of : List Turn → Life
 life_of turns = record { past = []; present = record { start = None; turns = turns; unanswered = None } }
 
--- the cluster is what the turns left, over disks that were so when the run began and are so now; and the turns kept and caused what they had to
-pub record Serves {D : Type 0} {G : Ghosts D} (state : D → DiskState) (first now : Depot D) (turns : List Turn) (c : Cluster D G) : Type 0 where
+-- all faults and damages since the run began
+abbrev pub faults_of : List Fault → List Fault → List Fault → List Fault
+faults_of taking failing damaged = (taking ++ failing) ++ damaged
+
+-- The cluster is what the turns left, over disks that were so when the run began and are so now, and the turns caused what they had to. Where the disks tell what
+-- they hold and were bare, the turns also kept what they had to.
+pub record Serves {D : Type 0} {G : Ghosts D} (state : D → DiskState) (tells : Bool) (first now : Depot D) (turns : List Turn) (c : Cluster D G) : Type 0 where
+  pub tell : tells ≡ true → TellAll state
   pub taking : List Fault
   pub failing : List Fault
+  pub damaged : List Fault
   pub counted : AreCounted state first now turns c taking failing
-  pub unmade : c.members ≡ None → IsUnmade state now failing
-  pub stands : Stands state (taking ++ failing) turns c
-  pub kept : Kept (life_of turns)
-  pub caused : Caused true (life_of turns) (taking ++ failing)
+  pub damages : AreDamages tells turns damaged
+  pub unmade : c.members ≡ None → IsUnmade state tells now failing
+  pub stands : Stands state tells (faults_of taking failing damaged) turns c
+  pub kept : tells ≡ true → Kept (life_of turns)
+  pub caused : Caused tells (life_of turns) (faults_of taking failing damaged)
   pub history : IsHistory turns caused.delivered

@@ -1,4 +1,4 @@
-ghost use Rattle.std.specs.Prelude.{◌≡◌, ◌≢◌, ◌≤◌, [], ◌∷◌, ◌++◌, List, None, true, false, IsTrue};
+ghost use Rattle.std.specs.Prelude.{◌≡◌, ◌≢◌, ◌≤◌, [], ◌∷◌, ◌++◌, List, None, Bool, true, false, IsTrue};
 ghost use Rattle.std.specs.Option.{option_copied};
 ghost use Rattle.m3_model.specs.declared.turn.Turn.{Turn};
 ghost use Rattle.m3_model.specs.declared.act.Act.TheVariants as act;
@@ -58,7 +58,8 @@ impl<D: Disk> Cluster<D> {
     /// No nodes yet.
     pub fn new() -> Cluster<D>
         ensures none { result.members ≡ None }
-        ensures serves { (first : Depot D) → ((place : Place) → IsBare D.state (first.held place)) → Serves D.state first first [] result }
+        ensures serves { (tells : Bool) (first : Depot D) → (tells ≡ true → TellAll D.state) → (tells ≡ true → (place : Place) → IsBare D.state (first.held place))
+            → Serves D.state tells first first [] result }
     {
         Cluster {
             members: None,
@@ -246,8 +247,8 @@ impl<D: Disk> Cluster<D> {
         self.answer(alloc, act)
     }
 
-    /// Answers one request. What was kept and caused in the turns so far is so in them and this one, where the disks tell
-    /// what they hold.
+    /// Answers one request. What was caused in the turns so far is caused in them and this one; and what was kept is kept,
+    /// where the disks tell what they hold.
     pub fn serve<X: Disks<D = D>>(
         &mut self,
         alloc: Global,
@@ -260,9 +261,9 @@ impl<D: Disk> Cluster<D> {
         ensures owned { OwnsDisks self.new (X.held disks.new) }
         ensures answered { IsAnsweredBy request result }
         ensures placed { placement_after (place_of self.old) (inner_turns (record { request = request; reply = result } ∷ [])) ≡ place_of self.new }
-        ensures serves { TellAll D.state → (first : Depot D) (turns : List Turn)
-            → Serves D.state first (record { held = X.held disks.old; counted = X.counted disks.old; faults = X.all_faults disks.old }) turns self.old
-            → Serves D.state first (record { held = X.held disks.new; counted = X.counted disks.new; faults = X.all_faults disks.new }) (turns ++ record { request = request; reply = result } ∷ []) self.new }
+        ensures serves { (tells : Bool) (first : Depot D) (turns : List Turn)
+            → Serves D.state tells first (record { held = X.held disks.old; counted = X.counted disks.old; faults = X.all_faults disks.old }) turns self.old
+            → Serves D.state tells first (record { held = X.held disks.new; counted = X.counted disks.new; faults = X.all_faults disks.new }) (turns ++ record { request = request; reply = result } ∷ []) self.new }
     {
         match request {
             Request::One(act) => Reply::One(self.serve_act(alloc, disks, act)),

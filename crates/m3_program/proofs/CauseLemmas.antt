@@ -1,5 +1,5 @@
 -- A cause that lies later lies since the beginning.
-use Rattle.std.proofs.Common.{ℕ, ◌≤◌, inl, inr, arith, true, refl}
+use Rattle.std.proofs.Common.{◌≡◌, ℕ, ◌≤◌, inl, inr, arith, true, refl}
 use Rattle.std.specs.Prelude.{◌⊎◌}
 use Rattle.m3_outside.specs.Causes.{Rose}
 use Rattle.m3_program.specs.declared.status.Status.{Status}
@@ -13,6 +13,12 @@ pub ends_earlier : (s : Status) (a b c x y z : ℕ) → a ≤ b → x ≤ y → 
 ends_earlier status.WriteFault a b c x y z h k e = elim e as (λ _. Rose a c ⊎ Rose x z) [ inl f ↦ inl (rose_earlier a b c h f) | inr t ↦ inr (rose_earlier x y z k t) ]
 ends_earlier status.Memory a b c x y z h k e = tt
 ends_earlier _ a b c x y z h k e = absurd e
+
+-- a failed source ends no line
+pub line_no_read : (s : Status) (a b x y : ℕ) → EndsLine s a b x y → s ≡ status.ReadFault → ⊥
+line_no_read status.WriteFault a b x y e is = cc
+line_no_read status.Memory a b x y e is = cc
+line_no_read _ a b x y e is = absurd e
 
 -- what ends a line ends a step
 pub line_ends_step : (s : Status) (p q a b x y : ℕ) → EndsLine s a b x y → EndsStep s p q a b x y

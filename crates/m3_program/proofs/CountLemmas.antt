@@ -1,11 +1,11 @@
 -- How many faults there are of each kind, and by how much the counts of the disks rose.
-use Rattle.std.proofs.Common.{◌≡◌, ℕ, ◌+◌, ◌-◌, ◌≤◌, suc, List, [], ◌∷◌, ◌++◌, length, refl, ap, ap₂, ◌∙◌, inl, inr, arith, Bool, true, false, cond, ◌&&◌}
+use Rattle.std.proofs.Common.{◌≡◌, ℕ, ◌+◌, ◌-◌, ◌≤◌, suc, List, [], ◌∷◌, ◌++◌, length, refl, ap, ap₂, ◌∙◌, inl, inr, arith, Bool, true, false, cond, ◌&&◌, ◌||◌}
 use Rattle.std.specs.Prelude.{nat_eq, count_by}
 use Rattle.std.specs.FinMap.{get}
 use Rattle.std.proofs.lemmas.Bool.{eq-eqb}
 use Rattle.std.proofs.lemmas.List.Sums.{sum_by-append, sum_by-cons}
 use Rattle.m3_model.specs.Members.{IsIn}
-use Rattle.transcripts.specs.Faults.{Fault, Taking, Failing}
+use Rattle.transcripts.specs.Faults.{Fault, FaultKind, Taking, Failing, Damaged, is_failing, is_taking}
 use Rattle.m3_outside.specs.DiskState.{DiskState}
 use Rattle.m3_outside.specs.Depots.{Depot}
 use Rattle.m3_outside.specs.declared.slot.Slot.{Slot as Place}
@@ -13,7 +13,8 @@ use Rattle.session.specs.Slots.{MachineMap, slot_at}
 use Rattle.session.specs.declared.slot.Slot.{Slot}
 use Rattle.m3_cluster.specs.Depots.{count_at, place_of_slot, risen}
 use Rattle.m3_cluster.specs.Replicas.{faults_at}
-use Rattle.m3_program.specs.Faults.{is_failing, is_taking, times_failed, times_untaken}
+use Rattle.m3_cluster.specs.Serves.{faults_of}
+use Rattle.m3_program.specs.Faults.{times_failed, times_faulted, times_untaken}
 
 -- ---- by kind
 
@@ -53,21 +54,54 @@ AreTaking fs = (f : Fault) → IsIn fs f → f.kind ≡ Taking
 abbrev pub AreFailing : List Fault → Type 0
 AreFailing fs = (f : Fault) → IsIn fs f → f.kind ≡ Failing
 
--- of both kinds one after the other, each count has its own
-pub untaken_of : (taking failing : List Fault) → AreTaking taking → AreFailing failing → times_untaken (taking ++ failing) ≡ length taking
-untaken_of taking failing first second =
-    let sum : times_untaken (taking ++ failing) ≡ times_untaken taking + times_untaken failing = sum_by-append _ taking failing in
-    let some = count_all (λ f. is_taking f.kind) taking (λ f i. ap is_taking (first f i)) in
-    let none = count_none (λ f. is_taking f.kind) failing (λ f i. ap is_taking (second f i)) in
-    omega (arith, sum, some, none)
+abbrev pub AreFound : List Fault → Type 0
+AreFound fs = (f : Fault) → IsIn fs f → f.kind ≡ Damaged
 
-pub failed_of : (slot : Place) (taking failing : List Fault) → AreTaking taking → AreFailing failing → times_failed slot (taking ++ failing) ≡ faults_at (slot_at slot.node slot.shard) failing
-failed_of slot taking failing first second =
+-- of the kinds one after the other, each count has its own
+sum_of : (test : Fault → Bool) (taking failing damaged : List Fault) → count_by test (faults_of taking failing damaged) ≡ (count_by test taking + count_by test failing) + count_by test damaged
+sum_of test taking failing damaged =
+    let all : count_by test (faults_of taking failing damaged) ≡ count_by test (taking ++ failing) + count_by test damaged = sum_by-append (one_by test) (taking ++ failing) damaged in
+    let both : count_by test (taking ++ failing) ≡ count_by test taking + count_by test failing = sum_by-append (one_by test) taking failing in
+    omega (arith, all, both)
+
+pub untaken_of : (taking failing damaged : List Fault) → AreTaking taking → AreFailing failing → AreFound damaged → times_untaken (faults_of taking failing damaged) ≡ length taking
+untaken_of taking failing damaged first second third =
+    let test : Fault → Bool = λ f. is_taking f.kind in
+    let sum = sum_of test taking failing damaged in
+    let some = count_all test taking (λ f i. ap is_taking (first f i)) in
+    let none = count_none test failing (λ f i. ap is_taking (second f i)) in
+    let nor = count_none test damaged (λ f i. ap is_taking (third f i)) in
+    omega (arith, sum, some, none, nor)
+
+pub failed_of : (slot : Place) (taking failing damaged : List Fault) → AreTaking taking → AreFailing failing → AreFound damaged → times_failed slot (faults_of taking failing damaged) ≡ faults_at (slot_at slot.node slot.shard) failing
+failed_of slot taking failing damaged first second third =
     let own : Fault → Bool = λ f. nat_eq f.node slot.node && nat_eq f.shard slot.shard in
-    let sum : times_failed slot (taking ++ failing) ≡ times_failed slot taking + times_failed slot failing = sum_by-append _ taking failing in
-    let none = count_none (λ f. is_failing f.kind && own f) taking (λ f i. ap (λ k. is_failing k && own f) (first f i)) in
-    let some : times_failed slot failing ≡ count_by own failing = count_same (λ f. is_failing f.kind && own f) own failing (λ f i. ap (λ k. is_failing k && own f) (second f i)) in
-    omega (arith, sum, none, some)
+    let test : Fault → Bool = λ f. is_failing f.kind && own f in
+    let sum = sum_of test taking failing damaged in
+    let none = count_none test taking (λ f i. ap (λ k. is_failing k && own f) (first f i)) in
+    let some : count_by test failing ≡ count_by own failing = count_same test own failing (λ f i. ap (λ k. is_failing k && own f) (second f i)) in
+    let nor = count_none test damaged (λ f i. ap (λ k. is_failing k && own f) (third f i)) in
+    omega (arith, sum, none, some, nor)
+
+-- and all but the damages are faults
+pub faulted_of : (taking failing damaged : List Fault) → AreTaking taking → AreFailing failing → AreFound damaged → times_faulted (faults_of taking failing damaged) ≡ length taking + length failing
+faulted_of taking failing damaged first second third =
+    let test : Fault → Bool = λ f. is_taking f.kind || is_failing f.kind in
+    let kinds : FaultKind → Bool = λ k. is_taking k || is_failing k in
+    let sum = sum_of test taking failing damaged in
+    let some = count_all test taking (λ f i. ap kinds (first f i)) in
+    let more = count_all test failing (λ f i. ap kinds (second f i)) in
+    let none = count_none test damaged (λ f i. ap kinds (third f i)) in
+    omega (arith, sum, some, more, none)
+
+is_faulted : (kind : FaultKind) → ¬ (kind ≡ Damaged) → (is_taking kind || is_failing kind) ≡ true
+is_faulted Taking h = refl
+is_faulted Failing h = refl
+is_faulted Damaged h = absurd (h refl)
+
+-- where none is a damage, all are
+pub faulted_all : (fs : List Fault) → ((f : Fault) → IsIn fs f → ¬ (f.kind ≡ Damaged)) → times_faulted fs ≡ length fs
+faulted_all fs none = count_all (λ f. is_taking f.kind || is_failing f.kind) fs (λ f i. is_faulted f.kind (none f i))
 
 -- ---- over slots
 

@@ -1,5 +1,5 @@
 -- A run goes on by one line.
-use Rattle.std.proofs.Common.{◌≡◌, ℕ, List, [], ◌∷◌, ◌++◌, refl, sym, ap, ◌∙◌, subst, inl, inr, append-nil, true, false}
+use Rattle.std.proofs.Common.{◌≡◌, ℕ, List, [], ◌∷◌, ◌++◌, refl, sym, ap, ◌∙◌, subst, inl, inr, append-nil, true, false, Bool}
 use Rattle.std.specs.Prelude.{Some, None, Ok}
 use Rattle.std.proofs.lemmas.List.Concat.{flat_map-append}
 use Rattle.std.proofs.lemmas.List.Sums.{fold-append}
@@ -14,7 +14,7 @@ use Rattle.m3_model.proofs.SplitLemmas.{split_push}
 use Rattle.m3_outside.specs.DiskState.{DiskState}
 use Rattle.m3_outside.specs.declared.disk.Disk.{Ghosts}
 use Rattle.m3_json.specs.Requests.{LineMeans}
-use Rattle.m3_outside.specs.Depots.{Depot, TellAll}
+use Rattle.m3_outside.specs.Depots.{Depot}
 use Rattle.m3_cluster.specs.Serves.{Serves, place_of}
 use Rattle.m3_program.specs.Exchanges.{Exchange, Outcome, Passed, Refused, Answered, AreExchanges, IsExchange, IsOutcome, IsRefusal, is_blank, turns_by, turns_of, known_place, reply_line}
 use Rattle.m3_program.specs.Streams.{Advances, Drops, Stage}
@@ -47,7 +47,7 @@ still state now line text outcome none said = λ first xs p.
       record {
         each = exchanges_push xs x p.each (said xs p.place);
         place = subst (λ ts. known_place None ts ≡ place_of now.cluster) same p.place;
-        serves = λ empty. subst (λ ts. Serves state first now.depot ts now.cluster) same (p.serves empty);
+        serves = λ tells empty. subst (λ ts. Serves state tells first now.depot ts now.cluster) same (p.serves tells empty);
       },
     )
 
@@ -63,7 +63,7 @@ refuses state now line text refusal some why printed =
 
 -- what was served is so after one more turn
 abbrev pub Follows : {D : Type 0} {G : Ghosts D} → (D → DiskState) → Stage D G → Turn → Stage D G → Type 0
-Follows {D} state old turn new = TellAll state → (first : Depot D) (turns : List Turn) → Serves state first old.depot turns old.cluster → Serves state first new.depot (turns ++ turn ∷ []) new.cluster
+Follows {D} state old turn new = (tells : Bool) (first : Depot D) (turns : List Turn) → Serves state tells first old.depot turns old.cluster → Serves state tells first new.depot (turns ++ turn ∷ []) new.cluster
 
 -- a line that makes a turn
 pub answers : {D : Type 0} {G : Ghosts D} (state : D → DiskState) (old new : Stage D G) (line text : List ℕ) (request : Request) (r : Reply) → is_blank line ≡ false → LineMeans line (Ok request) → text ≡ reply_line (place_of new.cluster) r
@@ -77,7 +77,7 @@ answers state old new line text request r some means printed answered placed goe
       record {
         each = exchanges_push xs x p.each (some, means, answered, printed ∙ ap (λ place. reply_line place r) (sym known));
         place = subst (λ ts. known_place None ts ≡ place_of new.cluster) same known;
-        serves = λ empty. subst (λ ts. Serves state first new.depot ts new.cluster) same (goes empty.tell first (turns_of xs) (p.serves empty));
+        serves = λ tells empty. subst (λ ts. Serves state tells first new.depot ts new.cluster) same (goes tells first (turns_of xs) (p.serves tells empty));
       },
     )
 
@@ -85,7 +85,7 @@ answers state old new line text request r some means printed answered placed goe
 pub drops_served : {D : Type 0} {G : Ghosts D} (state : D → DiskState) (old new : Stage D G) (line : List ℕ) (request : Request) (r : Reply) → LineMeans line (Ok request) → Follows state old (record { request = request; reply = r }) new → Drops state old line new
 drops_served state old new line request r means goes = λ first xs p.
     let turn : Turn = record { request = request; reply = r } in
-    record { unanswered = Some request; means = means; promises = λ empty. promised_more state first new xs turn request (goes empty.tell first (turns_of xs) (p.serves empty)) }
+    record { unanswered = Some request; means = means; promises = λ tells empty. promised_more state tells first new xs turn request (goes tells first (turns_of xs) (p.serves tells empty)) }
 
 -- a line that wasn't served
 pub drops_unserved : {D : Type 0} {G : Ghosts D} (state : D → DiskState) (now : Stage D G) (line : List ℕ) → Drops state now line now

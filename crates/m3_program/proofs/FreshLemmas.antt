@@ -1,11 +1,11 @@
 -- A cluster that served nothing yet, before disks that were never written.
-use Rattle.std.proofs.Common.{◌≡◌, [], sym, ap, subst}
+use Rattle.std.proofs.Common.{◌≡◌, [], Bool, true, sym, ap, subst}
 use Rattle.std.specs.Prelude.{None, option_map}
 use Rattle.m3_outside.specs.DiskState.{DiskState}
 use Rattle.m3_outside.specs.declared.disk.Disk.{Ghosts}
 use Rattle.m3_outside.specs.declared.slot.Slot.{Slot}
 use Rattle.m3_outside.specs.Slots.{Held, Unused, Here, Out}
-use Rattle.m3_outside.specs.Depots.{Depot}
+use Rattle.m3_outside.specs.Depots.{Depot, TellAll}
 use Rattle.m3_cluster.specs.Depots.{OwnedBy, OwnsDisks}
 use Rattle.m3_cluster.specs.Replicas.{IsBare}
 use Rattle.m3_cluster.specs.Serves.{Serves}
@@ -21,10 +21,11 @@ unwritten_bare state Unused h = tt
 unwritten_bare state (Here disk) h = empty_bare state disk h
 unwritten_bare state Out h = absurd h
 
-pub is_fresh : {D : Type 0} {G : Ghosts D} (state : D → DiskState) (c : Cluster D G) → c.members ≡ None → ((first : Depot D) → ((slot : Slot) → IsBare state (first.held slot)) → Serves state first first [] c) → IsFresh state c
+pub is_fresh : {D : Type 0} {G : Ghosts D} (state : D → DiskState) (c : Cluster D G) → c.members ≡ None
+    → ((tells : Bool) (first : Depot D) → (tells ≡ true → TellAll state) → (tells ≡ true → (slot : Slot) → IsBare state (first.held slot)) → Serves state tells first first [] c) → IsFresh state c
 is_fresh {D} {G} state c none serves = record {
   no_place = ap (option_map (λ (m : Members D G). m.net.state.place)) none;
-  serves = λ first empty. serves first (λ slot. unwritten_bare state (first.held slot) (empty.unwritten slot));
+  serves = λ tells first empty. serves tells first (λ e. (empty e).tell) (λ e slot. unwritten_bare state (first.held slot) ((empty e).unwritten slot));
 }
 
 -- it has no disks

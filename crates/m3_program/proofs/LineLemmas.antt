@@ -4,8 +4,8 @@ use Rattle.std.specs.Prelude.{nat_eq}
 use Rattle.std.proofs.lemmas.Bool.{ne_eqb}
 use Rattle.m3_model.specs.Members.{IsIn}
 use Rattle.m3_program.specs.Exchanges.{Exchange}
-use Rattle.m3_program.specs.Runs.{lines_of, with_byte}
-use Rattle.m3_program.specs.Streams.{NoNewline, lines_text}
+use Rattle.m3_program.specs.Runs.{lines_of, with_byte, lines_text}
+use Rattle.m3_program.specs.Streams.{NoNewline}
 
 no_newline : (b : ℕ) (line : List ℕ) → NoNewline (b ∷ line) → nat_eq b 10 ≡ false
 no_newline b line h = ne_eqb b 10 (λ e. h (inl e))

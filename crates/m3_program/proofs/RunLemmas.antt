@@ -1,6 +1,7 @@
 -- What is known of a run so far, where its source and its sink tell, and how it ends.
-use Rattle.std.proofs.Common.{◌≡◌, ℕ, ◌+◌, ◌<◌, ◌≤◌, List, [], ◌++◌, length, length-append, refl, sym, ap, ◌∙◌, subst, append_assoc, append-nil, arith}
-use Rattle.std.specs.Prelude.{Option, Some, None, ◌^◌}
+use Rattle.std.proofs.Common.{◌≡◌, ℕ, ◌+◌, ◌<◌, ◌≤◌, List, [], ◌++◌, length, length-append, refl, sym, ap, ◌∙◌, subst, append_assoc, append-nil, arith, true}
+use Rattle.m3_model.specs.declared.limits.TheConstants.{INPUT_END}
+use Rattle.std.specs.Prelude.{Option, Some, None}
 use Rattle.std.specs.Io.KnownBytes.{Appends, Consumes, IsAtEnd}
 use Rattle.m3_outside.specs.DiskState.{DiskState}
 use Rattle.m3_outside.specs.declared.disk.Disk.{Ghosts}
@@ -10,10 +11,10 @@ use Rattle.m3_program.specs.declared.status.Status.{Status}
 use Rattle.m3_program.specs.declared.status.Status.TheVariants as status
 use Rattle.m3_program.specs.Causes.{EndsStep}
 use Rattle.m3_program.specs.Faults.{Counts, counts_of}
-use Rattle.m3_program.specs.Runs.{HasRun, lines_of}
-use Rattle.m3_program.specs.Streams.{Stage, IsFresh, StreamState, TakesOn, Cuts, CutShort, Halted, Finished, HasServed}
-use Rattle.m3_program.proofs.PromiseLemmas.{IsClosed, promised_closed, promised_nothing}
-use Rattle.m3_program.proofs.StreamLemmas.{cut_here, halted_of, stream_begins}
+use Rattle.m3_program.specs.Runs.{AreWholeLines, HasRun, lines_of}
+use Rattle.m3_program.specs.Streams.{Stage, IsFresh, StreamState, TakesOn, Cuts, Halted, Finished, HasServed}
+use Rattle.m3_program.proofs.PromiseLemmas.{IsClosed, causes_closed, causes_nothing, kept_closed, kept_nothing, promised}
+use Rattle.m3_program.proofs.StreamLemmas.{halted_of, stream_begins, stream_course}
 
 -- these bytes were read, these are left, and these were written after what stood there
 pub record Heard {D : Type 0} {G : Ghosts D} (state : D → DiskState) (first : Depot D) (input before : List ℕ) (left written : Option (List ℕ)) (n : ℕ) (now : Stage D G) (line : List ℕ) : Type 0 where
@@ -36,7 +37,7 @@ Told state first now s input before left written = (rest told : List ℕ) × (le
 -- a run that was cut short, before it is said by what
 abbrev pub Stopped : {D : Type 0} {G : Ghosts D} → (D → DiskState) → Depot D → Stage D G → List ℕ → List ℕ → Option (List ℕ) → Option (List ℕ) → Type 0
 Stopped state first now input before left written =
-    (rest told taken : List ℕ) × (left ≡ Some rest) × (written ≡ Some (before ++ told)) × (input ≡ taken ++ rest) × (length taken ≤ 2 ^ 32) × Halted state first now input taken told
+    (rest told taken : List ℕ) × (left ≡ Some rest) × (written ≡ Some (before ++ told)) × (input ≡ taken ++ rest) × (length taken ≤ INPUT_END) × Halted state first now input taken told
 
 consumed : (rest : List ℕ) (a b : Option (List ℕ)) (piece : List ℕ) → a ≡ Some rest → Consumes a b piece → (after : List ℕ) × (b ≡ Some after) × (rest ≡ piece ++ after)
 consumed rest None b piece e h = cc
@@ -82,7 +83,7 @@ known_more state first left0 written0 l l2 w w2 n k m old new line line2 piece t
 
 -- it stopped within a piece
 pub known_cuts : {D : Type 0} {G : Ghosts D} (state : D → DiskState) (first : Depot D) (left0 written0 l l2 w w2 : Option (List ℕ)) (n : ℕ) (old new : Stage D G) (line piece part : List ℕ)
-    → Known state first left0 written0 l w n old line → Consumes l l2 piece → n + length piece ≤ 2 ^ 32 → Appends w w2 part → Cuts state old line piece part new
+    → Known state first left0 written0 l w n old line → Consumes l l2 piece → n + length piece ≤ INPUT_END → Appends w w2 part → Cuts state old line piece part new
     → (input before : List ℕ) → left0 ≡ Some input → written0 ≡ Some before → Stopped state first new input before l2 w2
 known_cuts state first left0 written0 l l2 w w2 n old new line piece part known took few wrote cuts input before p q =
     let h = known input before p q in
@@ -104,7 +105,7 @@ heard_all state first input before l w n now line h ended = h.parts ∙ ap (λ r
 
 -- it stopped within the last line
 pub known_stops : {D : Type 0} {G : Ghosts D} (state : D → DiskState) (first : Depot D) (left0 written0 l w w2 : Option (List ℕ)) (n : ℕ) (old new : Stage D G) (line part : List ℕ)
-    → Known state first left0 written0 l w n old line → n ≤ 2 ^ 32 → IsAtEnd l → Appends w w2 part
+    → Known state first left0 written0 l w n old line → n ≤ INPUT_END → IsAtEnd l → Appends w w2 part
     → ((first : Depot D) (taken told : List ℕ) → StreamState state first taken told old line → Halted state first new taken taken (told ++ part))
     → (input before : List ℕ) → left0 ≡ Some input → written0 ≡ Some before → Stopped state first new input before l w2
 known_stops state first left0 written0 l w w2 n old new line part known few ended wrote stops input before p q =
@@ -121,7 +122,7 @@ known_stops state first left0 written0 l w w2 n old new line part known few ende
 
 -- it came to the end
 pub known_finishes : {D : Type 0} {G : Ghosts D} (state : D → DiskState) (first : Depot D) (left0 written0 l w w2 : Option (List ℕ)) (n : ℕ) (old new : Stage D G) (line text : List ℕ)
-    → Known state first left0 written0 l w n old line → n < 2 ^ 32 → IsAtEnd l → Appends w w2 text
+    → Known state first left0 written0 l w n old line → n < INPUT_END → IsAtEnd l → Appends w w2 text
     → ((first : Depot D) (taken told : List ℕ) → StreamState state first taken told old line → Finished state first new taken (told ++ text))
     → (input before : List ℕ) → left0 ≡ Some input → written0 ≡ Some before → Told state first new status.Done input before l w2
 known_finishes state first left0 written0 l w w2 n old new line text known below ended wrote finishes input before p q =
@@ -145,19 +146,36 @@ known_finishes state first left0 written0 l w w2 n old new line text known below
       },
     )
 
--- it took as much as may be taken
-pub known_limit : {D : Type 0} {G : Ghosts D} (state : D → DiskState) (first : Depot D) (left0 written0 l w : Option (List ℕ)) (n : ℕ) (now : Stage D G) (line : List ℕ) → Known state first left0 written0 l w n now line → n ≡ 2 ^ 32
-    → (input before : List ℕ) → left0 ≡ Some input → written0 ≡ Some before → Told state first now status.TooLong input before l w
-known_limit state first left0 written0 l w n now line known full input before p q =
+-- all whole lines of what was taken were answered
+whole_of : {D : Type 0} {G : Ghosts D} {state : D → DiskState} {first : Depot D} {taken told : List ℕ} {now : Stage D G} {line : List ℕ} (t : StreamState state first taken told now line) → AreWholeLines taken t.exchanges
+whole_of {D} {G} {state} {first} {taken} {told} {now} {line} t = record { open_line = line; are = t.read; no_end = t.no_end }
+
+-- the source failed when so much was taken
+pub known_fault : {D : Type 0} {G : Ghosts D} (state : D → DiskState) (first : Depot D) (left0 written0 l w : Option (List ℕ)) (n : ℕ) (now : Stage D G) (line : List ℕ) → Known state first left0 written0 l w n now line → n ≤ INPUT_END
+    → (input before : List ℕ) → left0 ≡ Some input → written0 ≡ Some before → Told state first now status.ReadFault input before l w
+known_fault state first left0 written0 l w n now line known few input before p q =
     let h = known input before p q in
-    let cut : CutShort state first now h.got h.told =
-    subst (λ taken. CutShort state first now taken h.told) (append-nil h.got) (subst (CutShort state first now (h.got ++ [])) (append-nil h.told) (cut_here state first h.got h.told [] now line h.stream)) in
-    let end : Halted state first now input h.got h.told = subst (λ i. Halted state first now i h.got h.told) (sym h.parts) (halted_of state first now h.got h.told h.rest cut) in (
+    let course = stream_course state first input h.got h.told h.rest now line h.stream h.parts in
+    let promises = promised state first now h.stream.exchanges None h.stream.progress in (
       h.rest,
       h.told,
       h.left_is,
       h.written_is,
-      record { ran = record { taken = h.got; parts = h.parts; few = let count = h.count in omega (arith, count, full); course = end.course; got_to = (end.written, h.count ∙ full) }; promises = end.promises },
+      record { ran = record { taken = h.got; parts = h.parts; few = let count = h.count in omega (arith, count, few); course = course; got_to = (whole_of h.stream, h.stream.written) }; promises = promises },
+    )
+
+-- it took as much as may be taken
+pub known_limit : {D : Type 0} {G : Ghosts D} (state : D → DiskState) (first : Depot D) (left0 written0 l w : Option (List ℕ)) (n : ℕ) (now : Stage D G) (line : List ℕ) → Known state first left0 written0 l w n now line → n ≡ INPUT_END
+    → (input before : List ℕ) → left0 ≡ Some input → written0 ≡ Some before → Told state first now status.TooLong input before l w
+known_limit state first left0 written0 l w n now line known full input before p q =
+    let h = known input before p q in
+    let course = stream_course state first input h.got h.told h.rest now line h.stream h.parts in
+    let promises = promised state first now h.stream.exchanges None h.stream.progress in (
+      h.rest,
+      h.told,
+      h.left_is,
+      h.written_is,
+      record { ran = record { taken = h.got; parts = h.parts; few = let count = h.count in omega (arith, count, full); course = course; got_to = (whole_of h.stream, h.stream.written, h.count ∙ full) }; promises = promises },
     )
 
 -- no line was read
@@ -182,23 +200,32 @@ told_of_usage state first left written input before p q = (
       };
       got_to = (refl, refl);
     };
-    promises = λ empty. promised_nothing (counts_of first);
+    kept = λ empty. kept_nothing;
+    causes = λ tells empty. causes_nothing tells (counts_of first);
   },
 )
 
 pub step_told : {D : Type 0} {G : Ghosts D} (state : D → DiskState) (first : Depot D) (now : Stage D G) (s : Status) (a b x y u v : ℕ) → EndsStep s a b x y u v
-    → (input before : List ℕ) (left written : Option (List ℕ)) → Stopped state first now input before left written → Told state first now s input before left written
-step_told state first now status.ReadFault a b x y u v k input before left written (rest, told, taken, l, w, parts, few, cut) =
+    → (input before : List ℕ) (left written : Option (List ℕ)) → (s ≡ status.ReadFault → Told state first now status.ReadFault input before left written) → Stopped state first now input before left written → Told state first now s input before left written
+step_told state first now status.ReadFault a b x y u v k input before left written fault h = fault refl
+step_told state first now status.WriteFault a b x y u v k input before left written fault (rest, told, taken, l, w, parts, few, cut) =
     (rest, told, l, w, record { ran = record { taken = taken; parts = parts; few = few; course = cut.course; got_to = cut.written }; promises = cut.promises })
-step_told state first now status.WriteFault a b x y u v k input before left written (rest, told, taken, l, w, parts, few, cut) =
+step_told state first now status.Memory a b x y u v k input before left written fault (rest, told, taken, l, w, parts, few, cut) =
     (rest, told, l, w, record { ran = record { taken = taken; parts = parts; few = few; course = cut.course; got_to = cut.written }; promises = cut.promises })
-step_told state first now status.Memory a b x y u v k input before left written (rest, told, taken, l, w, parts, few, cut) =
-    (rest, told, l, w, record { ran = record { taken = taken; parts = parts; few = few; course = cut.course; got_to = cut.written }; promises = cut.promises })
-step_told state first now _ a b x y u v k input before left written h = absurd k
+step_told state first now _ a b x y u v k input before left written fault h = absurd k
 
 -- the disks are given back
 pub told_closes : {D : Type 0} {G : Ghosts D} (state : D → DiskState) (first : Depot D) (mid : Stage D G) (last : Counts) (s : Status) → IsClosed state mid last
     → (input before : List ℕ) (left written : Option (List ℕ)) → Told state first mid s input before left written
     → (rest told : List ℕ) × (left ≡ Some rest) × (written ≡ Some (before ++ told)) × HasRun state first last [] None s input rest told
-told_closes state first mid last s closed input before left written (rest, told, l, w, run) =
-    (rest, told, l, w, record { ran = run.ran; promises = λ empty. promised_closed state first mid last run.ran.course.exchanges run.ran.course.unanswered closed (run.promises empty) })
+told_closes state first mid last s closed input before left written (rest, told, l, w, run) = (
+  rest,
+  told,
+  l,
+  w,
+  record {
+    ran = run.ran;
+    kept = λ empty. kept_closed state first mid run.ran.course.exchanges run.ran.course.unanswered (run.promises true (λ e. empty));
+    causes = λ tells empty. causes_closed state tells first mid last run.ran.course.exchanges run.ran.course.unanswered closed (run.promises tells empty);
+  },
+)

@@ -1,5 +1,5 @@
 -- Reading goes on by a line, by a piece, and to the end.
-use Rattle.std.proofs.Common.{◌≡◌, ℕ, ◌<◌, List, [], ◌∷◌, ◌++◌, map, length, refl, sym, ap, ◌∙◌, subst, inl, inr, append_assoc, append-nil}
+use Rattle.std.proofs.Common.{◌≡◌, ℕ, arith, ◌<◌, List, [], ◌∷◌, ◌++◌, map, length, refl, sym, ap, ◌∙◌, subst, inl, inr, append_assoc, append-nil}
 use Rattle.std.specs.Prelude.{Option, Some, None}
 use Rattle.std.proofs.lemmas.List.{map-append}
 use Rattle.std.proofs.lemmas.List.Concat.{flat_map-append}
@@ -11,8 +11,8 @@ use Rattle.m3_outside.specs.DiskState.{DiskState}
 use Rattle.m3_outside.specs.declared.disk.Disk.{Ghosts}
 use Rattle.m3_outside.specs.Depots.{Depot}
 use Rattle.m3_program.specs.Exchanges.{AreExchanges, Exchange, Outcome, replies_text}
-use Rattle.m3_program.specs.Runs.{Course, IsNext, IsWrittenOf, Reads, lines_of}
-use Rattle.m3_program.specs.Streams.{Stage, IsFresh, Advances, MayMean, PromisesSo, Drops, Halts, NoNewline, lines_text, StreamState, CutShort, Halted, Finished, TakesOn, Cuts}
+use Rattle.m3_program.specs.Runs.{Course, IsCutOff, IsNext, TakesLines, lines_of, lines_text}
+use Rattle.m3_program.specs.Streams.{Stage, IsFresh, Advances, MayMean, PromisesSo, Drops, Halts, NoNewline, StreamState, CutShort, Halted, Finished, TakesOn, Cuts}
 use Rattle.m3_program.proofs.LineLemmas.{lines_of-line, lines_of-last, lines_of-lines}
 use Rattle.m3_program.proofs.PromiseLemmas.{promised}
 
@@ -30,11 +30,25 @@ replies_push xs x = flat_map-append (λ (y : Exchange). y.text) xs (x ∷ []) �
 
 -- what was read, whatever comes after it
 abbrev reads_at : {D : Type 0} {G : Ghosts D} (state : D → DiskState) (first : Depot D) (taken told tail : List ℕ) (now : Stage D G) (line : List ℕ) (unanswered : Option Request) → (t : StreamState state first taken told now line)
-    → IsNext unanswered (lines_of (line ++ tail)) → Reads (taken ++ tail) t.exchanges unanswered
+    → IsNext unanswered (lines_of (line ++ tail)) → TakesLines (taken ++ tail) t.exchanges unanswered
 reads_at state first taken told tail now line unanswered t next = record {
   later = lines_of (line ++ tail);
   lines_are = ap (λ xs. lines_of (xs ++ tail)) t.read ∙ ap lines_of (append_assoc (lines_text t.exchanges) line tail) ∙ lines_of-lines t.exchanges (line ++ tail) t.whole;
   next = next;
+}
+
+-- all replies were written
+all_written : (told : List ℕ) (xs : List Exchange) → told ≡ replies_text xs → IsCutOff told xs
+all_written told xs is = record { before = xs; last = []; parts = sym (append-nil xs); few = omega arith; part = []; rest = []; of_last = refl; are = is ∙ sym (append-nil (replies_text xs)) }
+
+-- the course of a run so far, whatever is left of its input
+abbrev pub stream_course : {D : Type 0} {G : Ghosts D} (state : D → DiskState) (first : Depot D) (input taken told left : List ℕ) (now : Stage D G) (line : List ℕ) (t : StreamState state first taken told now line) → input ≡ taken ++ left → Course None input taken
+stream_course state first input taken told left now line t is = record {
+  exchanges = t.exchanges;
+  unanswered = None;
+  each = t.progress.each;
+  of_input = subst (λ bytes. TakesLines bytes t.exchanges None) (sym is) (reads_at state first taken told left now line None t tt);
+  of_taken = subst (λ bytes. TakesLines bytes t.exchanges None) (append-nil taken) (reads_at state first taken told [] now line None t tt);
 }
 
 -- nothing more is written, and this request was taken at most
@@ -44,9 +58,9 @@ cut_at state first taken told piece old new line unanswered t next promises = re
   exchanges = t.exchanges;
   unanswered = unanswered;
   each = t.progress.each;
-  reads = λ left. subst (λ bytes. Reads bytes t.exchanges unanswered) (sym (append_assoc taken piece left)) (reads_at state first taken told (piece ++ left) old line unanswered t (next left));
+  reads = λ left. subst (λ bytes. TakesLines bytes t.exchanges unanswered) (sym (append_assoc taken piece left)) (reads_at state first taken told (piece ++ left) old line unanswered t (next left));
   promises = promises;
-  written = ([], append-nil (told ++ []) ∙ append-nil told ∙ t.written);
+  written = all_written (told ++ []) t.exchanges (append-nil told ∙ t.written);
 }
 
 -- nothing more is done
@@ -61,7 +75,7 @@ halted_of state first now taken told left cut = record {
     unanswered = cut.unanswered;
     each = cut.each;
     of_input = cut.reads left;
-    of_taken = subst (λ bytes. Reads bytes cut.exchanges cut.unanswered) (append-nil taken) (cut.reads []);
+    of_taken = subst (λ bytes. TakesLines bytes cut.exchanges cut.unanswered) (append-nil taken) (cut.reads []);
   };
   promises = cut.promises;
   written = cut.written;
@@ -73,7 +87,7 @@ cut_more state first now taken more told cut = record {
   exchanges = cut.exchanges;
   unanswered = cut.unanswered;
   each = cut.each;
-  reads = λ left. subst (λ bytes. Reads bytes cut.exchanges cut.unanswered) (sym (append_assoc taken more left)) (cut.reads (more ++ left));
+  reads = λ left. subst (λ bytes. TakesLines bytes cut.exchanges cut.unanswered) (sym (append_assoc taken more left)) (cut.reads (more ++ left));
   promises = cut.promises;
   written = cut.written;
 }
@@ -119,7 +133,7 @@ takes_line state old new line rest text whole line2 none is empty goes = λ firs
     }
 
 -- what was read, with the line that was answered last
-abbrev answered_reads : (input : List ℕ) (xs : List Exchange) (x : Exchange) (later : List (List ℕ)) → lines_of input ≡ map (λ y. y.line) xs ++ x.line ∷ later → Reads input (xs ++ x ∷ []) None
+abbrev answered_reads : (input : List ℕ) (xs : List Exchange) (x : Exchange) (later : List (List ℕ)) → lines_of input ≡ map (λ y. y.line) xs ++ x.line ∷ later → TakesLines input (xs ++ x ∷ []) None
 answered_reads input xs x later lines = record {
   later = later;
   lines_are = lines ∙ sym (append_assoc (map (λ y. y.line) xs) (x.line ∷ []) later) ∙ ap (λ ls. ls ++ later) (sym (map-append (λ (y : Exchange). y.line) xs (x ∷ [])));
@@ -127,9 +141,17 @@ answered_reads input xs x later lines = record {
 }
 
 -- a front of its reply is written
-front_written : (told part rest line : List ℕ) (xs : List Exchange) (outcome : Outcome) → told ≡ replies_text xs → IsWrittenOf (told ++ part) (xs ++ record { line = line; outcome = outcome; text = part ++ rest } ∷ [])
-front_written told part rest line xs outcome written =
-    (rest, append_assoc told part rest ∙ ap (λ l. l ++ (part ++ rest)) written ∙ sym (replies_push xs (record { line = line; outcome = outcome; text = part ++ rest })))
+front_written : (told part rest line : List ℕ) (xs : List Exchange) (outcome : Outcome) → told ≡ replies_text xs → IsCutOff (told ++ part) (xs ++ record { line = line; outcome = outcome; text = part ++ rest } ∷ [])
+front_written told part rest line xs outcome written = record {
+  before = xs;
+  last = record { line = line; outcome = outcome; text = part ++ rest } ∷ [];
+  parts = refl;
+  few = omega arith;
+  part = part;
+  rest = rest;
+  of_last = append-nil (part ++ rest);
+  are = ap (λ l. l ++ part) written;
+}
 
 cut_in_reply : {D : Type 0} {G : Ghosts D} (state : D → DiskState) (first : Depot D) (taken told piece : List ℕ) (old new : Stage D G) (line whole part rest : List ℕ) (t : StreamState state first taken told old line) → Advances state old whole (part ++ rest) new
     → ((left : List ℕ) → lines_of (line ++ (piece ++ left)) ≡ whole ∷ lines_of left) → CutShort state first new (taken ++ piece) (told ++ part)
@@ -196,7 +218,7 @@ cuts_after state a b c line line2 piece piece2 more text part f g = λ first tak
 pub stream_begins : {D : Type 0} {G : Ghosts D} (state : D → DiskState) (now : Stage D G) → IsFresh state now.cluster → StreamState state now.depot [] [] now []
 stream_begins state now fresh = record {
   exchanges = [];
-  progress = record { each = λ before x after e. absurd (not_empty before x after e); place = sym fresh.no_place; serves = fresh.serves now.depot };
+  progress = record { each = λ before x after e. absurd (not_empty before x after e); place = sym fresh.no_place; serves = λ tells empty. fresh.serves tells now.depot empty };
   read = refl;
   whole = λ x m. absurd m;
   no_end = λ m. m;
@@ -204,7 +226,7 @@ stream_begins state now fresh = record {
 }
 
 -- the course of a run that took all of its input
-abbrev whole_course : (input : List ℕ) (xs : List Exchange) (unanswered : Option Request) → AreExchanges None xs → Reads input xs unanswered → Course None input input
+abbrev whole_course : (input : List ℕ) (xs : List Exchange) (unanswered : Option Request) → AreExchanges None xs → TakesLines input xs unanswered → Course None input input
 whole_course input xs unanswered each reads = record { exchanges = xs; unanswered = unanswered; each = each; of_input = reads; of_taken = reads }
 
 -- the input ends with a newline, or is empty
@@ -250,7 +272,7 @@ drops_last state old new line some drops first taken told t =
     record {
       course = whole_course taken t.exchanges d.unanswered t.progress.each (record { later = line ∷ []; lines_are = last_in state first taken told old line some t; next = next_is d.unanswered line [] d.means });
       promises = d.promises;
-      written = ([], append-nil (told ++ []) ∙ append-nil told ∙ t.written);
+      written = all_written (told ++ []) t.exchanges (append-nil told ∙ t.written);
     }
 
 -- its reply is written in part

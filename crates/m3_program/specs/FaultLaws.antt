@@ -1,5 +1,5 @@
 -- What counts that stay constant tell of a run.
-use Rattle.std.specs.Prelude.{◌≡◌, List, []}
+use Rattle.std.specs.Prelude.{◌≡◌, List, [], true}
 use Rattle.transcripts.specs.Faults.{Fault}
 use Rattle.transcripts.specs.Record.{Record}
 use Rattle.m3_outside.specs.Laws.{IsConstant}
@@ -11,6 +11,6 @@ pub record AreConstant (before now : Counts) : Type 0 where
   pub all : IsConstant before.all now.all
   pub of_disks : (slot : Slot) → IsConstant (before.of_disk slot) (now.of_disk slot)
 
--- no fault is a cause in a run in which no count rises
+-- no fault is a cause in a run of disks that tell in which no count rises
 abbrev pub ConstantMeansNoFault : Type 0
-ConstantMeansNoFault = (run : Record) (before now : Counts) (faults : List Fault) → AreCauses run before now faults → AreConstant before now → faults ≡ []
+ConstantMeansNoFault = (run : Record) (before now : Counts) (faults : List Fault) → AreCauses true run before now faults → AreConstant before now → faults ≡ []

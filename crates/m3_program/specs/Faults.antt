@@ -1,7 +1,7 @@
 -- The faults that are causes in a run, and the counts of the disks that show them.
-use Rattle.std.specs.Prelude.{◌≡◌, ℕ, ◌+◌, ◌<◌, ◌≤◌, ⊤, List, length, Option, Some, None, Bool, true, false, ◌&&◌, nat_eq, count_by}
+use Rattle.std.specs.Prelude.{◌≡◌, ℕ, ◌+◌, ◌<◌, ◌≤◌, ⊤, List, length, Option, Some, None, Bool, true, ◌&&◌, ◌||◌, nat_eq, count_by}
 use Rattle.std.specs.List.{All}
-use Rattle.transcripts.specs.Faults.{Fault, FaultKind, Taking, Failing, Damage}
+use Rattle.transcripts.specs.Faults.{Fault, Damaged, is_taking, is_failing}
 use Rattle.transcripts.specs.Record.{Record}
 use Rattle.m3_model.specs.declared.turn.Request.{Request}
 use Rattle.m3_outside.specs.Causes.{RoseBy, last_count}
@@ -30,14 +30,6 @@ pub record Counts : Type 0 where
 abbrev pub counts_of : {D : Type 0} → Depot D → Counts
 counts_of depot = record { all = depot.faults; of_disk = depot.counted }
 
-abbrev pub is_taking : FaultKind → Bool
-is_taking Taking = true
-is_taking _ = false
-
-abbrev pub is_failing : FaultKind → Bool
-is_failing Failing = true
-is_failing _ = false
-
 -- how often a disk couldn't be taken, of these faults
 abbrev pub times_untaken : List Fault → ℕ
 times_untaken faults = count_by (λ f. is_taking f.kind) faults
@@ -45,6 +37,10 @@ times_untaken faults = count_by (λ f. is_taking f.kind) faults
 -- how often the disk of this slot failed, of these faults
 abbrev pub times_failed : Slot → List Fault → ℕ
 times_failed slot faults = count_by (λ f. is_failing f.kind && (nat_eq f.node slot.node && nat_eq f.shard slot.shard)) faults
+
+-- how many of these are faults of disks, and no damages
+abbrev pub times_faulted : List Fault → ℕ
+times_faulted faults = count_by (λ f. is_taking f.kind || is_failing f.kind) faults
 
 -- one where there is a request, else none
 abbrev pub one_for : Option Request → ℕ
@@ -55,15 +51,15 @@ one_for (Some request) = 1
 abbrev pub requests_taken : Record → ℕ
 requests_taken run = length run.turns + one_for run.unanswered
 
--- the fault came with one of the requests that the run took, and is no damage
-pub record IsOfRun (run : Record) (fault : Fault) : Type 0 where
+-- the fault came with one of the requests that the run took, and is no damage where the disks tell what they hold
+pub record IsOfRun (tells : Bool) (run : Record) (fault : Fault) : Type 0 where
   pub in_run : fault.line < requests_taken run
-  pub undamaged : ¬ (fault.kind ≡ Damage)
+  pub undamaged : tells ≡ true → ¬ (fault.kind ≡ Damaged)
 
--- The faults that may be causes in a run of disks that tell: each is of the run. Those of taking disks are at most as many as the count of all faults rose, those
--- of a slot's disk at most as many as its count rose; and where no count ends at its last value, all of them are at most as many as the count of all rose.
-pub record AreCauses (run : Record) (before now : Counts) (faults : List Fault) : Type 0 where
-  pub of_run : All (IsOfRun run) faults
+-- The faults that may be causes in a run: each is of the run. Those of taking disks are at most as many as the count of all faults rose, those of a slot's disk
+-- at most as many as its count rose; and where no count ends at its last value, all of them are at most as many as the count of all rose.
+pub record AreCauses (tells : Bool) (run : Record) (before now : Counts) (faults : List Fault) : Type 0 where
+  pub of_run : All (IsOfRun tells run) faults
   pub of_taking : RoseBy (times_untaken faults) before.all now.all
   pub of_disks : (slot : Slot) → RoseBy (times_failed slot faults) (before.of_disk slot) (now.of_disk slot)
-  pub of_all : now.all < last_count → ((slot : Slot) → now.of_disk slot < last_count) → before.all + length faults ≤ now.all
+  pub of_all : now.all < last_count → ((slot : Slot) → now.of_disk slot < last_count) → before.all + times_faulted faults ≤ now.all

@@ -1,9 +1,12 @@
 -- What a run promises of its input and its output.
-use Rattle.std.specs.Prelude.{◌≡◌, ℕ, ◌<◌, ◌≤◌, ◌^◌, List, [], ◌∷◌, ◌++◌, map, length, Option, Some, None, Ok, if◌then◌else◌, ◌==◌, true}
+use Rattle.std.specs.Prelude.{◌≡◌, ℕ, ◌<◌, ◌≤◌, List, [], ◌∷◌, ◌++◌, map, length, Option, Some, None, Ok, if◌then◌else◌, ◌==◌, Bool, true}
+use Rattle.m3_model.specs.declared.limits.TheConstants.{INPUT_END}
+use Rattle.std.specs.List.{flat_map}
+use Rattle.m3_model.specs.Members.{IsIn}
 use Rattle.m3_model.specs.declared.rules.MetaState.{MetaState}
 use Rattle.m3_model.specs.declared.turn.Request.{Request}
 use Rattle.transcripts.specs.Faults.{Fault}
-use Rattle.transcripts.specs.Record.{Record}
+use Rattle.transcripts.specs.Record.{Life, Record}
 use Rattle.transcripts.specs.Kept.{Kept}
 use Rattle.transcripts.specs.Caused.{Caused}
 use Rattle.m3_outside.specs.DiskState.{DiskState}
@@ -31,7 +34,7 @@ IsNext (Some request) [] = ⊥
 IsNext (Some request) (line ∷ lines) = LineMeans line (Ok request)
 
 -- These are the first lines of some bytes, and what came of them; the next line is the request that was taken and got no reply, if there is one.
-pub record Reads (bytes : List ℕ) (xs : List Exchange) (unanswered : Option Request) : Type 0 where
+pub record TakesLines (bytes : List ℕ) (xs : List Exchange) (unanswered : Option Request) : Type 0 where
   pub later : List (List ℕ)
   pub lines_are : lines_of bytes ≡ map (λ x. x.line) xs ++ later
   pub next : IsNext unanswered later
@@ -41,31 +44,51 @@ pub record Course (start : Option MetaState) (input taken : List ℕ) : Type 0 w
   pub exchanges : List Exchange
   pub unanswered : Option Request
   pub each : AreExchanges start exchanges
-  pub of_input : Reads input exchanges unanswered
-  pub of_taken : Reads taken exchanges unanswered
+  pub of_input : TakesLines input exchanges unanswered
+  pub of_taken : TakesLines taken exchanges unanswered
 
 -- the record of the run
 abbrev pub record_of : (start : Option MetaState) → List Exchange → Option Request → Record
 record_of start xs unanswered = record { start = start; turns = turns_of xs; unanswered = unanswered }
 
--- What holds of a run's record after the earlier runs on the same disks: what its reads keep, and that its answers are caused, over faults that the counts show.
-pub record Promises (before now : Counts) (past : List Record) (present : Record) : Type 0 where
-  pub kept : Kept (record { past = past; present = present })
-  pub faults : List Fault
-  pub counted : AreCauses present before now faults
-  pub caused : Caused true (record { past = past; present = present }) faults
+-- the life that the run and the earlier ones on the same disks make
+abbrev pub life_with : List Record → Option MetaState → List Exchange → Option Request → Life
+life_with past start xs unanswered = record { past = past; present = record_of start xs unanswered }
 
--- what was written is a front of all that was to be written
-abbrev pub IsWrittenOf : List ℕ → List Exchange → Type 0
-IsWrittenOf written xs = (rest : List ℕ) × (written ++ rest ≡ replies_text xs)
+-- Why the answers of a life's present run are what they are, over faults that the counts show. Where the disks tell what they hold, more is said of them.
+pub record HasCauses (tells : Bool) (before now : Counts) (life : Life) : Type 0 where
+  pub faults : List Fault
+  pub counted : AreCauses tells life.present before now faults
+  pub caused : Caused tells life faults
+
+-- the lines with their newlines
+abbrev pub lines_text : List Exchange → List ℕ
+lines_text xs = flat_map (λ x. x.line ++ 10 ∷ []) xs
+
+-- these are the whole lines of what was taken; what comes behind them has no newline
+pub record AreWholeLines (taken : List ℕ) (xs : List Exchange) : Type 0 where
+  pub open_line : List ℕ
+  pub are : taken ≡ lines_text xs ++ open_line
+  pub no_end : ¬ IsIn open_line 10
+
+-- each reply was written but the last, and of that one a front
+pub record IsCutOff (written : List ℕ) (xs : List Exchange) : Type 0 where
+  pub before : List Exchange
+  pub last : List Exchange
+  pub parts : xs ≡ before ++ last
+  pub few : length last ≤ 1
+  pub part : List ℕ
+  pub rest : List ℕ
+  pub of_last : replies_text last ≡ part ++ rest
+  pub are : written ≡ replies_text before ++ part
 
 -- how far a run got that ended so
 abbrev pub GotTo : Status → List ℕ → List ℕ → List ℕ → List Exchange → List (List ℕ) → Type 0
-GotTo status.Done taken left written xs later = (later ≡ []) × (written ≡ replies_text xs) × (left ≡ []) × (length taken < 2 ^ 32)
-GotTo status.TooLong taken left written xs later = IsWrittenOf written xs × (length taken ≡ 2 ^ 32)
-GotTo status.ReadFault taken left written xs later = IsWrittenOf written xs
-GotTo status.WriteFault taken left written xs later = IsWrittenOf written xs
-GotTo status.Memory taken left written xs later = IsWrittenOf written xs
+GotTo status.Done taken left written xs later = (later ≡ []) × (written ≡ replies_text xs) × (left ≡ []) × (length taken < INPUT_END)
+GotTo status.TooLong taken left written xs later = AreWholeLines taken xs × (written ≡ replies_text xs) × (length taken ≡ INPUT_END)
+GotTo status.ReadFault taken left written xs later = AreWholeLines taken xs × (written ≡ replies_text xs)
+GotTo status.WriteFault taken left written xs later = IsCutOff written xs
+GotTo status.Memory taken left written xs later = IsCutOff written xs
 GotTo status.Usage taken left written xs later = (taken ≡ []) × (written ≡ [])
 GotTo _ taken left written xs later = ⊥
 
@@ -73,11 +96,13 @@ GotTo _ taken left written xs later = ⊥
 pub record Ran (start : Option MetaState) (ended : Status) (input left written : List ℕ) : Type 0 where
   pub taken : List ℕ
   pub parts : input ≡ taken ++ left
-  pub few : length taken ≤ 2 ^ 32
+  pub few : length taken ≤ INPUT_END
   pub course : Course start input taken
   pub got_to : GotTo ended taken left written course.exchanges course.of_input.later
 
--- The same over disks that were so when the run began and whose faults are counted so now, and what it promises where they tell what they hold and were empty.
+-- The same over disks that were so when the run began and whose faults are counted so now: the answers have their causes, of which more is said where the disks
+-- tell what they hold and were empty; and there the reads keep what they must.
 pub record HasRun {D : Type 0} (state : D → DiskState) (first : Depot D) (now : Counts) (past : List Record) (start : Option MetaState) (ended : Status) (input left written : List ℕ) : Type 0 where
   pub ran : Ran start ended input left written
-  pub promises : AreEmpty state first.held → Promises (counts_of first) now past (record_of start ran.course.exchanges ran.course.unanswered)
+  pub kept : AreEmpty state first.held → Kept (life_with past start ran.course.exchanges ran.course.unanswered)
+  pub causes : (tells : Bool) → (tells ≡ true → AreEmpty state first.held) → HasCauses tells (counts_of first) now (life_with past start ran.course.exchanges ran.course.unanswered)

@@ -1,6 +1,5 @@
 -- How far reading and writing have come, within a run.
-use Rattle.std.specs.Prelude.{◌≡◌, ◌≤◌, ℕ, length, List, [], ◌∷◌, ◌++◌, Option, None, Some, Ok, ◌⊎◌}
-use Rattle.std.specs.List.{flat_map}
+use Rattle.std.specs.Prelude.{◌≡◌, ◌≤◌, ℕ, length, List, [], ◌∷◌, ◌++◌, Bool, true, Option, None, Some, Ok, ◌⊎◌}
 use Rattle.m3_model.specs.Members.{IsIn}
 use Rattle.m3_model.specs.declared.turn.Request.{Request}
 use Rattle.m3_model.specs.declared.turn.Turn.{Turn}
@@ -14,7 +13,7 @@ use Rattle.m3_cluster.specs.declared.cluster.Cluster.{Cluster}
 use Rattle.m3_cluster.specs.Serves.{Serves, place_of}
 use Rattle.m3_program.specs.Exchanges.{Exchange, Outcome, AreExchanges, known_place, turns_of, replies_text}
 use Rattle.m3_program.specs.Faults.{AreEmpty, one_for}
-use Rattle.m3_program.specs.Runs.{Course, IsWrittenOf, Ran, Reads}
+use Rattle.m3_program.specs.Runs.{Course, IsCutOff, Ran, TakesLines, lines_text}
 use Rattle.m3_program.specs.declared.status.Status.{Status}
 
 -- ---- how a run stands
@@ -27,26 +26,26 @@ pub record Stage (D : Type 0) (G : Ghosts D) : Type 0 where
 abbrev pub stage : {D : Type 0} {G : Ghosts D} → Cluster D G → (Slot → Held D) → (Slot → ℕ) → ℕ → Stage D G
 stage cluster held counted faults = record { cluster = cluster; depot = record { held = held; counted = counted; faults = faults } }
 
--- no request was served yet: no placement was printed, and where the disks are empty there is nothing that was to be kept
+-- no request was served yet: no placement was printed, and nothing was to be kept or caused
 pub record IsFresh {D : Type 0} {G : Ghosts D} (state : D → DiskState) (c : Cluster D G) : Type 0 where
   pub no_place : place_of c ≡ None
-  pub serves : (first : Depot D) → AreEmpty state first.held → Serves state first first [] c
+  pub serves : (tells : Bool) (first : Depot D) → (tells ≡ true → AreEmpty state first.held) → Serves state tells first first [] c
 
 -- the exchanges so far, and how the run stands after them
 pub record Progress {D : Type 0} {G : Ghosts D} (state : D → DiskState) (first : Depot D) (xs : List Exchange) (now : Stage D G) : Type 0 where
   pub each : AreExchanges None xs
   pub place : known_place None (turns_of xs) ≡ place_of now.cluster
-  pub serves : AreEmpty state first.held → Serves state first now.depot (turns_of xs) now.cluster
+  pub serves : (tells : Bool) → (tells ≡ true → AreEmpty state first.held) → Serves state tells first now.depot (turns_of xs) now.cluster
 
 -- the turns of these exchanges were served, and one more at most, of the request that was taken and got no reply
-pub record IsServed {D : Type 0} {G : Ghosts D} (state : D → DiskState) (first : Depot D) (now : Stage D G) (xs : List Exchange) (unanswered : Option Request) : Type 0 where
+pub record IsServed {D : Type 0} {G : Ghosts D} (state : D → DiskState) (tells : Bool) (first : Depot D) (now : Stage D G) (xs : List Exchange) (unanswered : Option Request) : Type 0 where
   pub more : List Turn
   pub few : length more ≤ one_for unanswered
-  pub serves : Serves state first now.depot (turns_of xs ++ more) now.cluster
+  pub serves : Serves state tells first now.depot (turns_of xs ++ more) now.cluster
 
--- so it is where the disks tell and were empty
+-- so it is over any disks, and more where they tell and were empty
 abbrev pub PromisesSo : {D : Type 0} {G : Ghosts D} → (D → DiskState) → Depot D → Stage D G → List Exchange → Option Request → Type 0
-PromisesSo state first now xs unanswered = AreEmpty state first.held → IsServed state first now xs unanswered
+PromisesSo state first now xs unanswered = (tells : Bool) → (tells ≡ true → AreEmpty state first.held) → IsServed state tells first now xs unanswered
 
 -- ---- one line
 
@@ -78,10 +77,6 @@ Halts state old line part new = ((part ≡ []) × Drops state old line new) ⊎ 
 abbrev pub NoNewline : List ℕ → Type 0
 NoNewline line = IsIn line 10 → ⊥
 
--- the lines with their newlines
-abbrev pub lines_text : List Exchange → List ℕ
-lines_text xs = flat_map (λ x. x.line ++ 10 ∷ []) xs
-
 -- These bytes were read and these written; the last line has no end yet.
 pub record StreamState {D : Type 0} {G : Ghosts D} (state : D → DiskState) (first : Depot D) (taken told : List ℕ) (now : Stage D G) (line : List ℕ) : Type 0 where
   pub exchanges : List Exchange
@@ -91,20 +86,20 @@ pub record StreamState {D : Type 0} {G : Ghosts D} (state : D → DiskState) (fi
   pub no_end : NoNewline line
   pub written : told ≡ replies_text exchanges
 
--- The run is cut short, whatever is left of its input: what is written is a front of the replies to lines of what it took.
+-- The run is cut short, whatever is left of its input: what is written is each reply but the last, and of that one a front.
 pub record CutShort {D : Type 0} {G : Ghosts D} (state : D → DiskState) (first : Depot D) (now : Stage D G) (taken told : List ℕ) : Type 0 where
   pub exchanges : List Exchange
   pub unanswered : Option Request
   pub each : AreExchanges None exchanges
-  pub reads : (left : List ℕ) → Reads (taken ++ left) exchanges unanswered
+  pub reads : (left : List ℕ) → TakesLines (taken ++ left) exchanges unanswered
   pub promises : PromisesSo state first now exchanges unanswered
-  pub written : IsWrittenOf told exchanges
+  pub written : IsCutOff told exchanges
 
 -- The run ended before all replies were written.
 pub record Halted {D : Type 0} {G : Ghosts D} (state : D → DiskState) (first : Depot D) (now : Stage D G) (input taken told : List ℕ) : Type 0 where
   pub course : Course None input taken
   pub promises : PromisesSo state first now course.exchanges course.unanswered
-  pub written : IsWrittenOf told course.exchanges
+  pub written : IsCutOff told course.exchanges
 
 -- The run came to the end of its input: all replies are written.
 pub record Finished {D : Type 0} {G : Ghosts D} (state : D → DiskState) (first : Depot D) (now : Stage D G) (input told : List ℕ) : Type 0 where

@@ -1,5 +1,6 @@
-ghost use Rattle.std.specs.Prelude.{◌≡◌, ◌<◌, ◌≤◌, ◌+◌, ◌^◌, ℕ, List, [], ◌++◌, Some, None, true, map, length, string_bytes, IfOk, OnOk, OnErr, IfErr};
+ghost use Rattle.std.specs.Prelude.{◌≡◌, ◌<◌, ◌≤◌, ◌+◌, ℕ, List, [], ◌++◌, Some, None, true, map, length, string_bytes, IfOk, OnOk, OnErr, IfErr, IsErrOf};
 ghost use Rattle.std.specs.Io.KnownBytes.{Appends, Consumes, IsAtEnd};
+ghost use Rattle.m3_model.specs.declared.limits.TheConstants.{INPUT_END};
 ghost use Rattle.m3_outside.specs.Slots.{Out};
 ghost use Rattle.m3_outside.specs.declared.slot.Slot.{Slot};
 ghost use Rattle.m3_outside.specs.Depots.{Depot};
@@ -8,19 +9,18 @@ ghost use Rattle.m3_program.specs.Words.{is_run};
 ghost use Rattle.m3_program.specs.Streams.{StreamState, TakesOn, Cuts, Halted, Finished, HasServed, IsFresh, stage};
 ghost use Rattle.m3_program.specs.Causes.{EndsLine, EndsStep, EndsRun};
 ghost use Rattle.m3_program.specs.Runs.{HasRun};
+ghost use Rattle.m3_program.specs.declared.status.Status.TheVariants as status;
 
 use crate::input::serve_piece;
 use crate::output::serve_line;
 use crate::status::Status;
 use crate::words::is_run;
 use m3_cluster::cluster::Cluster;
+use m3_model::limits::INPUT_END;
 use m3_outside::disks::Disks;
 use m3_outside::sink::Sink;
 use m3_outside::source::Source;
 use std::alloc::Global;
-
-/// An input has less than this many bytes.
-const INPUT_LIMIT: u64 = 1 << 32;
 
 /// How much is taken at once.
 const PIECE: usize = 65536;
@@ -45,6 +45,9 @@ fn serve_read<S: Source, K: Sink, X: Disks>(
         × Appends (K.written out.old) (K.written out.new) part
         × Cuts X.D.state (stage cluster.old (X.held disks.old) (X.counted disks.old) (X.all_faults disks.old)) line.old.items piece part
         (stage cluster.new (X.held disks.new) (X.counted disks.new) (X.all_faults disks.new))) }
+    ensures at_fault { IsErrOf result status.ReadFault → Consumes (S.left source.old) (S.left source.new) [] × Appends (K.written out.old) (K.written out.new) []
+        × TakesOn X.D.state (stage cluster.old (X.held disks.old) (X.counted disks.old) (X.all_faults disks.old)) line.old.items [] []
+        (stage cluster.new (X.held disks.new) (X.counted disks.new) (X.all_faults disks.new)) line.new.items }
     ensures owned { OwnsDisks cluster.new (X.held disks.new) }
     ensures later { (S.faulted source.old ≤ S.faulted source.new) × (K.faulted out.old ≤ K.faulted out.new) × (K.stalled out.old ≤ K.stalled out.new) }
     ensures cause { IfErr result (λ s. EndsStep s (S.faulted source.old) (S.faulted source.new) (K.faulted out.old) (K.faulted out.new) (K.stalled out.old) (K.stalled out.new)) }
@@ -85,12 +88,12 @@ fn serve_last<K: Sink, X: Disks>(
 
 /// How much may be taken at once where this much was taken.
 fn room_after(taken: u64) -> usize
-    requires { taken < 2 ^ 32 }
+    requires { taken < INPUT_END }
     ensures some { 0 < result }
     ensures piece { result ≤ 65536 }
-    ensures limit { taken + result ≤ 2 ^ 32 }
+    ensures limit { taken + result ≤ INPUT_END }
 {
-    let left = INPUT_LIMIT - taken;
+    let left = INPUT_END - taken;
     if left < 65536 { left as usize } else { PIECE }
 }
 
@@ -114,7 +117,7 @@ fn serve_all<S: Source, K: Sink, X: Disks>(
     let mut line = Vec::new(alloc);
     let mut buf = [0u8; PIECE];
     let mut taken: u64 = 0;
-    while taken < INPUT_LIMIT {
+    while taken < INPUT_END {
         let room = room_after(taken);
         match serve_read(
             alloc,

@@ -6,7 +6,7 @@ use Rattle.transcripts.specs.Caused.{Caused, OnDisk, InFiles}
 use Rattle.transcripts.specs.Levels.{MissesLevel}
 use Rattle.transcripts.specs.Reasons.{MayRefuse, IsShown}
 use Rattle.transcripts.specs.Placements.{MayUse, placement_after, has_replica}
-use Rattle.transcripts.specs.Faults.{Fault, is_restart, Failing, Damage}
+use Rattle.transcripts.specs.Faults.{Fault, is_restart, Failing, Damaged}
 use Rattle.transcripts.specs.Waiting.{waiting_after}
 use Rattle.transcripts.specs.Fates.{OfNode, is_stopped}
 use Rattle.m3_model.specs.Levels.{needed_write}
@@ -99,7 +99,7 @@ other_init-refused caused =
     ]
 
 -- a failed disk is no damage
-not_damage : Failing ≢ Damage
+not_damage : Failing ≢ Damaged
 not_damage e = cc
 
 pub corrupt-refused : (damage : damage_of.Damage) → ¬ Caused true (life_of (corrupt_at_once damage)) (fails 3 2 ∷ [])

@@ -52,7 +52,7 @@ one-refused fault caused =
 taking_fails : Taking ≢ Failing
 taking_fails e = cc
 
-damage_fails : faults_of.Damage ≢ Failing
+damage_fails : faults_of.Damaged ≢ Failing
 damage_fails e = cc
 
 pub taking-refused : (line : ℕ) → ¬ Caused true (life_of two_failed) (untaken line 2 ∷ fails 3 0 ∷ [])

@@ -24,7 +24,7 @@ untaken lines node = record { line = lines; node = node; shard = 0; kind = Takin
 
 -- its files are found damaged then
 abbrev pub damages : ℕ → ℕ → Fault
-damages lines node = record { line = lines; node = node; shard = 0; kind = faults.Damage }
+damages lines node = record { line = lines; node = node; shard = 0; kind = faults.Damaged }
 
 -- a write of `hello` into `m` that all three nodes have to take
 abbrev pub write_all : ℕ → ℤ → Act

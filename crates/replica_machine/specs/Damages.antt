@@ -13,6 +13,10 @@ segment_text number = codes "log-" ++ (decimal number ++ codes ".db")
 abbrev pub damage_of : ℕ → ℕ → Damage
 damage_of number at = damage.Form (segment_text number) at
 
+-- the damage is that of a segment's form, not of a digest
+abbrev pub IsFormDamage : Damage → Type 0
+IsFormDamage told = (number at : ℕ) × (told ≡ damage_of number at)
+
 -- the damage names a segment of the files, and the first place in it at which they hold nothing
 pub record IsDamageOf (told : Damage) (files : Files) : Type 0 where
   pub number : ℕ

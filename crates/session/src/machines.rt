@@ -10,6 +10,7 @@ ghost use Rattle.shard_files.specs.Held.{IsSound};
 ghost use Rattle.cluster_core.specs.declared.event.StepCall.TheVariants as call;
 ghost use Rattle.cluster_core.specs.declared.event.StepReply.{StepReply};
 ghost use Rattle.cluster_core.specs.declared.event.StepReply.TheVariants as reply;
+ghost use Rattle.replica_machine.specs.Damages.{IsFormDamage};
 ghost use Rattle.replica_machine.specs.Machines.{MachineState, IsOwn, IsRefusedFor};
 ghost use Rattle.replica_machine.specs.Steps.{reply_by};
 ghost use Rattle.session.specs.Changes.{IsSteppedAt, IsBegunBy};
@@ -124,6 +125,7 @@ impl<D: Disk> Machines<D> {
         ensures steps { (answered : StepReply) × IsBegunBy result answered × IsSteppedAt D.state slot (record { call = call.Begin tenure; reply = answered } ∷ []) self.old self.new }
         ensures missing { finite.get self.old slot ≡ None → result ≡ Err reason.NotOwned }
         ensures sound { (m : MachineState D) → finite.get self.old slot ≡ Some m → (damage : Damage) → IsErrOf result (reason.Corrupt damage) → Told (D.state m.disk) (λ files. ¬ IsSound files) }
+        ensures form { (damage : Damage) → IsErrOf result (reason.Corrupt damage) → IsFormDamage damage }
     {
         match self.map.get_mut(&slot) {
             Some(machine) => match machine.boot(tenure) {

@@ -42,7 +42,7 @@ use Rattle.m3_model.specs.Hash.{shard_of}
 use Rattle.m3_model.specs.Levels.{needed_write}
 use Rattle.transcripts.specs.Calls.{AsksShard, Call, call_of}
 use Rattle.transcripts.specs.Caused.{is_write}
-use Rattle.transcripts.specs.Faults.{Fault, Failing, Damage}
+use Rattle.transcripts.specs.Faults.{Fault, Failing, Damaged}
 use Rattle.transcripts.specs.Placements.{MayUse, seed_at}
 use Rattle.transcripts.specs.Points.{point_of}
 use Rattle.transcripts.specs.Reasons.{IsOutside, MayRefuse, MayServe, TakesPoint}
@@ -187,7 +187,7 @@ module _ (start : Option MetaState) (turns : List Turn) (events : List Event) (l
   reason_said calls place shard node steady (reason.Corrupt damage) known h =
       let step = h.1 in
       let s = (step.2).1 in
-      (fault_here (step.2).0 (event.Step node shard step.0 (reply.Refused (reason.Corrupt damage))) (record { line = length p.lines; node = node; shard = shard; kind = Damage }) s.0 s.1 s.2 refl refl, h.0)
+      (fault_here (step.2).0 (event.Step node shard step.0 (reply.Refused (reason.Corrupt damage))) (record { line = length p.lines; node = node; shard = shard; kind = Damaged }) s.0 s.1 s.2 refl refl, h.0)
   reason_said calls place shard node steady _ known h = absurd known
 
   -- what a replica took lies within its window

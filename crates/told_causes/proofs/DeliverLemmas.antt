@@ -25,7 +25,7 @@ use Rattle.cluster_core.specs.declared.event.StepCall.TheVariants as call
 use Rattle.cluster_core.specs.declared.event.StepReply.TheVariants as reply
 use Rattle.cluster_core.specs.declared.replica_state.ReplicaState.{ReplicaState}
 use Rattle.cluster_core.proofs.TraceLemmas.{lawful_step}
-use Rattle.transcripts.specs.Faults.{Fault, Failing, Damage}
+use Rattle.transcripts.specs.Faults.{Fault, Failing, Damaged}
 use Rattle.transcripts.specs.Record.{TurnPlace}
 use Rattle.transcripts.specs.Rules.{rules_at}
 use Rattle.told_by.specs.Hears.{HearsBy}
@@ -76,7 +76,7 @@ module _ (start : Option MetaState) (turns : List Turn) (events : List Event) (t
   came m shard (Some (reason.Corrupt damage)) h =
       let step = h.1 in
       let s = (step.2).1 in
-      (fault_here start turns events known.legal told p known.in_run (step.2).0 (event.Step m.node shard step.0 (reply.Refused (reason.Corrupt damage))) (record { line = length p.lines; node = m.node; shard = shard; kind = Damage }) s.0 s.1 s.2 refl refl, h.0)
+      (fault_here start turns events known.legal told p known.in_run (step.2).0 (event.Step m.node shard step.0 (reply.Refused (reason.Corrupt damage))) (record { line = length p.lines; node = m.node; shard = shard; kind = Damaged }) s.0 s.1 s.2 refl refl, h.0)
   came m shard (Some reason.Down) h =
       let steady = (known.explained m shard reason.Down h).0 in
       down_said faults start p m.used m.node shard steady.name steady.named steady.stays

@@ -25,7 +25,7 @@ use Rattle.cluster_core.specs.declared.replica_state.ReplicaState.{ReplicaState}
 use Rattle.cluster_core.proofs.ListLemmas.{along, at_some}
 use Rattle.cluster_core.proofs.TraceLemmas.{lawful_step, replica_own, replica_suc, step_cases}
 use Rattle.transcripts.specs.Fates.{is_stopped}
-use Rattle.transcripts.specs.Faults.{Fault, closes, is_restart, Failing, Damage}
+use Rattle.transcripts.specs.Faults.{Fault, closes, is_restart, Failing, Damaged}
 use Rattle.transcripts.specs.Record.{InnerTurn, TurnPlace, IsTurnPlace, inner_turns, lists_of}
 use Rattle.told_by.specs.Hears.{IsNamedBy}
 use Rattle.told_by.specs.Makes.{MayAsk}
@@ -71,7 +71,7 @@ down_by r _ _ e = record { how = inl e }
 -- the fault that a closing refusal tells of
 closing_fault : (k n s : ℕ) (c : StepCall) (why : Reason) → Closes why → (f : Fault) × (fault_of k (event.Step n s c (reply.Refused why)) ≡ Some f) × (f.line ≡ k) × (f.node ≡ n) × (f.shard ≡ s) × IsTrue (closes f.kind)
 closing_fault k n s c reason.Disk h = (record { line = k; node = n; shard = s; kind = Failing }, refl, refl, refl, refl, refl)
-closing_fault k n s c (reason.Corrupt damage) h = (record { line = k; node = n; shard = s; kind = Damage }, refl, refl, refl, refl, refl)
+closing_fault k n s c (reason.Corrupt damage) h = (record { line = k; node = n; shard = s; kind = Damaged }, refl, refl, refl, refl, refl)
 closing_fault k n s c _ h = absurd h
 
 take_front : {X : Type 0} (xs : List X) (y : X) (zs : List X) → take (length xs) (xs ++ y ∷ zs) ≡ xs

@@ -11,7 +11,7 @@ use Rattle.cluster_core.specs.declared.event.Event.TheVariants as event
 use Rattle.cluster_core.specs.declared.event.StepReply.TheVariants as reply
 use Rattle.m3_model.specs.declared.reason.Reason.TheVariants as reason
 use Rattle.cluster_core.proofs.ListLemmas.{in_at, at_in, at_take, take_at, drop_at}
-use Rattle.transcripts.specs.Faults.{AreDifferent, Fault, FaultKind, Taking, Failing, Damage}
+use Rattle.transcripts.specs.Faults.{AreDifferent, Fault, FaultKind, Taking, Failing, Damaged}
 use Rattle.told_causes.specs.Faults.{FaultsAreDifferent, FaultsAreFew, FaultsAreSteps, IsToldOf, StepsAreFaults, fault_of, faults_told, is_refused, is_same_fault, is_same_kind, line_events, with_fault, with_line}
 
 -- ---- equal faults
@@ -27,12 +27,12 @@ parts false b e = cc
 kind_self : (k : FaultKind) → is_same_kind k k ≡ true
 kind_self Taking = refl
 kind_self Failing = refl
-kind_self Damage = refl
+kind_self Damaged = refl
 
 kind_is : (a b : FaultKind) → is_same_kind a b ≡ true → a ≡ b
 kind_is Taking Taking e = refl
 kind_is Failing Failing e = refl
-kind_is Damage Damage e = refl
+kind_is Damaged Damaged e = refl
 kind_is _ _ e = cc
 
 fault_self : (f : Fault) → is_same_fault f f ≡ true
@@ -139,7 +139,7 @@ faults_different ends events (suc k) = line_different k (line_events ends events
 
 fault_line : (k : ℕ) (e : Event) (g : Fault) → fault_of k e ≡ Some g → g.line ≡ k
 fault_line k (event.Step n s c (reply.Refused reason.Disk)) g is = let same : record { line = k; node = n; shard = s; kind = Failing } ≡ g = cc in sym (ap (λ (f : Fault). f.line) same)
-fault_line k (event.Step n s c (reply.Refused (reason.Corrupt damage))) g is = let same : record { line = k; node = n; shard = s; kind = Damage } ≡ g = cc in sym (ap (λ (f : Fault). f.line) same)
+fault_line k (event.Step n s c (reply.Refused (reason.Corrupt damage))) g is = let same : record { line = k; node = n; shard = s; kind = Damaged } ≡ g = cc in sym (ap (λ (f : Fault). f.line) same)
 fault_line k _ g is = cc
 
 -- an event of a line stands among those of the list

@@ -7,18 +7,18 @@ use Rattle.cluster_core.specs.Lists.{At}
 use Rattle.cluster_core.specs.declared.event.Event.{Event}
 use Rattle.cluster_core.specs.declared.event.Event.TheVariants as event
 use Rattle.cluster_core.specs.declared.event.StepReply.TheVariants as reply
-use Rattle.transcripts.specs.Faults.{AreDifferent, Fault, FaultKind, Taking, Failing, Damage}
+use Rattle.transcripts.specs.Faults.{AreDifferent, Fault, FaultKind, Taking, Failing, Damaged}
 
 -- the fault or the damage of an event in this line: a step was refused for its disk, or for damage that it found
 abbrev pub fault_of : ℕ → Event → Option Fault
 fault_of k (event.Step n s c (reply.Refused reason.Disk)) = Some (record { line = k; node = n; shard = s; kind = Failing })
-fault_of k (event.Step n s c (reply.Refused (reason.Corrupt damage))) = Some (record { line = k; node = n; shard = s; kind = Damage })
+fault_of k (event.Step n s c (reply.Refused (reason.Corrupt damage))) = Some (record { line = k; node = n; shard = s; kind = Damaged })
 fault_of k _ = None
 
 abbrev pub is_same_kind : FaultKind → FaultKind → Bool
 is_same_kind Taking Taking = true
 is_same_kind Failing Failing = true
-is_same_kind Damage Damage = true
+is_same_kind Damaged Damaged = true
 is_same_kind _ _ = false
 
 abbrev pub is_same_fault : Fault → Fault → Bool

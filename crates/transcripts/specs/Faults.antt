@@ -18,7 +18,7 @@ use Rattle.transcripts.specs.Record.{InnerTurn, TurnPlace, inner_turns}
 pub data FaultKind : Type 0 where
   Taking : FaultKind
   Failing : FaultKind
-  Damage : FaultKind
+  Damaged : FaultKind
 
 -- A fault or a damage at the slot of a node and a shard, in a line of the run.
 pub record Fault : Type 0 where
@@ -46,13 +46,23 @@ HasFailed = CameAt Failing
 
 -- the files of the slot were found damaged
 abbrev pub IsDamaged : List Fault → TurnPlace → ℕ → ℕ → Type 0
-IsDamaged = CameAt Damage
+IsDamaged = CameAt Damaged
+
+-- the kind of a fault that came while a disk was taken
+abbrev pub is_taking : FaultKind → Bool
+is_taking Taking = true
+is_taking _ = false
+
+-- the kind of a fault of a slot's own disk
+abbrev pub is_failing : FaultKind → Bool
+is_failing Failing = true
+is_failing _ = false
 
 -- a disk that fails, or files that are damaged, close the replica over them; a disk that couldn't be taken has none
 abbrev pub closes : FaultKind → Bool
 closes Taking = false
 closes Failing = true
-closes Damage = true
+closes Damaged = true
 
 -- the node was restarted
 abbrev pub is_restart : List ℕ → InnerTurn → Bool

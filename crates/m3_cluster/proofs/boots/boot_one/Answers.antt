@@ -8,5 +8,5 @@ returns-in-Ok g c = boot_began g.D.Disk.state c.args.slot c.args.machines.now c.
 
 pub returns-in-Err : goal.returns-in-Err
 returns-in-Err g c =
-    boot_told g.D.Disk.state c.args.slot c.args.machines.now c.boot.new.self c.in-Err.why c.passed_over.result c.in-Err.ensures.steps (λ m at damage e. c.in-Err.ensures.sound m at damage (ap Err e)) c.passed_over.ensures.ok
+    boot_told g.D.Disk.state c.args.slot c.args.machines.now c.boot.new.self c.in-Err.why c.passed_over.result c.in-Err.ensures.steps (λ m at damage e. c.in-Err.ensures.sound m at damage (ap Err e)) (λ damage e. c.in-Err.ensures.form damage (ap Err e)) c.passed_over.ensures.ok
     c.passed_over.ensures.err

@@ -22,9 +22,9 @@ returns-clause-placed g c =
     (act_places g.D.Disk.state (shown c.args.disks.now) (shown c.serve_act.new.disks) c.args.self.now c.serve_act.new.self c.in-One.act c.serve_act.result c.serve_act.ensures)
 
 pub returns-clause-serves : goal.returns-clause-serves
-returns-clause-serves g c tell first turns was =
+returns-clause-serves g c tells first turns was =
     let shown = depot_by g.X.Disks.held g.X.Disks.counted g.X.Disks.all_faults in
     let served = subst IsServed c.in-One.is c.requires.served in
     let limits = subst KeepsLimits c.in-One.is c.requires.limits in
-    subst (λ (r : Request). Serves g.D.Disk.state first (shown c.serve_act.new.disks) (turns ++ record { request = r; reply = reply.One c.serve_act.result } ∷ []) c.serve_act.new.self) (sym c.in-One.is)
-    (act_serves g.D.Disk.state tell (g.met.D.Disk g.world.𝓛 g.world.𝓜 g.world.𝓡 ((λ s x. x), (λ x. x), (λ x. x), (λ x. x))).lawful first (shown c.args.disks.now) (shown c.serve_act.new.disks) turns c.args.self.now c.serve_act.new.self c.in-One.act c.serve_act.result limits served c.serve_act.ensures was)
+    subst (λ (r : Request). Serves g.D.Disk.state tells first (shown c.serve_act.new.disks) (turns ++ record { request = r; reply = reply.One c.serve_act.result } ∷ []) c.serve_act.new.self) (sym c.in-One.is)
+    (act_serves g.D.Disk.state tells (g.met.D.Disk g.world.𝓛 g.world.𝓜 g.world.𝓡 ((λ s x. x), (λ x. x), (λ x. x), (λ x. x))).lawful first (shown c.args.disks.now) (shown c.serve_act.new.disks) turns c.args.self.now c.serve_act.new.self c.in-One.act c.serve_act.result limits served c.serve_act.ensures was)
