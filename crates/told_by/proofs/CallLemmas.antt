@@ -14,7 +14,7 @@ use Rattle.told_by.specs.Lists.{IsCallPlace, IsListPlace, MadeBy, MadeByCall, Te
 use Rattle.told_by.specs.Openings.{IsInitOf}
 use Rattle.told_by.specs.Spans.{IsEarlier, IsOfTurn, Spans}
 use Rattle.told_by.specs.Told.{Tells}
-use Rattle.told_by.proofs.LineLemmas.{Lifts, lift_ack, lift_begun, lift_clock, lift_send, lift_sent, lift_told}
+use Rattle.told_by.proofs.LineLemmas.{Lifts, lift_ack, lift_begun, lift_clock, lift_init, lift_send, lift_sent, lift_told}
 
 module _ (start : Option MetaState) (turns : List Turn) (events : List Event) (line : Turn) (more : List Event) (list_of : ℕ → ℕ) (list : ℕ) (calls : TellsCalls start turns events line more list_of list) where
   abbrev all : List Event
@@ -93,15 +93,4 @@ module _ (start : Option MetaState) (turns : List Turn) (events : List Event) (l
   }
     where
       init_of : (p : TurnPlace) → IsInitOf start long all (calls.spans (length p.earlier)) p → IsInitOf start long all spans p
-      init_of p h = record {
-        found_nothing = h.found_nothing;
-        alone = h.alone;
-        sets = h.sets;
-        place = h.place;
-        version = h.version;
-        answered = h.answered;
-        placed = h.placed;
-        clock = h.clock;
-        from_is = h.from_is;
-        to_above = h.to_above;
-      }
+      init_of p h = lift_init start p (λ alone. alone) (λ i e there. there) refl refl h

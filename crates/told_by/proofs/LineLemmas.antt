@@ -183,6 +183,22 @@ line_below turns p h = omega (arith, ap length h.in_run, length-append p.lines (
 alone_stays : (turns : List Turn) (line : Turn) (p : TurnPlace) → IsAlone turns p → IsAlone (turns ++ line ∷ []) p
 alone_stays turns line p h = (h.0, at_append turns (line ∷ []) (length p.lines) h.0 h.1, h.2)
 
+-- the `init` of a list is that of a longer one, in which its line and its stretch are the same
+pub lift_init : (start : Option MetaState) {turns long : List Turn} {events longer : List Event} {spans others : Spans} (p : TurnPlace) → (IsAlone turns p → IsAlone long p)
+    → ((i : ℕ) (e : Event) → At events i e → At longer i e) → others.from p ≡ spans.from p → others.to p ≡ spans.to p → IsInitOf start turns events spans p → IsInitOf start long longer others p
+lift_init start p alone stays from to h = record {
+  found_nothing = h.found_nothing;
+  alone = alone h.alone;
+  sets = h.sets;
+  place = h.place;
+  version = h.version;
+  answered = h.answered;
+  placed = stays 0 (event.Place h.place []) h.placed;
+  clock = stays 1 (event.Clock (start_rules None)) h.clock;
+  from_is = from ∙ h.from_is;
+  to_above = omega (arith, to, h.to_above);
+}
+
 module _ (start : Option MetaState) (turns : List Turn) (events : List Event) (line : Turn) (more : List Event) (told : ToldBy start turns events) (next : TellsLine start turns events line more) where
   abbrev long : List Turn
   long = turns ++ line ∷ []
@@ -284,32 +300,10 @@ module _ (start : Option MetaState) (turns : List Turn) (events : List Event) (l
   }
 
   init_stays : (p : TurnPlace) → IsTurnPlace turns p → IsInitOf start turns events told.spans p → IsInitOf start long all spans p
-  init_stays p k h = record {
-    found_nothing = h.found_nothing;
-    alone = alone_stays turns line p h.alone;
-    sets = h.sets;
-    place = h.place;
-    version = h.version;
-    answered = h.answered;
-    placed = at_append events more 0 (event.Place h.place []) h.placed;
-    clock = at_append events more 1 (event.Clock (start_rules None)) h.clock;
-    from_is = old_from p k ∙ h.from_is;
-    to_above = omega (arith, old_to p k, h.to_above);
-  }
+  init_stays p k h = lift_init start p (alone_stays turns line p) (λ i e there. at_append events more i e there) (old_from p k) (old_to p k) h
 
   init_new : (p : TurnPlace) → IsLastTurnPlace turns line p → IsInitOf start long all next.spans p → IsInitOf start long all spans p
-  init_new p k h = record {
-    found_nothing = h.found_nothing;
-    alone = h.alone;
-    sets = h.sets;
-    place = h.place;
-    version = h.version;
-    answered = h.answered;
-    placed = h.placed;
-    clock = h.clock;
-    from_is = new_from p k ∙ h.from_is;
-    to_above = omega (arith, new_to p k, h.to_above);
-  }
+  init_new p k h = lift_init start p (λ alone. alone) (λ i e there. there) (new_from p k) (new_to p k) h
 
   init_told : TellsInit start long (IsTurnPlace long) (From low) all spans
   init_told = record {

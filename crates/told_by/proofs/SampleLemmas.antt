@@ -5,7 +5,7 @@ use Rattle.m3_model.specs.Ascends.{Ascends}
 use Rattle.m3_model.specs.Hash.{shard_of}
 use Rattle.m3_model.specs.Levels.{needed_read, needed_write}
 use Rattle.m3_model.specs.Members.{IsIn}
-use Rattle.m3_model.specs.Reads.{Found, found_of, points_in}
+use Rattle.m3_model.specs.Reads.{Found, IsOrdered, found_of, points_in}
 use Rattle.m3_model.specs.declared.act.Act.{Act}
 use Rattle.m3_model.specs.declared.act.ReadLevel.TheVariants as level
 use Rattle.m3_model.specs.declared.act.WriteLevel.TheVariants as taking
@@ -68,14 +68,14 @@ second = line_of begun placed ∷ line_of spaced answer.Done ∷ []
 abbrev acked : Answer
 acked = answer.Acks (0 ∷ [])
 
-abbrev third : List Turn
+abbrev pub third : List Turn
 third = line_of begun placed ∷ line_of spaced answer.Done ∷ line_of written acked ∷ []
 
-abbrev found : Answer
+abbrev pub found : Answer
 found = answer.Found series false
 
 -- there is one shard
-shard_zero : (id : List ℕ) → shard_of id 0 1 ≡ 0
+pub shard_zero : (id : List ℕ) → shard_of id 0 1 ≡ 0
 shard_zero id = let below = shard_below id 0 1 (omega arith) in omega (arith, below)
 
 ask_or_step : (asks : List Event) → Each (λ j e. IsAskOrStep e) 0 asks → AreSteps asks
@@ -195,7 +195,7 @@ told_write =
 abbrev before_read : List Event
 before_read = before_write ++ of_write
 
-abbrev reading : TurnPlace
+abbrev pub reading : TurnPlace
 reading = place_after third fetched found
 
 abbrev asking : Asking
@@ -215,6 +215,14 @@ served_read s is node (inl same) =
     (subst (λ n. HasServed None (InStretch (before_read ++ of_read) 10 14) reading place 0 n) same (reply.Found series, tt, (read, (refl, refl, refl, refl, refl), (12, (omega arith, omega arith, refl))), record { instance_ = record { name = name; group = name; listed = true; drained = false }; stands = refl; holds = refl }))
 served_read s is node (inr none) = absurd none
 
+-- the answer is in order
+pub series_ordered : IsOrdered series
+series_ordered = record {
+  ids = (λ y none. absurd none, tt);
+  times = λ x among. elim among as (λ _. Ascends (λ (a b : ℕ × ℤ). a.0 < b.0) x.points) [ inl e ↦ subst (λ (y : Series). Ascends (λ (a b : ℕ × ℤ). a.0 < b.0) y.points) e (λ y none. absurd none, tt) | inr none ↦ absurd none ];
+  none_empty = λ x among. elim among as (λ _. 0 < length x.points) [ inl e ↦ subst (λ (y : Series). 0 < length y.points) e (omega arith) | inr none ↦ absurd none ];
+}
+
 finds : (one : Found) → found_of found ≡ Some one → Finds None reading asking (λ s. record { began = 10; ended = 13; nodes = 0 ∷ []; series = series }) (0 ∷ []) one
 finds one is =
     let same : record { series = series; short = false } ≡ one = cc in
@@ -225,11 +233,7 @@ finds one is =
       together = record {
         nothing_else = λ p among. (0, sym (shard_zero name), among);
         all_there = λ s asks p among. covers_here p (points_in 0 series) among;
-        ordered = record {
-          ids = (λ y none. absurd none, tt);
-          times = λ x among. elim among as (λ _. Ascends (λ (a b : ℕ × ℤ). a.0 < b.0) x.points) [ inl e ↦ subst (λ (y : Series). Ascends (λ (a b : ℕ × ℤ). a.0 < b.0) y.points) e (λ y none. absurd none, tt) | inr none ↦ absurd none ];
-          none_empty = λ x among. elim among as (λ _. 0 < length x.points) [ inl e ↦ subst (λ (y : Series). 0 < length y.points) e (omega arith) | inr none ↦ absurd none ];
-        };
+        ordered = series_ordered;
       };
       is_short = λ e. cc;
       not_short = λ e want. cc;
