@@ -21,3 +21,4 @@ pub mod LegalSampleLemmas
 pub mod ContentLemmas
 pub mod FoundLemmas
 pub mod PageLemmas
+pub mod PrintedLemmas

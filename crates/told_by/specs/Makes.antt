@@ -26,7 +26,7 @@ use Rattle.cluster_core.specs.declared.event.StepCall.TheVariants as call
 use Rattle.cluster_core.specs.declared.event.StepReply.TheVariants as reply
 use Rattle.transcripts.specs.Deliveries.{LateMessage, IsLateMessage, shard_of_message}
 use Rattle.transcripts.specs.Fates.{OfNode, call_number, fate_at, is_stopped}
-use Rattle.transcripts.specs.Placements.{IsCounted, has_replica}
+use Rattle.transcripts.specs.Placements.{IsCounted, has_replica, printed}
 use Rattle.transcripts.specs.Points.{point_of}
 use Rattle.transcripts.specs.Record.{TurnPlace, inner_turns, lists_of}
 use Rattle.transcripts.specs.Rules.{rules_at, rules_by}
@@ -203,10 +203,17 @@ MayStep start past p n s call.Stop = MayAsk start past p p.turn.act (asked.Step 
 MayStep start past p n s call.Restart = MayAsk start past p p.turn.act (asked.Step n s call.Restart)
 MayStep start past p n s _ = ⊤
 
+-- the turn prints the placement, or a later one that stood when its step ended
+pub record PrintsNotBefore (p : TurnPlace) (placement : Placement) : Type 0 where
+  pub stood : Placement
+  pub prints : printed p.turn.answer ≡ Some stood
+  pub not_before : placement.version ≤ stood.version
+
 -- what a turn may make after these events, beside what writes, reads, placements and clocks say of theirs
 abbrev pub MayMake : Option MetaState → List Event → TurnPlace → Event → Type 0
 MayMake start past p (event.Ask what) = MayAsk start past p p.turn.act what
 MayMake start past p (event.Step n s c a) = MayStep start past p n s c
+MayMake start past p (event.Place placement done) = PrintsNotBefore p placement
 MayMake start past p (event.Ack send nodes) = CountsOwnPuts start past p send nodes
 MayMake start past p (event.FetchDone began nodes series) = CountsOwnReads start past p began nodes
 MayMake start past p _ = ⊤

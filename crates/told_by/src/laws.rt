@@ -1,5 +1,5 @@
 //! What is so of all that is told by a list of events.
-ghost use Rattle.told_by.specs.Laws.{IsKeptWhereTold, IsToldAtFirst, IsToldLineByLine, EmptyDisksStand, IsJoinedWhereTold, AcksCountWhereTold, StandsAgain};
+ghost use Rattle.told_by.specs.Laws.{IsKeptWhereTold, IsToldAtFirst, IsToldLineByLine, EmptyDisksStand, IsJoinedWhereTold, AcksCountWhereTold, PlacementsStand, StandsAgain};
 
 /// Where a legal list of events tells of a run's turns, each answered read of the run holds what was acknowledged
 /// before, and nothing unwritten.
@@ -12,6 +12,11 @@ pub fn told_is_kept()
 pub fn told_is_joined()
     ensures joined { IsJoinedWhereTold }
     ensures acks { AcksCountWhereTold }
+{}
+
+/// In such a run the placement that stands before a line, by what was printed, is the last one of the list there.
+pub fn printed_placements_stand()
+    ensures { PlacementsStand }
 {}
 
 /// A run is told line by line: it begins with nothing told, and each line's events are added at the end.
