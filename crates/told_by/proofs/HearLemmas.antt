@@ -143,6 +143,7 @@ module _ (start : Option MetaState) (past : List Event) (Old New : ℕ → Event
   hears_on a (answer.Peers got needed reasons s) h = λ x m. reason_on IsStreamCall x.0 s x.1 (h x m)
   hears_on a (answer.Repaired shards) h = λ x m y k. reason_on IsRepairCall y.0 x.shard y.1 (h x m y k)
   hears_on a (answer.Status now replicas version) h = status_on now version replicas h
+  hears_on (act.Init rf shards seed nodes) (answer.Placed place version) h = λ n s tenure given. let step = h n s tenure given in (step.0, step.1, step_on IsBeginCall n s step.0 step.2)
   hears_on (act.Stop node) answer.Done h = λ n s slot. happens_on (event.Step n s call.Stop reply.Done) (h n s slot)
   hears_on (act.Restart node pick) answer.Done h = λ n s slot. happens_on (event.Step n s call.Restart reply.Done) (h n s slot)
   hears_on (act.Restart node pick) (answer.Disk name s) h = (h.0, refused_on node s IsRestartCall reason.Disk h.1)

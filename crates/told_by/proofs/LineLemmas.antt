@@ -1,5 +1,5 @@
 -- A run that is told goes on by one line.
-use Rattle.told_by.specs.Makes.{MayMake, TellsMakes}
+use Rattle.told_by.specs.Makes.{EndsRestart, MayMake, TellsMakes, TellsRestarts}
 use Rattle.told_by.specs.Hears.{HearsBy, InStretch, TellsHears}
 use Rattle.told_by.proofs.HearLemmas.{hears_on}
 use Rattle.std.proofs.Common.{◌≡◌, ℕ, zero, suc, ◌<◌, ◌≤◌, ◌+◌, List, [], ◌∷◌, ◌++◌, take, length, refl, sym, ap, ◌∙◌, subst, inl, inr, arith, length-append, append_assoc, cond}
@@ -23,6 +23,8 @@ use Rattle.m3_model.specs.declared.turn.Turn.{Turn}
 use Rattle.cluster_core.specs.Lists.{At}
 use Rattle.cluster_core.specs.declared.event.Event.{Event}
 use Rattle.cluster_core.specs.declared.event.Event.TheVariants as event
+use Rattle.cluster_core.specs.declared.event.StepCall.TheVariants as call
+use Rattle.cluster_core.specs.declared.event.StepReply.TheVariants as reply
 use Rattle.cluster_core.proofs.ListLemmas.{at_append, at_within}
 use Rattle.told_by.specs.Clocks.{HasClock, IsClockOf, TellsClocks, rules_left}
 use Rattle.told_by.specs.Openings.{IsInitOf, TellsInit, opening_length}
@@ -142,6 +144,12 @@ lift_clock l start p h = record {
   past_opening = h.past_opening;
   own = l.same h.clock (event.Clock (rules_left start p)) h.there h.mine ∙ h.own;
 }
+
+pub lift_restart : {Mine Others : ℕ → Type 0} {events longer : List Event} {makers others : ℕ → TurnPlace} → Lifts Mine Others events longer makers others → (p : TurnPlace) (i n s : ℕ) → EndsRestart Mine events makers p i n s → EndsRestart Others longer others p i n s
+lift_restart l p i n s (inl done) = inl done
+lift_restart l p i n s (inr h) =
+    let step = event.Step n s call.Stop reply.Done in
+    inr (record { stop = h.stop; later = h.later; there = l.stays h.stop step h.there; mine = l.below h.stop h.mine; own = l.same h.stop step h.there h.mine ∙ h.own })
 
 -- what stands in the front of a list stands in the front
 pub at_front : {X : Type 0} (xs ys : List X) (i : ℕ) (x : X) → At (xs ++ ys) i x → i < length xs → At xs i x
@@ -413,6 +421,14 @@ module _ (start : Option MetaState) (turns : List Turn) (events : List Event) (l
     ];
   }
 
+  restarts_told : TellsRestarts (From low) all makers
+  restarts_told i n s r above past there = elim (cases_lt i (length events)) as (λ _. EndsRestart (From low) all makers (makers i) i n s) [
+    | inl lt ↦
+        subst (λ x. EndsRestart (From low) all makers x i n s) (sym (by_left i (length events) (told.makers i) (next.makers i) lt))
+        (lift_restart olds (told.makers i) i n s ((told.tells).restarts i n s r above past (at_front events more i (event.Step n s call.Restart r) there lt)))
+    | inr ge ↦ subst (λ x. EndsRestart (From low) all makers x i n s) (sym (by_right i (length events) (told.makers i) (next.makers i) ge)) (lift_restart news (next.makers i) i n s ((next.tells).restarts i n s r ge past there))
+  ]
+
   makes_told : TellsMakes start (From low) all makers
   makes_told i e above past there = elim (cases_lt i (length events)) as (λ _. MayMake start (take i all) (makers i) e) [
     | inl lt ↦
@@ -475,7 +491,7 @@ module _ (start : Option MetaState) (turns : List Turn) (events : List Event) (l
     ends = ends;
     lines = lines_told;
     opened = λ state is. let o = told.opened state is in record { placed = at_append events more 0 (event.Place state.place []) o.placed; clock = at_append events more 1 (event.Clock state.rules) o.clock };
-    tells = record { order = order_told; init = init_told; writes = writes_told; reads = reads_told; placements = placements_told; clocks = clocks_told; makes = makes_told; hears = hears_told };
+    tells = record { order = order_told; init = init_told; writes = writes_told; reads = reads_told; placements = placements_told; clocks = clocks_told; makes = makes_told; restarts = restarts_told; hears = hears_told };
   }
 
   pub line_told_from : (p : TurnPlace) → IsLastTurnPlace turns line p → (line_told.spans).from p ≡ (next.spans).from p
@@ -522,6 +538,7 @@ told_at_first = record {
     placements = record { is_place = λ p h place is. absurd (no_place p h); not_earlier = λ p q h k e was is of_was of_is. absurd (no_place p h); each_end = λ i place done low past there d m. absurd (nothing_at i (event.Place place done) there) };
     clocks = record { set = λ p h sets. absurd (no_place p h); each_clock = λ i rules low past there. absurd (nothing_at i (event.Clock rules) there) };
     makes = λ i e low past there. absurd (nothing_at i e there);
+    restarts = λ i n s r low past there. absurd (nothing_at i (event.Step n s call.Restart r) there);
     hears = λ p h. absurd (no_place p h);
   };
 }

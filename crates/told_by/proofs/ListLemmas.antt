@@ -17,12 +17,13 @@ use Rattle.m3_model.specs.declared.turn.Turn.{Turn}
 use Rattle.cluster_core.specs.Lists.{At}
 use Rattle.cluster_core.specs.declared.event.Event.{Event}
 use Rattle.cluster_core.specs.declared.event.Event.TheVariants as event
+use Rattle.cluster_core.specs.declared.event.StepCall.TheVariants as call
 use Rattle.cluster_core.proofs.ListLemmas.{at_within}
 use Rattle.told_by.specs.Lists.{IsListPlace, MadeBy, TellsLists}
 use Rattle.told_by.specs.Openings.{IsInitOf}
 use Rattle.told_by.specs.Spans.{From, IsEarlier, IsOfTurn, Spans}
 use Rattle.told_by.specs.Told.{Tells, TellsLine}
-use Rattle.told_by.proofs.LineLemmas.{Lifts, lift_ack, lift_begun, lift_clock, lift_init, lift_send, lift_sent, lift_told}
+use Rattle.told_by.proofs.LineLemmas.{Lifts, lift_ack, lift_begun, lift_clock, lift_init, lift_restart, lift_send, lift_sent, lift_told}
 
 only_list : {X : Type 0} (one : X) (front : List X) (list : X) (back : List X) → one ∷ [] ≡ front ++ list ∷ back → front ≡ []
 only_list one [] list back e = refl
@@ -140,6 +141,7 @@ module _ (start : Option MetaState) (turns : List Turn) (events : List Event) (l
         each_clock = λ i rules le past there. (tells_at i (event.Clock rules) le there tt).clocks.each_clock i rules (own i le) past there;
       };
       makes = λ i e le past there. makes_by start (take i all) (makers i) e (λ kind. (tells_at i e le there kind).makes i e (own i le) past there);
+      restarts = λ i n s r le past there. lift_restart (lifts (lists.list_of i)) (makers i) i n s ((tells_at i (event.Step n s call.Restart r) le there tt).restarts i n s r (own i le) past there);
       hears = λ p h. let l = in_list p h in subst (λ n. HearsBy start (take ((lists.spans n).from p) all) (InStretch all ((lists.spans n).from p) ((lists.spans n).to p)) p p.turn.act p.turn.answer) (sym l.number) ((told_of p l).hears p l.here);
     };
     not_earlier = lists.not_earlier;

@@ -1,5 +1,5 @@
 -- What a turn asks replicas to do, and which of their answers it counts: those of this very call.
-use Rattle.std.specs.Prelude.{◌≡◌, ◌≤◌, ◌<◌, ℕ, ⊤, List, [], ◌∷◌, take, Option, Some, true, false, IsTrue}
+use Rattle.std.specs.Prelude.{◌≡◌, ◌⊎◌, ◌≤◌, ◌<◌, ℕ, ⊤, List, [], ◌∷◌, take, Option, Some, true, false, IsTrue}
 use Rattle.std.specs.List.{Any}
 use Rattle.m3_model.specs.Delivery.{is_cut}
 use Rattle.m3_model.specs.Members.{IsIn}
@@ -23,6 +23,7 @@ use Rattle.cluster_core.specs.declared.event.Event.{Event}
 use Rattle.cluster_core.specs.declared.event.Event.TheVariants as event
 use Rattle.cluster_core.specs.declared.event.StepCall.{StepCall}
 use Rattle.cluster_core.specs.declared.event.StepCall.TheVariants as call
+use Rattle.cluster_core.specs.declared.event.StepReply.{StepReply}
 use Rattle.cluster_core.specs.declared.event.StepReply.TheVariants as reply
 use Rattle.transcripts.specs.Deliveries.{LateMessage, IsLateMessage, shard_of_message}
 use Rattle.transcripts.specs.Fates.{OfNode, call_number, fate_at, is_stopped}
@@ -221,3 +222,21 @@ MayMake start past p _ = ⊤
 -- each event is one that its maker may make
 abbrev pub TellsMakes : Option MetaState → (ℕ → Type 0) → List Event → (ℕ → TurnPlace) → Type 0
 TellsMakes start Mine events makers = (i : ℕ) (e : Event) → Mine i → 2 ≤ i → At events i e → MayMake start (take i events) (makers i) e
+
+-- ---- restarts
+
+-- a Stop of the slot that the turn makes follows the place
+pub record StopsAgain (Mine : ℕ → Type 0) (events : List Event) (makers : ℕ → TurnPlace) (p : TurnPlace) (i n s : ℕ) : Type 0 where
+  pub stop : ℕ
+  pub later : i < stop
+  pub there : At events stop (event.Step n s call.Stop reply.Done)
+  pub mine : Mine stop
+  pub own : makers stop ≡ p
+
+-- the turn that restarts a replica is answered ok, or stops it again
+abbrev pub EndsRestart : (ℕ → Type 0) → List Event → (ℕ → TurnPlace) → TurnPlace → ℕ → ℕ → ℕ → Type 0
+EndsRestart Mine events makers p i n s = (p.turn.answer ≡ answer.Done) ⊎ StopsAgain Mine events makers p i n s
+
+-- each Restart is of such a turn
+abbrev pub TellsRestarts : (ℕ → Type 0) → List Event → (ℕ → TurnPlace) → Type 0
+TellsRestarts Mine events makers = (i n s : ℕ) (a : StepReply) → Mine i → 2 ≤ i → At events i (event.Step n s call.Restart a) → EndsRestart Mine events makers (makers i) i n s
