@@ -53,6 +53,8 @@ use Rattle.told_by.specs.Told.{ToldBy}
 use Rattle.told_causes.specs.Calls.{ServedRuns, AcksAreSaid, IsExplained, IsSteadyNode, ReasonsAreSaid, ServedIsTaken, Within}
 use Rattle.told_causes.specs.Faults.{fault_of, faults_told}
 use Rattle.told_causes.specs.Standing.{IsHaltAct}
+use Rattle.told_causes.specs.Boot.{IsKnownMember}
+use Rattle.told_causes.proofs.BootLemmas.{boot_cause, boot_said}
 use Rattle.told_causes.proofs.DownLemmas.{down_cause, down_said}
 use Rattle.told_causes.proofs.FaultLemmas.{steps_faults}
 use Rattle.told_causes.proofs.RefusalLemmas.{or_cases, refused_law}
@@ -174,7 +176,7 @@ module _ (start : Option MetaState) (turns : List Turn) (events : List Event) (l
   calls_halt_nothing (act.Restart node pick) e h = cc
   calls_halt_nothing _ e h = h
 
-  reason_said : is_call p.turn.act ≡ true → (place : Placement) (shard node : ℕ) → IsSteadyNode start turns events told p place shard node → (why : Reason) → IsExplained why → IsHeard start (Within events told.spans p) p place shard node why → MayRefuse true faults start p place shard node why
+  reason_said : is_call p.turn.act ≡ true → (place : Placement) (shard node : ℕ) → (steady : IsSteadyNode start turns events told p place shard node) → (why : Reason) → IsExplained (IsKnownMember start turns events p shard node steady.name) why → IsHeard start (Within events told.spans p) p place shard node why → MayRefuse true faults start p place shard node why
   reason_said calls place shard node steady reason.Cut known h = h
   reason_said calls place shard node steady reason.Memory known h = tt
   reason_said calls place shard node steady reason.Past known h = let s = (h.2).1 in refused_past place.version node shard (h.2).0 h.0 h.1 s.2
@@ -182,6 +184,8 @@ module _ (start : Option MetaState) (turns : List Turn) (events : List Event) (l
   reason_said calls place shard node steady reason.Down known h =
       down_said faults start p place node shard steady.name steady.named steady.stays
       (down_cause start turns events legal told p in_run (calls_halt_nothing p.turn.act calls) node shard steady.name steady.everywhere h.0 h.2)
+  reason_said calls place shard node steady reason.Boot known h =
+      λ tells. boot_said start p place node shard steady.name steady.named (boot_cause start turns events legal told p in_run (calls_halt_nothing p.turn.act calls) node shard steady.name known h.0 h.2)
   reason_said calls place shard node steady reason.Disk known h =
       let s = (h.2).1 in fault_here (h.2).0 (event.Step node shard h.0 (reply.Refused reason.Disk)) (record { line = length p.lines; node = node; shard = shard; kind = Failing }) s.0 s.1 s.2 refl refl
   reason_said calls place shard node steady (reason.Corrupt damage) known h =

@@ -33,6 +33,7 @@ use Rattle.told_by.specs.Told.{ToldBy}
 use Rattle.told_causes.specs.Calls.{Within}
 use Rattle.told_causes.specs.Faults.{faults_told}
 use Rattle.told_causes.specs.Standing.{IsHaltAct}
+use Rattle.told_causes.proofs.BootLemmas.{boot_cause, boot_said}
 use Rattle.told_causes.proofs.DownLemmas.{down_cause, down_said}
 use Rattle.told_causes.proofs.RefusalLemmas.{refused_law}
 
@@ -81,6 +82,10 @@ module _ (start : Option MetaState) (turns : List Turn) (events : List Event) (t
       let steady = (known.explained m shard reason.Down h).0 in
       down_said faults start p m.used m.node shard steady.name steady.named steady.stays
       (down_cause start turns events known.legal told p known.in_run halts_nothing m.node shard steady.name steady.everywhere h.0 h.2)
+  came m shard (Some reason.Boot) h =
+      let why = known.explained m shard reason.Boot h in
+      let steady = why.0 in
+      λ tells. boot_said start p m.used m.node shard steady.name steady.named (boot_cause start turns events known.legal told p known.in_run halts_nothing m.node shard steady.name why.1 h.0 h.2)
   came m shard (Some why) h = absurd ((known.explained m shard why h).1)
 
   each_said : (messages : List LateMessage) (outcomes : List (ℕ × ℕ × Option Reason)) → HearsOutcomes start (Within events told.spans p) p messages outcomes → AreOutcomes true faults start p messages outcomes

@@ -312,8 +312,8 @@ down_cause start turns events legal told p in_run quiet n s name named c step =
     cause_at start turns events legal told n s name named p in_run quiet step.0 (step.1).0 (step.1).1 (first_down (replica n s (take step.0 events)) c (refused_law true (take step.0 events) n s (replica n s (take step.0 events)) c reason.Down (lawful_step events legal step.0 n s c (reply.Refused reason.Down) there)))
 
 pub down_said : DownIsSaid
-down_said faults start p place n s name named stays (inl stopped) = inl (record { instance_ = named.instance_; stands = named.stands; holds = subst (λ x. is_stopped (inner_turns p.lines) x ≡ true) (sym named.holds) stopped })
-down_said faults start p place n s name named stays (inr closed) =
+down_said listed start p place n s name named stays (inl stopped) = inl (record { instance_ = named.instance_; stands = named.stands; holds = subst (λ x. is_stopped (inner_turns p.lines) x ≡ true) (sym named.holds) stopped })
+down_said listed start p place n s name named stays (inr closed) =
     inr (record {
       fault = closed.fault;
       among = closed.among;

@@ -6,3 +6,5 @@ pub mod DownLemmas
 pub mod CallLemmas
 pub mod LevelLemmas
 pub mod DeliverLemmas
+pub mod WaitLemmas
+pub mod BootLemmas

@@ -23,15 +23,16 @@ use Rattle.transcripts.specs.Rules.{rules_at}
 use Rattle.told_by.specs.Hears.{HasServed, HearsShard, InStretch, IsHeard, IsNamedBy}
 use Rattle.told_by.specs.Spans.{Spans}
 use Rattle.told_by.specs.Told.{ToldBy}
+use Rattle.told_causes.specs.Boot.{IsKnownMember}
 use Rattle.told_causes.specs.Faults.{faults_told}
 use Rattle.told_causes.specs.Standing.{StaysThere}
 
--- a reason that is explained here: all but that a replica waits for a bootstrap, doesn't own its shard, or is fenced above the version
-abbrev pub IsExplained : Reason → Type 0
-IsExplained reason.Boot = ⊥
-IsExplained reason.NotOwned = ⊥
-IsExplained (reason.Stale fence) = ⊥
-IsExplained _ = ⊤
+-- a reason that is explained here: all but that a replica doesn't own its shard, or is fenced above the version; that it isn't begun, of a known member
+abbrev pub IsExplained : Type 0 → Reason → Type 0
+IsExplained Known reason.Boot = Known
+IsExplained Known reason.NotOwned = ⊥
+IsExplained Known (reason.Stale fence) = ⊥
+IsExplained Known _ = ⊤
 
 -- what happens within the turn's stretch
 abbrev pub Within : List Event → Spans → TurnPlace → ℕ → Event → Type 0
@@ -48,7 +49,7 @@ pub record IsSteadyNode (start : Option MetaState) (turns : List Turn) (events :
 abbrev pub ReasonsAreSaid : Type 0
 ReasonsAreSaid =
     (start : Option MetaState) (turns : List Turn) (events : List Event) → Legal true events → (told : ToldBy start turns events) → (p : TurnPlace) → IsTurnPlace turns p → IsTrue (is_call p.turn.act)
-    → (place : Placement) (shard node : ℕ) → IsSteadyNode start turns events told p place shard node → (why : Reason) → IsExplained why
+    → (place : Placement) (shard node : ℕ) → (steady : IsSteadyNode start turns events told p place shard node) → (why : Reason) → IsExplained (IsKnownMember start turns events p shard node steady.name) why
     → IsHeard start (Within events told.spans p) p place shard node why → MayRefuse true (faults_told told.ends events (length turns)) start p place shard node why
 
 -- Where a replica did as a write asks, the write's point is one that is taken at this moment.
@@ -64,7 +65,8 @@ ServedRuns start events spans p = (place : Placement) (shard node : ℕ) → Has
 -- each reason that the turn hears of a counted replica is explained here
 abbrev pub AllAreExplained : (start : Option MetaState) (turns : List Turn) (events : List Event) → ToldBy start turns events → TurnPlace → Type 0
 AllAreExplained start turns events told p =
-    (place : Placement) (shard node : ℕ) (why : Reason) → IsCounted place shard node → IsHeard start (Within events told.spans p) p place shard node why → IsSteadyNode start turns events told p place shard node × IsExplained why
+    (place : Placement) (shard node : ℕ) (why : Reason) → IsCounted place shard node → IsHeard start (Within events told.spans p) p place shard node why
+    → (steady : IsSteadyNode start turns events told p place shard node) × IsExplained (IsKnownMember start turns events p shard node steady.name) why
 
 -- What is known of a call: it is one of a run that a legal list tells of, the nodes of those that did as it asks run, and what it hears is explained.
 pub record IsKnownCall (start : Option MetaState) (turns : List Turn) (events : List Event) (told : ToldBy start turns events) (p : TurnPlace) : Type 0 where

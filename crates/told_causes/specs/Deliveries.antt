@@ -12,6 +12,7 @@ use Rattle.transcripts.specs.Fates.{OfNode, is_stopped}
 use Rattle.transcripts.specs.Record.{TurnPlace, IsTurnPlace, inner_turns}
 use Rattle.told_by.specs.Hears.{HearsLate}
 use Rattle.told_by.specs.Told.{ToldBy}
+use Rattle.told_causes.specs.Boot.{IsKnownMember}
 use Rattle.told_causes.specs.Calls.{IsExplained, IsSteadyNode, Within}
 use Rattle.told_causes.specs.Faults.{faults_told}
 
@@ -21,7 +22,8 @@ pub record IsKnownDelivery (start : Option MetaState) (turns : List Turn) (event
   pub in_run : IsTurnPlace turns p
   pub delivers : p.turn.act ≡ act.Deliver
   pub runs : (m : LateMessage) (shard : ℕ) → HearsLate start (Within events told.spans p) p m shard None → OfNode m.used m.node (λ name. is_stopped (inner_turns p.lines) name ≡ false)
-  pub explained : (m : LateMessage) (shard : ℕ) (why : Reason) → HearsLate start (Within events told.spans p) p m shard (Some why) → IsSteadyNode start turns events told p m.used shard m.node × IsExplained why
+  pub explained : (m : LateMessage) (shard : ℕ) (why : Reason) → HearsLate start (Within events told.spans p) p m shard (Some why)
+      → (steady : IsSteadyNode start turns events told p m.used shard m.node) × IsExplained (IsKnownMember start turns events p shard m.node steady.name) why
 
 -- The outcomes of a `deliver` are those of late messages, each with its cause.
 abbrev pub OutcomesAreSaid : Type 0

@@ -2,3 +2,4 @@ pub mod Faults
 pub mod Standing
 pub mod Calls
 pub mod Deliveries
+pub mod Boot

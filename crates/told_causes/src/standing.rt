@@ -1,4 +1,5 @@
 //! Why replicas are closed.
+ghost use Rattle.told_causes.specs.Boot.{BootHasCause, BootIsSaid};
 ghost use Rattle.told_causes.specs.Standing.{DownHasCause, DownIsSaid};
 
 /// A replica that refuses a call as closed is of a node that is stopped, or a fault of its own closed it and its node
@@ -6,4 +7,11 @@ ghost use Rattle.told_causes.specs.Standing.{DownHasCause, DownIsSaid};
 pub fn down_has_cause()
     ensures cause { DownHasCause }
     ensures said { DownIsSaid }
+{}
+
+/// A replica that refuses a call as not begun waits for a bootstrap, as a transcript says, where each bootstrap is alone
+/// in its line: since the run opened, since it was assigned, or since its node was restarted.
+pub fn boot_has_cause()
+    ensures cause { BootHasCause }
+    ensures said { BootIsSaid }
 {}
