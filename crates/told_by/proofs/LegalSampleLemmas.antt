@@ -38,7 +38,7 @@ node = record { name = name; group = name; listed = true; drained = false }
 only : {X : Type 0} (P : X → Type 0) (x : X) → P x → (y : X) → IsIn (x ∷ []) y → P y
 only P x h y m = elim m as (λ _. P y) [ inl e ↦ subst P e h | inr none ↦ absurd none ]
 
-lawful_place : IsLawful place
+pub lawful_place : IsLawful place
 lawful_place = record {
   limits = record {
     some_replicas = omega arith;
@@ -65,7 +65,7 @@ lawful_place = record {
 -- ---- what stands earlier
 
 -- an event is asked for where an Ask for it stands, and none like it
-asked_at : (past : List Event) (e : Event) (i : ℕ) (ask : Event) → At past i ask → IsAskFor e ask → Each (λ j x. 2 ≤ j → IsLike e x → ⊥) 0 past → WasAsked past e
+pub asked_at : (past : List Event) (e : Event) (i : ℕ) (ask : Event) → At past i ask → IsAskFor e ask → Each (λ j x. 2 ≤ j → IsLike e x → ⊥) 0 past → WasAsked past e
 asked_at past e i ask there of none_like = record {
   asks = i ∷ [];
   answered = [];

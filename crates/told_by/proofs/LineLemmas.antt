@@ -27,7 +27,7 @@ use Rattle.cluster_core.specs.declared.event.StepCall.TheVariants as call
 use Rattle.cluster_core.specs.declared.event.StepReply.TheVariants as reply
 use Rattle.cluster_core.proofs.ListLemmas.{at_append, at_within}
 use Rattle.told_by.specs.Clocks.{HasClock, IsClockOf, TellsClocks, rules_left}
-use Rattle.told_by.specs.Openings.{IsInitOf, TellsInit, opening_length}
+use Rattle.told_by.specs.Openings.{IsInitOf, IsOpenedBy, TellsInit, opening_length}
 use Rattle.told_by.specs.Placements.{HasPlace, PrintsPeers, TellsPlacements}
 use Rattle.told_by.specs.Reads.{Asking, Fetched, IsAskingOf, IsFetchOf, IsStartAt, IsStartOf, IsTold, TellsReads}
 use Rattle.told_by.specs.Spans.{AreOrdered, From, IsAlone, IsEarlier, IsWithin, Spans}
@@ -542,3 +542,44 @@ told_at_first = record {
     hears = λ p h. absurd (no_place p h);
   };
 }
+
+module _ (state : MetaState) where
+  abbrev opening : List Event
+  opening = event.Place state.place [] ∷ event.Clock state.rules ∷ []
+
+  -- nothing stands past the opening
+  nothing_past : (i : ℕ) (e : Event) → 2 ≤ i → At opening i e → ⊥
+  nothing_past i e low there = omega (arith, low, at_within opening i e there)
+
+  opened_by : (other : MetaState) → Some state ≡ Some other → IsOpenedBy other opening
+  opened_by other is = let same : state ≡ other = cc in subst (λ s. IsOpenedBy s opening) same (record { placed = refl; clock = refl })
+
+  -- a run that found a state is told by the two events that open it
+  pub told_found : ToldBy (Some state) [] opening
+  told_found = record {
+    spans = record { from = λ p. 2; to = λ p. 2 };
+    makers = λ i. nobody;
+    ends = λ k. 2;
+    lines = record { first = refl; last = refl; ascends = λ k lt. omega arith; low = λ p h. omega arith; high = λ p h. absurd (no_place p h) };
+    opened = opened_by;
+    tells = record {
+      order = record { not_below = λ p h. absurd (no_place p h); not_above = λ p h. absurd (no_place p h); not_back = λ p h. omega arith; order = λ p q h k e. absurd (no_place p h); made = λ i e low past there kind. absurd (nothing_past i e low there) };
+      init = record { begun = λ low e there. absurd (omega (arith, low)); inits = λ p h sets. absurd (no_place p h) };
+      writes = record {
+        acked = λ p h nodes is. absurd (no_place p h);
+        sent = λ p h unmet. absurd (no_place p h);
+        each_send = λ i version s point low there. absurd (nothing_past i (event.Send version s point) low there);
+        each_ack = λ i send nodes low there. absurd (nothing_past i (event.Ack send nodes) low there);
+      };
+      reads = record {
+        found = λ p h found is. absurd (no_place p h);
+        each_start = λ i version s rules chosen from to low there. absurd (nothing_past i (event.FetchStart version s rules chosen from to) low there);
+        each_done = λ i began nodes series low there. absurd (nothing_past i (event.FetchDone began nodes series) low there);
+      };
+      placements = record { is_place = λ p h place is. absurd (no_place p h); not_earlier = λ p q h k e was is of_was of_is. absurd (no_place p h); each_end = λ i place done low past there d m. absurd (nothing_past i (event.Place place done) low there) };
+      clocks = record { set = λ p h sets. absurd (no_place p h); each_clock = λ i rules low past there. absurd (nothing_past i (event.Clock rules) low there) };
+      makes = λ i e low past there. absurd (nothing_past i e low there);
+      restarts = λ i n s r low past there. absurd (nothing_past i (event.Step n s call.Restart r) low there);
+      hears = λ p h. absurd (no_place p h);
+    };
+  }

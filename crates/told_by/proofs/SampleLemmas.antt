@@ -63,12 +63,12 @@ makes_each start turns events a b more each i e le past there =
     (each_at (λ j x. 2 ≤ length events + j → MayMake start (take (length events + j) (events ++ more)) (place_after turns a b) x) 0 more each r.0 e r.2) past
 
 -- a Restart
-abbrev IsRestart : Event → Type 0
+abbrev pub IsRestart : Event → Type 0
 IsRestart (event.Step n s call.Restart r) = Unit {0}
 IsRestart _ = ⊥
 
 -- a line without Restarts
-restarts_none : (events : List Event) (a : Act) (b : Answer) (turns : List Turn) (more : List Event) → Each (λ j e. IsRestart e → ⊥) 0 more → (i n s : ℕ) (r : StepReply) → length events ≤ i → 2 ≤ i → At (events ++ more) i (event.Step n s call.Restart r)
+pub restarts_none : (events : List Event) (a : Act) (b : Answer) (turns : List Turn) (more : List Event) → Each (λ j e. IsRestart e → ⊥) 0 more → (i n s : ℕ) (r : StepReply) → length events ≤ i → 2 ≤ i → At (events ++ more) i (event.Step n s call.Restart r)
     → EndsRestart (From (length events)) (events ++ more) (λ _. place_after turns a b) (place_after turns a b) i n s
 restarts_none events a b turns more none i n s r le past there = let m = at_back events more i (event.Step n s call.Restart r) there le in absurd (each_at (λ j e. IsRestart e → ⊥) 0 more none m.0 (event.Step n s call.Restart r) m.2 tt)
 

@@ -16,6 +16,7 @@ use Rattle.m3_model.specs.declared.turn.Turn.{Turn}
 use Rattle.cluster_core.specs.Core.{Opening, AgreesWith}
 use Rattle.cluster_core.specs.Legal.{Legal}
 use Rattle.cluster_core.specs.declared.event.Event.{Event}
+use Rattle.cluster_core.specs.declared.event.Event.TheVariants as event
 use Rattle.told_by.specs.Acks.{AreCounted}
 use Rattle.transcripts.specs.Joined.{Joined}
 use Rattle.told_by.specs.Leaves.{HoldsAgain, IsLeftState, MayBeOpen}
@@ -34,6 +35,10 @@ IsKeptWhereTold =
 -- A run that has done nothing is told by the events that open it: none, where it found nothing.
 abbrev pub IsToldAtFirst : Type 0
 IsToldAtFirst = ToldBy None [] []
+
+-- And by the two events that open it, where it found a state.
+abbrev pub IsToldAfresh : Type 0
+IsToldAfresh = (state : MetaState) → ToldBy (Some state) [] (event.Place state.place [] ∷ event.Clock state.rules ∷ [])
 
 -- A line whose events are added at the end leaves the run told.
 abbrev pub IsToldLineByLine : Type 0

@@ -8,3 +8,4 @@ pub mod LevelLemmas
 pub mod DeliverLemmas
 pub mod WaitLemmas
 pub mod BootLemmas
+pub mod SampleLemmas

@@ -3,3 +3,4 @@ pub mod Standing
 pub mod Calls
 pub mod Deliveries
 pub mod Boot
+pub mod Sample

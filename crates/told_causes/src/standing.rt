@@ -1,5 +1,6 @@
 //! Why replicas are closed.
 ghost use Rattle.told_causes.specs.Boot.{BootHasCause, BootIsSaid};
+ghost use Rattle.told_causes.specs.Sample.{BootIsHeard};
 ghost use Rattle.told_causes.specs.Standing.{DownHasCause, DownIsSaid};
 
 /// A replica that refuses a call as closed is of a node that is stopped, or a fault of its own closed it and its node
@@ -14,4 +15,9 @@ pub fn down_has_cause()
 pub fn boot_has_cause()
     ensures cause { BootHasCause }
     ensures said { BootIsSaid }
+{}
+
+/// The premises of that can be met: a run finds a replica that nobody began, and hears so from it.
+pub fn not_begun_is_heard()
+    ensures { BootIsHeard }
 {}
