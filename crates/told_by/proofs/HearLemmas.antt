@@ -29,6 +29,7 @@ use Rattle.told_by.specs.Spans.{IsOfTurn}
 pub makes_by : (start : Option MetaState) (past : List Event) (p : TurnPlace) (e : Event) → (IsOfTurn e → MayMake start past p e) → MayMake start past p e
 makes_by start past p (event.Step n s call.Stop a) h = h tt
 makes_by start past p (event.Step n s call.Restart a) h = h tt
+makes_by start past p (event.Step n s (call.Begin tenure) a) h = h tt
 makes_by start past p (event.Step n s _ a) h = tt
 makes_by start past p _ h = h tt
 

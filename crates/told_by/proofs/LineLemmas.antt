@@ -185,7 +185,7 @@ place_stays turns line p h = record {
 pub place_last : (turns : List Turn) (line : Turn) (p : TurnPlace) → IsLastTurnPlace turns line p → IsTurnPlace (turns ++ line ∷ []) p
 place_last turns line p h = record { after = []; in_run = λ i. sym h.lines_are i ++ sym h.line_is i ∷ []; stands = h.stands }
 
-line_below : (turns : List Turn) (p : TurnPlace) → IsTurnPlace turns p → length p.lines < length turns
+pub line_below : (turns : List Turn) (p : TurnPlace) → IsTurnPlace turns p → length p.lines < length turns
 line_below turns p h = omega (arith, ap length h.in_run, length-append p.lines (p.line ∷ h.after))
 
 alone_stays : (turns : List Turn) (line : Turn) (p : TurnPlace) → IsAlone turns p → IsAlone (turns ++ line ∷ []) p

@@ -198,10 +198,24 @@ abbrev pub CountsOwnReads : Option MetaState → List Event → TurnPlace → �
 CountsOwnReads start past p began nodes =
     (version shard : ℕ) (rules : Rules) (pick : Pick) (from to : ℕ) → At past began (event.FetchStart version shard rules pick from to) → (node : ℕ) → IsIn nodes node → AnsweredOwn start past p began version shard pick from to node
 
--- a stop or a restart that is asked for is done in its turn
+-- the act begins replicas
+abbrev pub OpensReplicas : Act → Type 0
+OpensReplicas (act.Init rf shards seed nodes) = ⊤
+OpensReplicas (act.Bootstrap node only) = ⊤
+OpensReplicas _ = ⊥
+
+-- the turn begins replicas, and the node isn't stopped
+pub record MayOpen (past : List Event) (p : TurnPlace) (node : ℕ) : Type 0 where
+  pub opens : OpensReplicas p.turn.act
+  pub place : Placement
+  pub last : last_place past ≡ Some place
+  pub runs : OfNode place node (λ name. is_stopped (inner_turns p.lines) name ≡ false)
+
+-- a stop, a restart or a begin that is asked for is done in its turn
 abbrev pub MayStep : Option MetaState → List Event → TurnPlace → ℕ → ℕ → StepCall → Type 0
 MayStep start past p n s call.Stop = MayAsk start past p p.turn.act (asked.Step n s call.Stop)
 MayStep start past p n s call.Restart = MayAsk start past p p.turn.act (asked.Step n s call.Restart)
+MayStep start past p n s (call.Begin tenure) = MayOpen past p n
 MayStep start past p n s _ = ⊤
 
 -- the turn prints the placement, or a later one that stood when its step ended

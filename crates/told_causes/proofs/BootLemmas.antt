@@ -3,7 +3,6 @@ use Rattle.std.proofs.Common.{◌≡◌, ℕ, zero, suc, ◌<◌, ◌≤◌, ◌
 use Rattle.std.specs.Prelude.{◌⊎◌, Some, None, Option, not, nat_eq, ◌&&◌, ◌||◌, is_some}
 use Rattle.std.specs.Cmp.Lexicographic.{pointwise}
 use Rattle.std.proofs.lemmas.Bool.{cases_eq, cases_lt}
-use Rattle.m3_model.proofs.SplitLemmas.{not_empty}
 use Rattle.m3_model.specs.Members.{IsIn}
 use Rattle.m3_model.specs.declared.act.Act.{Act}
 use Rattle.m3_model.specs.declared.act.Act.TheVariants as act
@@ -17,7 +16,7 @@ use Rattle.m3_model.specs.declared.replica.Standing.TheVariants as standing
 use Rattle.m3_model.specs.declared.rules.MetaState.{MetaState}
 use Rattle.m3_model.specs.declared.turn.Turn.{Turn}
 use Rattle.placement_core.proofs.ListLemmas.{Any-from_IsIn}
-use Rattle.cluster_core.specs.Earlier.{last_place, place_after}
+use Rattle.cluster_core.specs.Earlier.{last_place}
 use Rattle.cluster_core.specs.Legal.{Legal}
 use Rattle.cluster_core.specs.Lists.{At}
 use Rattle.cluster_core.specs.Replicas.{replica, after}
@@ -29,22 +28,23 @@ use Rattle.cluster_core.specs.declared.event.StepCall.TheVariants as call
 use Rattle.cluster_core.specs.declared.event.StepReply.{StepReply}
 use Rattle.cluster_core.specs.declared.event.StepReply.TheVariants as reply
 use Rattle.cluster_core.specs.declared.replica_state.ReplicaState.{ReplicaState}
-use Rattle.cluster_core.proofs.ListLemmas.{at_some, at_take, fold_suc, some_same}
-use Rattle.cluster_core.proofs.PlaceLemmas.{place_cases, placed_at}
+use Rattle.cluster_core.proofs.ListLemmas.{at_some, at_take, some_same}
+use Rattle.cluster_core.proofs.PlaceLemmas.{placed_at}
 use Rattle.cluster_core.proofs.TraceLemmas.{lawful_step, replica_own, replica_suc, step_cases}
 use Rattle.transcripts.specs.Placements.{has_replica, later_placement, placement_after, printed, start_placement}
-use Rattle.transcripts.specs.Record.{InnerTurn, IsInLine, TurnPlace, IsTurnPlace, client_at, inner_turns, joined, lists_of}
+use Rattle.transcripts.specs.Record.{InnerTurn, TurnPlace, IsTurnPlace, inner_turns, joined, lists_of}
 use Rattle.transcripts.specs.Waiting.{Replica, is_assigned, is_covering, is_member, waiting_after, waits_after, waits_at}
 use Rattle.told_by.specs.Hears.{HearsBegun, HearsBy, HearsOpened, InStretch, IsBeginCall, IsBegun, IsFirstBegun}
 use Rattle.told_by.specs.Makes.{EndsRestart, IsCoveredSlot, MayAsk}
 use Rattle.told_by.specs.Openings.{IsInitOf, opening_length, sets_seed}
-use Rattle.told_by.specs.Spans.{From, IsAlone}
+use Rattle.told_by.specs.Spans.{From}
 use Rattle.told_by.specs.Told.{ToldBy}
 use Rattle.told_by.proofs.LeaveLemmas.{place_there}
-use Rattle.told_by.proofs.LineLemmas.{take_front}
+use Rattle.told_by.proofs.LineLemmas.{line_below, take_front}
 use Rattle.told_by.proofs.OpeningLemmas.{first_event}
 use Rattle.told_by.proofs.PrintedLemmas.{after_up, ends_within, placements_stand}
-use Rattle.told_by.proofs.TurnLemmas.{alone_is, at_cut, cut_at, cut_same, own_list, place_in}
+use Rattle.told_by.proofs.TurnLemmas.{alone_is, at_cut, cut_at, own_list, place_in}
+use Rattle.told_causes.proofs.AloneLemmas.{alone_place, alone_turns, lines_before, quiet_line, take_none}
 use Rattle.told_causes.specs.Boot.{BootHasCause, BootIsSaid, BootsAlone, IsBootAct, IsKnownSlot, WasMember}
 use Rattle.told_causes.specs.Standing.{IsHaltAct}
 use Rattle.told_causes.proofs.HaltLemmas.{last_name, late_step, one_line, opening_low}
@@ -81,65 +81,6 @@ boot_by r call.Stop reply.Done e = absurd (let bad : standing.Down ≡ standing.
 boot_by r (call.Begin tenure) (reply.Began fence points) e = absurd (let bad : standing.Open ≡ standing.Boot = e in cc)
 boot_by r (call.Begin tenure) a e = inl e
 boot_by r _ _ e = inl e
-
--- ---- turns that are alone
-
-only_cut : (t : InnerTurn) (front : List (List InnerTurn)) (earlier : List InnerTurn) (u : InnerTurn) (later : List InnerTurn) (back : List (List InnerTurn)) → (t ∷ []) ∷ [] ≡ front ++ (earlier ++ u ∷ later) ∷ back
-    → (front ≡ []) × (earlier ≡ []) × (back ≡ []) × (u ≡ t)
-only_cut t [] [] u later back e = let head : t ∷ [] ≡ u ∷ later = cc in let tail : [] ≡ back = cc in let same : t ≡ u = cc in (refl, refl, sym tail, sym same)
-only_cut t [] (z ∷ earlier) u later back e = let head : t ∷ [] ≡ z ∷ (earlier ++ u ∷ later) = cc in let rest : [] ≡ earlier ++ u ∷ later = cc in absurd (not_empty earlier u later rest)
-only_cut t (l ∷ front) earlier u later back e = let rest : [] ≡ front ++ (earlier ++ u ∷ later) ∷ back = cc in absurd (not_empty front (earlier ++ u ∷ later) back rest)
-
--- the only turn of a line has one place
-record OnlyAt (line : Turn) (t : InnerTurn) (q : TurnPlace) : Type 0 where
-  client : q.client ≡ client_at line.request 0
-  earlier : q.earlier ≡ []
-  beside : q.beside ≡ []
-  turn : q.turn ≡ t
-
-only_at : (line : Turn) (t : InnerTurn) → lists_of line ≡ (t ∷ []) ∷ [] → (q : TurnPlace) → q.line ≡ line → IsInLine q → OnlyAt line t q
-only_at line t alone q same h =
-    let cut = only_cut t h.front q.earlier q.turn h.later h.back (sym alone ∙ ap lists_of (sym same) ∙ h.in_line) in
-    record {
-      client = h.client_is ∙ ap (λ (l : Turn). client_at l.request (length h.front)) same ∙ ap (λ (f : List (List InnerTurn)). client_at line.request (length f)) cut.0;
-      earlier = cut.1;
-      beside = h.others ∙ ap (λ f. joined f ++ joined h.back) cut.0 ∙ ap joined cut.2;
-      turn = cut.3;
-    }
-
-alone_place : (turns : List Turn) (q b : TurnPlace) → IsAlone turns q → IsTurnPlace turns q → IsTurnPlace turns b → length b.lines ≡ length q.lines → b ≡ q
-alone_place turns q b alone qa ba same =
-    let cut = cut_same b.lines b.line ba.after q.lines q.line qa.after (sym ba.in_run ∙ qa.in_run) same in
-    let there : At turns (length q.lines) q.line = subst (λ ts. At ts (length q.lines) q.line) (sym qa.in_run) (at_cut q.lines q.line qa.after) in
-    let line : q.line ≡ alone.0 = some_same q.line alone.0 (sym there ∙ alone.1) in
-    let here = only_at alone.0 q.turn alone.2 q line qa.stands in
-    let other = only_at alone.0 q.turn alone.2 b (cut.heres ∙ line) ba.stands in
-    by b q cut.fronts cut.heres (other.client ∙ sym here.client) (other.earlier ∙ sym here.earlier) (other.beside ∙ sym here.beside) (other.turn ∙ sym here.turn)
-  where
-    by : (b q : TurnPlace) → b.lines ≡ q.lines → b.line ≡ q.line → b.client ≡ q.client → b.earlier ≡ q.earlier → b.beside ≡ q.beside → b.turn ≡ q.turn → b ≡ q
-    by b q e f g h k l = λ i. record { lines = e i; line = f i; client = g i; earlier = h i; beside = k i; turn = l i }
-
--- the turns of its line
-alone_turns : (line : Turn) (t : InnerTurn) → lists_of line ≡ (t ∷ []) ∷ [] → inner_turns (line ∷ []) ≡ t ∷ []
-alone_turns line t alone = append-nil (joined (lists_of line)) ∙ ap joined alone
-
--- ---- Places
-
-quiet_places : (events : List Event) (m d : ℕ) → m + d ≤ length events → ((i : ℕ) (place : Placement) (done : List (ℕ × ℕ)) → m ≤ i → i < m + d → At events i (event.Place place done) → ⊥) → last_place (take (m + d) events) ≡ last_place (take m events)
-quiet_places events m zero high none = let same : m + 0 ≡ m = omega arith in ap (λ n. last_place (take n events)) same
-quiet_places events m (suc d) high none =
-    let next : m + suc d ≡ suc (m + d) = omega arith in
-    let there = at_some events (m + d) (omega (arith, high)) in
-    ap (λ n. last_place (take n events)) next
-    ∙ fold_suc place_after None events (m + d) there.0 there.1
-    ∙ elim (place_cases (last_place (take (m + d) events)) there.0) as (λ _. place_after (last_place (take (m + d) events)) there.0 ≡ last_place (take m events)) [
-      | inl same ↦ same ∙ quiet_places events m d (omega (arith, high)) (λ i place done low below at. none i place done low (omega (arith, below)) at)
-      | inr placing ↦ absurd (none (m + d) placing.0 placing.1 (omega arith) (omega arith) (there.1 ∙ ap Some placing.2))
-    ]
-
-take_none : {X : Type 0} (xs : List X) → take 0 xs ≡ []
-take_none [] = refl
-take_none (x ∷ xs) = refl
 
 true_or_not : (b : Bool) → (b ≡ true) ⊎ (b ≡ false)
 true_or_not true = inl refl
@@ -256,7 +197,7 @@ module _ (start : Option MetaState) (turns : List Turn) (events : List Event) (l
       let above = opening_low start i late in
       let made = (told.tells).order.made i (event.Step n s call.Restart reply.Done) above late there tt in
       let q = told.makers i in
-      let early : length q.lines < length turns = omega (arith, ap length (made.0).in_run, length-append q.lines (q.line ∷ (made.0).after)) in
+      let early : length q.lines < length turns = line_below turns q (made.0) in
       let asks = by_act q.turn.act refl ((told.tells).makes i (event.Step n s call.Restart reply.Done) above late there) in
       record {
         in_run = made.0;
@@ -308,21 +249,6 @@ module _ (start : Option MetaState) (turns : List Turn) (events : List Event) (l
 
   -- ---- begins
 
-  -- no Place stands in the line before the only turn of it
-  no_place : (q : TurnPlace) → IsTurnPlace turns q → IsAlone turns q → 1 ≤ told.ends (length q.lines) → (i : ℕ) (place : Placement) (done : List (ℕ × ℕ)) → told.ends (length q.lines) ≤ i → i < (told.spans).from q → At events i (event.Place place done) → ⊥
-  no_place q at only some zero place done low below there = omega (arith, low, some)
-  no_place q at only some (suc zero) place done low below there = legal 1 (event.Place place done) there
-  no_place q at only some (suc (suc i)) place done low below there =
-      let late : 2 ≤ suc (suc i) = omega arith in
-      let made = (told.tells).order.made (suc (suc i)) (event.Place place done) (opening_low start (suc (suc i)) late) late there tt in
-      let b = told.makers (suc (suc i)) in
-      let early : length b.lines < length turns = omega (arith, ap length (made.0).in_run, length-append b.lines (b.line ∷ (made.0).after)) in
-      let less : length q.lines < length turns = omega (arith, ap length at.in_run, length-append q.lines (q.line ∷ at.after)) in
-      let same = one_line start turns events legal told (suc (suc i)) (length b.lines) (length q.lines) early less (omega (arith, (told.lines).low b made.0, (made.1).0)) (omega (arith, (told.lines).high b made.0, (made.1).1)) low
-      (omega (arith, below, (told.tells).order.not_back q at, (told.lines).high q at)) in
-      let from : (told.spans).from q ≤ suc (suc i) = subst (λ z. (told.spans).from z ≤ suc (suc i)) (alone_place turns q b only at made.0 same) (made.1).0 in
-      omega (arith, from, below)
-
   -- a bootstrap of the slot, a member when its line begins, leaves it not at boot
   boot_clash : (k j : ℕ) → ((i : ℕ) → told.ends k ≤ i → i ≤ j → BootAt i) → (q : TurnPlace) → IsTurnPlace turns q → length q.lines ≡ k → (told.spans).to q ≤ j → is_member x (placed x start turns k) ≡ true
       → (node : List ℕ) (asked : Option ℕ) (available : List (ℕ × List ℕ)) (place : Placement) (version : ℕ) → q.turn.act ≡ act.Bootstrap node asked → q.turn.answer ≡ answer.Available available place version → name ≡ node → is_covering s asked ≡ true → ⊥
@@ -332,13 +258,10 @@ module _ (start : Option MetaState) (turns : List Turn) (events : List Event) (l
       let p = member_place (placed x start turns k) s n member in
       let last : last_place (take (told.ends k) events) ≡ Some p.0 = placements_stand start turns events legal told k (omega (arith, less)) ∙ p.1 in
       let begins : told.ends k ≤ (told.spans).from q = omega (arith, (told.lines).low q at, ap told.ends line_is) in
-      let within : (told.spans).from q ≤ length events = omega (arith, (told.tells).order.not_back q at, (told.tells).order.not_above q at) in
-      let whole : told.ends k + ((told.spans).from q - told.ends k) ≡ (told.spans).from q = omega (arith, begins) in
       let there = place_there (take (told.ends k) events) p.0 last in
       let at_list = at_take events there.0 (told.ends k) (event.Place p.0 there.1) there.2 in
-      let quiet = quiet_places events (told.ends k) ((told.spans).from q - told.ends k) (omega (arith, whole, within)) (λ i z done low below e.
-      no_place q at only (omega (arith, ap told.ends line_is, at_list.1)) i z done (omega (arith, ap told.ends line_is, low)) (omega (arith, below, whole)) e) in
-      let last_there : last_place (take ((told.spans).from q) events) ≡ Some p.0 = ap (λ m. last_place (take m events)) (sym whole) ∙ quiet ∙ last in
+      let last_there : last_place (take ((told.spans).from q) events) ≡ Some p.0 =
+      quiet_line start turns events legal told q at only (omega (arith, ap told.ends line_is, at_list.1)) ∙ ap (λ m. last_place (take (told.ends m) events)) line_is ∙ last in
       let is_there : has_replica (Some p.0) s n ≡ true = subst (λ o. has_replica o s n ≡ true) p.1 member in
       let own = known.has_name there.0 p.0 there.1 at_list.0 is_there in
       let slot : IsCoveredSlot (take ((told.spans).from q) events) node asked n s =
@@ -388,7 +311,7 @@ module _ (start : Option MetaState) (turns : List Turn) (events : List Event) (l
       by_init : (q : TurnPlace) → IsTurnPlace turns q → IsInitOf start turns events told.spans q → ⊥
       by_init q at init =
           let above = high.1 in
-          let early : length q.lines < length turns = omega (arith, ap length at.in_run, length-append q.lines (q.line ∷ at.after)) in
+          let early : length q.lines < length turns = line_below turns q at in
           let line_is = one_line start turns events legal told 0 (length q.lines) k early less (omega (arith, (told.lines).low q at, init.from_is)) (omega (arith, (told.lines).high q at, init.to_above)) (omega (arith, empty)) (omega (arith, above)) in
           let line = (init.alone).0 in
           let line_there : At turns k line = subst (λ m. At turns m line) line_is (init.alone).1 in
@@ -492,16 +415,12 @@ module _ (start : Option MetaState) (turns : List Turn) (events : List Event) (l
   cause_at : (p : TurnPlace) → IsTurnPlace turns p → ¬ IsHaltAct p.turn.act → WasMember start p s n → (i : ℕ) → (told.spans).from p ≤ i → i < (told.spans).to p → BootAt i → waits_at x start p ≡ true
   cause_at p at quiet was i low high now =
       let k = length p.lines in
-      let less : k < length turns = omega (arith, ap length at.in_run, length-append p.lines (p.line ∷ at.after)) in
+      let less : k < length turns = line_below turns p at in
       let h = since k i (omega (arith, (told.lines).low p at, low)) (omega (arith, high, (told.tells).order.not_above p at)) now in
       by_how h.low h.boots h.how less (omega (arith, (told.lines).low p at, low)) (omega (arith, high, (told.lines).high p at)) h.at_most
     where
       front : take (length p.lines) turns ≡ p.lines
-      front = ap (take (length p.lines)) at.in_run ∙ take_cut p.lines (p.line ∷ at.after)
-        where
-          take_cut : {X : Type 0} (xs ys : List X) → take (length xs) (xs ++ ys) ≡ xs
-          take_cut [] ys = take_none ys
-          take_cut (y ∷ xs) ys = ap (λ zs. y ∷ zs) (take_cut xs ys)
+      front = lines_before start turns events legal told p at
 
       -- in a line with other turns none is a bootstrap
       none_earlier : (stays : Bool) (t : InnerTurn) → IsIn p.earlier t → EndsWait x stays t → ⊥

@@ -6,7 +6,7 @@ use Rattle.m3_model.specs.Rules.{InWindow, IsPast, IsFuture}
 use Rattle.told_by.specs.Hears.{HearsDelivered, HearsLate, HearsOutcomes, IsLatePut}
 use Rattle.told_causes.specs.Deliveries.{IsKnownDelivery, OutcomesAreSaid}
 use Rattle.told_causes.proofs.CallLemmas.{fault_here, outside_future, outside_past, put_outside}
-use Rattle.std.proofs.Common.{◌≡◌, ℕ, List, [], ◌∷◌, take, length, refl, subst, true}
+use Rattle.std.proofs.Common.{◌≡◌, ℕ, List, [], ◌∷◌, take, length, refl, ap, ◌∙◌, subst, true, false}
 use Rattle.std.specs.Prelude.{Option, Some, None, slice_get}
 use Rattle.m3_model.specs.Rules.{InWindow, IsPast, IsFuture}
 use Rattle.m3_model.specs.declared.reason.Reason.{Reason}
@@ -26,7 +26,7 @@ use Rattle.cluster_core.specs.declared.event.StepReply.TheVariants as reply
 use Rattle.cluster_core.specs.declared.replica_state.ReplicaState.{ReplicaState}
 use Rattle.cluster_core.proofs.TraceLemmas.{lawful_step}
 use Rattle.transcripts.specs.Faults.{Fault, Failing, Damage}
-use Rattle.transcripts.specs.Record.{TurnPlace}
+use Rattle.transcripts.specs.Record.{TurnPlace, inner_turns}
 use Rattle.transcripts.specs.Rules.{rules_at}
 use Rattle.told_by.specs.Hears.{HearsBy}
 use Rattle.told_by.specs.Told.{ToldBy}
@@ -36,6 +36,9 @@ use Rattle.told_causes.specs.Standing.{IsHaltAct}
 use Rattle.told_causes.proofs.BootLemmas.{boot_cause, boot_said}
 use Rattle.told_causes.proofs.DownLemmas.{down_cause, down_said}
 use Rattle.told_causes.proofs.RefusalLemmas.{refused_law}
+use Rattle.told_causes.proofs.RunLemmas.{who_serves}
+use Rattle.told_causes.specs.Running.{Serves}
+use Rattle.transcripts.specs.Fates.{OfNode, is_stopped}
 
 module _ (start : Option MetaState) (turns : List Turn) (events : List Event) (told : ToldBy start turns events) (p : TurnPlace) (known : IsKnownDelivery start turns events told p) where
   abbrev faults : List Fault
@@ -65,8 +68,19 @@ module _ (start : Option MetaState) (turns : List Turn) (events : List Event) (t
   halts_nothing : IsHaltAct p.turn.act → ⊥
   halts_nothing h = subst IsHaltAct known.delivers h
 
+  late_serves : (m : LateMessage) (shard i : ℕ) (c : StepCall) → IsLatePut start p m c → Serves c reply.Done
+  late_serves m shard i (call.Put client number rules version point) own = tt
+  late_serves m shard i _ own = absurd own
+
+  -- the node that took a message isn't stopped
+  late_runs : (m : LateMessage) (shard : ℕ) → HearsLate start (Within events told.spans p) p m shard None → OfNode m.used m.node (λ name. is_stopped (inner_turns p.lines) name ≡ false)
+  late_runs m shard h =
+      let named = known.named m shard h in
+      let runs = who_serves start turns events known.legal told known.halts p known.in_run m.node shard named.0 named.2 h.0 reply.Done (late_serves m shard (h.2).0 h.0 h.1) h.2 in
+      record { instance_ = (named.1).instance_; stands = (named.1).stands; holds = ap (is_stopped (inner_turns p.lines)) (named.1).holds ∙ runs }
+
   came : (m : LateMessage) (shard : ℕ) (o : Option Reason) → HearsLate start (Within events told.spans p) p m shard o → MayComeOf true faults start p m shard o
-  came m shard None h = let s = (h.2).1 in (late_taken m shard (h.2).0 h.0 h.1 (lawful_step events known.legal (h.2).0 m.node shard h.0 reply.Done s.2), known.runs m shard h)
+  came m shard None h = let s = (h.2).1 in (late_taken m shard (h.2).0 h.0 h.1 (lawful_step events known.legal (h.2).0 m.node shard h.0 reply.Done s.2), late_runs m shard h)
   came m shard (Some reason.Memory) h = tt
   came m shard (Some reason.Past) h = let s = (h.2).1 in late_past m shard (h.2).0 h.0 h.1 (refused m shard (h.2).0 h.0 reason.Past s.2)
   came m shard (Some reason.Future) h = let s = (h.2).1 in late_future m shard (h.2).0 h.0 h.1 (refused m shard (h.2).0 h.0 reason.Future s.2)

@@ -9,3 +9,6 @@ pub mod DeliverLemmas
 pub mod WaitLemmas
 pub mod BootLemmas
 pub mod SampleLemmas
+pub mod RunLemmas
+pub mod AloneLemmas
+pub mod NodeLemmas

@@ -4,3 +4,5 @@ pub mod Calls
 pub mod Deliveries
 pub mod Boot
 pub mod Sample
+pub mod Running
+pub mod Nodes

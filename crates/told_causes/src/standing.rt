@@ -1,5 +1,6 @@
 //! Why replicas are closed.
 ghost use Rattle.told_causes.specs.Boot.{BootHasCause, BootIsSaid};
+ghost use Rattle.told_causes.specs.Running.{WhoServedRuns, WhoServesRuns};
 ghost use Rattle.told_causes.specs.Sample.{BootIsHeard};
 ghost use Rattle.told_causes.specs.Standing.{DownHasCause, DownIsSaid};
 
@@ -20,4 +21,11 @@ pub fn boot_has_cause()
 /// The premises of that can be met: a run finds a replica that nobody began, and hears so from it.
 pub fn not_begun_is_heard()
     ensures { BootIsHeard }
+{}
+
+/// A node whose replica serves isn't stopped, where stops and restarts are alone in their lines; so the nodes run whose
+/// replicas did as a call asks.
+pub fn who_serves_runs()
+    ensures serves { WhoServesRuns }
+    ensures served { WhoServedRuns }
 {}
