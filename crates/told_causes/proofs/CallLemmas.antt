@@ -244,7 +244,7 @@ acks_said start turns events legal told p in_run halts names ns id t v level ver
       may_use = subst (λ (c : Call). MayUse start p c.version h.place) (sym is) h.may_use;
       counted = λ s asked node m. h.counted s (subst (λ (c : Call). AsksShard start p h.place c.id s) is asked) node m;
       by_name = h.by_name;
-      reached = λ node m. let one = h.served shard asks node m in served_reached start events told.spans p h.place shard node one (who_served start turns events legal told halts p in_run names h.place shard node one);
+      reached = λ node m. let one = h.served shard asks node m in served_reached start events told.spans p h.place shard node one (who_served start turns events legal told halts p in_run names h.place (record { call = h.call; of_act = h.of_call; may_use = h.may_use }) shard node one);
       enough = subst (λ (c : Call). c.needed (h.place).rf ≤ length nodes) (sym is) h.enough;
       takes =
           let first = some_node nodes h.some in

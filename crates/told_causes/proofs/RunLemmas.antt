@@ -290,8 +290,8 @@ served_by start p version past n s r (call.Read client number rules at_version p
 served_by start p version past n s r _ a served own law = absurd own
 
 pub who_served : WhoServedRuns
-who_served start turns events legal told halts p at names place shard node h =
-    let named = names place shard node h in
+who_served start turns events legal told halts p at names place used shard node h =
+    let named = names place used shard node h in
     let step = h.2 in
     let i = (step.2).1 in
     let serves = served_by start p place.version (take (step.2).0 events) node shard (replica node shard (take (step.2).0 events)) step.0 h.0 h.1 step.1 (lawful_step events legal (step.2).0 node shard step.0 h.0 i.2) in

@@ -16,7 +16,8 @@ use Rattle.cluster_core.specs.Legal.{Legal}
 use Rattle.cluster_core.specs.declared.event.Event.{Event}
 use Rattle.transcripts.specs.Fates.{OfNode}
 use Rattle.transcripts.specs.Levels.{AreSilent, IsAcked, IsFoundFor, MissesLevel}
-use Rattle.transcripts.specs.Placements.{IsCounted}
+use Rattle.transcripts.specs.Calls.{Call, call_of}
+use Rattle.transcripts.specs.Placements.{IsCounted, MayUse}
 use Rattle.transcripts.specs.Reasons.{MayRefuse, MayServe}
 use Rattle.transcripts.specs.Record.{TurnPlace, IsTurnPlace}
 use Rattle.transcripts.specs.Rules.{rules_at}
@@ -62,14 +63,20 @@ ServedIsTaken =
 abbrev pub IsNamedOnce : List Event → Placement → ℕ → Type 0
 IsNamedOnce events place node = (name : List ℕ) × OfNode place node (λ own. own ≡ name) × IsNamedBy events node name
 
+-- a placement that the turn's call may use
+pub record IsUsedBy (start : Option MetaState) (p : TurnPlace) (place : Placement) : Type 0 where
+  pub call : Call
+  pub of_act : call_of p.turn.act ≡ Some call
+  pub may_use : MayUse start p call.version place
+
 -- so have the nodes of replicas that did as the call asks
 abbrev pub ServedAreNamed : Option MetaState → List Event → Spans → TurnPlace → Type 0
-ServedAreNamed start events spans p = (place : Placement) (shard node : ℕ) → HasServed start (Within events spans p) p place shard node → IsNamedOnce events place node
+ServedAreNamed start events spans p = (place : Placement) → IsUsedBy start p place → (shard node : ℕ) → HasServed start (Within events spans p) p place shard node → IsNamedOnce events place node
 
 -- each reason that the turn hears of a counted replica is explained here
 abbrev pub AllAreExplained : (start : Option MetaState) (turns : List Turn) (events : List Event) → ToldBy start turns events → TurnPlace → Type 0
 AllAreExplained start turns events told p =
-    (place : Placement) (shard node : ℕ) (why : Reason) → IsCounted place shard node → IsHeard start (Within events told.spans p) p place shard node why
+    (place : Placement) → IsUsedBy start p place → (shard node : ℕ) (why : Reason) → IsCounted place shard node → IsHeard start (Within events told.spans p) p place shard node why
     → (steady : IsSteadyNode start turns events told p place shard node) × IsExplained (IsKnownMember start turns events p shard node steady.name) why
 
 -- What is known of a call: it is one of a run that a legal list tells of, stops are alone in their lines, nodes have one name, and what it hears is explained.
@@ -85,7 +92,7 @@ pub record IsKnownCall (start : Option MetaState) (turns : List Turn) (events : 
 abbrev pub SilentIsSaid : Type 0
 SilentIsSaid =
     (start : Option MetaState) (turns : List Turn) (events : List Event) (told : ToldBy start turns events) (p : TurnPlace) → IsKnownCall start turns events told p
-    → (place : Placement) (shard got : ℕ) (reasons : List (ℕ × Reason)) → HearsShard start (Within events told.spans p) p place shard got reasons
+    → (place : Placement) → IsUsedBy start p place → (shard got : ℕ) (reasons : List (ℕ × Reason)) → HearsShard start (Within events told.spans p) p place shard got reasons
     → AreSilent true (faults_told told.ends events (length turns)) start p place shard reasons
 
 -- A call that is refused for its level missed it.

@@ -7,7 +7,7 @@ use Rattle.m3_model.specs.declared.rules.MetaState.{MetaState}
 use Rattle.m3_model.specs.declared.turn.Turn.{Turn}
 use Rattle.cluster_core.specs.Legal.{Legal}
 use Rattle.cluster_core.specs.declared.event.Event.{Event}
-use Rattle.transcripts.specs.Deliveries.{IsDelivered, LateMessage}
+use Rattle.transcripts.specs.Deliveries.{IsDelivered, IsLateMessage, LateMessage}
 use Rattle.transcripts.specs.Record.{TurnPlace, IsTurnPlace}
 use Rattle.told_by.specs.Hears.{HearsLate}
 use Rattle.told_by.specs.Told.{ToldBy}
@@ -22,8 +22,8 @@ pub record IsKnownDelivery (start : Option MetaState) (turns : List Turn) (event
   pub in_run : IsTurnPlace turns p
   pub delivers : p.turn.act ≡ act.Deliver
   pub halts : HaltsAlone turns
-  pub named : (m : LateMessage) (shard : ℕ) → HearsLate start (Within events told.spans p) p m shard None → IsNamedOnce events m.used m.node
-  pub explained : (m : LateMessage) (shard : ℕ) (why : Reason) → HearsLate start (Within events told.spans p) p m shard (Some why)
+  pub named : (m : LateMessage) → IsLateMessage start p m → (shard : ℕ) → HearsLate start (Within events told.spans p) p m shard None → IsNamedOnce events m.used m.node
+  pub explained : (m : LateMessage) → IsLateMessage start p m → (shard : ℕ) (why : Reason) → HearsLate start (Within events told.spans p) p m shard (Some why)
       → (steady : IsSteadyNode start turns events told p m.used shard m.node) × IsExplained (IsKnownMember start turns events p shard m.node steady.name) why
 
 -- The outcomes of a `deliver` are those of late messages, each with its cause.

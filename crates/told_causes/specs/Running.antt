@@ -14,7 +14,7 @@ use Rattle.transcripts.specs.Fates.{OfNode, is_stopped}
 use Rattle.transcripts.specs.Record.{TurnPlace, IsTurnPlace, inner_turns}
 use Rattle.told_by.specs.Hears.{Happens, HasServed, InStretch, IsNamedBy}
 use Rattle.told_by.specs.Told.{ToldBy}
-use Rattle.told_causes.specs.Calls.{ServedAreNamed, Within}
+use Rattle.told_causes.specs.Calls.{IsUsedBy, ServedAreNamed, Within}
 use Rattle.told_causes.specs.Standing.{HaltsAlone}
 
 -- the replica took a point, or answered a read
@@ -33,4 +33,4 @@ WhoServesRuns =
 abbrev pub WhoServedRuns : Type 0
 WhoServedRuns =
     (start : Option MetaState) (turns : List Turn) (events : List Event) → Legal true events → (told : ToldBy start turns events) → HaltsAlone turns → (p : TurnPlace) → IsTurnPlace turns p → ServedAreNamed start events told.spans p
-    → (place : Placement) (shard node : ℕ) → HasServed start (Within events told.spans p) p place shard node → OfNode place node (λ name. is_stopped (inner_turns p.lines) name ≡ false)
+    → (place : Placement) → IsUsedBy start p place → (shard node : ℕ) → HasServed start (Within events told.spans p) p place shard node → OfNode place node (λ name. is_stopped (inner_turns p.lines) name ≡ false)
