@@ -12,3 +12,4 @@ pub mod SampleLemmas
 pub mod RunLemmas
 pub mod AloneLemmas
 pub mod NodeLemmas
+pub mod KnownLemmas
