@@ -1,4 +1,4 @@
--- Why a list with a moment within a read, and one with a peer that wasn't streamed, don't tell of their runs.
+-- Why lists with a moment within a read, with a peer that wasn't streamed, or with a placement that isn't printed don't tell of their runs.
 use Rattle.std.proofs.Common.{◌≡◌, ℕ, ◌+◌, ◌≤◌, ◌<◌, List, [], ◌∷◌, ◌++◌, take, length, refl, sym, ap, ◌∙◌, subst, inl, inr, arith, false, true}
 use Rattle.std.specs.Prelude.{Some, None}
 use Rattle.std.proofs.lemmas.Bool.{cases_lt}
@@ -8,21 +8,23 @@ use Rattle.m3_model.specs.Members.{IsIn}
 use Rattle.m3_model.specs.declared.act.Act.TheVariants as act
 use Rattle.m3_model.specs.declared.act.ReadLevel.TheVariants as level
 use Rattle.m3_model.specs.declared.answer.Answer.TheVariants as answer
+use Rattle.m3_model.specs.declared.placement.Placement.{Placement}
 use Rattle.m3_model.specs.declared.point.Pick.TheVariants as pick
 use Rattle.transcripts.specs.Calls.{Call, IsAskedOf}
-use Rattle.transcripts.specs.Placements.{seed_at}
-use Rattle.transcripts.specs.Record.{InnerTurn, TurnPlace, IsTurnPlace, line_of, lists_of}
+use Rattle.transcripts.specs.Placements.{printed, seed_at}
+use Rattle.transcripts.specs.Record.{InnerTurn, TurnPlace, IsTurnPlace, inner_turns, line_of, lists_of}
 use Rattle.cluster_core.specs.Joins.{HasFenced, HasStreamed}
 use Rattle.cluster_core.specs.Lists.{At}
 use Rattle.cluster_core.specs.declared.event.Asked.TheVariants as asked
 use Rattle.cluster_core.specs.declared.event.Event.{Event}
 use Rattle.cluster_core.specs.declared.event.Event.TheVariants as event
 use Rattle.cluster_core.proofs.ListLemmas.{some_same}
-use Rattle.told_by.specs.Broken.{MomentWithinRead, UnstreamedPeer, clocked, five, later_rules, moved, unstreamed}
+use Rattle.told_by.specs.Broken.{MomentWithinRead, PlacedUnprinted, UnstreamedPeer, clocked, five, later_place, later_rules, moved, unprinted, unstreamed}
 use Rattle.told_by.specs.Clocks.{IsClockOf, sets_rules}
 use Rattle.told_by.specs.Reads.{IsAskedBy}
-use Rattle.told_by.specs.Sample.{fetched, name, rules, series}
+use Rattle.told_by.specs.Sample.{fetched, name, place, rules, series}
 use Rattle.told_by.specs.Told.{ToldBy}
+use Rattle.told_by.proofs.BrokenLemmas.{turn_among}
 use Rattle.told_by.proofs.LineLemmas.{place_last, place_stays}
 use Rattle.told_by.proofs.OneLemmas.{is_last}
 use Rattle.told_by.proofs.SampleLemmas.{Each, each_at, found, reading, third}
@@ -110,3 +112,18 @@ peer_unstreamed told =
     let e = (told.tells).placements.each_end 5 moved ((0, 1) ∷ []) (omega arith) (omega arith) refl (0, 1) (inl refl) in
     let q = some_name e.names (omega (arith, (e.enough).enough)) in
     no_stream q.0 (e.joining).tenure (e.streamed q.0 q.1)
+
+-- ---- a placement that isn't printed
+
+pub place_unprinted : PlacedUnprinted
+place_unprinted told =
+    let made = (told.tells).order.made 5 (event.Place later_place []) (omega arith) (omega arith) refl tt in
+    let h = (told.tells).makes 5 (event.Place later_place []) (omega arith) (omega arith) refl in
+    by_turn (told.makers 5).turn h.stood (turn_among unprinted (told.makers 5) made.0) h.prints h.not_before
+  where
+    by_turn : (t : InnerTurn) (stood : Placement) → IsIn (inner_turns unprinted) t → printed t.answer ≡ Some stood → 2 ≤ stood.version → ⊥
+    by_turn t stood (inl e) prints late =
+        let same : place ≡ stood = some_same place stood (ap (λ (u : InnerTurn). printed u.answer) e ∙ prints) in
+        omega (arith, late, ap (λ (p : Placement). p.version) same)
+    by_turn t stood (inr (inl e)) prints late = let bad : None ≡ Some stood = ap (λ (u : InnerTurn). printed u.answer) e ∙ prints in cc
+    by_turn t stood (inr (inr nothing)) prints late = nothing

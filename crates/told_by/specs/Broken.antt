@@ -45,6 +45,16 @@ other_place = record place { version = 9 }
 abbrev pub PrintedUnplaced : Type 0
 PrintedUnplaced = ToldBy None (line_of begun (answer.Placed other_place 9) ∷ []) of_init → ⊥
 
+-- a placement that stood, though the turn that made it prints none
+abbrev pub later_place : Placement
+later_place = record place { version = 2 }
+
+abbrev pub unprinted : List Turn
+unprinted = line_of begun placed ∷ line_of (act.Add name name) answer.Memory ∷ []
+
+abbrev pub PlacedUnprinted : Type 0
+PlacedUnprinted = ToldBy None unprinted (of_init ++ event.Ask (asked.Place later_place []) ∷ event.Place later_place [] ∷ []) → ⊥
+
 -- an Ack that counts the put of another client's call
 abbrev pub other_put : StepCall
 other_put = call.Put 5 0 rules 1 point

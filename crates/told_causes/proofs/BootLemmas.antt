@@ -275,9 +275,9 @@ module _ (start : Option MetaState) (turns : List Turn) (events : List Event) (l
       by_step : HearsBegun (take ((told.spans).from q) events) (InStretch events ((told.spans).from q) ((told.spans).to q)) node asked → (slot : IsCoveredSlot (take ((told.spans).from q) events) node asked n s) → MemberAt slot.of_node.place s n → told.ends k ≤ (told.spans).from q → ⊥
       by_step hears slot m begins =
           let step = hears n s (m.assigned).tenure slot (m.shard, m.there, Any-from_IsIn (λ (a : Assignment). (a.node ≡ n) × (a.tenure ≡ (m.assigned).tenure)) m.shard m.assigned m.among (m.of_node, refl)) in
-          let call_ = step.2 in
-          let at = (call_.2).1 in
-          begin_leaves (call_.2).0 call_.0 step.0 call_.1 (inl step.1) at.2 (boots (call_.2).0 (omega (arith, begins, at.0)) (omega (arith, at.1, finishes))) (boots (suc (call_.2).0) (omega (arith, begins, at.0)) (omega (arith, at.1, finishes)))
+          let made = step.2 in
+          let at = (made.2).1 in
+          begin_leaves (made.2).0 made.0 step.0 made.1 (inl step.1) at.2 (boots (made.2).0 (omega (arith, begins, at.0)) (omega (arith, at.1, finishes))) (boots (suc (made.2).0) (omega (arith, begins, at.0)) (omega (arith, at.1, finishes)))
 
   -- a line that prints the run's first placement is an `init`, which began each of its replicas
   init_clash : (k : ℕ) → k < length turns → ((i : ℕ) → told.ends k ≤ i → i ≤ told.ends (suc k) → BootAt i) → placed x start turns k ≡ None → is_member x (placed x start turns (suc k)) ≡ true → ⊥
@@ -305,7 +305,7 @@ module _ (start : Option MetaState) (turns : List Turn) (events : List Event) (l
             let first = first_event events legal there.0 (event.Place p.0 there.1) high.0 in
             let h = placed_at events legal first.place [] first.there (told.ends k) some (ends_within start turns events legal told k (omega (arith, less))) in
             absurd (let bad : None ≡ Some h.0 = sym (placements_stand start turns events legal told k (omega (arith, less)) ∙ none) ∙ h.1 in cc)
-        | inr zero_ ↦ omega arith
+        | inr none_before ↦ omega arith
       ]
 
       by_init : (q : TurnPlace) → IsTurnPlace turns q → IsInitOf start turns events told.spans q → ⊥
@@ -332,9 +332,9 @@ module _ (start : Option MetaState) (turns : List Turn) (events : List Event) (l
           by_step : (place : Placement) (m : MemberAt place s n) → HearsOpened (InStretch events ((told.spans).from q) ((told.spans).to q)) place → told.ends k ≤ (told.spans).from q → (told.spans).to q ≤ told.ends (suc k) → TurnPlace → ⊥
           by_step place m hears begins finishes z =
               let step = hears n s (m.assigned).tenure (m.shard, m.there, Any-from_IsIn (λ (a : Assignment). (a.node ≡ n) × (a.tenure ≡ (m.assigned).tenure)) m.shard m.assigned m.among (m.of_node, refl)) in
-              let call_ = step.2 in
-              let at = (call_.2).1 in
-              begin_leaves (call_.2).0 call_.0 step.0 call_.1 (inr step.1) at.2 (boots (call_.2).0 (omega (arith, begins, at.0)) (omega (arith, at.1, finishes))) (boots (suc (call_.2).0) (omega (arith, begins, at.0)) (omega (arith, at.1, finishes)))
+              let made = step.2 in
+              let at = (made.2).1 in
+              begin_leaves (made.2).0 made.0 step.0 made.1 (inr step.1) at.2 (boots (made.2).0 (omega (arith, begins, at.0)) (omega (arith, at.1, finishes))) (boots (suc (made.2).0) (omega (arith, begins, at.0)) (omega (arith, at.1, finishes)))
 
       by_start : (o : Option MetaState) → start ≡ o → ⊥
       by_start (Some state) is = let up = after_up (inner_turns (take k turns)) (start_placement start) state.place (ap start_placement is) in let bad : None ≡ Some up.0 = sym none ∙ up.1 in cc

@@ -68,9 +68,9 @@ no_fault : (i line : ℕ) (x : Event) (fault : Fault) → At events i x → faul
 no_fault i line x fault there tells = each_at (λ k y. fault_of line y ≡ Some fault → ⊥) 0 events ((λ e. cc), ((λ e. cc), ((λ e. cc), ((λ e. cc), ((λ e. cc), ((λ e. cc), ((λ e. cc), ((λ e. cc), ((λ e. cc), ((λ e. cc), ((λ e. cc), ((λ e. cc), ((λ e. cc), ((λ e. cc), tt)))))))))))))) i x there tells
 
 -- the read uses the one placement
-stood_is : (p : Placement) (turns_ others : List InnerTurn) → AreSomeOf others [] → turns_ ≡ inner_turns lines_before ++ ([] ++ others) → placement_after None turns_ ≡ Some p → place ≡ p
-stood_is p turns_ [] some are stands = some_same place p (ap (placement_after None) (sym are) ∙ stands)
-stood_is p turns_ (t ∷ others) some are stands = absurd some
+stood_is : (p : Placement) (stood others : List InnerTurn) → AreSomeOf others [] → stood ≡ inner_turns lines_before ++ ([] ++ others) → placement_after None stood ≡ Some p → place ≡ p
+stood_is p stood [] some are stands = some_same place p (ap (placement_after None) (sym are) ∙ stands)
+stood_is p stood (t ∷ others) some are stands = absurd some
 
 by_version : (p : Placement) (version : Option ℕ) → None ≡ version → MayUse None reading version p → place ≡ p
 by_version p None e h = stood_is p h.0 (h.1).others (h.1).some_of (h.1).are h.2
@@ -128,10 +128,10 @@ all_explained : AllAreExplained None turns events sample_told reading
 unfolding steady
 all_explained p used shard n why counted heard =
     let same = used_is p used in
-    let zero_ : 0 ≡ n = one_counts shard n (subst (λ (q : Placement). IsCounted q shard n) (sym same) counted) in
+    let of_node : 0 ≡ n = one_counts shard n (subst (λ (q : Placement). IsCounted q shard n) (sym same) counted) in
     let here : IsHeard None (Within events sample_told.spans reading) reading place shard 0 why =
-    subst (λ m. IsHeard None (Within events sample_told.spans reading) reading place shard m why) (sym zero_) (subst (λ (q : Placement). IsHeard None (Within events sample_told.spans reading) reading q shard n why) (sym same) heard) in
-    subst (λ (q : Placement). Explained q shard n why) same (subst (λ m. Explained place shard m why) zero_ (steady shard, explained_by shard why here))
+    subst (λ m. IsHeard None (Within events sample_told.spans reading) reading place shard m why) (sym of_node) (subst (λ (q : Placement). IsHeard None (Within events sample_told.spans reading) reading q shard n why) (sym same) heard) in
+    subst (λ (q : Placement). Explained q shard n why) same (subst (λ m. Explained place shard m why) of_node (steady shard, explained_by shard why here))
 
 pub read_is_known : ReadIsKnown
 read_is_known = (sample_told, record { legal = sample_legal; in_run = reading_in; calls = refl; halts = halts; named = served_named; explained = all_explained })
