@@ -28,7 +28,7 @@ use Rattle.told_by.proofs.OneLemmas.{is_last}
 use Rattle.told_by.proofs.TurnLemmas.{flat_map-IsIn, in_cut, in_its_line}
 
 -- a turn at a place of the run is one of the run's
-turn_among : (turns : List Turn) (q : TurnPlace) → IsTurnPlace turns q → IsIn (inner_turns turns) q.turn
+pub turn_among : (turns : List Turn) (q : TurnPlace) → IsTurnPlace turns q → IsIn (inner_turns turns) q.turn
 turn_among turns q at = flat_map-IsIn (λ (line : Turn). joined (lists_of line)) turns q.line q.turn (subst (λ ts. IsIn ts q.line) (sym at.in_run) (in_cut q.lines q.line at.after)) (in_its_line q at.stands)
 
 -- the two acts of the run up to its namespace

@@ -9,12 +9,13 @@ use Rattle.m3_model.specs.declared.turn.Turn.{Turn}
 use Rattle.cluster_core.specs.Lists.{At}
 use Rattle.cluster_core.specs.declared.event.Event.{Event}
 use Rattle.cluster_core.specs.declared.event.Event.TheVariants as event
+use Rattle.cluster_core.specs.declared.event.StepCall.TheVariants as call
 use Rattle.cluster_core.proofs.ListLemmas.{at_within}
 use Rattle.told_by.specs.Lists.{IsCallPlace, IsListPlace, MadeBy, MadeByCall, TellsCalls, call_makers, call_spans}
 use Rattle.told_by.specs.Openings.{IsInitOf}
 use Rattle.told_by.specs.Spans.{IsEarlier, IsOfTurn, Spans}
 use Rattle.told_by.specs.Told.{Tells}
-use Rattle.told_by.proofs.LineLemmas.{Lifts, lift_ack, lift_begun, lift_clock, lift_send, lift_sent, lift_told}
+use Rattle.told_by.proofs.LineLemmas.{Lifts, lift_ack, lift_begun, lift_clock, lift_init, lift_restart, lift_send, lift_sent, lift_told}
 
 module _ (start : Option MetaState) (turns : List Turn) (events : List Event) (line : Turn) (more : List Event) (list_of : ℕ → ℕ) (list : ℕ) (calls : TellsCalls start turns events line more list_of list) where
   abbrev all : List Event
@@ -89,19 +90,9 @@ module _ (start : Option MetaState) (turns : List Turn) (events : List Event) (l
       each_clock = λ i rules mine past there. (tells_at i (event.Clock rules) mine there tt).clocks.each_clock i rules (mine, refl) past there;
     };
     makes = λ i e mine past there. makes_by start (take i all) (makers i) e (λ kind. (tells_at i e mine there kind).makes i e (mine, refl) past there);
+    restarts = λ i n s r mine past there. lift_restart (lifts (calls.number_of i)) (makers i) i n s ((tells_at i (event.Step n s call.Restart r) mine there tt).restarts i n s r (mine, refl) past there);
     hears = λ p h. (told_of p h).hears p (call_at p h);
   }
     where
       init_of : (p : TurnPlace) → IsInitOf start long all (calls.spans (length p.earlier)) p → IsInitOf start long all spans p
-      init_of p h = record {
-        found_nothing = h.found_nothing;
-        alone = h.alone;
-        sets = h.sets;
-        place = h.place;
-        version = h.version;
-        answered = h.answered;
-        placed = h.placed;
-        clock = h.clock;
-        from_is = h.from_is;
-        to_above = h.to_above;
-      }
+      init_of p h = lift_init start p (λ alone. alone) (λ i e there. there) refl refl h

@@ -29,6 +29,7 @@ use Rattle.told_by.specs.Spans.{IsOfTurn}
 pub makes_by : (start : Option MetaState) (past : List Event) (p : TurnPlace) (e : Event) → (IsOfTurn e → MayMake start past p e) → MayMake start past p e
 makes_by start past p (event.Step n s call.Stop a) h = h tt
 makes_by start past p (event.Step n s call.Restart a) h = h tt
+makes_by start past p (event.Step n s (call.Begin tenure) a) h = h tt
 makes_by start past p (event.Step n s _ a) h = tt
 makes_by start past p _ h = h tt
 
@@ -143,6 +144,7 @@ module _ (start : Option MetaState) (past : List Event) (Old New : ℕ → Event
   hears_on a (answer.Peers got needed reasons s) h = λ x m. reason_on IsStreamCall x.0 s x.1 (h x m)
   hears_on a (answer.Repaired shards) h = λ x m y k. reason_on IsRepairCall y.0 x.shard y.1 (h x m y k)
   hears_on a (answer.Status now replicas version) h = status_on now version replicas h
+  hears_on (act.Init rf shards seed nodes) (answer.Placed place version) h = λ n s tenure given. let step = h n s tenure given in (step.0, step.1, step_on IsBeginCall n s step.0 step.2)
   hears_on (act.Stop node) answer.Done h = λ n s slot. happens_on (event.Step n s call.Stop reply.Done) (h n s slot)
   hears_on (act.Restart node pick) answer.Done h = λ n s slot. happens_on (event.Step n s call.Restart reply.Done) (h n s slot)
   hears_on (act.Restart node pick) (answer.Disk name s) h = (h.0, refused_on node s IsRestartCall reason.Disk h.1)

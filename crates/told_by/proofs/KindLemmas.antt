@@ -102,6 +102,7 @@ module _ (start : Option MetaState) (turns : List Turn) (events : List Event) (a
         each_end = λ i place done le past there. among i (event.Place place done) le there;
         set = λ sets. absurd (let bad : true ≡ false = sym sets ∙ (h.plain).no_rules in cc);
         makes = (h.makes).makes;
+        restarts = (h.makes).restarts;
         hears = (h.makes).hears;
         each_clock = λ i rules le past there. absurd (among i (event.Clock rules) le there);
       })
@@ -141,6 +142,7 @@ module _ (start : Option MetaState) (turns : List Turn) (events : List Event) (a
         each_end = λ i place done le past there d m. elim (among i (event.Place place done) le there) as (λ _. PrintsPeers (take i (events ++ more)) (place_after turns a b) d.0 d.1) [ inl none ↦ absurd none | inr is ↦ cc ];
         set = λ sets. record { clock = length events + length h.asks; there = clock_there; mine = omega arith; past_opening = omega (arith, h.opened); own = refl };
         makes = (h.makes).makes;
+        restarts = (h.makes).restarts;
         hears = (h.makes).hears;
         each_clock = λ i rules le past there. elim (among i (event.Clock rules) le there) as (λ _. IsClockOf start (turns ++ line_of a b ∷ []) (place_after turns a b) rules) [
           | inl none ↦ absurd none
@@ -193,6 +195,7 @@ module _ (start : Option MetaState) (turns : List Turn) (events : List Event) (a
         each_end = λ i place done le past there d m. absurd (h.steps (event.Place place done) (among_back (placing ∷ clock ∷ []) h.begins i (event.Place place done) (subst (λ es. At es i (event.Place place done)) whole there) past));
         set = λ sets. absurd (let bad : true ≡ false = sym sets ∙ ap (sets_rules a) h.answered ∙ placed_sets_not a h.place h.version in cc);
         makes = (h.makes).makes;
+        restarts = (h.makes).restarts;
         hears = (h.makes).hears;
         each_clock = λ i rules le past there. absurd (h.steps (event.Clock rules) (among_back (placing ∷ clock ∷ []) h.begins i (event.Clock rules) (subst (λ es. At es i (event.Clock rules)) whole there) past));
       })
@@ -263,6 +266,7 @@ module _ (start : Option MetaState) (turns : List Turn) (events : List Event) (a
         ];
         set = λ sets. absurd (let bad : true ≡ false = sym sets ∙ h.no_rules in cc);
         makes = (h.makes).makes;
+        restarts = (h.makes).restarts;
         hears = (h.makes).hears;
         each_clock = λ i rules le past there. elim (among i (event.Clock rules) le there) as (λ _. IsClockOf start (turns ++ line_of a b ∷ []) (place_after turns a b) rules) [
           | inl is ↦ cc
@@ -434,6 +438,7 @@ module _ (start : Option MetaState) (turns : List Turn) (events : List Event) (a
         each_end = λ i place done le past there. absurd (r.kinds i (event.Place place done) le there);
         set = λ sets. absurd (let bad : true ≡ false = sym sets ∙ h.no_rules in cc);
         makes = (h.makes).makes;
+        restarts = (h.makes).restarts;
         hears = (h.makes).hears;
         each_clock = λ i rules le past there. absurd (r.kinds i (event.Clock rules) le there);
       })

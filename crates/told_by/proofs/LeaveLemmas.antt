@@ -142,7 +142,11 @@ unheard = answer.Memory
 
 idle_line : (start : Option MetaState) (turns : List Turn) (events : List Event) → PlainLine start turns events idle unheard []
 idle_line start turns events = record {
-  makes = record { makes = λ i e le past there. absurd (omega (arith, at_within (events ++ []) i e there, length-append events [])); hears = tt };
+  makes = record {
+    makes = λ i e le past there. absurd (omega (arith, at_within (events ++ []) i e there, length-append events []));
+    restarts = λ i n s r le past there. absurd (omega (arith, at_within (events ++ []) i (event.Step n s call.Restart r) there, length-append events []));
+    hears = tt;
+  };
   plain = record { no_acks = λ nodes e. cc; not_unmet = λ h. h; no_found = refl; no_rules = refl; no_seed = refl };
   opened = inr refl;
   adds = λ i e h. absurd (let bad = at_within [] i e h in omega arith);

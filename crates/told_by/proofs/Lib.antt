@@ -16,3 +16,9 @@ pub mod SampleLemmas
 pub mod LoopLemmas
 pub mod CallLemmas
 pub mod BrokenLemmas
+pub mod BrokenMoveLemmas
+pub mod LegalSampleLemmas
+pub mod ContentLemmas
+pub mod FoundLemmas
+pub mod PageLemmas
+pub mod PrintedLemmas

@@ -1,5 +1,5 @@
 -- A run that is told goes on by one line.
-use Rattle.told_by.specs.Makes.{MayMake, TellsMakes}
+use Rattle.told_by.specs.Makes.{EndsRestart, MayMake, TellsMakes, TellsRestarts}
 use Rattle.told_by.specs.Hears.{HearsBy, InStretch, TellsHears}
 use Rattle.told_by.proofs.HearLemmas.{hears_on}
 use Rattle.std.proofs.Common.{◌≡◌, ℕ, zero, suc, ◌<◌, ◌≤◌, ◌+◌, List, [], ◌∷◌, ◌++◌, take, length, refl, sym, ap, ◌∙◌, subst, inl, inr, arith, length-append, append_assoc, cond}
@@ -23,9 +23,11 @@ use Rattle.m3_model.specs.declared.turn.Turn.{Turn}
 use Rattle.cluster_core.specs.Lists.{At}
 use Rattle.cluster_core.specs.declared.event.Event.{Event}
 use Rattle.cluster_core.specs.declared.event.Event.TheVariants as event
+use Rattle.cluster_core.specs.declared.event.StepCall.TheVariants as call
+use Rattle.cluster_core.specs.declared.event.StepReply.TheVariants as reply
 use Rattle.cluster_core.proofs.ListLemmas.{at_append, at_within}
 use Rattle.told_by.specs.Clocks.{HasClock, IsClockOf, TellsClocks, rules_left}
-use Rattle.told_by.specs.Openings.{IsInitOf, TellsInit, opening_length}
+use Rattle.told_by.specs.Openings.{IsInitOf, IsOpenedBy, TellsInit, opening_length}
 use Rattle.told_by.specs.Placements.{HasPlace, PrintsPeers, TellsPlacements}
 use Rattle.told_by.specs.Reads.{Asking, Fetched, IsAskingOf, IsFetchOf, IsStartAt, IsStartOf, IsTold, TellsReads}
 use Rattle.told_by.specs.Spans.{AreOrdered, From, IsAlone, IsEarlier, IsWithin, Spans}
@@ -143,6 +145,12 @@ lift_clock l start p h = record {
   own = l.same h.clock (event.Clock (rules_left start p)) h.there h.mine ∙ h.own;
 }
 
+pub lift_restart : {Mine Others : ℕ → Type 0} {events longer : List Event} {makers others : ℕ → TurnPlace} → Lifts Mine Others events longer makers others → (p : TurnPlace) (i n s : ℕ) → EndsRestart Mine events makers p i n s → EndsRestart Others longer others p i n s
+lift_restart l p i n s (inl done) = inl done
+lift_restart l p i n s (inr h) =
+    let step = event.Step n s call.Stop reply.Done in
+    inr (record { stop = h.stop; later = h.later; there = l.stays h.stop step h.there; mine = l.below h.stop h.mine; own = l.same h.stop step h.there h.mine ∙ h.own })
+
 -- what stands in the front of a list stands in the front
 pub at_front : {X : Type 0} (xs ys : List X) (i : ℕ) (x : X) → At (xs ++ ys) i x → i < length xs → At xs i x
 at_front [] ys i x h lt = absurd (omega arith)
@@ -177,11 +185,27 @@ place_stays turns line p h = record {
 pub place_last : (turns : List Turn) (line : Turn) (p : TurnPlace) → IsLastTurnPlace turns line p → IsTurnPlace (turns ++ line ∷ []) p
 place_last turns line p h = record { after = []; in_run = λ i. sym h.lines_are i ++ sym h.line_is i ∷ []; stands = h.stands }
 
-line_below : (turns : List Turn) (p : TurnPlace) → IsTurnPlace turns p → length p.lines < length turns
+pub line_below : (turns : List Turn) (p : TurnPlace) → IsTurnPlace turns p → length p.lines < length turns
 line_below turns p h = omega (arith, ap length h.in_run, length-append p.lines (p.line ∷ h.after))
 
 alone_stays : (turns : List Turn) (line : Turn) (p : TurnPlace) → IsAlone turns p → IsAlone (turns ++ line ∷ []) p
 alone_stays turns line p h = (h.0, at_append turns (line ∷ []) (length p.lines) h.0 h.1, h.2)
+
+-- the `init` of a list is that of a longer one, in which its line and its stretch are the same
+pub lift_init : (start : Option MetaState) {turns long : List Turn} {events longer : List Event} {spans others : Spans} (p : TurnPlace) → (IsAlone turns p → IsAlone long p)
+    → ((i : ℕ) (e : Event) → At events i e → At longer i e) → others.from p ≡ spans.from p → others.to p ≡ spans.to p → IsInitOf start turns events spans p → IsInitOf start long longer others p
+lift_init start p alone stays from to h = record {
+  found_nothing = h.found_nothing;
+  alone = alone h.alone;
+  sets = h.sets;
+  place = h.place;
+  version = h.version;
+  answered = h.answered;
+  placed = stays 0 (event.Place h.place []) h.placed;
+  clock = stays 1 (event.Clock (start_rules None)) h.clock;
+  from_is = from ∙ h.from_is;
+  to_above = omega (arith, to, h.to_above);
+}
 
 module _ (start : Option MetaState) (turns : List Turn) (events : List Event) (line : Turn) (more : List Event) (told : ToldBy start turns events) (next : TellsLine start turns events line more) where
   abbrev long : List Turn
@@ -284,32 +308,10 @@ module _ (start : Option MetaState) (turns : List Turn) (events : List Event) (l
   }
 
   init_stays : (p : TurnPlace) → IsTurnPlace turns p → IsInitOf start turns events told.spans p → IsInitOf start long all spans p
-  init_stays p k h = record {
-    found_nothing = h.found_nothing;
-    alone = alone_stays turns line p h.alone;
-    sets = h.sets;
-    place = h.place;
-    version = h.version;
-    answered = h.answered;
-    placed = at_append events more 0 (event.Place h.place []) h.placed;
-    clock = at_append events more 1 (event.Clock (start_rules None)) h.clock;
-    from_is = old_from p k ∙ h.from_is;
-    to_above = omega (arith, old_to p k, h.to_above);
-  }
+  init_stays p k h = lift_init start p (alone_stays turns line p) (λ i e there. at_append events more i e there) (old_from p k) (old_to p k) h
 
   init_new : (p : TurnPlace) → IsLastTurnPlace turns line p → IsInitOf start long all next.spans p → IsInitOf start long all spans p
-  init_new p k h = record {
-    found_nothing = h.found_nothing;
-    alone = h.alone;
-    sets = h.sets;
-    place = h.place;
-    version = h.version;
-    answered = h.answered;
-    placed = h.placed;
-    clock = h.clock;
-    from_is = new_from p k ∙ h.from_is;
-    to_above = omega (arith, new_to p k, h.to_above);
-  }
+  init_new p k h = lift_init start p (λ alone. alone) (λ i e there. there) (new_from p k) (new_to p k) h
 
   init_told : TellsInit start long (IsTurnPlace long) (From low) all spans
   init_told = record {
@@ -419,6 +421,14 @@ module _ (start : Option MetaState) (turns : List Turn) (events : List Event) (l
     ];
   }
 
+  restarts_told : TellsRestarts (From low) all makers
+  restarts_told i n s r above past there = elim (cases_lt i (length events)) as (λ _. EndsRestart (From low) all makers (makers i) i n s) [
+    | inl lt ↦
+        subst (λ x. EndsRestart (From low) all makers x i n s) (sym (by_left i (length events) (told.makers i) (next.makers i) lt))
+        (lift_restart olds (told.makers i) i n s ((told.tells).restarts i n s r above past (at_front events more i (event.Step n s call.Restart r) there lt)))
+    | inr ge ↦ subst (λ x. EndsRestart (From low) all makers x i n s) (sym (by_right i (length events) (told.makers i) (next.makers i) ge)) (lift_restart news (next.makers i) i n s ((next.tells).restarts i n s r ge past there))
+  ]
+
   makes_told : TellsMakes start (From low) all makers
   makes_told i e above past there = elim (cases_lt i (length events)) as (λ _. MayMake start (take i all) (makers i) e) [
     | inl lt ↦
@@ -481,7 +491,7 @@ module _ (start : Option MetaState) (turns : List Turn) (events : List Event) (l
     ends = ends;
     lines = lines_told;
     opened = λ state is. let o = told.opened state is in record { placed = at_append events more 0 (event.Place state.place []) o.placed; clock = at_append events more 1 (event.Clock state.rules) o.clock };
-    tells = record { order = order_told; init = init_told; writes = writes_told; reads = reads_told; placements = placements_told; clocks = clocks_told; makes = makes_told; hears = hears_told };
+    tells = record { order = order_told; init = init_told; writes = writes_told; reads = reads_told; placements = placements_told; clocks = clocks_told; makes = makes_told; restarts = restarts_told; hears = hears_told };
   }
 
   pub line_told_from : (p : TurnPlace) → IsLastTurnPlace turns line p → (line_told.spans).from p ≡ (next.spans).from p
@@ -528,6 +538,48 @@ told_at_first = record {
     placements = record { is_place = λ p h place is. absurd (no_place p h); not_earlier = λ p q h k e was is of_was of_is. absurd (no_place p h); each_end = λ i place done low past there d m. absurd (nothing_at i (event.Place place done) there) };
     clocks = record { set = λ p h sets. absurd (no_place p h); each_clock = λ i rules low past there. absurd (nothing_at i (event.Clock rules) there) };
     makes = λ i e low past there. absurd (nothing_at i e there);
+    restarts = λ i n s r low past there. absurd (nothing_at i (event.Step n s call.Restart r) there);
     hears = λ p h. absurd (no_place p h);
   };
 }
+
+module _ (state : MetaState) where
+  abbrev opening : List Event
+  opening = event.Place state.place [] ∷ event.Clock state.rules ∷ []
+
+  -- nothing stands past the opening
+  nothing_past : (i : ℕ) (e : Event) → 2 ≤ i → At opening i e → ⊥
+  nothing_past i e low there = omega (arith, low, at_within opening i e there)
+
+  opened_by : (other : MetaState) → Some state ≡ Some other → IsOpenedBy other opening
+  opened_by other is = let same : state ≡ other = cc in subst (λ s. IsOpenedBy s opening) same (record { placed = refl; clock = refl })
+
+  -- a run that found a state is told by the two events that open it
+  pub told_found : ToldBy (Some state) [] opening
+  told_found = record {
+    spans = record { from = λ p. 2; to = λ p. 2 };
+    makers = λ i. nobody;
+    ends = λ k. 2;
+    lines = record { first = refl; last = refl; ascends = λ k lt. omega arith; low = λ p h. omega arith; high = λ p h. absurd (no_place p h) };
+    opened = opened_by;
+    tells = record {
+      order = record { not_below = λ p h. absurd (no_place p h); not_above = λ p h. absurd (no_place p h); not_back = λ p h. omega arith; order = λ p q h k e. absurd (no_place p h); made = λ i e low past there kind. absurd (nothing_past i e low there) };
+      init = record { begun = λ low e there. absurd (omega (arith, low)); inits = λ p h sets. absurd (no_place p h) };
+      writes = record {
+        acked = λ p h nodes is. absurd (no_place p h);
+        sent = λ p h unmet. absurd (no_place p h);
+        each_send = λ i version s point low there. absurd (nothing_past i (event.Send version s point) low there);
+        each_ack = λ i send nodes low there. absurd (nothing_past i (event.Ack send nodes) low there);
+      };
+      reads = record {
+        found = λ p h found is. absurd (no_place p h);
+        each_start = λ i version s rules chosen from to low there. absurd (nothing_past i (event.FetchStart version s rules chosen from to) low there);
+        each_done = λ i began nodes series low there. absurd (nothing_past i (event.FetchDone began nodes series) low there);
+      };
+      placements = record { is_place = λ p h place is. absurd (no_place p h); not_earlier = λ p q h k e was is of_was of_is. absurd (no_place p h); each_end = λ i place done low past there d m. absurd (nothing_past i (event.Place place done) low there) };
+      clocks = record { set = λ p h sets. absurd (no_place p h); each_clock = λ i rules low past there. absurd (nothing_past i (event.Clock rules) low there) };
+      makes = λ i e low past there. absurd (nothing_past i e low there);
+      restarts = λ i n s r low past there. absurd (nothing_past i (event.Step n s call.Restart r) low there);
+      hears = λ p h. absurd (no_place p h);
+    };
+  }

@@ -17,12 +17,13 @@ use Rattle.m3_model.specs.declared.turn.Turn.{Turn}
 use Rattle.cluster_core.specs.Lists.{At}
 use Rattle.cluster_core.specs.declared.event.Event.{Event}
 use Rattle.cluster_core.specs.declared.event.Event.TheVariants as event
+use Rattle.cluster_core.specs.declared.event.StepCall.TheVariants as call
 use Rattle.cluster_core.proofs.ListLemmas.{at_within}
 use Rattle.told_by.specs.Lists.{IsListPlace, MadeBy, TellsLists}
 use Rattle.told_by.specs.Openings.{IsInitOf}
 use Rattle.told_by.specs.Spans.{From, IsEarlier, IsOfTurn, Spans}
 use Rattle.told_by.specs.Told.{Tells, TellsLine}
-use Rattle.told_by.proofs.LineLemmas.{Lifts, lift_ack, lift_begun, lift_clock, lift_send, lift_sent, lift_told}
+use Rattle.told_by.proofs.LineLemmas.{Lifts, lift_ack, lift_begun, lift_clock, lift_init, lift_restart, lift_send, lift_sent, lift_told}
 
 only_list : {X : Type 0} (one : X) (front : List X) (list : X) (back : List X) → one ∷ [] ≡ front ++ list ∷ back → front ≡ []
 only_list one [] list back e = refl
@@ -91,18 +92,7 @@ module _ (start : Option MetaState) (turns : List Turn) (events : List Event) (l
       (subst (λ n. (lists.spans n).to p ≤ (lists.spans lp.list).from q) (sym lp.number) ((told_of p lp).order.order p q lp.here here (inr same)))
 
   init_of : (p : TurnPlace) → (l : InList p) → IsInitOf start long all (lists.spans l.list) p → IsInitOf start long all spans p
-  init_of p l h = record {
-    found_nothing = h.found_nothing;
-    alone = h.alone;
-    sets = h.sets;
-    place = h.place;
-    version = h.version;
-    answered = h.answered;
-    placed = h.placed;
-    clock = h.clock;
-    from_is = ap (λ n. (lists.spans n).from p) l.number ∙ h.from_is;
-    to_above = subst (λ n. 2 ≤ (lists.spans n).to p) (sym l.number) h.to_above;
-  }
+  init_of p l h = lift_init start p (λ alone. alone) (λ i e there. there) (ap (λ n. (lists.spans n).from p) l.number) (ap (λ n. (lists.spans n).to p) l.number) h
 
   not_first : (0 < length events) ⊎ (more ≡ []) → From (length events) 0 → (e : Event) → At all 0 e → ⊥
   not_first (inl some) none e there = omega arith
@@ -151,6 +141,7 @@ module _ (start : Option MetaState) (turns : List Turn) (events : List Event) (l
         each_clock = λ i rules le past there. (tells_at i (event.Clock rules) le there tt).clocks.each_clock i rules (own i le) past there;
       };
       makes = λ i e le past there. makes_by start (take i all) (makers i) e (λ kind. (tells_at i e le there kind).makes i e (own i le) past there);
+      restarts = λ i n s r le past there. lift_restart (lifts (lists.list_of i)) (makers i) i n s ((tells_at i (event.Step n s call.Restart r) le there tt).restarts i n s r (own i le) past there);
       hears = λ p h. let l = in_list p h in subst (λ n. HearsBy start (take ((lists.spans n).from p) all) (InStretch all ((lists.spans n).from p) ((lists.spans n).to p)) p p.turn.act p.turn.answer) (sym l.number) ((told_of p l).hears p l.here);
     };
     not_earlier = lists.not_earlier;

@@ -1,5 +1,6 @@
 -- Fetches one after the other, and placements that are printed.
 use Rattle.told_by.proofs.LineLemmas.{take_all}
+use Rattle.told_by.proofs.PrintedLemmas.{greatest_so_far}
 use Rattle.std.proofs.Common.{◌≡◌, ℕ, suc, ◌≤◌, ◌+◌, List, [], ◌∷◌, ◌++◌, length, refl, sym, ap, ◌∙◌, subst, inl, inr, arith, append_assoc, length-append, true}
 use Rattle.std.specs.Prelude.{◌⊎◌, Option, Some}
 use Rattle.m3_model.specs.Members.{IsIn}
@@ -14,13 +15,11 @@ use Rattle.cluster_core.specs.Legal.{Legal}
 use Rattle.cluster_core.specs.Lists.{At}
 use Rattle.cluster_core.specs.declared.event.Event.{Event}
 use Rattle.cluster_core.specs.declared.event.Event.TheVariants as event
-use Rattle.cluster_core.proofs.ListLemmas.{at_append, at_some, at_within}
-use Rattle.cluster_core.proofs.PlaceLemmas.{at_grows, at_place}
+use Rattle.cluster_core.proofs.ListLemmas.{at_append, at_within}
 use Rattle.told_by.specs.Lines.{AreFetched, AreSteps, AreWhole, IsCutShort, IsFetched, PrintsPlace, start_of}
 use Rattle.told_by.specs.Reads.{Asking, Fetched}
 use Rattle.told_by.specs.Told.{ToldBy}
 use Rattle.told_by.proofs.LeaveLemmas.{place_there}
-use Rattle.told_by.proofs.OpeningLemmas.{first_event, place_fine}
 
 module _ (start : Option MetaState) (p : TurnPlace) (a : Asking) where
   -- a fetch with more behind it
@@ -66,17 +65,7 @@ module _ (start : Option MetaState) (p : TurnPlace) (a : Asking) where
 
 -- the last Place has the greatest version
 last_greatest : (events : List Event) → Legal true events → (i : ℕ) (p last : Placement) (done : List (ℕ × ℕ)) → At events i (event.Place p done) → last_place events ≡ Some last → p.version ≤ last.version
-last_greatest events legal i p last done there is =
-    let first = first_event events legal i (event.Place p done) there in
-    let limits = (first.lawful).limits in
-    let fine = place_fine events legal first.place first.there i p done there in
-    let shard = at_some p.shards 0 (omega (arith, limits.some_shards, fine.count)) in
-    let l = place_there events last is in
-    let fine_last = place_fine events legal first.place first.there l.0 last l.1 l.2 in
-    let last_shard = at_some last.shards 0 (omega (arith, limits.some_shards, fine_last.count)) in
-    let bound = at_within events i (event.Place p done) there in
-    at_grows events legal first.place [] first.there 0 (suc i) (length events) p.version last.version shard.0 last_shard.0 (omega arith) (at_place events legal first.place [] first.there i 0 p done shard.0 there shard.1) (omega arith) (omega arith)
-    (record { place = last; last = ap last_place (take_all events) ∙ is; version_is = refl; shard_is = last_shard.1 })
+last_greatest events legal i p last done there is = greatest_so_far events legal i (length events) p last done there (at_within events i (event.Place p done) there) (omega arith) (ap last_place (take_all events) ∙ is)
 
 pub last_prints : (start : Option MetaState) (turns : List Turn) (events : List Event) (b : Answer) (more : List Event) → Legal true (events ++ more) → ToldBy start turns events
     → ((place : Placement) → printed b ≡ Some place → last_place (events ++ more) ≡ Some place) → PrintsPlace turns (events ++ more) b

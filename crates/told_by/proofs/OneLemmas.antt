@@ -1,6 +1,6 @@
 -- A line of one act: it is told where its events tell of its only turn.
 use Rattle.told_by.proofs.LineLemmas.{take_all, take_front}
-use Rattle.told_by.specs.Makes.{MayMake}
+use Rattle.told_by.specs.Makes.{EndsRestart, MayMake}
 use Rattle.told_by.specs.Hears.{HearsBy, InStretch}
 use Rattle.transcripts.specs.Record.{line_of}
 use Rattle.std.proofs.Common.{◌≡◌, ℕ, zero, suc, ◌≤◌, ◌+◌, List, [], ◌∷◌, ◌++◌, take, length, refl, sym, ap, ◌∙◌, subst, inl, inr, arith, length-append, true}
@@ -23,6 +23,8 @@ use Rattle.m3_model.specs.declared.turn.Turn.{Turn}
 use Rattle.cluster_core.specs.Lists.{At}
 use Rattle.cluster_core.specs.declared.event.Event.{Event}
 use Rattle.cluster_core.specs.declared.event.Event.TheVariants as event
+use Rattle.cluster_core.specs.declared.event.StepCall.TheVariants as call
+use Rattle.cluster_core.specs.declared.event.StepReply.{StepReply}
 use Rattle.cluster_core.proofs.ListLemmas.{at_in, at_within}
 use Rattle.told_by.specs.Clocks.{HasClock, IsClockOf, sets_rules}
 use Rattle.told_by.specs.Lines.{PrintsPlace, place_after}
@@ -79,6 +81,7 @@ module _ (start : Option MetaState) (turns : List Turn) (events : List Event) (a
     pub set : sets_rules a b ≡ true → HasClock start (From (length events)) all makers own
     pub each_clock : (i : ℕ) (rules : Rules) → length events ≤ i → 2 ≤ i → At all i (event.Clock rules) → IsClockOf start long own rules
     pub makes : (i : ℕ) (e : Event) → length events ≤ i → 2 ≤ i → At all i e → MayMake start (take i all) own e
+    pub restarts : (i n s : ℕ) (r : StepReply) → length events ≤ i → 2 ≤ i → At all i (event.Step n s call.Restart r) → EndsRestart (From (length events)) all makers own i n s
     pub hears : HearsBy start events (InStretch all (length events) (length all)) own a b
 
   pub is_last : IsLastTurnPlace turns (line_of a b) own
@@ -135,6 +138,7 @@ module _ (start : Option MetaState) (turns : List Turn) (events : List Event) (a
         each_clock = t.each_clock;
       };
       makes = t.makes;
+      restarts = t.restarts;
       hears = λ p h. subst (λ es. HearsBy start es (InStretch all (length events) (length all)) p p.turn.act p.turn.answer) (sym (take_front events more (length events) (omega arith) ∙ take_all events)) (each (λ q. HearsBy start events (InStretch all (length events) (length all)) q q.turn.act q.turn.answer) t.hears p h);
     };
     not_earlier = λ p q hp hq was is of_was of_is. (t.prints).not_earlier p hp was is of_was (ap (λ (x : TurnPlace). printed x.turn.answer) (sym (is_own q hq)) ∙ of_is);

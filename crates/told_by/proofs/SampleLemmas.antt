@@ -5,7 +5,7 @@ use Rattle.m3_model.specs.Ascends.{Ascends}
 use Rattle.m3_model.specs.Hash.{shard_of}
 use Rattle.m3_model.specs.Levels.{needed_read, needed_write}
 use Rattle.m3_model.specs.Members.{IsIn}
-use Rattle.m3_model.specs.Reads.{Found, found_of, points_in}
+use Rattle.m3_model.specs.Reads.{Found, IsOrdered, found_of, points_in}
 use Rattle.m3_model.specs.declared.act.Act.{Act}
 use Rattle.m3_model.specs.declared.act.ReadLevel.TheVariants as level
 use Rattle.m3_model.specs.declared.act.WriteLevel.TheVariants as taking
@@ -21,15 +21,18 @@ use Rattle.cluster_core.proofs.HeldLemmas.{covers_here}
 use Rattle.cluster_core.specs.Lists.{At}
 use Rattle.cluster_core.specs.declared.event.Event.{Event}
 use Rattle.cluster_core.specs.declared.event.Event.TheVariants as event
+use Rattle.cluster_core.specs.declared.event.StepReply.{StepReply}
 use Rattle.cluster_core.specs.declared.event.StepReply.TheVariants as reply
 use Rattle.m3_model.specs.declared.placement.Assignment.{Assignment}
 use Rattle.m3_model.specs.declared.placement.ShardState.TheVariants.{Available}
 use Rattle.cluster_core.specs.declared.event.Asked.TheVariants as asked
 use Rattle.cluster_core.specs.declared.event.StepCall.TheVariants as call
 use Rattle.transcripts.specs.Placements.{IsCounted, counted_nodes}
-use Rattle.told_by.specs.Hears.{HasServed, InStretch}
+use Rattle.told_by.specs.Hears.{HasServed, HasStep, HearsOpened, InStretch, IsBeginCall, IsFirstBegun}
+use Rattle.placement_core.proofs.ListLemmas.{IsIn-from_Any}
 use Rattle.told_by.specs.Lines.{IsAskOrStep, AreSteps, Finds, place_after}
-use Rattle.told_by.specs.Makes.{CountsOwnPuts, CountsOwnReads, MayMake}
+use Rattle.told_by.specs.Makes.{CountsOwnPuts, CountsOwnReads, EndsRestart, MayMake}
+use Rattle.told_by.specs.Spans.{From}
 use Rattle.told_by.specs.Reads.{Asking}
 use Rattle.told_by.specs.Sample.{SampleIsTold, begin, begun, fetched, name, of_init, of_read, of_space, of_write, place, placed, point, put, read, rules, series, spaced, written}
 use Rattle.told_by.specs.Told.{ToldBy}
@@ -59,6 +62,19 @@ makes_each start turns events a b more each i e le past there =
     subst (λ n. 2 ≤ n → MayMake start (take n (events ++ more)) (place_after turns a b) e) place
     (each_at (λ j x. 2 ≤ length events + j → MayMake start (take (length events + j) (events ++ more)) (place_after turns a b) x) 0 more each r.0 e r.2) past
 
+-- a Restart
+abbrev pub IsRestart : Event → Type 0
+IsRestart (event.Step n s call.Restart r) = Unit {0}
+IsRestart _ = ⊥
+
+-- a line without Restarts
+pub restarts_none : (events : List Event) (a : Act) (b : Answer) (turns : List Turn) (more : List Event) → Each (λ j e. IsRestart e → ⊥) 0 more → (i n s : ℕ) (r : StepReply) → length events ≤ i → 2 ≤ i → At (events ++ more) i (event.Step n s call.Restart r)
+    → EndsRestart (From (length events)) (events ++ more) (λ _. place_after turns a b) (place_after turns a b) i n s
+restarts_none events a b turns more none i n s r le past there = let m = at_back events more i (event.Step n s call.Restart r) there le in absurd (each_at (λ j e. IsRestart e → ⊥) 0 more none m.0 (event.Step n s call.Restart r) m.2 tt)
+
+none : ⊥ → ⊥
+none h = h
+
 abbrev first : List Turn
 first = line_of begun placed ∷ []
 
@@ -68,18 +84,32 @@ second = line_of begun placed ∷ line_of spaced answer.Done ∷ []
 abbrev acked : Answer
 acked = answer.Acks (0 ∷ [])
 
-abbrev third : List Turn
+abbrev pub third : List Turn
 third = line_of begun placed ∷ line_of spaced answer.Done ∷ line_of written acked ∷ []
 
-abbrev found : Answer
+abbrev pub found : Answer
 found = answer.Found series false
 
 -- there is one shard
-shard_zero : (id : List ℕ) → shard_of id 0 1 ≡ 0
+pub shard_zero : (id : List ℕ) → shard_of id 0 1 ≡ 0
 shard_zero id = let below = shard_below id 0 1 (omega arith) in omega (arith, below)
 
 ask_or_step : (asks : List Event) → Each (λ j e. IsAskOrStep e) 0 asks → AreSteps asks
 ask_or_step asks each e m = let r = in_at asks e m in each_at (λ j e. IsAskOrStep e) 0 asks each r.0 e r.1
+
+-- the one replica began
+opened_here : HearsOpened (InStretch of_init 0 4) place
+opened_here node zero tenure given =
+    let own : Assignment = record { node = 0; tenure = 1; state = Available; source = None } in
+    let x = IsIn-from_Any (λ (a : Assignment). (a.node ≡ node) × (a.tenure ≡ tenure)) given.0 given.2 in
+    let m : IsIn (own ∷ []) x.0 = subst (λ assignments. IsIn assignments x.0) (sym (some_same (own ∷ []) given.0 given.1)) x.1 in
+    elim m as (λ _. (a : StepReply) × IsFirstBegun a × HasStep (InStretch of_init 0 4) IsBeginCall node 0 a) [
+      | inl same ↦
+          let here : 0 ≡ node = ap (λ (a : Assignment). a.node) same ∙ (x.2).0 in
+          subst (λ n. (a : StepReply) × IsFirstBegun a × HasStep (InStretch of_init 0 4) IsBeginCall n 0 a) here (reply.Began 1 [], tt, (begin, tt, (3, (omega arith, omega arith, refl))))
+      | inr nobody ↦ absurd nobody
+    ]
+opened_here node (suc shard) tenure given = absurd (let bad = given.1 in cc)
 
 told_init : ToldBy None first of_init
 told_init =
@@ -87,8 +117,9 @@ told_init =
     (init_told None [] [] begun placed of_init (record {
       makes = record {
         makes = makes_each None [] [] begun placed of_init
-            (λ past. tt, (λ past. tt, (λ past. (place, refl, ((record { node = 0; tenure = 1; state = Available; source = None } ∷ []), refl, at_any (λ (a : Assignment). (a.node ≡ 0) × (a.tenure ≡ 1)) (record { node = 0; tenure = 1; state = Available; source = None } ∷ []) 0 (record { node = 0; tenure = 1; state = Available; source = None }) refl (refl, refl))), (λ past. tt, tt))));
-        hears = tt;
+            (λ past. record { stood = place; prints = refl; not_before = omega arith }, (λ past. tt, (λ past. (place, refl, ((record { node = 0; tenure = 1; state = Available; source = None } ∷ []), refl, at_any (λ (a : Assignment). (a.node ≡ 0) × (a.tenure ≡ 1)) (record { node = 0; tenure = 1; state = Available; source = None } ∷ []) 0 (record { node = 0; tenure = 1; state = Available; source = None }) refl (refl, refl))), (λ past. record { opens = tt; place = place; last = refl; runs = record { instance_ = record { name = name; group = name; listed = true; drained = false }; stands = refl; holds = refl } }, tt))));
+        restarts = restarts_none [] begun placed [] of_init (none, (none, (none, (none, tt))));
+        hears = opened_here;
       };
       found_nothing = refl;
       opens = refl;
@@ -106,7 +137,7 @@ told_space : ToldBy None second (of_init ++ of_space)
 told_space =
     line_told None first of_init (line_of spaced answer.Done) of_space told_init
     (clock_told None first of_init spaced answer.Done of_space (record {
-      makes = record { makes = makes_each None first of_init spaced answer.Done of_space (λ past. refl, (λ past. tt, tt)); hears = tt };
+      makes = record { makes = makes_each None first of_init spaced answer.Done of_space (λ past. refl, (λ past. tt, tt)); restarts = restarts_none of_init spaced answer.Done first of_space (none, (none, tt)); hears = tt };
       sets = refl;
       opened = omega arith;
       asks = event.Ask (asked.Clock rules) ∷ [];
@@ -149,6 +180,7 @@ told_write =
             (λ past. tt, (λ past. took (take 9 (before_write ++ of_write)) refl refl, tt)),
           ),
         );
+        restarts = restarts_none before_write written acked second of_write (none, (none, (none, (none, tt))));
         hears = record {
           call = record { id = Some name; version = None; needed = needed_write taking.Majority };
           of_call = refl;
@@ -195,7 +227,7 @@ told_write =
 abbrev before_read : List Event
 before_read = before_write ++ of_write
 
-abbrev reading : TurnPlace
+abbrev pub reading : TurnPlace
 reading = place_after third fetched found
 
 abbrev asking : Asking
@@ -215,6 +247,14 @@ served_read s is node (inl same) =
     (subst (λ n. HasServed None (InStretch (before_read ++ of_read) 10 14) reading place 0 n) same (reply.Found series, tt, (read, (refl, refl, refl, refl, refl), (12, (omega arith, omega arith, refl))), record { instance_ = record { name = name; group = name; listed = true; drained = false }; stands = refl; holds = refl }))
 served_read s is node (inr none) = absurd none
 
+-- the answer is in order
+pub series_ordered : IsOrdered series
+series_ordered = record {
+  ids = (λ y none. absurd none, tt);
+  times = λ x among. elim among as (λ _. Ascends (λ (a b : ℕ × ℤ). a.0 < b.0) x.points) [ inl e ↦ subst (λ (y : Series). Ascends (λ (a b : ℕ × ℤ). a.0 < b.0) y.points) e (λ y none. absurd none, tt) | inr none ↦ absurd none ];
+  none_empty = λ x among. elim among as (λ _. 0 < length x.points) [ inl e ↦ subst (λ (y : Series). 0 < length y.points) e (omega arith) | inr none ↦ absurd none ];
+}
+
 finds : (one : Found) → found_of found ≡ Some one → Finds None reading asking (λ s. record { began = 10; ended = 13; nodes = 0 ∷ []; series = series }) (0 ∷ []) one
 finds one is =
     let same : record { series = series; short = false } ≡ one = cc in
@@ -225,11 +265,7 @@ finds one is =
       together = record {
         nothing_else = λ p among. (0, sym (shard_zero name), among);
         all_there = λ s asks p among. covers_here p (points_in 0 series) among;
-        ordered = record {
-          ids = (λ y none. absurd none, tt);
-          times = λ x among. elim among as (λ _. Ascends (λ (a b : ℕ × ℤ). a.0 < b.0) x.points) [ inl e ↦ subst (λ (y : Series). Ascends (λ (a b : ℕ × ℤ). a.0 < b.0) y.points) e (λ y none. absurd none, tt) | inr none ↦ absurd none ];
-          none_empty = λ x among. elim among as (λ _. 0 < length x.points) [ inl e ↦ subst (λ (y : Series). 0 < length y.points) e (omega arith) | inr none ↦ absurd none ];
-        };
+        ordered = series_ordered;
       };
       is_short = λ e. cc;
       not_short = λ e want. cc;
@@ -255,6 +291,7 @@ sample_told =
             (λ past. tt, (λ past. answered (take 13 (before_read ++ of_read)) refl refl, tt)),
           ),
         );
+        restarts = restarts_none before_read fetched found third of_read (none, (none, (none, (none, tt))));
         hears = record {
           call = asking.call;
           of_call = refl;

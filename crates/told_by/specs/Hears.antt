@@ -253,6 +253,17 @@ abbrev pub IsBeginCall : StepCall → Type 0
 IsBeginCall (call.Begin tenure) = ⊤
 IsBeginCall _ = ⊥
 
+-- an `init` that was answered ok began each replica, but for ones that a fault closed and ones that the node doesn't own
+abbrev pub IsFirstBegun : StepReply → Type 0
+IsFirstBegun (reply.Began fence points) = ⊤
+IsFirstBegun (reply.Refused reason.NotOwned) = ⊤
+IsFirstBegun (reply.Refused reason.Disk) = ⊤
+IsFirstBegun (reply.Refused (reason.Corrupt damage)) = ⊤
+IsFirstBegun _ = ⊥
+
+abbrev pub HearsOpened : (ℕ → Event → Type 0) → Placement → Type 0
+HearsOpened Here place = (node shard tenure : ℕ) → IsAssigned place node shard tenure → (a : StepReply) × IsFirstBegun a × HasStep Here IsBeginCall node shard a
+
 abbrev pub HearsBegun : List Event → (ℕ → Event → Type 0) → List ℕ → Option ℕ → Type 0
 HearsBegun past Here name only =
     (node shard tenure : ℕ) → (slot : IsCoveredSlot past name only node shard) → IsAssigned slot.of_node.place node shard tenure → (a : StepReply) × IsBegun a × HasStep Here IsBeginCall node shard a
@@ -283,6 +294,7 @@ HearsBy start past Here p a (answer.Swept done failed) = (x : ℕ × ℕ × Reas
 HearsBy start past Here p a (answer.Peers got needed reasons shard) = (x : ℕ × Reason) → IsIn reasons x → HearsReason Here IsStreamCall x.0 shard x.1
 HearsBy start past Here p a (answer.Repaired shards) = (x : RepairLine) → IsIn shards x → (y : ℕ × Reason) → IsIn x.failed y → HearsReason Here IsRepairCall y.0 x.shard y.1
 HearsBy start past Here p a (answer.Status now replicas version) = HearsStatus past Here now version replicas
+HearsBy start past Here p (act.Init rf shards seed nodes) (answer.Placed place version) = HearsOpened Here place
 HearsBy start past Here p (act.Stop node) answer.Done = HearsEachSlot past Here node call.Stop
 HearsBy start past Here p (act.Restart node pick) answer.Done = HearsEachSlot past Here node call.Restart
 HearsBy start past Here p (act.Restart node pick) (answer.Disk name shard) = (name ≡ node) × HearsRefused past Here node shard IsRestartCall reason.Disk

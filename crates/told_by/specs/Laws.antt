@@ -1,10 +1,10 @@
 -- What is so of all that is told.
 use Rattle.transcripts.specs.Record.{line_of}
-use Rattle.std.specs.Prelude.{List, [], ◌∷◌, ◌++◌, ◌≡◌, ◌⊎◌, ◌+◌, length, ℕ, Option, Some, None, true}
+use Rattle.std.specs.Prelude.{List, [], ◌∷◌, ◌++◌, ◌≡◌, ◌⊎◌, ◌≤◌, ◌+◌, length, take, ℕ, Option, Some, None, true}
 use Rattle.m3_model.specs.Members.{IsIn}
 use Rattle.transcripts.specs.Kept.{Kept}
-use Rattle.transcripts.specs.Placements.{printed}
-use Rattle.transcripts.specs.Record.{Life, Record, TurnPlace, IsTurnPlace}
+use Rattle.transcripts.specs.Placements.{placement_after, printed, start_placement}
+use Rattle.transcripts.specs.Record.{Life, Record, TurnPlace, IsTurnPlace, inner_turns}
 use Rattle.m3_model.specs.declared.placement.Placement.{Placement}
 use Rattle.cluster_core.specs.Earlier.{last_place}
 use Rattle.m3_model.specs.declared.act.Act.{Act}
@@ -16,6 +16,7 @@ use Rattle.m3_model.specs.declared.turn.Turn.{Turn}
 use Rattle.cluster_core.specs.Core.{Opening, AgreesWith}
 use Rattle.cluster_core.specs.Legal.{Legal}
 use Rattle.cluster_core.specs.declared.event.Event.{Event}
+use Rattle.cluster_core.specs.declared.event.Event.TheVariants as event
 use Rattle.told_by.specs.Acks.{AreCounted}
 use Rattle.transcripts.specs.Joined.{Joined}
 use Rattle.told_by.specs.Leaves.{HoldsAgain, IsLeftState, MayBeOpen}
@@ -34,6 +35,10 @@ IsKeptWhereTold =
 -- A run that has done nothing is told by the events that open it: none, where it found nothing.
 abbrev pub IsToldAtFirst : Type 0
 IsToldAtFirst = ToldBy None [] []
+
+-- And by the two events that open it, where it found a state.
+abbrev pub IsToldAfresh : Type 0
+IsToldAfresh = (state : MetaState) → ToldBy (Some state) [] (event.Place state.place [] ∷ event.Clock state.rules ∷ [])
 
 -- A line whose events are added at the end leaves the run told.
 abbrev pub IsToldLineByLine : Type 0
@@ -58,6 +63,12 @@ abbrev pub AcksCountWhereTold : Type 0
 AcksCountWhereTold =
     (start : Option MetaState) (turns : List Turn) (events : List Event) → Legal true events → ToldBy start turns events
     → (p : TurnPlace) → IsTurnPlace turns p → (nodes : List ℕ) → p.turn.answer ≡ answer.Acks nodes → AreCounted start p nodes
+
+-- In such a run the last Place before a line is the placement that stands there by what was printed.
+abbrev pub PlacementsStand : Type 0
+PlacementsStand =
+    (start : Option MetaState) (turns : List Turn) (events : List Event) → Legal true events → (told : ToldBy start turns events) → (k : ℕ) → k ≤ length turns
+    → last_place (take (told.ends k) events) ≡ placement_after (start_placement start) (inner_turns (take k turns))
 
 -- A run that is told leaves what the next one is to find, also where its last request was taken and got no answer.
 abbrev pub StandsAgain : Type 0

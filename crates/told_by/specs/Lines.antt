@@ -18,12 +18,15 @@ use Rattle.m3_model.specs.declared.turn.Turn.{Turn}
 use Rattle.cluster_core.specs.Lists.{At}
 use Rattle.cluster_core.specs.declared.event.Event.{Event}
 use Rattle.cluster_core.specs.declared.event.Event.TheVariants as event
+use Rattle.cluster_core.specs.declared.event.StepCall.TheVariants as call
+use Rattle.cluster_core.specs.declared.event.StepReply.{StepReply}
 use Rattle.told_by.specs.Clocks.{rules_left, sets_rules}
 use Rattle.told_by.specs.Hears.{HearsBy, InStretch}
-use Rattle.told_by.specs.Makes.{MayMake}
+use Rattle.told_by.specs.Makes.{EndsRestart, MayMake}
 use Rattle.told_by.specs.Openings.{sets_seed}
 use Rattle.told_by.specs.Placements.{HasPlace, PrintsPeers}
 use Rattle.told_by.specs.Reads.{Asking, IsAskedBy, AreTogether, Fetched, IsAskingOf}
+use Rattle.told_by.specs.Spans.{From}
 use Rattle.told_by.specs.Writes.{IsSendOf, IsUnmetWrite}
 
 -- the place of its turn
@@ -42,6 +45,8 @@ AreSteps events = (e : Event) → IsIn events e → IsAskOrStep e
 -- its turn may make each event that the line adds, and hears in them what its answer says
 pub record MakesAndHears (start : Option MetaState) (turns : List Turn) (events : List Event) (a : Act) (b : Answer) (more : List Event) : Type 0 where
   pub makes : (i : ℕ) (e : Event) → length events ≤ i → 2 ≤ i → At (events ++ more) i e → MayMake start (take i (events ++ more)) (place_after turns a b) e
+  pub restarts : (i n s : ℕ) (r : StepReply) → length events ≤ i → 2 ≤ i → At (events ++ more) i (event.Step n s call.Restart r)
+      → EndsRestart (From (length events)) (events ++ more) (λ _. place_after turns a b) (place_after turns a b) i n s
   pub hears : HearsBy start events (InStretch (events ++ more) (length events) (length (events ++ more))) (place_after turns a b) a b
 
 -- ---- lines that neither write nor read, and that set nothing

@@ -1,5 +1,5 @@
 -- What a turn asks replicas to do, and which of their answers it counts: those of this very call.
-use Rattle.std.specs.Prelude.{◌≡◌, ◌≤◌, ◌<◌, ℕ, ⊤, List, [], ◌∷◌, take, Option, Some, true, false, IsTrue}
+use Rattle.std.specs.Prelude.{◌≡◌, ◌⊎◌, ◌≤◌, ◌<◌, ℕ, ⊤, List, [], ◌∷◌, take, Option, Some, true, false, IsTrue}
 use Rattle.std.specs.List.{Any}
 use Rattle.m3_model.specs.Delivery.{is_cut}
 use Rattle.m3_model.specs.Members.{IsIn}
@@ -23,10 +23,11 @@ use Rattle.cluster_core.specs.declared.event.Event.{Event}
 use Rattle.cluster_core.specs.declared.event.Event.TheVariants as event
 use Rattle.cluster_core.specs.declared.event.StepCall.{StepCall}
 use Rattle.cluster_core.specs.declared.event.StepCall.TheVariants as call
+use Rattle.cluster_core.specs.declared.event.StepReply.{StepReply}
 use Rattle.cluster_core.specs.declared.event.StepReply.TheVariants as reply
 use Rattle.transcripts.specs.Deliveries.{LateMessage, IsLateMessage, shard_of_message}
 use Rattle.transcripts.specs.Fates.{OfNode, call_number, fate_at, is_stopped}
-use Rattle.transcripts.specs.Placements.{IsCounted, has_replica}
+use Rattle.transcripts.specs.Placements.{IsCounted, has_replica, printed}
 use Rattle.transcripts.specs.Points.{point_of}
 use Rattle.transcripts.specs.Record.{TurnPlace, inner_turns, lists_of}
 use Rattle.transcripts.specs.Rules.{rules_at, rules_by}
@@ -197,16 +198,37 @@ abbrev pub CountsOwnReads : Option MetaState → List Event → TurnPlace → �
 CountsOwnReads start past p began nodes =
     (version shard : ℕ) (rules : Rules) (pick : Pick) (from to : ℕ) → At past began (event.FetchStart version shard rules pick from to) → (node : ℕ) → IsIn nodes node → AnsweredOwn start past p began version shard pick from to node
 
--- a stop or a restart that is asked for is done in its turn
+-- the act begins replicas
+abbrev pub OpensReplicas : Act → Type 0
+OpensReplicas (act.Init rf shards seed nodes) = ⊤
+OpensReplicas (act.Bootstrap node only) = ⊤
+OpensReplicas _ = ⊥
+
+-- the turn begins replicas, and the node isn't stopped
+pub record MayOpen (past : List Event) (p : TurnPlace) (node : ℕ) : Type 0 where
+  pub opens : OpensReplicas p.turn.act
+  pub place : Placement
+  pub last : last_place past ≡ Some place
+  pub runs : OfNode place node (λ name. is_stopped (inner_turns p.lines) name ≡ false)
+
+-- a stop, a restart or a begin that is asked for is done in its turn
 abbrev pub MayStep : Option MetaState → List Event → TurnPlace → ℕ → ℕ → StepCall → Type 0
 MayStep start past p n s call.Stop = MayAsk start past p p.turn.act (asked.Step n s call.Stop)
 MayStep start past p n s call.Restart = MayAsk start past p p.turn.act (asked.Step n s call.Restart)
+MayStep start past p n s (call.Begin tenure) = MayOpen past p n
 MayStep start past p n s _ = ⊤
+
+-- the turn prints the placement, or a later one that stood when its step ended
+pub record PrintsNotBefore (p : TurnPlace) (placement : Placement) : Type 0 where
+  pub stood : Placement
+  pub prints : printed p.turn.answer ≡ Some stood
+  pub not_before : placement.version ≤ stood.version
 
 -- what a turn may make after these events, beside what writes, reads, placements and clocks say of theirs
 abbrev pub MayMake : Option MetaState → List Event → TurnPlace → Event → Type 0
 MayMake start past p (event.Ask what) = MayAsk start past p p.turn.act what
 MayMake start past p (event.Step n s c a) = MayStep start past p n s c
+MayMake start past p (event.Place placement done) = PrintsNotBefore p placement
 MayMake start past p (event.Ack send nodes) = CountsOwnPuts start past p send nodes
 MayMake start past p (event.FetchDone began nodes series) = CountsOwnReads start past p began nodes
 MayMake start past p _ = ⊤
@@ -214,3 +236,21 @@ MayMake start past p _ = ⊤
 -- each event is one that its maker may make
 abbrev pub TellsMakes : Option MetaState → (ℕ → Type 0) → List Event → (ℕ → TurnPlace) → Type 0
 TellsMakes start Mine events makers = (i : ℕ) (e : Event) → Mine i → 2 ≤ i → At events i e → MayMake start (take i events) (makers i) e
+
+-- ---- restarts
+
+-- a Stop of the slot that the turn makes follows the place
+pub record StopsAgain (Mine : ℕ → Type 0) (events : List Event) (makers : ℕ → TurnPlace) (p : TurnPlace) (i n s : ℕ) : Type 0 where
+  pub stop : ℕ
+  pub later : i < stop
+  pub there : At events stop (event.Step n s call.Stop reply.Done)
+  pub mine : Mine stop
+  pub own : makers stop ≡ p
+
+-- the turn that restarts a replica is answered ok, or stops it again
+abbrev pub EndsRestart : (ℕ → Type 0) → List Event → (ℕ → TurnPlace) → TurnPlace → ℕ → ℕ → ℕ → Type 0
+EndsRestart Mine events makers p i n s = (p.turn.answer ≡ answer.Done) ⊎ StopsAgain Mine events makers p i n s
+
+-- each Restart is of such a turn
+abbrev pub TellsRestarts : (ℕ → Type 0) → List Event → (ℕ → TurnPlace) → Type 0
+TellsRestarts Mine events makers = (i n s : ℕ) (a : StepReply) → Mine i → 2 ≤ i → At events i (event.Step n s call.Restart a) → EndsRestart Mine events makers (makers i) i n s

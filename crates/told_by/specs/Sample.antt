@@ -20,6 +20,7 @@ use Rattle.cluster_core.specs.declared.event.StepCall.TheVariants as call
 use Rattle.cluster_core.specs.declared.event.StepReply.TheVariants as reply
 use Rattle.cluster_core.specs.declared.event.Event.{Event}
 use Rattle.cluster_core.specs.declared.event.Event.TheVariants as event
+use Rattle.cluster_core.specs.Legal.{Legal}
 use Rattle.told_by.specs.Told.{ToldBy}
 
 abbrev pub name : List ℕ
@@ -83,3 +84,7 @@ events = (((of_init) ++ of_space) ++ of_write) ++ of_read
 -- the list tells of the run
 abbrev pub SampleIsTold : Type 0
 SampleIsTold = ToldBy None turns events
+
+-- and is legal
+abbrev pub SampleIsLegal : Type 0
+SampleIsLegal = Legal true events

@@ -24,15 +24,16 @@ pub record Spans : Type 0 where
 abbrev pub IsWithin : Spans → TurnPlace → ℕ → Type 0
 IsWithin spans p i = (spans.from p ≤ i) × (i < spans.to p)
 
--- a replica is stopped or restarted, which only lines outside `par` do
-abbrev pub IsHalt : StepCall → Type 0
-IsHalt call.Stop = ⊤
-IsHalt call.Restart = ⊤
-IsHalt _ = ⊥
+-- a replica is stopped, restarted or begun, which only the turn does that asks for it
+abbrev pub IsOwnStep : StepCall → Type 0
+IsOwnStep call.Stop = ⊤
+IsOwnStep call.Restart = ⊤
+IsOwnStep (call.Begin tenure) = ⊤
+IsOwnStep _ = ⊥
 
--- an event that a turn makes itself past the first two, which open the list: all but the steps of replicas, and of these the stops and the restarts
+-- an event that a turn makes itself past the first two, which open the list: all but the steps of replicas, and of these the stops, the restarts and the begins
 abbrev pub IsOfTurn : Event → Type 0
-IsOfTurn (event.Step n s c a) = IsHalt c
+IsOfTurn (event.Step n s c a) = IsOwnStep c
 IsOfTurn (event.Ask asked) = ⊤
 IsOfTurn (event.Clock rules) = ⊤
 IsOfTurn (event.Place placement done) = ⊤

@@ -8,7 +8,7 @@ use Rattle.m3_model.specs.declared.turn.Turn.{Turn}
 use Rattle.cluster_core.specs.declared.event.Event.{Event}
 use Rattle.told_by.specs.Clocks.{TellsClocks}
 use Rattle.told_by.specs.Hears.{TellsHears}
-use Rattle.told_by.specs.Makes.{TellsMakes}
+use Rattle.told_by.specs.Makes.{TellsMakes, TellsRestarts}
 use Rattle.told_by.specs.Openings.{IsOpenedBy, opening_length, TellsInit}
 use Rattle.told_by.specs.Placements.{TellsPlacements}
 use Rattle.told_by.specs.Reads.{TellsReads}
@@ -24,6 +24,7 @@ pub record Tells (start : Option MetaState) (turns : List Turn) (Here : TurnPlac
   pub placements : TellsPlacements Here Mine events spans makers
   pub clocks : TellsClocks start turns Here Mine events makers
   pub makes : TellsMakes start Mine events makers
+  pub restarts : TellsRestarts Mine events makers
   pub hears : TellsHears start Here events spans
 
 -- the list goes on line by line: a line's events stand behind those of the lines before it, and its turns have their stretches among them

@@ -1,5 +1,5 @@
 //! What is so of all that is told by a list of events.
-ghost use Rattle.told_by.specs.Laws.{IsKeptWhereTold, IsToldAtFirst, IsToldLineByLine, EmptyDisksStand, IsJoinedWhereTold, AcksCountWhereTold, StandsAgain};
+ghost use Rattle.told_by.specs.Laws.{IsKeptWhereTold, IsToldAfresh, IsToldAtFirst, IsToldLineByLine, EmptyDisksStand, IsJoinedWhereTold, AcksCountWhereTold, PlacementsStand, StandsAgain};
 
 /// Where a legal list of events tells of a run's turns, each answered read of the run holds what was acknowledged
 /// before, and nothing unwritten.
@@ -14,9 +14,16 @@ pub fn told_is_joined()
     ensures acks { AcksCountWhereTold }
 {}
 
-/// A run is told line by line: it begins with nothing told, and each line's events are added at the end.
+/// In such a run the placement that stands before a line, by what was printed, is the last one of the list there.
+pub fn printed_placements_stand()
+    ensures { PlacementsStand }
+{}
+
+/// A run is told line by line: it begins with nothing told, or with the state that it found, and each line's events are
+/// added at the end.
 pub fn told_line_by_line()
     ensures first { IsToldAtFirst }
+    ensures found { IsToldAfresh }
     ensures line { IsToldLineByLine }
     ensures empty { EmptyDisksStand }
 {}

@@ -2,7 +2,7 @@
 use Rattle.std.specs.Prelude.{not, ◌&&◌, false}
 use Rattle.std.specs.Option.{option_map_or}
 use Rattle.m3_model.specs.declared.placement.Instance.{Instance}
-use Rattle.transcripts.specs.Fates.{is_reached, is_stopped, reaches}
+use Rattle.transcripts.specs.Fates.{OfNode, is_reached, is_stopped, reaches}
 use Rattle.transcripts.specs.Record.{inner_turns}
 use Rattle.told_by.specs.Spans.{Spans}
 use Rattle.std.proofs.Common.{◌≡◌, ℕ, suc, ◌<◌, ◌≤◌, ◌+◌, List, [], ◌∷◌, take, length, refl, sym, ap, ◌∙◌, subst, inl, inr, arith, Bool, true, false, length-append}
@@ -50,12 +50,15 @@ use Rattle.transcripts.specs.Record.{TurnPlace, IsTurnPlace}
 use Rattle.transcripts.specs.Rules.{rules_at}
 use Rattle.told_by.specs.Hears.{HasServed, HearsAcks, HearsBy, IsHeard, IsOwnCall, IsServed}
 use Rattle.told_by.specs.Told.{ToldBy}
-use Rattle.told_causes.specs.Calls.{ServedRuns, AcksAreSaid, IsExplained, IsSteadyNode, ReasonsAreSaid, ServedIsTaken, Within}
+use Rattle.told_causes.specs.Calls.{AcksAreSaid, IsExplained, IsSteadyNode, ReasonsAreSaid, ServedIsTaken, Within}
 use Rattle.told_causes.specs.Faults.{fault_of, faults_told}
 use Rattle.told_causes.specs.Standing.{IsHaltAct}
+use Rattle.told_causes.specs.Boot.{IsKnownMember}
+use Rattle.told_causes.proofs.BootLemmas.{boot_cause, boot_said}
 use Rattle.told_causes.proofs.DownLemmas.{down_cause, down_said}
 use Rattle.told_causes.proofs.FaultLemmas.{steps_faults}
 use Rattle.told_causes.proofs.RefusalLemmas.{or_cases, refused_law}
+use Rattle.told_causes.proofs.RunLemmas.{who_served}
 
 -- ---- windows
 
@@ -174,7 +177,7 @@ module _ (start : Option MetaState) (turns : List Turn) (events : List Event) (l
   calls_halt_nothing (act.Restart node pick) e h = cc
   calls_halt_nothing _ e h = h
 
-  reason_said : is_call p.turn.act ≡ true → (place : Placement) (shard node : ℕ) → IsSteadyNode start turns events told p place shard node → (why : Reason) → IsExplained why → IsHeard start (Within events told.spans p) p place shard node why → MayRefuse true faults start p place shard node why
+  reason_said : is_call p.turn.act ≡ true → (place : Placement) (shard node : ℕ) → (steady : IsSteadyNode start turns events told p place shard node) → (why : Reason) → IsExplained (IsKnownMember start turns events p shard node steady.name) why → IsHeard start (Within events told.spans p) p place shard node why → MayRefuse true faults start p place shard node why
   reason_said calls place shard node steady reason.Cut known h = h
   reason_said calls place shard node steady reason.Memory known h = tt
   reason_said calls place shard node steady reason.Past known h = let s = (h.2).1 in refused_past place.version node shard (h.2).0 h.0 h.1 s.2
@@ -182,6 +185,8 @@ module _ (start : Option MetaState) (turns : List Turn) (events : List Event) (l
   reason_said calls place shard node steady reason.Down known h =
       down_said faults start p place node shard steady.name steady.named steady.stays
       (down_cause start turns events legal told p in_run (calls_halt_nothing p.turn.act calls) node shard steady.name steady.everywhere h.0 h.2)
+  reason_said calls place shard node steady reason.Boot known h =
+      λ tells. boot_said start p place node shard steady.name steady.named (boot_cause start turns events legal told p in_run (calls_halt_nothing p.turn.act calls) node shard steady.name known h.0 h.2)
   reason_said calls place shard node steady reason.Disk known h =
       let s = (h.2).1 in fault_here (h.2).0 (event.Step node shard h.0 (reply.Refused reason.Disk)) (record { line = length p.lines; node = node; shard = shard; kind = Failing }) s.0 s.1 s.2 refl refl
   reason_said calls place shard node steady (reason.Corrupt damage) known h =
@@ -219,17 +224,16 @@ pub taken_said : ServedIsTaken
 taken_said start turns events legal told p in_run place shard node h = served_taken start turns events legal told p in_run place shard node h
 
 -- the messages of a call reach a replica that did as it asks, where its node runs
-pub served_reached : (start : Option MetaState) (events : List Event) (spans : Spans) (p : TurnPlace) → ServedRuns start events spans p → (place : Placement) (shard node : ℕ) → HasServed start (Within events spans p) p place shard node → reaches p place node ≡ true
-served_reached start events spans p runs place shard node h =
+pub served_reached : (start : Option MetaState) (events : List Event) (spans : Spans) (p : TurnPlace) (place : Placement) (shard node : ℕ) → HasServed start (Within events spans p) p place shard node → OfNode place node (λ name. is_stopped (inner_turns p.lines) name ≡ false) → reaches p place node ≡ true
+served_reached start events spans p place shard node h up =
     let sent = h.3 in
-    let up = runs place shard node h in
     let same : (up.instance_).name ≡ (sent.instance_).name = ap (λ (i : Instance). i.name) (some_same up.instance_ sent.instance_ (sym up.stands ∙ sent.stands)) in
     ap (λ o. option_map_or (λ (i : Instance). is_reached p i.name) o false) sent.stands
     ∙ ap (λ b. not b && not (is_stopped (inner_turns p.lines) (sent.instance_).name)) sent.holds
     ∙ ap (λ b. not b) (ap (is_stopped (inner_turns p.lines)) (sym same) ∙ up.holds)
 
 pub acks_said : AcksAreSaid
-acks_said start turns events legal told p in_run runs ns id t v level version nodes acts answers =
+acks_said start turns events legal told p in_run halts names ns id t v level version nodes acts answers =
     let h : HearsAcks start (Within events told.spans p) p nodes =
     subst (λ b. HearsBy start (take ((told.spans).from p) events) (Within events told.spans p) p p.turn.act b) answers ((told.tells).hears p in_run) in
     let is : record { id = Some id; version = version; needed = needed_write level } ≡ h.call = some_same (record { id = Some id; version = version; needed = needed_write level }) h.call (sym (ap call_of acts) ∙ h.of_call) in
@@ -240,7 +244,7 @@ acks_said start turns events legal told p in_run runs ns id t v level version no
       may_use = subst (λ (c : Call). MayUse start p c.version h.place) (sym is) h.may_use;
       counted = λ s asked node m. h.counted s (subst (λ (c : Call). AsksShard start p h.place c.id s) is asked) node m;
       by_name = h.by_name;
-      reached = λ node m. served_reached start events told.spans p runs h.place shard node (h.served shard asks node m);
+      reached = λ node m. let one = h.served shard asks node m in served_reached start events told.spans p h.place shard node one (who_served start turns events legal told halts p in_run names h.place (record { call = h.call; of_act = h.of_call; may_use = h.may_use }) shard node one);
       enough = subst (λ (c : Call). c.needed (h.place).rf ≤ length nodes) (sym is) h.enough;
       takes =
           let first = some_node nodes h.some in

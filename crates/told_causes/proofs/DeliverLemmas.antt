@@ -1,12 +1,12 @@
 -- Deliveries: each outcome is of its message and has its cause.
 use Rattle.std.specs.Prelude.{[], ◌∷◌}
 use Rattle.cluster_core.specs.Rows.{LawfulStep, MayRefuse}
-use Rattle.transcripts.specs.Deliveries.{AreOutcomes, LateMessage, MayComeOf}
+use Rattle.transcripts.specs.Deliveries.{AreOutcomes, IsLateMessage, LateMessage, MayComeOf}
 use Rattle.m3_model.specs.Rules.{InWindow, IsPast, IsFuture}
 use Rattle.told_by.specs.Hears.{HearsDelivered, HearsLate, HearsOutcomes, IsLatePut}
 use Rattle.told_causes.specs.Deliveries.{IsKnownDelivery, OutcomesAreSaid}
 use Rattle.told_causes.proofs.CallLemmas.{fault_here, outside_future, outside_past, put_outside}
-use Rattle.std.proofs.Common.{◌≡◌, ℕ, List, [], ◌∷◌, take, length, refl, subst, true}
+use Rattle.std.proofs.Common.{◌≡◌, ℕ, List, [], ◌∷◌, take, length, refl, ap, ◌∙◌, subst, true, false}
 use Rattle.std.specs.Prelude.{Option, Some, None, slice_get}
 use Rattle.m3_model.specs.Rules.{InWindow, IsPast, IsFuture}
 use Rattle.m3_model.specs.declared.reason.Reason.{Reason}
@@ -26,15 +26,19 @@ use Rattle.cluster_core.specs.declared.event.StepReply.TheVariants as reply
 use Rattle.cluster_core.specs.declared.replica_state.ReplicaState.{ReplicaState}
 use Rattle.cluster_core.proofs.TraceLemmas.{lawful_step}
 use Rattle.transcripts.specs.Faults.{Fault, Failing, Damaged}
-use Rattle.transcripts.specs.Record.{TurnPlace}
+use Rattle.transcripts.specs.Record.{TurnPlace, inner_turns}
 use Rattle.transcripts.specs.Rules.{rules_at}
 use Rattle.told_by.specs.Hears.{HearsBy}
 use Rattle.told_by.specs.Told.{ToldBy}
 use Rattle.told_causes.specs.Calls.{Within}
 use Rattle.told_causes.specs.Faults.{faults_told}
 use Rattle.told_causes.specs.Standing.{IsHaltAct}
+use Rattle.told_causes.proofs.BootLemmas.{boot_cause, boot_said}
 use Rattle.told_causes.proofs.DownLemmas.{down_cause, down_said}
 use Rattle.told_causes.proofs.RefusalLemmas.{refused_law}
+use Rattle.told_causes.proofs.RunLemmas.{who_serves}
+use Rattle.told_causes.specs.Running.{Serves}
+use Rattle.transcripts.specs.Fates.{OfNode, is_stopped}
 
 module _ (start : Option MetaState) (turns : List Turn) (events : List Event) (told : ToldBy start turns events) (p : TurnPlace) (known : IsKnownDelivery start turns events told p) where
   abbrev faults : List Fault
@@ -64,30 +68,45 @@ module _ (start : Option MetaState) (turns : List Turn) (events : List Event) (t
   halts_nothing : IsHaltAct p.turn.act → ⊥
   halts_nothing h = subst IsHaltAct known.delivers h
 
-  came : (m : LateMessage) (shard : ℕ) (o : Option Reason) → HearsLate start (Within events told.spans p) p m shard o → MayComeOf true faults start p m shard o
-  came m shard None h = let s = (h.2).1 in (late_taken m shard (h.2).0 h.0 h.1 (lawful_step events known.legal (h.2).0 m.node shard h.0 reply.Done s.2), known.runs m shard h)
-  came m shard (Some reason.Memory) h = tt
-  came m shard (Some reason.Past) h = let s = (h.2).1 in late_past m shard (h.2).0 h.0 h.1 (refused m shard (h.2).0 h.0 reason.Past s.2)
-  came m shard (Some reason.Future) h = let s = (h.2).1 in late_future m shard (h.2).0 h.0 h.1 (refused m shard (h.2).0 h.0 reason.Future s.2)
-  came m shard (Some reason.Cut) h = let s = (h.2).1 in absurd (refused m shard (h.2).0 h.0 reason.Cut s.2)
-  came m shard (Some reason.Disk) h =
+  late_serves : (m : LateMessage) (shard i : ℕ) (c : StepCall) → IsLatePut start p m c → Serves c reply.Done
+  late_serves m shard i (call.Put client number rules version point) own = tt
+  late_serves m shard i _ own = absurd own
+
+  -- the node that took a message isn't stopped
+  late_runs : (m : LateMessage) → IsLateMessage start p m → (shard : ℕ) → HearsLate start (Within events told.spans p) p m shard None → OfNode m.used m.node (λ name. is_stopped (inner_turns p.lines) name ≡ false)
+  late_runs m late shard h =
+      let named = known.named m late shard h in
+      let runs = who_serves start turns events known.legal told known.halts p known.in_run m.node shard named.0 named.2 h.0 reply.Done (late_serves m shard (h.2).0 h.0 h.1) h.2 in
+      record { instance_ = (named.1).instance_; stands = (named.1).stands; holds = ap (is_stopped (inner_turns p.lines)) (named.1).holds ∙ runs }
+
+  came : (m : LateMessage) → IsLateMessage start p m → (shard : ℕ) (o : Option Reason) → HearsLate start (Within events told.spans p) p m shard o → MayComeOf true faults start p m shard o
+  came m late shard None h = let s = (h.2).1 in (late_taken m shard (h.2).0 h.0 h.1 (lawful_step events known.legal (h.2).0 m.node shard h.0 reply.Done s.2), late_runs m late shard h)
+  came m late shard (Some reason.Memory) h = tt
+  came m late shard (Some reason.Past) h = let s = (h.2).1 in late_past m shard (h.2).0 h.0 h.1 (refused m shard (h.2).0 h.0 reason.Past s.2)
+  came m late shard (Some reason.Future) h = let s = (h.2).1 in late_future m shard (h.2).0 h.0 h.1 (refused m shard (h.2).0 h.0 reason.Future s.2)
+  came m late shard (Some reason.Cut) h = let s = (h.2).1 in absurd (refused m shard (h.2).0 h.0 reason.Cut s.2)
+  came m late shard (Some reason.Disk) h =
       let s = (h.2).1 in
       fault_here start turns events known.legal told p known.in_run (h.2).0 (event.Step m.node shard h.0 (reply.Refused reason.Disk)) (record { line = length p.lines; node = m.node; shard = shard; kind = Failing }) s.0 s.1 s.2 refl refl
-  came m shard (Some (reason.Corrupt damage)) h =
+  came m late shard (Some (reason.Corrupt damage)) h =
       let step = h.1 in
       let s = (step.2).1 in
       (fault_here start turns events known.legal told p known.in_run (step.2).0 (event.Step m.node shard step.0 (reply.Refused (reason.Corrupt damage))) (record { line = length p.lines; node = m.node; shard = shard; kind = Damaged }) s.0 s.1 s.2 refl refl, h.0)
-  came m shard (Some reason.Down) h =
-      let steady = (known.explained m shard reason.Down h).0 in
+  came m late shard (Some reason.Down) h =
+      let steady = (known.explained m late shard reason.Down h).0 in
       down_said faults start p m.used m.node shard steady.name steady.named steady.stays
       (down_cause start turns events known.legal told p known.in_run halts_nothing m.node shard steady.name steady.everywhere h.0 h.2)
-  came m shard (Some why) h = absurd ((known.explained m shard why h).1)
+  came m late shard (Some reason.Boot) h =
+      let why = known.explained m late shard reason.Boot h in
+      let steady = why.0 in
+      λ tells. boot_said start p m.used m.node shard steady.name steady.named (boot_cause start turns events known.legal told p known.in_run halts_nothing m.node shard steady.name why.1 h.0 h.2)
+  came m late shard (Some why) h = absurd ((known.explained m late shard why h).1)
 
   each_said : (messages : List LateMessage) (outcomes : List (ℕ × ℕ × Option Reason)) → HearsOutcomes start (Within events told.spans p) p messages outcomes → AreOutcomes true faults start p messages outcomes
   each_said [] [] h = tt
   each_said (m ∷ messages) (x ∷ outcomes) h =
       let one = h.0 in
-      (record { message = one.message; node_is = one.node_is; shard_is = one.shard_is; came = came m x.1 x.2 one.heard }, each_said messages outcomes h.1)
+      (record { message = one.message; node_is = one.node_is; shard_is = one.shard_is; came = came m one.message x.1 x.2 one.heard }, each_said messages outcomes h.1)
   each_said [] (x ∷ outcomes) h = absurd h
   each_said (m ∷ messages) [] h = absurd h
 

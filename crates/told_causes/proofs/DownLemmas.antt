@@ -31,6 +31,7 @@ use Rattle.told_by.specs.Hears.{IsNamedBy}
 use Rattle.told_by.specs.Makes.{MayAsk}
 use Rattle.told_by.specs.Openings.{opening_length}
 use Rattle.told_by.specs.Told.{ToldBy}
+use Rattle.told_by.proofs.PrintedLemmas.{ends_within}
 use Rattle.told_by.proofs.TurnLemmas.{alone_is, at_cut, inner-append}
 use Rattle.told_causes.specs.Faults.{fault_of, faults_told}
 use Rattle.told_causes.specs.Standing.{DownHasCause, DownIsSaid, IsClosedSince, IsHaltAct}
@@ -215,18 +216,10 @@ module _ (start : Option MetaState) (turns : List Turn) (events : List Event) (l
   by_restart k line at true is h = let c = h.2 in let r = restarts start turns events legal told n s name named k line at is c.0 c.1 c.2 c.4 c.3 in absurd (h.1 r.0 r.1 r.2 r.3)
   by_restart k line at false is h = cause_on k line at is h.0
 
-  -- lines end within the list
-  bounded : (d k : ℕ) → k + d ≡ length turns → told.ends k ≤ length events
-  bounded zero k e = let same : k ≡ length turns = omega (arith, e) in omega (arith, ap told.ends same, (told.lines).last)
-  bounded (suc d) k e = omega (arith, (told.lines).ascends k (omega (arith, e)), bounded d (suc k) (omega (arith, e)))
-
-  ends_within : (k : ℕ) → k ≤ length turns → told.ends k ≤ length events
-  ends_within k le = bounded (length turns - k) k (omega (arith, le))
-
   -- a replica that is down between two lines has its cause
   down_has_cause : (k : ℕ) → k ≤ length turns → IsDownAt (told.ends k) → HasCause k
   down_has_cause zero high down =
-      let c = called (told.ends 0) (ends_within 0 high) down in
+      let c = called (told.ends 0) (ends_within start turns events legal told 0 high) down in
       absurd (omega (arith, late_step events legal c.0 n s c.1 c.2 c.4, c.3, (told.lines).first, opening_two start))
     where
       opening_two : (o : Option MetaState) → opening_length o ≤ 2
@@ -236,7 +229,7 @@ module _ (start : Option MetaState) (turns : List Turn) (events : List Event) (l
       let line = at_some turns k (omega (arith, high)) in
       let grows = (told.lines).ascends k (omega (arith, high)) in
       let whole : told.ends k + (told.ends (suc k) - told.ends k) ≡ told.ends (suc k) = omega (arith, grows) in
-      let h = subst (InLine k) whole (up_to k (omega (arith, high)) (ends_within (suc k) high) (λ d. down_has_cause k (omega (arith, high)) d) (told.ends (suc k) - told.ends k) (omega (arith, whole)) (subst IsDownAt (sym whole) down)) in
+      let h = subst (InLine k) whole (up_to k (omega (arith, high)) (ends_within start turns events legal told (suc k) high) (λ d. down_has_cause k (omega (arith, high)) d) (told.ends (suc k) - told.ends k) (omega (arith, whole)) (subst IsDownAt (sym whole) down)) in
       elim h as (λ _. HasCause (suc k)) [
         | inl before ↦ by_restart k line.0 line.1 (list_any (is_restart name) (inner_turns (line.0 ∷ []))) refl before
         | inr new ↦ elim new as (λ _. HasCause (suc k)) [
@@ -279,7 +272,7 @@ module _ (start : Option MetaState) (turns : List Turn) (events : List Event) (l
       let finishes = (told.lines).high p in_run in
       let whole : told.ends k + (i - told.ends k) ≡ i = omega (arith, begins, low) in
       let front : take k turns ≡ p.lines = ap (take (length p.lines)) in_run.in_run ∙ take_front p.lines p.line in_run.after in
-      let h = subst (InLine k) whole (up_to k less (ends_within (suc k) (omega (arith, less))) (λ d. down_has_cause k (omega (arith, less)) d) (i - told.ends k) (omega (arith, whole, high, finishes)) (subst IsDownAt (sym whole) down)) in
+      let h = subst (InLine k) whole (up_to k less (ends_within start turns events legal told (suc k) (omega (arith, less))) (λ d. down_has_cause k (omega (arith, less)) d) (i - told.ends k) (omega (arith, whole, high, finishes)) (subst IsDownAt (sym whole) down)) in
       elim h as (λ _. (is_stopped (inner_turns p.lines) name ≡ true) ⊎ IsClosedSince faults p n s name) [
         | inl before ↦ elim before.0 as (λ _. (is_stopped (inner_turns p.lines) name ≡ true) ⊎ IsClosedSince faults p n s name) [
           | inl stopped ↦ inl (ap (λ ls. is_stopped (inner_turns ls) name) (sym front) ∙ stopped)
@@ -319,8 +312,8 @@ down_cause start turns events legal told p in_run quiet n s name named c step =
     cause_at start turns events legal told n s name named p in_run quiet step.0 (step.1).0 (step.1).1 (first_down (replica n s (take step.0 events)) c (refused_law true (take step.0 events) n s (replica n s (take step.0 events)) c reason.Down (lawful_step events legal step.0 n s c (reply.Refused reason.Down) there)))
 
 pub down_said : DownIsSaid
-down_said faults start p place n s name named stays (inl stopped) = inl (record { instance_ = named.instance_; stands = named.stands; holds = subst (λ x. is_stopped (inner_turns p.lines) x ≡ true) (sym named.holds) stopped })
-down_said faults start p place n s name named stays (inr closed) =
+down_said listed start p place n s name named stays (inl stopped) = inl (record { instance_ = named.instance_; stands = named.stands; holds = subst (λ x. is_stopped (inner_turns p.lines) x ≡ true) (sym named.holds) stopped })
+down_said listed start p place n s name named stays (inr closed) =
     inr (record {
       fault = closed.fault;
       among = closed.among;

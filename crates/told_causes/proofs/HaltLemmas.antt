@@ -1,5 +1,5 @@
 -- What a list says of stops and restarts: each Stop leaves its node stopped at the end of its line, and an ok restart has a Restart of each slot.
-use Rattle.std.proofs.Common.{◌≡◌, ℕ, zero, suc, ◌<◌, ◌≤◌, ◌+◌, ◌-◌, List, [], ◌∷◌, ◌++◌, take, length, refl, sym, ap, ◌∙◌, subst, inl, inr, arith, true, cond, append-nil, length-append}
+use Rattle.std.proofs.Common.{◌≡◌, ℕ, zero, suc, ◌<◌, ◌≤◌, List, [], ◌∷◌, ◌++◌, take, length, refl, sym, ap, ◌∙◌, subst, inl, inr, arith, true, cond, append-nil, length-append}
 use Rattle.std.specs.Prelude.{Option, Some, None, nat_eq}
 use Rattle.std.specs.List.{list_any}
 use Rattle.std.specs.Cmp.Lexicographic.{pointwise}
@@ -29,6 +29,7 @@ use Rattle.told_by.specs.Openings.{opening_length}
 use Rattle.told_by.specs.Spans.{IsWithin}
 use Rattle.told_by.specs.Told.{ToldBy}
 use Rattle.told_by.proofs.LeaveLemmas.{place_there}
+use Rattle.told_by.proofs.PrintedLemmas.{ends_grow}
 use Rattle.told_by.proofs.TurnLemmas.{cut_at, place_in}
 use Rattle.told_causes.proofs.NameLemmas.{any_found, name_self, refused_stays, restart_is, stopped_after}
 
@@ -54,16 +55,8 @@ last_name events i n name node named h =
     sym own ∙ (h.named).holds
 
 module _ (start : Option MetaState) (turns : List Turn) (events : List Event) (legal : Legal true events) (told : ToldBy start turns events) where
-  ends_up : (j d : ℕ) → j + d ≤ length turns → told.ends j ≤ told.ends (j + d)
-  ends_up j zero high = let same : j + 0 ≡ j = omega arith in omega (arith, ap told.ends same)
-  ends_up j (suc d) high =
-      let next : j + suc d ≡ suc (j + d) = omega arith in
-      omega (arith, ends_up j d (omega (arith, high)), (told.lines).ascends (j + d) (omega (arith, high)), ap told.ends next)
-
   not_before : (i j k : ℕ) → j < k → k < length turns → i < told.ends (suc j) → told.ends k ≤ i → ⊥
-  not_before i j k lt high end begin =
-      let whole : suc j + (k - suc j) ≡ k = omega (arith, lt) in
-      omega (arith, ends_up (suc j) (k - suc j) (omega (arith, whole, high)), ap told.ends whole, end, begin)
+  not_before i j k lt high end begin = omega (arith, ends_grow start turns events legal told (suc j) k lt (omega (arith, high)), end, begin)
 
   -- a place stands in one line
   pub one_line : (i j k : ℕ) → j < length turns → k < length turns → told.ends j ≤ i → i < told.ends (suc j) → told.ends k ≤ i → i < told.ends (suc k) → j ≡ k

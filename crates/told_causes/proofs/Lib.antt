@@ -6,3 +6,10 @@ pub mod DownLemmas
 pub mod CallLemmas
 pub mod LevelLemmas
 pub mod DeliverLemmas
+pub mod WaitLemmas
+pub mod BootLemmas
+pub mod SampleLemmas
+pub mod RunLemmas
+pub mod AloneLemmas
+pub mod NodeLemmas
+pub mod KnownLemmas

@@ -69,39 +69,71 @@ closed_down standing.Down e = refl
 closed_down standing.Boot e = cc
 closed_down standing.Open e = cc
 
+shut_boot : (x : Standing) → shut x ≡ Some reason.Boot → x ≡ standing.Boot
+shut_boot standing.Down e = cc
+shut_boot standing.Boot e = refl
+shut_boot standing.Open e = cc
+
+closed_boot : (x : Standing) → closed x ≡ Some reason.Boot → x ≡ standing.Boot
+closed_boot standing.Down e = cc
+closed_boot standing.Boot e = refl
+closed_boot standing.Open e = cc
+
+-- the reasons of a replica that isn't open
+abbrev IsShut : Reason → Type 0
+IsShut reason.Down = Unit {0}
+IsShut reason.Boot = Unit {0}
+IsShut _ = ⊥
+
+shut_not_late : (why : Reason) → IsShut why → IsLate why → ⊥
+shut_not_late reason.Down shut_ late = late
+shut_not_late reason.Boot shut_ late = late
+shut_not_late _ shut_ late = shut_
+
+-- such a reason is that of the standing
+abbrev OfStanding : ReplicaState → Reason → Type 0
+OfStanding r why = (shut r.standing ≡ Some why) ⊎ (closed r.standing ≡ Some why)
+
+first_shut : (r : ReplicaState) (c : StepCall) (why : Reason) → IsShut why → first_refusal r c ≡ Some why → OfStanding r why
+first_shut r (call.Begin tenure) why is e = inr e
+first_shut r (call.Put client number rules version point) why is e =
+    by (or_cases (shut r.standing) (option_or (unowned r.tenure version) (option_or (outdated r.fence version) (outside rules point))) why e)
+  where
+    by : (shut r.standing ≡ Some why) ⊎ (option_or (unowned r.tenure version) (option_or (outdated r.fence version) (outside rules point)) ≡ Some why) → OfStanding r why
+    by (inl e) = inl e
+    by (inr e) = absurd (shut_not_late why is (elim (or_cases (unowned r.tenure version) (option_or (outdated r.fence version) (outside rules point)) why e) as (λ _. IsLate why) [
+      | inl other ↦ unowned_late r.tenure version why other
+      | inr rest ↦ elim (or_cases (outdated r.fence version) (outside rules point) why rest) as (λ _. IsLate why) [
+        | inl other ↦ outdated_late r.fence version why other
+        | inr other ↦ outside_late rules point (slice_get rules.spaces point.ns) why other
+      ]
+    ]))
+first_shut r (call.Read client number rules version pick from to) why is e =
+    by (or_cases (shut r.standing) (option_or (unowned r.tenure version) (outdated r.fence version)) why e)
+  where
+    by : (shut r.standing ≡ Some why) ⊎ (option_or (unowned r.tenure version) (outdated r.fence version) ≡ Some why) → OfStanding r why
+    by (inl e) = inl e
+    by (inr e) = absurd (shut_not_late why is (elim (or_cases (unowned r.tenure version) (outdated r.fence version) why e) as (λ _. IsLate why) [ inl other ↦ unowned_late r.tenure version why other | inr other ↦ outdated_late r.fence version why other ]))
+first_shut r (call.Fence version) why is e = elim (or_cases (shut r.standing) (unowned r.tenure version) why e) as (λ _. OfStanding r why) [ inl own ↦ inl own | inr other ↦ absurd (shut_not_late why is (unowned_late r.tenure version why other)) ]
+first_shut r (call.Page after) why is e = elim (or_cases (shut r.standing) (untenured r.tenure) why e) as (λ _. OfStanding r why) [ inl own ↦ inl own | inr other ↦ absurd (shut_not_late why is (untenured_late r.tenure why other)) ]
+first_shut r (call.Block ns start size after) why is e = elim (or_cases (shut r.standing) (untenured r.tenure) why e) as (λ _. OfStanding r why) [ inl own ↦ inl own | inr other ↦ absurd (shut_not_late why is (untenured_late r.tenure why other)) ]
+first_shut r (call.Digests rules) why is e = elim (or_cases (shut r.standing) (untenured r.tenure) why e) as (λ _. OfStanding r why) [ inl own ↦ inl own | inr other ↦ absurd (shut_not_late why is (untenured_late r.tenure why other)) ]
+first_shut r (call.Merge page) why is e = elim (or_cases (shut r.standing) (untenured r.tenure) why e) as (λ _. OfStanding r why) [ inl own ↦ inl own | inr other ↦ absurd (shut_not_late why is (untenured_late r.tenure why other)) ]
+first_shut r (call.Tick rules) why is e = inl e
+first_shut r (call.Flush rules) why is e = inl e
+first_shut r call.Snapshot why is e = inl e
+first_shut r call.Report why is e = cc
+first_shut r call.End why is e = cc
+first_shut r call.Stop why is e = cc
+first_shut r call.Restart why is e = cc
+
 -- a replica whose first reason is that it is closed is closed
 pub first_down : (r : ReplicaState) (c : StepCall) → first_refusal r c ≡ Some reason.Down → r.standing ≡ standing.Down
-first_down r (call.Begin tenure) e = closed_down r.standing e
-first_down r (call.Put client number rules version point) e =
-    by (or_cases (shut r.standing) (option_or (unowned r.tenure version) (option_or (outdated r.fence version) (outside rules point))) reason.Down e)
-  where
-    by : (shut r.standing ≡ Some reason.Down) ⊎ (option_or (unowned r.tenure version) (option_or (outdated r.fence version) (outside rules point)) ≡ Some reason.Down) → r.standing ≡ standing.Down
-    by (inl e) = shut_down r.standing e
-    by (inr e) = absurd (elim (or_cases (unowned r.tenure version) (option_or (outdated r.fence version) (outside rules point)) reason.Down e) as (λ _. ⊥) [
-      | inl other ↦ unowned_late r.tenure version reason.Down other
-      | inr rest ↦ elim (or_cases (outdated r.fence version) (outside rules point) reason.Down rest) as (λ _. ⊥) [
-        | inl other ↦ outdated_late r.fence version reason.Down other
-        | inr other ↦ outside_late rules point (slice_get rules.spaces point.ns) reason.Down other
-      ]
-    ])
-first_down r (call.Read client number rules version pick from to) e =
-    by (or_cases (shut r.standing) (option_or (unowned r.tenure version) (outdated r.fence version)) reason.Down e)
-  where
-    by : (shut r.standing ≡ Some reason.Down) ⊎ (option_or (unowned r.tenure version) (outdated r.fence version) ≡ Some reason.Down) → r.standing ≡ standing.Down
-    by (inl e) = shut_down r.standing e
-    by (inr e) = absurd (elim (or_cases (unowned r.tenure version) (outdated r.fence version) reason.Down e) as (λ _. ⊥) [ inl other ↦ unowned_late r.tenure version reason.Down other | inr other ↦ outdated_late r.fence version reason.Down other ])
-first_down r (call.Fence version) e = elim (or_cases (shut r.standing) (unowned r.tenure version) reason.Down e) as (λ _. r.standing ≡ standing.Down) [ inl is ↦ shut_down r.standing is | inr other ↦ absurd (unowned_late r.tenure version reason.Down other) ]
-first_down r (call.Page after) e = elim (or_cases (shut r.standing) (untenured r.tenure) reason.Down e) as (λ _. r.standing ≡ standing.Down) [ inl is ↦ shut_down r.standing is | inr other ↦ absurd (untenured_late r.tenure reason.Down other) ]
-first_down r (call.Block ns start size after) e = elim (or_cases (shut r.standing) (untenured r.tenure) reason.Down e) as (λ _. r.standing ≡ standing.Down) [ inl is ↦ shut_down r.standing is | inr other ↦ absurd (untenured_late r.tenure reason.Down other) ]
-first_down r (call.Digests rules) e = elim (or_cases (shut r.standing) (untenured r.tenure) reason.Down e) as (λ _. r.standing ≡ standing.Down) [ inl is ↦ shut_down r.standing is | inr other ↦ absurd (untenured_late r.tenure reason.Down other) ]
-first_down r (call.Merge page) e = elim (or_cases (shut r.standing) (untenured r.tenure) reason.Down e) as (λ _. r.standing ≡ standing.Down) [ inl is ↦ shut_down r.standing is | inr other ↦ absurd (untenured_late r.tenure reason.Down other) ]
-first_down r (call.Tick rules) e = shut_down r.standing e
-first_down r (call.Flush rules) e = shut_down r.standing e
-first_down r call.Snapshot e = shut_down r.standing e
-first_down r call.Report e = cc
-first_down r call.End e = cc
-first_down r call.Stop e = cc
-first_down r call.Restart e = cc
+first_down r c e = elim (first_shut r c reason.Down tt e) as (λ _. r.standing ≡ standing.Down) [ inl is ↦ shut_down r.standing is | inr is ↦ closed_down r.standing is ]
+
+-- and one whose first reason is that it isn't begun isn't begun
+pub first_boot : (r : ReplicaState) (c : StepCall) → first_refusal r c ≡ Some reason.Boot → r.standing ≡ standing.Boot
+first_boot r c e = elim (first_shut r c reason.Boot tt e) as (λ _. r.standing ≡ standing.Boot) [ inl is ↦ shut_boot r.standing is | inr is ↦ closed_boot r.standing is ]
 
 -- what a lawful refusal of a step is
 pub refused_law : (tells : Bool) (past : List Event) (n s : ℕ) (r : ReplicaState) (c : StepCall) (why : Reason) → LawfulStep tells past n s r c (reply.Refused why) → MayRefuse tells past s r c why

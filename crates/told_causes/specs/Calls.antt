@@ -1,5 +1,5 @@
 -- Why a call's answer is what it is: each reason that it names has its cause, and what replicas took lies within its window.
-use Rattle.std.specs.Prelude.{false, Bool, None, Some, ◌≡◌, ℕ, ⊤, List, length, Option, ℤ, true, IsTrue}
+use Rattle.std.specs.Prelude.{Bool, None, Some, ◌≡◌, ℕ, ⊤, List, length, Option, ℤ, true, IsTrue}
 use Rattle.m3_model.specs.Calls.{is_call}
 use Rattle.m3_model.specs.declared.act.Act.TheVariants as act
 use Rattle.m3_model.specs.declared.act.ReadLevel.{ReadLevel}
@@ -14,24 +14,26 @@ use Rattle.m3_model.specs.declared.rules.MetaState.{MetaState}
 use Rattle.m3_model.specs.declared.turn.Turn.{Turn}
 use Rattle.cluster_core.specs.Legal.{Legal}
 use Rattle.cluster_core.specs.declared.event.Event.{Event}
-use Rattle.transcripts.specs.Fates.{OfNode, is_stopped}
+use Rattle.transcripts.specs.Fates.{OfNode}
 use Rattle.transcripts.specs.Levels.{AreSilent, IsAcked, IsFoundFor, MissesLevel}
-use Rattle.transcripts.specs.Placements.{IsCounted}
+use Rattle.transcripts.specs.Calls.{Call, call_of}
+use Rattle.transcripts.specs.Placements.{IsCounted, MayUse}
 use Rattle.transcripts.specs.Reasons.{MayRefuse, MayServe}
-use Rattle.transcripts.specs.Record.{TurnPlace, IsTurnPlace, inner_turns}
+use Rattle.transcripts.specs.Record.{TurnPlace, IsTurnPlace}
 use Rattle.transcripts.specs.Rules.{rules_at}
 use Rattle.told_by.specs.Hears.{HasServed, HearsShard, InStretch, IsHeard, IsNamedBy}
 use Rattle.told_by.specs.Spans.{Spans}
 use Rattle.told_by.specs.Told.{ToldBy}
+use Rattle.told_causes.specs.Boot.{IsKnownMember}
 use Rattle.told_causes.specs.Faults.{faults_told}
-use Rattle.told_causes.specs.Standing.{StaysThere}
+use Rattle.told_causes.specs.Standing.{HaltsAlone, StaysThere}
 
--- a reason that is explained here: all but that a replica waits for a bootstrap, doesn't own its shard, or is fenced above the version
-abbrev pub IsExplained : Reason → Type 0
-IsExplained reason.Boot = ⊥
-IsExplained reason.NotOwned = ⊥
-IsExplained (reason.Stale fence) = ⊥
-IsExplained _ = ⊤
+-- a reason that is explained here: all but that a replica doesn't own its shard, or is fenced above the version; that it isn't begun, of a known member
+abbrev pub IsExplained : Type 0 → Reason → Type 0
+IsExplained Known reason.Boot = Known
+IsExplained Known reason.NotOwned = ⊥
+IsExplained Known (reason.Stale fence) = ⊥
+IsExplained Known _ = ⊤
 
 -- what happens within the turn's stretch
 abbrev pub Within : List Event → Spans → TurnPlace → ℕ → Event → Type 0
@@ -48,7 +50,7 @@ pub record IsSteadyNode (start : Option MetaState) (turns : List Turn) (events :
 abbrev pub ReasonsAreSaid : Type 0
 ReasonsAreSaid =
     (start : Option MetaState) (turns : List Turn) (events : List Event) → Legal true events → (told : ToldBy start turns events) → (p : TurnPlace) → IsTurnPlace turns p → IsTrue (is_call p.turn.act)
-    → (place : Placement) (shard node : ℕ) → IsSteadyNode start turns events told p place shard node → (why : Reason) → IsExplained why
+    → (place : Placement) (shard node : ℕ) → (steady : IsSteadyNode start turns events told p place shard node) → (why : Reason) → IsExplained (IsKnownMember start turns events p shard node steady.name) why
     → IsHeard start (Within events told.spans p) p place shard node why → MayRefuse true (faults_told told.ends events (length turns)) start p place shard node why
 
 -- Where a replica did as a write asks, the write's point is one that is taken at this moment.
@@ -57,28 +59,40 @@ ServedIsTaken =
     (start : Option MetaState) (turns : List Turn) (events : List Event) → Legal true events → (told : ToldBy start turns events) → (p : TurnPlace) → IsTurnPlace turns p
     → (place : Placement) (shard node : ℕ) → HasServed start (Within events told.spans p) p place shard node → MayServe (rules_at start p) p.turn.act
 
--- the nodes of replicas that did as the call asks aren't stopped
-abbrev pub ServedRuns : Option MetaState → List Event → Spans → TurnPlace → Type 0
-ServedRuns start events spans p = (place : Placement) (shard node : ℕ) → HasServed start (Within events spans p) p place shard node → OfNode place node (λ name. is_stopped (inner_turns p.lines) name ≡ false)
+-- the node has one name, in this placement and in all others
+abbrev pub IsNamedOnce : List Event → Placement → ℕ → Type 0
+IsNamedOnce events place node = (name : List ℕ) × OfNode place node (λ own. own ≡ name) × IsNamedBy events node name
+
+-- a placement that the turn's call may use
+pub record IsUsedBy (start : Option MetaState) (p : TurnPlace) (place : Placement) : Type 0 where
+  pub call : Call
+  pub of_act : call_of p.turn.act ≡ Some call
+  pub may_use : MayUse start p call.version place
+
+-- so have the nodes of replicas that did as the call asks
+abbrev pub ServedAreNamed : Option MetaState → List Event → Spans → TurnPlace → Type 0
+ServedAreNamed start events spans p = (place : Placement) → IsUsedBy start p place → (shard node : ℕ) → HasServed start (Within events spans p) p place shard node → IsNamedOnce events place node
 
 -- each reason that the turn hears of a counted replica is explained here
 abbrev pub AllAreExplained : (start : Option MetaState) (turns : List Turn) (events : List Event) → ToldBy start turns events → TurnPlace → Type 0
 AllAreExplained start turns events told p =
-    (place : Placement) (shard node : ℕ) (why : Reason) → IsCounted place shard node → IsHeard start (Within events told.spans p) p place shard node why → IsSteadyNode start turns events told p place shard node × IsExplained why
+    (place : Placement) → IsUsedBy start p place → (shard node : ℕ) (why : Reason) → IsCounted place shard node → IsHeard start (Within events told.spans p) p place shard node why
+    → (steady : IsSteadyNode start turns events told p place shard node) × IsExplained (IsKnownMember start turns events p shard node steady.name) why
 
--- What is known of a call: it is one of a run that a legal list tells of, the nodes of those that did as it asks run, and what it hears is explained.
+-- What is known of a call: it is one of a run that a legal list tells of, stops are alone in their lines, nodes have one name, and what it hears is explained.
 pub record IsKnownCall (start : Option MetaState) (turns : List Turn) (events : List Event) (told : ToldBy start turns events) (p : TurnPlace) : Type 0 where
   pub legal : Legal true events
   pub in_run : IsTurnPlace turns p
   pub calls : IsTrue (is_call p.turn.act)
-  pub runs : ServedRuns start events told.spans p
+  pub halts : HaltsAlone turns
+  pub named : ServedAreNamed start events told.spans p
   pub explained : AllAreExplained start turns events told p
 
 -- The counted replicas that a call names with their reasons are silent for these reasons.
 abbrev pub SilentIsSaid : Type 0
 SilentIsSaid =
     (start : Option MetaState) (turns : List Turn) (events : List Event) (told : ToldBy start turns events) (p : TurnPlace) → IsKnownCall start turns events told p
-    → (place : Placement) (shard got : ℕ) (reasons : List (ℕ × Reason)) → HearsShard start (Within events told.spans p) p place shard got reasons
+    → (place : Placement) → IsUsedBy start p place → (shard got : ℕ) (reasons : List (ℕ × Reason)) → HearsShard start (Within events told.spans p) p place shard got reasons
     → AreSilent true (faults_told told.ends events (length turns)) start p place shard reasons
 
 -- A call that is refused for its level missed it.
@@ -103,5 +117,5 @@ MatchIsSaid =
 -- An acknowledgement names counted nodes, each once, by name, and as many as the level needs; and the point lies within its window.
 abbrev pub AcksAreSaid : Type 0
 AcksAreSaid =
-    (start : Option MetaState) (turns : List Turn) (events : List Event) → Legal true events → (told : ToldBy start turns events) → (p : TurnPlace) → IsTurnPlace turns p → ServedRuns start events told.spans p
+    (start : Option MetaState) (turns : List Turn) (events : List Event) → Legal true events → (told : ToldBy start turns events) → (p : TurnPlace) → IsTurnPlace turns p → HaltsAlone turns → ServedAreNamed start events told.spans p
     → (ns id : List ℕ) (t : ℕ) (v : ℤ) (level : WriteLevel) (version : Option ℕ) (nodes : List ℕ) → p.turn.act ≡ act.Write ns id t v level version → p.turn.answer ≡ answer.Acks nodes → IsAcked start p id level version nodes

@@ -1,5 +1,5 @@
 -- Why a late message came to what it did.
-use Rattle.std.specs.Prelude.{◌≡◌, ℕ, List, length, Option, Some, None, true, false}
+use Rattle.std.specs.Prelude.{◌≡◌, ℕ, List, length, Option, Some, None, true}
 use Rattle.m3_model.specs.declared.act.Act.TheVariants as act
 use Rattle.m3_model.specs.declared.answer.Answer.TheVariants as answer
 use Rattle.m3_model.specs.declared.reason.Reason.{Reason}
@@ -7,21 +7,24 @@ use Rattle.m3_model.specs.declared.rules.MetaState.{MetaState}
 use Rattle.m3_model.specs.declared.turn.Turn.{Turn}
 use Rattle.cluster_core.specs.Legal.{Legal}
 use Rattle.cluster_core.specs.declared.event.Event.{Event}
-use Rattle.transcripts.specs.Deliveries.{IsDelivered, LateMessage}
-use Rattle.transcripts.specs.Fates.{OfNode, is_stopped}
-use Rattle.transcripts.specs.Record.{TurnPlace, IsTurnPlace, inner_turns}
+use Rattle.transcripts.specs.Deliveries.{IsDelivered, IsLateMessage, LateMessage}
+use Rattle.transcripts.specs.Record.{TurnPlace, IsTurnPlace}
 use Rattle.told_by.specs.Hears.{HearsLate}
 use Rattle.told_by.specs.Told.{ToldBy}
-use Rattle.told_causes.specs.Calls.{IsExplained, IsSteadyNode, Within}
+use Rattle.told_causes.specs.Boot.{IsKnownMember}
+use Rattle.told_causes.specs.Calls.{IsExplained, IsNamedOnce, IsSteadyNode, Within}
 use Rattle.told_causes.specs.Faults.{faults_told}
+use Rattle.told_causes.specs.Standing.{HaltsAlone}
 
--- What is known of a `deliver`: it is of a run that a legal list tells of, the nodes that took a message aren't stopped, and what it hears is explained.
+-- What is known of a `deliver`: it is of a run that a legal list tells of, stops are alone in their lines, nodes have one name, and what it hears is explained.
 pub record IsKnownDelivery (start : Option MetaState) (turns : List Turn) (events : List Event) (told : ToldBy start turns events) (p : TurnPlace) : Type 0 where
   pub legal : Legal true events
   pub in_run : IsTurnPlace turns p
   pub delivers : p.turn.act ≡ act.Deliver
-  pub runs : (m : LateMessage) (shard : ℕ) → HearsLate start (Within events told.spans p) p m shard None → OfNode m.used m.node (λ name. is_stopped (inner_turns p.lines) name ≡ false)
-  pub explained : (m : LateMessage) (shard : ℕ) (why : Reason) → HearsLate start (Within events told.spans p) p m shard (Some why) → IsSteadyNode start turns events told p m.used shard m.node × IsExplained why
+  pub halts : HaltsAlone turns
+  pub named : (m : LateMessage) → IsLateMessage start p m → (shard : ℕ) → HearsLate start (Within events told.spans p) p m shard None → IsNamedOnce events m.used m.node
+  pub explained : (m : LateMessage) → IsLateMessage start p m → (shard : ℕ) (why : Reason) → HearsLate start (Within events told.spans p) p m shard (Some why)
+      → (steady : IsSteadyNode start turns events told p m.used shard m.node) × IsExplained (IsKnownMember start turns events p shard m.node steady.name) why
 
 -- The outcomes of a `deliver` are those of late messages, each with its cause.
 abbrev pub OutcomesAreSaid : Type 0

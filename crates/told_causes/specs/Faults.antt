@@ -1,11 +1,12 @@
 -- The faults and damages that a list of events tells of: of each slot and line one of each kind for which a step was refused there.
-use Rattle.std.specs.Prelude.{◌≡◌, ◌≤◌, ◌<◌, ℕ, zero, suc, List, [], ◌∷◌, length, take, drop, Option, Some, None, Bool, true, false, ◌&&◌, if◌then◌else◌, nat_eq, is_some, fold, count_by}
+use Rattle.std.specs.Prelude.{◌≡◌, ◌≤◌, ◌<◌, ◌*◌, ℕ, zero, suc, List, [], ◌∷◌, length, take, drop, Option, Some, None, Bool, true, false, ◌&&◌, if◌then◌else◌, nat_eq, is_some, fold, count_by}
 use Rattle.std.specs.List.{list_any}
 use Rattle.m3_model.specs.Members.{IsIn}
 use Rattle.m3_model.specs.declared.reason.Reason.TheVariants as reason
 use Rattle.cluster_core.specs.Lists.{At}
 use Rattle.cluster_core.specs.declared.event.Event.{Event}
 use Rattle.cluster_core.specs.declared.event.Event.TheVariants as event
+use Rattle.cluster_core.specs.declared.event.StepCall.TheVariants as call
 use Rattle.cluster_core.specs.declared.event.StepReply.TheVariants as reply
 use Rattle.transcripts.specs.Faults.{AreDifferent, Fault, FaultKind, Taking, Failing, Damaged}
 
@@ -74,3 +75,18 @@ is_refused e = is_some (fault_of 0 e)
 abbrev pub FaultsAreFew : Type 0
 FaultsAreFew =
     (ends : ℕ → ℕ) (events : List Event) (lines : ℕ) → ((k : ℕ) → k < lines → ends k ≤ ends (suc k)) → length (faults_told ends events lines) ≤ count_by is_refused (take (ends lines) events)
+
+-- A list in which a fault stands twice isn't one of different faults.
+abbrev pub FaultToldTwice : Type 0
+FaultToldTwice = (faults : List Fault) (fault : Fault) → IsIn faults fault → AreDifferent (fault ∷ faults) → ⊥
+
+-- two steps of one slot that its disk failed in one line, and the fault of which they tell
+abbrev pub failed_twice : List Event
+failed_twice = event.Step 0 0 call.Snapshot (reply.Refused reason.Disk) ∷ event.Step 0 0 call.Snapshot (reply.Refused reason.Disk) ∷ []
+
+abbrev pub failing : Fault
+failing = record { line = 0; node = 0; shard = 0; kind = Failing }
+
+-- They are told as one.
+abbrev pub RefusedTwice : Type 0
+RefusedTwice = faults_told (λ k. 2 * k) failed_twice 1 ≡ failing ∷ []

@@ -18,6 +18,7 @@ use Rattle.transcripts.specs.Faults.{Fault, IsClosedByFault, closes, is_restart}
 use Rattle.transcripts.specs.Placements.{has_replica, placement_after, start_placement}
 use Rattle.transcripts.specs.Record.{TurnPlace, IsTurnPlace, inner_turns}
 use Rattle.told_by.specs.Hears.{Happens, InStretch, IsNamedBy}
+use Rattle.told_by.specs.Spans.{IsAlone}
 use Rattle.told_by.specs.Told.{ToldBy}
 use Rattle.told_causes.specs.Faults.{faults_told}
 
@@ -26,6 +27,10 @@ abbrev pub IsHaltAct : Act → Type 0
 IsHaltAct (act.Stop node) = ⊤
 IsHaltAct (act.Restart node pick) = ⊤
 IsHaltAct _ = ⊥
+
+-- each stop and each restart is the only turn of its line
+abbrev pub HaltsAlone : List Turn → Type 0
+HaltsAlone turns = (q : TurnPlace) → IsTurnPlace turns q → IsHaltAct q.turn.act → IsAlone turns q
 
 -- a fault or damage closed the slot in this line or an earlier one, and no line since restarted the node of this name
 pub record IsClosedSince (faults : List Fault) (p : TurnPlace) (node shard : ℕ) (name : List ℕ) : Type 0 where

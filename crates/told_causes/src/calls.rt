@@ -1,4 +1,5 @@
 //! Why a call's answer is what it is.
+ghost use Rattle.told_causes.specs.Sample.{ReadIsKnown};
 ghost use Rattle.told_causes.specs.Calls.{ReasonsAreSaid, ServedIsTaken, SilentIsSaid, AcksAreSaid, TooFewIsSaid, FetchIsSaid, MatchIsSaid};
 
 /// Each reason that a call names for a replica has its cause: a fate, a stop or a fault, a window, a disk or damage of
@@ -20,4 +21,9 @@ pub fn levels_are_said()
 pub fn acks_are_said()
     ensures served { ServedIsTaken }
     ensures acks { AcksAreSaid }
+{}
+
+/// What is asked of a call there can be met: by the read of a short run.
+pub fn read_is_known()
+    ensures { ReadIsKnown }
 {}

@@ -4,4 +4,5 @@
 pub mod calls;
 pub mod deliveries;
 pub mod faults;
+pub mod nodes;
 pub mod standing;

@@ -1,3 +1,4 @@
+use Rattle.told_by.proofs.BrokenMoveLemmas.{moment_within, peer_unstreamed, place_unprinted}
 use Rattle.told_by.proofs.BrokenLemmas.{lost_send, never_placed, nobody_asks, nobody_sends, nobody_stops, other_puts}
 use Rattle.told_by.proofs.sample.broken_lists_are_refused.Goals as goal
 
@@ -18,3 +19,12 @@ returns-clause-other_put c = other_puts
 
 pub returns-clause-nobody_asked : goal.returns-clause-nobody_asked
 returns-clause-nobody_asked c = nobody_asks
+
+pub returns-clause-within_read : goal.returns-clause-within_read
+returns-clause-within_read c = moment_within
+
+pub returns-clause-unstreamed : goal.returns-clause-unstreamed
+returns-clause-unstreamed c = peer_unstreamed
+
+pub returns-clause-never_printed : goal.returns-clause-never_printed
+returns-clause-never_printed c = place_unprinted

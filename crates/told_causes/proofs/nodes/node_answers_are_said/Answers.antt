@@ -1,0 +1,5 @@
+use Rattle.told_causes.proofs.NodeLemmas.{node_answers}
+use Rattle.told_causes.proofs.nodes.node_answers_are_said.Goals as goal
+
+pub returns : goal.returns
+returns c = node_answers
