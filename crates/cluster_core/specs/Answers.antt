@@ -1,6 +1,7 @@
 -- What a replica may show of its points. Each form says of the answer itself what it is to be the answer of some content
 -- that shows the replica.
 use Rattle.std.specs.Prelude.{◌≡◌, ◌<◌, ◌≤◌, ◌+◌, ℕ, ⊤, List, [], ◌∷◌, length, Option, Some, None, MatchOption}
+use Rattle.m3_model.specs.declared.limits.TheConstants.{MOST_PAGE_POINTS}
 use Rattle.std.specs.List.{All, Any}
 use Rattle.std.specs.declared.cmp.Ordering.TheVariants.{Less}
 use Rattle.m3_model.specs.Ascends.{Ascends}
@@ -51,7 +52,7 @@ pub record IsJoin (ns : ℕ) (answers : List (List Series)) (series : List Serie
 
 -- how many points a page has where more follow
 abbrev pub page_size : ℕ
-page_size = 64
+page_size = MOST_PAGE_POINTS
 
 abbrev pub IsBelow : Key → Key → Type 0
 IsBelow a b = key_cmp a b ≡ Less

@@ -1,5 +1,6 @@
 -- Who makes which events, and lists of events with their makers: the lists that a book of events may have.
 use Rattle.std.specs.Prelude.{◌≡◌, ℕ, ◌+◌, ◌*◌, List, [], ◌∷◌, ◌++◌, length, map, Bool}
+use Rattle.m3_model.specs.declared.limits.TheConstants.{MOST_NODES, MOST_SHARDS}
 use Rattle.event_book.specs.Names.{Name}
 use Rattle.event_book.specs.Lists.{made_by}
 use Rattle.event_book.specs.Seats.{Shown}
@@ -17,11 +18,11 @@ entries log = map (λ m. m.entry) log
 
 -- the seat of a replica is the first seat's split of this number; there are 16 nodes and 64 shards
 abbrev pub replica_seat : ℕ → ℕ → ℕ
-replica_seat n s = 64 * n + s
+replica_seat n s = MOST_SHARDS * n + s
 
 -- the client seat is the first seat's next split
 abbrev pub client_seat : ℕ
-client_seat = 1024
+client_seat = MOST_NODES * MOST_SHARDS
 
 -- the first seat makes Places and Clocks, a replica's seat its steps, and the client seat and those below it all else
 abbrev pub IsMaker : Event → Name → Type 0

@@ -11,6 +11,7 @@ use cluster_core::replica_state::ReplicaState;
 use equality::same::Same;
 use event_facts::ascending::{ByKey, is_below, is_ordered};
 use event_facts::points::{covers, has_point, is_gone, is_wanted, points_in, space_picked};
+use m3_model::limits::MOST_PAGE_POINTS;
 use m3_model::memory::Memory;
 use m3_model::point::{Key, Page, Pick, Point, Series};
 use m3_model::rules::Rules;
@@ -139,7 +140,7 @@ fn goes_on(r: &ReplicaState, call: &StepCall, page: &Page, next: &Key) -> bool
     let points = page.points.as_slice();
     match points.get(63) {
         Some(last) => {
-            points.len() == 64
+            points.len() == MOST_PAGE_POINTS
                 && is_key_of(next, last)
                 && r.sure
                     .as_slice()
@@ -193,6 +194,6 @@ pub fn is_page(r: &ReplicaState, call: &StepCall, page: &Page) -> bool
     has_only(r, call, points)
         && has_all(r, call, page)
         && ascend::<Point, ByKey>(points)
-        && points.len() <= 64
+        && points.len() <= MOST_PAGE_POINTS
         && next
 }

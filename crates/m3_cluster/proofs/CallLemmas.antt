@@ -1,5 +1,6 @@
 -- What is known of the nodes that a call asks, and why one of them answers or doesn't.
 use Rattle.std.proofs.Common.{◌≡◌, ◌<◌, ◌≤◌, ◌+◌, ◌-◌, ◌^◌, ℕ, List, [], ◌∷◌, min, refl, sym, ap, ◌∙◌, inl, inr, arith, append-nil, Bool, true, false, ◌&&◌, cond}
+use Rattle.m3_model.specs.declared.limits.TheConstants.{TIME_END}
 use Rattle.std.specs.Prelude.{Option, Some, None, nat_eq, slice_get, slice_index, option_map}
 use Rattle.std.specs.Option.{option_map_or}
 use Rattle.std.specs.Cmp.Lexicographic.{pointwise}
@@ -63,16 +64,16 @@ second_false true false c e = refl
 second_false false b c e = refl
 
 -- no fate is listed for a call beyond the limit of numbers
-fate_beyond : (list : List (ℕ × ℕ × List ℕ × Fate)) (client k : ℕ) (name : List ℕ) → ((item : ℕ × ℕ × List ℕ × Fate) → IsIn list item → item.1 < 2 ^ 62) → 2 ^ 62 ≤ k → fate_in list client k name ≡ fate.Deliver
+fate_beyond : (list : List (ℕ × ℕ × List ℕ × Fate)) (client k : ℕ) (name : List ℕ) → ((item : ℕ × ℕ × List ℕ × Fate) → IsIn list item → item.1 < TIME_END) → TIME_END ≤ k → fate_in list client k name ≡ fate.Deliver
 fate_beyond [] client k name few far = refl
 fate_beyond (item ∷ list) client k name few far =
-    let low : item.1 < 2 ^ 62 = few item (inl refl) in
+    let low : item.1 < TIME_END = few item (inl refl) in
     let other : nat_eq item.1 k ≡ false = grind (arith, nat_tests, low, far) in
     let not_its : is_fate_of client k name item ≡ false = second_false (nat_eq item.0 client) (nat_eq item.1 k) (pointwise nat_eq item.2 name) other in
     ap (λ t. cond t item.3 (fate_in list client k name)) not_its ∙ fate_beyond list client k name (λ x m. few x (inr m)) far
 
 -- a counter that stops at its last value finds the same fate
-counter_fate : (n : ℕ) (list : List (ℕ × ℕ × List ℕ × Fate)) (client : ℕ) (name : List ℕ) → ((item : ℕ × ℕ × List ℕ × Fate) → IsIn list item → item.1 < 2 ^ 62) → fate_in list client (min n (2 ^ 64 - 1)) name ≡ fate_in list client n name
+counter_fate : (n : ℕ) (list : List (ℕ × ℕ × List ℕ × Fate)) (client : ℕ) (name : List ℕ) → ((item : ℕ × ℕ × List ℕ × Fate) → IsIn list item → item.1 < TIME_END) → fate_in list client (min n (2 ^ 64 - 1)) name ≡ fate_in list client n name
 counter_fate n list client name few =
     elim (cases_lt n (2 ^ 64 - 1)) as (λ _. fate_in list client (min n (2 ^ 64 - 1)) name ≡ fate_in list client n name) [
       | inl low ↦ ap (λ k. fate_in list client k name) (min-eq_left (omega (arith, low)))

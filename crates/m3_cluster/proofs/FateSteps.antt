@@ -1,5 +1,6 @@
 -- What a line of fates leaves.
 use Rattle.std.proofs.Common.{◌≡◌, ◌≢◌, ◌≤◌, ◌-◌, ◌^◌, ℕ, List, [], ◌∷◌, length, map, min, replicate, refl, sym, ap, ap₂, subst, ◌∙◌, arith, Bool, true, false, cond, ◌&&◌, unwrap_or}
+use Rattle.m3_model.specs.declared.limits.TheConstants.{MOST_CLIENTS}
 use Rattle.std.specs.Prelude.{Some, None, IsSome, nat_eq, slice_get, slice_index}
 use Rattle.std.specs.Cmp.Lexicographic.{pointwise}
 use Rattle.std.specs.FinMap.{get}
@@ -119,7 +120,7 @@ fated_grows {D} {G} {state} {tells} {faults} {lines} {c} {m} {g} more among tell
     }
 
 -- accepted fates begin all numberings anew
-fates_numbered : {D : Type 0} {G : Ghosts D} (lines : List Turn) (new : Cluster D G) (g : Members D G) (list : List (ℕ × ℕ × List ℕ × Fate)) → new.members ≡ Some g → MeetsLimits (act.Fates list) → new.calls ≡ replicate 9 0 → Numbered lines (act.Fates list) answer.Done new
+fates_numbered : {D : Type 0} {G : Ghosts D} (lines : List Turn) (new : Cluster D G) (g : Members D G) (list : List (ℕ × ℕ × List ℕ × Fate)) → new.members ≡ Some g → MeetsLimits (act.Fates list) → new.calls ≡ replicate (MOST_CLIENTS + 1) 0 → Numbered lines (act.Fates list) answer.Done new
 fates_numbered {D} {G} lines new g list is limits calls =
     let same_numbers = numbering_push lines (act.Fates list) answer.Done in
     record {

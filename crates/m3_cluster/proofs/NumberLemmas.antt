@@ -1,5 +1,6 @@
 -- The lines that turns are of, and the numbers of their calls.
 use Rattle.std.proofs.Common.{◌≡◌, ◌+◌, ◌-◌, ◌^◌, ℕ, List, [], ◌∷◌, ◌++◌, length, length-set, min, sym, ap, ◌∙◌, inl, inr, arith}
+use Rattle.m3_model.specs.declared.limits.TheConstants.{MOST_CLIENTS}
 use Rattle.std.specs.Prelude.{None, slice_index}
 use Rattle.std.proofs.Math.Nat.{min-eq_left, min-eq_right}
 use Rattle.std.proofs.lemmas.Bool.{cases_lt}
@@ -42,13 +43,13 @@ count_on n top =
     ]
 
 -- the number of the next call, after one more
-pub number_on : (calls new : List ℕ) (n more : ℕ) → length calls ≡ 9 → slice_index calls 0 ≡ min n (2 ^ 64 - 1) → new ≡ after_call calls → more ≡ 1 → slice_index new 0 ≡ min (n + more) (2 ^ 64 - 1)
+pub number_on : (calls new : List ℕ) (n more : ℕ) → length calls ≡ MOST_CLIENTS + 1 → slice_index calls 0 ≡ min n (2 ^ 64 - 1) → new ≡ after_call calls → more ≡ 1 → slice_index new 0 ≡ min (n + more) (2 ^ 64 - 1)
 number_on calls new n more nine was is one =
     let first = get_or-set_same calls 0 (min (slice_index calls 0 + 1) (2 ^ 64 - 1)) 0 (omega (arith, nine)) in
     ap (λ xs. slice_index xs 0) is ∙ first ∙ ap (λ k. min (k + 1) (2 ^ 64 - 1)) was ∙ count_on n (2 ^ 64 - 1) ∙ ap (λ k. min (n + k) (2 ^ 64 - 1)) (sym one)
 
-pub nine_on : (calls new : List ℕ) → length calls ≡ 9 → new ≡ after_call calls → length new ≡ 9
-nine_on calls new nine is = ap length is ∙ length-set calls 0 (min (slice_index calls 0 + 1) (2 ^ 64 - 1)) ∙ nine
+pub length_on : (calls new : List ℕ) → length calls ≡ MOST_CLIENTS + 1 → new ≡ after_call calls → length new ≡ MOST_CLIENTS + 1
+length_on calls new nine is = ap length is ∙ length-set calls 0 (min (slice_index calls 0 + 1) (2 ^ 64 - 1)) ∙ nine
 
 -- and where the line had no call
 pub number_stays : (calls new : List ℕ) (n more : ℕ) → slice_index calls 0 ≡ min n (2 ^ 64 - 1) → new ≡ calls → more ≡ 0 → slice_index new 0 ≡ min (n + more) (2 ^ 64 - 1)

@@ -1,5 +1,6 @@
 -- Members are the same where all that isn't a fact of them is.
 use Rattle.std.proofs.Common.{◌≡◌, ◌<◌, ◌≤◌, ◌^◌, length, refl, sym, subst}
+use Rattle.m3_model.specs.declared.limits.TheConstants.{MOST_NAMESPACES, MOST_NODES, TIME_END}
 use Rattle.std.specs.List.{All}
 use Rattle.std.proofs.Props.{props}
 use Rattle.m3_outside.specs.declared.disk.Disk.{Ghosts}
@@ -10,7 +11,7 @@ use Rattle.m3_cluster.specs.declared.members.Members.{Members}
 
 -- the same members, with other proofs of their facts
 pub same_state : {D : Type 0} {G : Ghosts D} (m : Members D G) (state : MetaState) → state ≡ m.net.state → (some : 0 < length state.place.shards) (few_shards : length state.place.shards < 2 ^ 32) (bounded : All (λ (one : LateWrite). IsBounded one.point) m.net.bag)
-    (few : length state.rules.spaces ≤ 8) (moment : state.rules.now < 2 ^ 62) (few_nodes : length state.place.instances ≤ 16) (one_each : length m.stopped.items ≡ length state.place.instances)
+    (few : length state.rules.spaces ≤ MOST_NAMESPACES) (moment : state.rules.now < TIME_END) (few_nodes : length state.place.instances ≤ MOST_NODES) (one_each : length m.stopped.items ≡ length state.place.instances)
     → ◌≡◌ {A = Members D G} (record {
       net = record { state = state; machines = m.net.machines; fates = m.net.fates; bag = m.net.bag; some_shards = some; few_shards = few_shards; bounded_late = bounded };
       slots = m.slots;
@@ -24,8 +25,8 @@ same_state {D} {G} m state is = subst Same (sym is) own
   where
     Same : MetaState → Type 0
     Same s =
-        (some : 0 < length s.place.shards) (few_shards : length s.place.shards < 2 ^ 32) (bounded : All (λ (one : LateWrite). IsBounded one.point) m.net.bag) (few : length s.rules.spaces ≤ 8) (moment : s.rules.now < 2 ^ 62)
-        (few_nodes : length s.place.instances ≤ 16) (one_each : length m.stopped.items ≡ length s.place.instances)
+        (some : 0 < length s.place.shards) (few_shards : length s.place.shards < 2 ^ 32) (bounded : All (λ (one : LateWrite). IsBounded one.point) m.net.bag) (few : length s.rules.spaces ≤ MOST_NAMESPACES) (moment : s.rules.now < TIME_END)
+        (few_nodes : length s.place.instances ≤ MOST_NODES) (one_each : length m.stopped.items ≡ length s.place.instances)
         → ◌≡◌ {A = Members D G} (record {
           net = record { state = s; machines = m.net.machines; fates = m.net.fates; bag = m.net.bag; some_shards = some; few_shards = few_shards; bounded_late = bounded };
           slots = m.slots;
@@ -45,13 +46,13 @@ same_state {D} {G} m state is = subst Same (sym is) own
     bounded_prop : IsProp (All (λ (one : LateWrite). IsBounded one.point) m.net.bag)
     bounded_prop = Prim.hlevel props
 
-    few_prop : IsProp (length m.net.state.rules.spaces ≤ 8)
+    few_prop : IsProp (length m.net.state.rules.spaces ≤ MOST_NAMESPACES)
     few_prop = Prim.hlevel props
 
-    moment_prop : IsProp (m.net.state.rules.now < 2 ^ 62)
+    moment_prop : IsProp (m.net.state.rules.now < TIME_END)
     moment_prop = Prim.hlevel props
 
-    nodes_prop : IsProp (length m.net.state.place.instances ≤ 16)
+    nodes_prop : IsProp (length m.net.state.place.instances ≤ MOST_NODES)
     nodes_prop = Prim.hlevel props
 
     each_prop : IsProp (length m.stopped.items ≡ length m.net.state.place.instances)
@@ -76,7 +77,7 @@ same_state {D} {G} m state is = subst Same (sym is) own
       one_each = each_prop one_each m.one_each i;
     }
 
-pub same_members : {D : Type 0} {G : Ghosts D} (m : Members D G) (few : length m.net.state.rules.spaces ≤ 8) (moment : m.net.state.rules.now < 2 ^ 62) (few_nodes : length m.net.state.place.instances ≤ 16)
+pub same_members : {D : Type 0} {G : Ghosts D} (m : Members D G) (few : length m.net.state.rules.spaces ≤ MOST_NAMESPACES) (moment : m.net.state.rules.now < TIME_END) (few_nodes : length m.net.state.place.instances ≤ MOST_NODES)
     (one_each : length m.stopped.items ≡ length m.net.state.place.instances)
     → ◌≡◌ {A = Members D G} (record { net = m.net; slots = m.slots; stopped = m.stopped; few = few; moment = moment; few_nodes = few_nodes; one_each = one_each }) m
 same_members m few moment few_nodes one_each = same_state m m.net.state refl m.net.some_shards m.net.few_shards m.net.bounded_late few moment few_nodes one_each

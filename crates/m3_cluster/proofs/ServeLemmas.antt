@@ -1,5 +1,6 @@
 -- What the cluster keeps of the turns that it served, one turn on.
 use Rattle.std.proofs.Common.{◌≡◌, ◌+◌, ◌≤◌, ℕ, List, [], ◌++◌, length, min, replicate, refl, sym, ap, subst, ◌∙◌, arith, append-nil, Bool, true}
+use Rattle.m3_model.specs.declared.limits.TheConstants.{MOST_CLIENTS}
 use Rattle.std.specs.Prelude.{Some, None, IsSome, slice_index}
 use Rattle.std.specs.Option.{option_map, option_map_or}
 use Rattle.m3_outside.specs.Causes.{RoseBy, last_count}
@@ -93,7 +94,7 @@ rose_none : (last n : ℕ) → min (n + 0) last ≤ n
 rose_none last n = omega arith
 
 -- before the first turn
-pub serves_nothing : {D : Type 0} {G : Ghosts D} (state : D → DiskState) (tells : Bool) (first : Depot D) (c : Cluster D G) → (tells ≡ true → TellAll state) → (tells ≡ true → (place : Place) → IsBare state (first.held place)) → c.members ≡ None → c.calls ≡ replicate 9 0 → Serves state tells first first [] c
+pub serves_nothing : {D : Type 0} {G : Ghosts D} (state : D → DiskState) (tells : Bool) (first : Depot D) (c : Cluster D G) → (tells ≡ true → TellAll state) → (tells ≡ true → (place : Place) → IsBare state (first.held place)) → c.members ≡ None → c.calls ≡ replicate (MOST_CLIENTS + 1) 0 → Serves state tells first first [] c
 serves_nothing {D} {G} state tells first c tell bare none calls = record {
   tell = tell;
   taking = [];

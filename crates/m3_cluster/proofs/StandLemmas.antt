@@ -1,5 +1,6 @@
 -- The cluster is what the turns left, one turn after the other.
 use Rattle.std.proofs.Common.{◌≡◌, ◌+◌, ◌-◌, ◌^◌, ◌<◌, ℕ, List, [], ◌∷◌, length, min, sym, ap, subst, ◌∙◌, inl, inr, true, false, cond, Bool}
+use Rattle.m3_model.specs.declared.limits.TheConstants.{MOST_CLIENTS, TIME_END}
 use Rattle.std.specs.Prelude.{Some, None, IsSome, slice_get, slice_index}
 use Rattle.std.specs.FinMap.{get}
 use Rattle.std.proofs.lemmas.List.Sums.{fold_push}
@@ -35,7 +36,7 @@ use Rattle.m3_cluster.specs.Steps.{spaces_in}
 use Rattle.m3_cluster.specs.declared.cluster.Cluster.{Cluster}
 use Rattle.m3_cluster.specs.declared.members.Members.{Members}
 use Rattle.m3_cluster.proofs.LateLemmas.{Extends, shard_same, counted_same, point_of-append}
-use Rattle.m3_cluster.proofs.NumberLemmas.{turn_of, and_then, inner_turns-push, numbering_more, number_on, number_stays, nine_on}
+use Rattle.m3_cluster.proofs.NumberLemmas.{turn_of, and_then, inner_turns-push, numbering_more, number_on, number_stays, length_on}
 use Rattle.m3_cluster.proofs.OptionLemmas.{same_some}
 use Rattle.m3_cluster.proofs.ServingLemmas.{stopped_push, turn_cases}
 
@@ -88,12 +89,12 @@ kept_on {D} {G} {state} {tells} {more} {lines} {old} {new} {m} {g} {a} {b} was i
 -- What the lines number, after a turn.
 pub record Numbered {D : Type 0} {G : Ghosts D} (lines : List Turn) (a : Act) (b : Answer) (new : Cluster D G) : Type 0 where
   pub number : slice_index new.calls 0 ≡ min (numbering_after 0 (and_then lines a b)).calls (2 ^ 64 - 1)
-  pub calls : length new.calls ≡ 9
-  pub few_calls : (item : ℕ × ℕ × List ℕ × Fate) → IsIn (numbering_after 0 (and_then lines a b)).fates item → item.1 < 2 ^ 62
+  pub calls : length new.calls ≡ MOST_CLIENTS + 1
+  pub few_calls : (item : ℕ × ℕ × List ℕ × Fate) → IsIn (numbering_after 0 (and_then lines a b)).fates item → item.1 < TIME_END
   pub no_fates : new.members ≡ None → (numbering_after 0 (and_then lines a b)).fates ≡ []
 
 numbered_by : {D : Type 0} {G : Ghosts D} {state : D → DiskState} {tells : Bool} {faults : List Fault} {lines : List Turn} {old new : Cluster D G} {a : Act} {b : Answer} → Stands state tells faults lines old → fates_set (request.One a) (reply.One b) ≡ None → (new.members ≡ None → old.members ≡ None)
-    → slice_index new.calls 0 ≡ min ((numbering_after 0 lines).calls + calls_in (a ∷ [])) (2 ^ 64 - 1) → length new.calls ≡ 9 → Numbered lines a b new
+    → slice_index new.calls 0 ≡ min ((numbering_after 0 lines).calls + calls_in (a ∷ [])) (2 ^ 64 - 1) → length new.calls ≡ MOST_CLIENTS + 1 → Numbered lines a b new
 numbered_by {D} {G} {state} {tells} {faults} {lines} {old} {new} {a} {b} s none still number nine =
     let same = numbering_more lines a b none in
     record {
@@ -109,7 +110,7 @@ pub call_numbered : {D : Type 0} {G : Ghosts D} {state : D → DiskState} {tells
 call_numbered {D} {G} {state} {tells} {faults} {lines} {old} {new} {a} {b} s none still calls is =
     numbered_by s none still
     (number_on old.calls new.calls (numbering_after 0 lines).calls (calls_in (a ∷ [])) s.calls s.number is (ap (λ t. 0 + cond t 1 0) calls))
-    (nine_on old.calls new.calls s.calls is)
+    (length_on old.calls new.calls s.calls is)
 
 -- and what isn't a call has none
 pub other_numbered : {D : Type 0} {G : Ghosts D} {state : D → DiskState} {tells : Bool} {faults : List Fault} {lines : List Turn} {old new : Cluster D G} {a : Act} {b : Answer} → Stands state tells faults lines old → fates_set (request.One a) (reply.One b) ≡ None → (new.members ≡ None → old.members ≡ None) → is_call a ≡ false

@@ -1,5 +1,6 @@
 -- What a cluster answers an act, and what that leaves of it.
 use Rattle.std.specs.Prelude.{◌≡◌, ℕ, ◌+◌, ◌-◌, ◌^◌, List, Option, Some, None, Bool, true, false, IsSome, min, replicate, slice_get, slice_index, slice_set}
+use Rattle.m3_model.specs.declared.limits.TheConstants.{MOST_CLIENTS}
 use Rattle.std.specs.FinMap as finite
 use Rattle.m3_outside.specs.declared.disk.Disk.{Ghosts}
 use Rattle.m3_model.specs.Members.{IsIn}
@@ -58,7 +59,7 @@ after_call calls = slice_set calls 0 (min (slice_index calls 0 + 1) (2 ^ 64 - 1)
 
 -- and after the answer to a line of fates
 abbrev pub after_fates : Answer → List ℕ → List ℕ
-after_fates answer.Done calls = replicate 9 0
+after_fates answer.Done calls = replicate (MOST_CLIENTS + 1) 0
 after_fates _ calls = calls
 
 -- what an act other than `init` is answered, and what it leaves

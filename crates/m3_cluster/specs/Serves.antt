@@ -1,5 +1,6 @@
 -- What the machines keep of the turns that were served.
 use Rattle.std.specs.Prelude.{◌≡◌, ℕ, suc, ◌-◌, ◌^◌, ◌<◌, ◌≤◌, List, [], ◌∷◌, ◌++◌, length, drop, Option, Some, None, IsTrue, IsSome, option_map, min, slice_get, slice_index, Bool, true, false}
+use Rattle.m3_model.specs.declared.limits.TheConstants.{MOST_CLIENTS, TIME_END}
 use Rattle.std.specs.List.{All}
 use Rattle.std.specs.Option.{option_map_or}
 use Rattle.std.specs.FinMap.{get}
@@ -159,8 +160,8 @@ pub record Stands {D : Type 0} {G : Ghosts D} (state : D → DiskState) (tells :
   pub place : placement_after None (inner_turns lines) ≡ place_of c
   pub seed : seed_after None (inner_turns lines) ≡ seed_of c
   pub number : slice_index c.calls 0 ≡ min (numbering_after 0 lines).calls (2 ^ 64 - 1)
-  pub calls : length c.calls ≡ 9
-  pub few_calls : (item : ℕ × ℕ × List ℕ × Fate) → IsIn (numbering_after 0 lines).fates item → item.1 < 2 ^ 62
+  pub calls : length c.calls ≡ MOST_CLIENTS + 1
+  pub few_calls : (item : ℕ × ℕ × List ℕ × Fate) → IsIn (numbering_after 0 lines).fates item → item.1 < TIME_END
   pub no_fates : c.members ≡ None → (numbering_after 0 lines).fates ≡ []
   pub no_stops : c.members ≡ None → (name : List ℕ) → is_stopped (inner_turns lines) name ≡ false
   pub members : (m : Members D G) → c.members ≡ Some m → StandsOn state tells faults lines m

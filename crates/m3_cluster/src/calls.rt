@@ -1,5 +1,6 @@
 //! Calls of clients on a cluster that stands.
 ghost use Rattle.std.specs.Prelude.{◌≡◌, ◌<◌, ◌^◌, length};
+ghost use Rattle.m3_model.specs.declared.limits.TheConstants.{TIME_END};
 ghost use Rattle.m3_model.specs.Identifiers.{IsIdentifier};
 ghost use Rattle.m3_model.specs.Reads.{space_picked};
 ghost use Rattle.m3_model.specs.declared.point.Pick.TheVariants as pick;
@@ -58,7 +59,7 @@ impl<D: Disk> Members<D> {
         level: WriteLevel,
     ) -> Answer
         requires id { IsIdentifier id }
-        requires time { t < 2 ^ 62 }
+        requires time { t < TIME_END }
         ensures { IsWritten D.state self.old call (record { ns = ns; id = id; t = t; v = v }) level result self.new }
     {
         let spaces = self.net.state.rules.spaces.as_slice();

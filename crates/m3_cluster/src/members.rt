@@ -1,4 +1,5 @@
 ghost use Rattle.std.specs.Prelude.{◌≡◌, ◌≤◌, ◌<◌, ◌^◌, length, IfSome};
+ghost use Rattle.m3_model.specs.declared.limits.TheConstants.{MOST_NAMESPACES, MOST_NODES, TIME_END};
 ghost use Rattle.m3_model.specs.Rules.{namespace_place};
 
 use m3_model::answer::Answer;
@@ -15,9 +16,9 @@ pub struct Members<D: Disk> {
     pub slots: Vec<Slot>,
     /// By the number of the node.
     pub stopped: Vec<bool>,
-    ghost few: { length net.state.rules.spaces ≤ 8 },
-    ghost moment: { net.state.rules.now < 2 ^ 62 },
-    ghost few_nodes: { length net.state.place.instances ≤ 16 },
+    ghost few: { length net.state.rules.spaces ≤ MOST_NAMESPACES },
+    ghost moment: { net.state.rules.now < TIME_END },
+    ghost few_nodes: { length net.state.place.instances ≤ MOST_NODES },
     ghost one_each: { length stopped.items ≡ length net.state.place.instances },
 }
 
@@ -59,7 +60,7 @@ impl<D: Disk> Members<D> {
 
     /// Moves the moment on. `Clock` says that it would fall; it stays then.
     pub fn set_moment(&mut self, now: u64) -> Answer
-        requires { now < 2 ^ 62 }
+        requires { now < TIME_END }
         ensures { IsMoved self.old now result self.new }
     {
         let moment = self.net.state.rules.now;

@@ -1,5 +1,6 @@
 //! One more entry in a replica's log.
 ghost use Rattle.std.specs.Prelude.{◌≡◌, ◌≤◌, ℕ, None, max, true, length, IfOk, OnOk, IsErr, IsErrOf};
+ghost use Rattle.m3_model.specs.declared.limits.TheConstants.{SEGMENT_BYTES};
 ghost use Rattle.m3_outside.specs.Causes.{CountsFaults};
 ghost use Rattle.m3_outside.specs.DiskState.{DiskState, Told, EachImage, Elapses, StepOf, Becomes};
 ghost use Rattle.m3_outside.specs.Files.{Files};
@@ -40,7 +41,7 @@ pub(crate) fn begin_log<D: Disk>(disk: &mut D, number: u64) -> Result<Log, DiskE
 ///
 /// A fault: the files hold what they held. Want of memory: the files are as they were.
 pub(crate) fn ready_entry<D: Disk>(disk: &mut D, log: &mut Log, len: u32) -> Result<(), DiskErr>
-    requires short { len ≤ 65531 }
+    requires short { 5 + len ≤ SEGMENT_BYTES }
     requires stands { Stands log.old (D.state disk.old) }
     ensures ready { OnOk result (IsReadyFor log.new len (D.state disk.new)) }
     ensures kept { (memory : InMemory) (tenure fence : ℕ) → IsKeptOn log.old memory tenure fence (D.state disk.old) → IsKeptOn log.new memory tenure fence (D.state disk.new) }
@@ -71,13 +72,13 @@ pub(crate) fn append_entry<D: Disk>(disk: &mut D, log: &mut Log, bytes: &[u8]) -
     log.append(disk, bytes)
 }
 
-/// Adds an entry of at most 65,531 bytes.
+/// Adds an entry for which an empty segment has room.
 ///
 /// # Errors
 ///
 /// A fault: the entry may be there after a stop, or not. Want of memory: the files are as they were.
 pub(crate) fn log_entry<D: Disk>(disk: &mut D, log: &mut Log, bytes: &[u8]) -> Result<(), DiskErr>
-    requires short { length bytes.now ≤ 65531 }
+    requires short { 5 + length bytes.now ≤ SEGMENT_BYTES }
     requires stands { Stands log.old (D.state disk.old) }
     requires entry { (e : Entry) × IsEntry bytes.now e }
     ensures kept { (e : Entry) → IsEntry bytes.now e → (memory : InMemory) (tenure fence : ℕ) → IsKeptOn log.old memory tenure fence (D.state disk.old) → OnOk result (IsKeptOn log.new (memory_with e memory) (max tenure (tenure_in e)) (max fence (fence_in e)) (D.state disk.new)) }
