@@ -1,5 +1,5 @@
 -- What the machines keep of the turns that were served.
-use Rattle.std.specs.Prelude.{◌≡◌, ℕ, suc, ◌-◌, ◌^◌, ◌<◌, ◌≤◌, List, [], ◌∷◌, ◌++◌, length, drop, Option, Some, None, IsTrue, IsSome, option_map, min, slice_get, slice_index, Bool, true, false}
+use Rattle.std.specs.Prelude.{◌≡◌, ℕ, suc, ◌+◌, ◌-◌, ◌^◌, ◌<◌, ◌≤◌, List, [], ◌∷◌, ◌++◌, length, drop, Option, Some, None, IsTrue, IsSome, option_map, min, slice_get, slice_index, Bool, true, false}
 use Rattle.m3_model.specs.declared.limits.TheConstants.{MOST_CLIENTS, TIME_END}
 use Rattle.std.specs.List.{All}
 use Rattle.std.specs.Option.{option_map_or}

@@ -1,5 +1,5 @@
 //! One more entry in a replica's log.
-ghost use Rattle.std.specs.Prelude.{◌≡◌, ◌≤◌, ℕ, None, max, true, length, IfOk, OnOk, IsErr, IsErrOf};
+ghost use Rattle.std.specs.Prelude.{◌≡◌, ◌+◌, ◌≤◌, ℕ, None, max, true, length, IfOk, OnOk, IsErr, IsErrOf};
 ghost use Rattle.m3_model.specs.declared.limits.TheConstants.{SEGMENT_BYTES};
 ghost use Rattle.m3_outside.specs.Causes.{CountsFaults};
 ghost use Rattle.m3_outside.specs.DiskState.{DiskState, Told, EachImage, Elapses, StepOf, Becomes};
