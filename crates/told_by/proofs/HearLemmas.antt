@@ -21,7 +21,7 @@ use Rattle.m3_model.specs.Levels.{majority}
 use Rattle.transcripts.specs.Calls.{Call}
 use Rattle.transcripts.specs.Deliveries.{LateMessage}
 use Rattle.transcripts.specs.Record.{TurnPlace}
-use Rattle.told_by.specs.Hears.{Happens, IsOwnCall, IsLatePut, IsSweepCall, IsStreamCall, IsRepairCall, IsRestartCall, IsJoinCall, IsBeginCall, HasEnough, HasServed, HasStep, HearsAcks, HearsBy, HearsFound, HearsLate, HearsOutcomes, HearsReason, HearsRefused, HearsShard, HearsShort, HearsStatus, HearsTooFew, IsHeard}
+use Rattle.told_by.specs.Hears.{AnySlot, Happens, IsMember, IsOwnCall, IsLatePut, IsSweepCall, IsStreamCall, IsRepairCall, IsRestartCall, IsJoinCall, IsBeginCall, HasEnough, HasServed, HasStep, HearsAcks, HearsBy, HearsFound, HearsLate, HearsOutcomes, HearsReason, HearsRefused, HearsShard, HearsShort, HearsStatus, HearsTooFew, IsHeard}
 use Rattle.told_by.specs.Makes.{MayMake}
 use Rattle.told_by.specs.Spans.{IsOfTurn}
 
@@ -120,8 +120,8 @@ module _ (start : Option MetaState) (past : List Event) (Old New : ℕ → Event
   reason_on Kind n s reason.Memory h = h
   reason_on Kind n s why h = (h.0, h.1, happens_on (event.Step n s h.0 (reply.Refused why)) h.2)
 
-  refused_on : (name : List ℕ) (s : ℕ) (Kind : StepCall → Type 0) (why : Reason) → HearsRefused past Old name s Kind why → HearsRefused past New name s Kind why
-  refused_on name s Kind why h = record { node = h.node; of_node = h.of_node; step = step_on Kind h.node s (reply.Refused why) h.step }
+  refused_on : (Reached : Placement → ℕ → Type 0) (name : List ℕ) (s : ℕ) (Kind : StepCall → Type 0) (why : Reason) → HearsRefused past Old Reached name s Kind why → HearsRefused past New Reached name s Kind why
+  refused_on Reached name s Kind why h = record { node = h.node; of_node = h.of_node; reached = h.reached; step = step_on Kind h.node s (reply.Refused why) h.step }
 
   status_on : (now version : ℕ) (replicas : List StatusLine) → HearsStatus past Old now version replicas → HearsStatus past New now version replicas
   status_on now version replicas h = record {
@@ -147,8 +147,8 @@ module _ (start : Option MetaState) (past : List Event) (Old New : ℕ → Event
   hears_on (act.Init rf shards seed nodes) (answer.Placed place version) h = λ n s tenure given. let step = h n s tenure given in (step.0, step.1, step_on IsBeginCall n s step.0 step.2)
   hears_on (act.Stop node) answer.Done h = λ n s slot. happens_on (event.Step n s call.Stop reply.Done) (h n s slot)
   hears_on (act.Restart node pick) answer.Done h = λ n s slot. happens_on (event.Step n s call.Restart reply.Done) (h n s slot)
-  hears_on (act.Restart node pick) (answer.Disk name s) h = (h.0, refused_on node s IsRestartCall reason.Disk h.1)
-  hears_on (act.Bootstrap node only) (answer.Disk name s) h = (h.0, h.1, refused_on node s IsJoinCall reason.Disk h.2)
-  hears_on (act.Bootstrap node only) (answer.Corrupt name s damage) h = (h.0, h.1, h.2, refused_on node s IsJoinCall (reason.Corrupt damage) h.3)
+  hears_on (act.Restart node pick) (answer.Disk name s) h = (h.0, refused_on AnySlot node s IsRestartCall reason.Disk h.1)
+  hears_on (act.Bootstrap node only) (answer.Disk name s) h = (h.0, h.1, refused_on (IsMember s) node s IsJoinCall reason.Disk h.2)
+  hears_on (act.Bootstrap node only) (answer.Corrupt name s damage) h = (h.0, h.1, h.2, refused_on (IsMember s) node s IsJoinCall (reason.Corrupt damage) h.3)
   hears_on (act.Bootstrap node only) (answer.Available available place version) h = λ n s tenure slot given. let step = h n s tenure slot given in (step.0, step.1, step_on IsBeginCall n s step.0 step.2)
   hears_on _ _ h = h

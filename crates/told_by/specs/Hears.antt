@@ -199,11 +199,20 @@ pub record IsSlotOf (past : List Event) (name : List ℕ) (node shard : ℕ) : T
 abbrev pub HearsEachSlot : List Event → (ℕ → Event → Type 0) → List ℕ → StepCall → Type 0
 HearsEachSlot past Here name asked = (node shard : ℕ) → IsSlotOf past name node shard → Happens Here (event.Step node shard asked reply.Done)
 
--- a step of a slot of the named node that was refused so
-pub record HearsRefused (past : List Event) (Here : ℕ → Event → Type 0) (name : List ℕ) (shard : ℕ) (Kind : StepCall → Type 0) (why : Reason) : Type 0 where
+-- a step of a slot of the named node, one that is reached in the placement that stands, was refused so
+pub record HearsRefused (past : List Event) (Here : ℕ → Event → Type 0) (Reached : Placement → ℕ → Type 0) (name : List ℕ) (shard : ℕ) (Kind : StepCall → Type 0) (why : Reason) : Type 0 where
   pub node : ℕ
   pub of_node : IsNamedLast past node name
+  pub reached : Reached of_node.place node
   pub step : HasStep Here Kind node shard (reply.Refused why)
+
+-- a restart reaches each slot that it may ask
+abbrev pub AnySlot : Placement → ℕ → Type 0
+AnySlot place node = ⊤
+
+-- a bootstrap reaches those that have a replica of the shard
+abbrev pub IsMember : ℕ → Placement → ℕ → Type 0
+IsMember shard place node = IsTrue (has_replica (Some place) shard node)
 
 -- a restart
 abbrev pub IsRestartCall : StepCall → Type 0
@@ -297,9 +306,9 @@ HearsBy start past Here p a (answer.Status now replicas version) = HearsStatus p
 HearsBy start past Here p (act.Init rf shards seed nodes) (answer.Placed place version) = HearsOpened Here place
 HearsBy start past Here p (act.Stop node) answer.Done = HearsEachSlot past Here node call.Stop
 HearsBy start past Here p (act.Restart node pick) answer.Done = HearsEachSlot past Here node call.Restart
-HearsBy start past Here p (act.Restart node pick) (answer.Disk name shard) = (name ≡ node) × HearsRefused past Here node shard IsRestartCall reason.Disk
-HearsBy start past Here p (act.Bootstrap node only) (answer.Disk name shard) = (name ≡ node) × IsTrue (is_covering shard only) × HearsRefused past Here node shard IsJoinCall reason.Disk
-HearsBy start past Here p (act.Bootstrap node only) (answer.Corrupt name shard damage) = (name ≡ node) × IsTrue (is_covering shard only) × IsShown damage × HearsRefused past Here node shard IsJoinCall (reason.Corrupt damage)
+HearsBy start past Here p (act.Restart node pick) (answer.Disk name shard) = (name ≡ node) × HearsRefused past Here AnySlot node shard IsRestartCall reason.Disk
+HearsBy start past Here p (act.Bootstrap node only) (answer.Disk name shard) = (name ≡ node) × IsTrue (is_covering shard only) × HearsRefused past Here (IsMember shard) node shard IsJoinCall reason.Disk
+HearsBy start past Here p (act.Bootstrap node only) (answer.Corrupt name shard damage) = (name ≡ node) × IsTrue (is_covering shard only) × IsShown damage × HearsRefused past Here (IsMember shard) node shard IsJoinCall (reason.Corrupt damage)
 HearsBy start past Here p (act.Bootstrap node only) (answer.Available available place version) = HearsBegun past Here node only
 HearsBy start past Here p _ _ = ⊤
 

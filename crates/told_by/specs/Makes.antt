@@ -144,7 +144,7 @@ MayChangePlace past _ = ⊥
 
 -- what an act may ask for after these events: one row for each act; Stops by an ok `stop`, and by a `restart` that is refused, which stops again what it restarted
 abbrev pub MayAsk : Option MetaState → List Event → TurnPlace → Act → Asked → Type 0
-MayAsk start past p (act.Init rf shards seed nodes) (asked.Step n s (call.Begin tenure)) = (place : Placement) × (last_place past ≡ Some place) × IsAssigned place n s tenure
+MayAsk start past p (act.Init rf shards seed nodes) (asked.Step n s (call.Begin tenure)) = (place : Placement) × (printed p.turn.answer ≡ Some place) × (last_place past ≡ Some place) × IsAssigned place n s tenure
 MayAsk start past p (act.Namespace name block before ahead retention) (asked.Clock rules) = rules ≡ rules_by p.turn.act answer.Done (rules_at start p)
 MayAsk start past p (act.Now now) (asked.Clock rules) = rules ≡ rules_by p.turn.act answer.Done (rules_at start p)
 MayAsk start past p (act.Write ns id t v level version) (asked.Step n s (call.Put client number rules at_version point)) = MayPut start past p n s client number rules at_version point

@@ -45,7 +45,7 @@ use Rattle.transcripts.specs.Caused.{is_write}
 use Rattle.transcripts.specs.Faults.{Fault, Failing, Damaged}
 use Rattle.transcripts.specs.Placements.{MayUse, seed_at}
 use Rattle.transcripts.specs.Points.{point_of}
-use Rattle.transcripts.specs.Reasons.{IsOutside, MayRefuse, MayServe, TakesPoint}
+use Rattle.transcripts.specs.Reasons.{IsOutside, MayFail, MayRefuse, MayServe, TakesPoint}
 use Rattle.transcripts.specs.Record.{TurnPlace, IsTurnPlace}
 use Rattle.transcripts.specs.Rules.{rules_at}
 use Rattle.told_by.specs.Hears.{HasServed, HearsAcks, HearsBy, IsHeard, IsOwnCall, IsServed}
@@ -177,13 +177,13 @@ module _ (start : Option MetaState) (turns : List Turn) (events : List Event) (l
   calls_halt_nothing (act.Restart node pick) e h = cc
   calls_halt_nothing _ e h = h
 
-  reason_said : is_call p.turn.act ≡ true → (place : Placement) (shard node : ℕ) → (steady : IsSteadyNode start turns events told p place shard node) → (why : Reason) → IsExplained (IsKnownMember start turns events p shard node steady.name) why → IsHeard start (Within events told.spans p) p place shard node why → MayRefuse true faults start p place shard node why
+  reason_said : is_call p.turn.act ≡ true → (place : Placement) (shard node : ℕ) → (steady : IsSteadyNode start turns events told p place shard node) → (why : Reason) → IsExplained (IsKnownMember start turns events p shard node steady.name) (MayFail true faults start p place shard node) why → IsHeard start (Within events told.spans p) p place shard node why → MayRefuse true faults start p place shard node why
   reason_said calls place shard node steady reason.Cut known h = h
   reason_said calls place shard node steady reason.Memory known h = tt
   reason_said calls place shard node steady reason.Past known h = let s = (h.2).1 in refused_past place.version node shard (h.2).0 h.0 h.1 s.2
   reason_said calls place shard node steady reason.Future known h = let s = (h.2).1 in refused_future place.version node shard (h.2).0 h.0 h.1 s.2
   reason_said calls place shard node steady reason.Down known h =
-      down_said faults start p place node shard steady.name steady.named steady.stays
+      down_said faults start p place node shard steady.name steady.named steady.there
       (down_cause start turns events legal told p in_run (calls_halt_nothing p.turn.act calls) node shard steady.name steady.everywhere h.0 h.2)
   reason_said calls place shard node steady reason.Boot known h =
       λ tells. boot_said start p place node shard steady.name steady.named (boot_cause start turns events legal told p in_run (calls_halt_nothing p.turn.act calls) node shard steady.name known h.0 h.2)
@@ -193,7 +193,8 @@ module _ (start : Option MetaState) (turns : List Turn) (events : List Event) (l
       let step = h.1 in
       let s = (step.2).1 in
       (fault_here (step.2).0 (event.Step node shard step.0 (reply.Refused (reason.Corrupt damage))) (record { line = length p.lines; node = node; shard = shard; kind = Damaged }) s.0 s.1 s.2 refl refl, h.0)
-  reason_said calls place shard node steady _ known h = absurd known
+  reason_said calls place shard node steady reason.NotOwned known h = known
+  reason_said calls place shard node steady (reason.Stale fence) known h = known
 
   -- what a replica took lies within its window
   served_taken : (place : Placement) (shard node : ℕ) → HasServed start (Within events told.spans p) p place shard node → MayServe (rules_at start p) p.turn.act

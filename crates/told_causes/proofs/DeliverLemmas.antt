@@ -94,13 +94,14 @@ module _ (start : Option MetaState) (turns : List Turn) (events : List Event) (t
       (fault_here start turns events known.legal told p known.in_run (step.2).0 (event.Step m.node shard step.0 (reply.Refused (reason.Corrupt damage))) (record { line = length p.lines; node = m.node; shard = shard; kind = Damaged }) s.0 s.1 s.2 refl refl, h.0)
   came m late shard (Some reason.Down) h =
       let steady = (known.explained m late shard reason.Down h).0 in
-      down_said faults start p m.used m.node shard steady.name steady.named steady.stays
+      down_said faults start p m.used m.node shard steady.name steady.named steady.there
       (down_cause start turns events known.legal told p known.in_run halts_nothing m.node shard steady.name steady.everywhere h.0 h.2)
   came m late shard (Some reason.Boot) h =
       let why = known.explained m late shard reason.Boot h in
       let steady = why.0 in
       λ tells. boot_said start p m.used m.node shard steady.name steady.named (boot_cause start turns events known.legal told p known.in_run halts_nothing m.node shard steady.name why.1 h.0 h.2)
-  came m late shard (Some why) h = absurd ((known.explained m late shard why h).1)
+  came m late shard (Some reason.NotOwned) h = (known.explained m late shard reason.NotOwned h).1
+  came m late shard (Some (reason.Stale fence)) h = (known.explained m late shard (reason.Stale fence) h).1
 
   each_said : (messages : List LateMessage) (outcomes : List (ℕ × ℕ × Option Reason)) → HearsOutcomes start (Within events told.spans p) p messages outcomes → AreOutcomes true faults start p messages outcomes
   each_said [] [] h = tt

@@ -12,6 +12,7 @@ use Rattle.m3_model.specs.declared.reason.Reason.TheVariants as reason
 use Rattle.transcripts.specs.Calls.{Call}
 use Rattle.transcripts.specs.Faults.{Fault}
 use Rattle.transcripts.specs.Placements.{IsCounted, MayUse, placement_after}
+use Rattle.transcripts.specs.Reasons.{MayFail}
 use Rattle.transcripts.specs.Record.{AreSomeOf, InnerTurn, TurnPlace, IsTurnPlace, inner_turns, line_of}
 use Rattle.cluster_core.specs.Lists.{At}
 use Rattle.cluster_core.specs.declared.event.Event.{Event}
@@ -112,17 +113,17 @@ steady shard = record {
   name = name;
   named = record { instance_ = node; stands = refl; holds = refl };
   everywhere = named_by;
-  stays = λ fault among of_node of_shard early. let told_of = faults_steps sample_told.ends events (length turns) fault among in absurd (no_fault told_of.place fault.line told_of.e fault told_of.there told_of.tells);
+  there = λ fault among of_node of_shard early. let told_of = faults_steps sample_told.ends events (length turns) fault among in absurd (no_fault told_of.place fault.line told_of.e fault told_of.there told_of.tells);
 }
 
-explained_by : (shard : ℕ) (why : Reason) → IsHeard None (Within events sample_told.spans reading) reading place shard 0 why → IsExplained (IsKnownMember None turns events reading shard 0 name) why
+explained_by : (shard : ℕ) (why : Reason) → IsHeard None (Within events sample_told.spans reading) reading place shard 0 why → IsExplained (IsKnownMember None turns events reading shard 0 name) (MayFail true faults None reading place shard 0) why
 explained_by shard reason.Boot h = absurd (never_refused (h.2).0 0 shard h.0 reason.Boot ((h.2).1).2)
 explained_by shard reason.NotOwned h = absurd (never_refused (h.2).0 0 shard h.0 reason.NotOwned ((h.2).1).2)
 explained_by shard (reason.Stale fence) h = absurd (never_refused (h.2).0 0 shard h.0 (reason.Stale fence) ((h.2).1).2)
 explained_by shard _ h = tt
 
 abbrev Explained : Placement → ℕ → ℕ → Reason → Type 0
-Explained p shard n why = (known : IsSteadyNode None turns events sample_told reading p shard n) × IsExplained (IsKnownMember None turns events reading shard n known.name) why
+Explained p shard n why = (known : IsSteadyNode None turns events sample_told reading p shard n) × IsExplained (IsKnownMember None turns events reading shard n known.name) (MayFail true faults None reading p shard n) why
 
 all_explained : AllAreExplained None turns events sample_told reading
 unfolding steady

@@ -18,7 +18,7 @@ use Rattle.transcripts.specs.Fates.{OfNode}
 use Rattle.transcripts.specs.Levels.{AreSilent, IsAcked, IsFoundFor, MissesLevel}
 use Rattle.transcripts.specs.Calls.{Call, call_of}
 use Rattle.transcripts.specs.Placements.{IsCounted, MayUse}
-use Rattle.transcripts.specs.Reasons.{MayRefuse, MayServe}
+use Rattle.transcripts.specs.Reasons.{MayFail, MayRefuse, MayServe}
 use Rattle.transcripts.specs.Record.{TurnPlace, IsTurnPlace}
 use Rattle.transcripts.specs.Rules.{rules_at}
 use Rattle.told_by.specs.Hears.{HasServed, HearsShard, InStretch, IsHeard, IsNamedBy}
@@ -26,31 +26,32 @@ use Rattle.told_by.specs.Spans.{Spans}
 use Rattle.told_by.specs.Told.{ToldBy}
 use Rattle.told_causes.specs.Boot.{IsKnownMember}
 use Rattle.told_causes.specs.Faults.{faults_told}
-use Rattle.told_causes.specs.Standing.{HaltsAlone, StaysThere}
+use Rattle.told_causes.specs.Standing.{HaltsAlone, WasThere}
 
--- a reason that is explained here: all but that a replica doesn't own its shard, or is fenced above the version; that it isn't begun, of a known member
-abbrev pub IsExplained : Type 0 → Reason → Type 0
-IsExplained Known reason.Boot = Known
-IsExplained Known reason.NotOwned = ⊥
-IsExplained Known (reason.Stale fence) = ⊥
-IsExplained Known _ = ⊤
+-- what explains a reason here: that a replica isn't begun, what is known of a member; that its node doesn't own the shard, or a fence, the moves of the
+-- shard, of which more is said elsewhere; every other needs nothing
+abbrev pub IsExplained : Type 0 → (Reason → Type 0) → Reason → Type 0
+IsExplained Known ByMoves reason.Boot = Known
+IsExplained Known ByMoves reason.NotOwned = ByMoves reason.NotOwned
+IsExplained Known ByMoves (reason.Stale fence) = ByMoves (reason.Stale fence)
+IsExplained Known ByMoves _ = ⊤
 
 -- what happens within the turn's stretch
 abbrev pub Within : List Event → Spans → TurnPlace → ℕ → Event → Type 0
 Within events spans p = InStretch events (spans.from p) (spans.to p)
 
--- the node has one name in all placements, and its replica of the shard stays where it is after each of its faults
+-- the node has one name in all placements, and its slot of the shard had a replica by each of its faults
 pub record IsSteadyNode (start : Option MetaState) (turns : List Turn) (events : List Event) (told : ToldBy start turns events) (p : TurnPlace) (place : Placement) (shard node : ℕ) : Type 0 where
   pub name : List ℕ
   pub named : OfNode place node (λ own. own ≡ name)
   pub everywhere : IsNamedBy events node name
-  pub stays : StaysThere (faults_told told.ends events (length turns)) start p node shard
+  pub there : WasThere (faults_told told.ends events (length turns)) start p node shard
 
 -- Each reason that a call names for a replica, of those that are explained here, has its cause.
 abbrev pub ReasonsAreSaid : Type 0
 ReasonsAreSaid =
     (start : Option MetaState) (turns : List Turn) (events : List Event) → Legal true events → (told : ToldBy start turns events) → (p : TurnPlace) → IsTurnPlace turns p → IsTrue (is_call p.turn.act)
-    → (place : Placement) (shard node : ℕ) → (steady : IsSteadyNode start turns events told p place shard node) → (why : Reason) → IsExplained (IsKnownMember start turns events p shard node steady.name) why
+    → (place : Placement) (shard node : ℕ) → (steady : IsSteadyNode start turns events told p place shard node) → (why : Reason) → IsExplained (IsKnownMember start turns events p shard node steady.name) (MayFail true (faults_told told.ends events (length turns)) start p place shard node) why
     → IsHeard start (Within events told.spans p) p place shard node why → MayRefuse true (faults_told told.ends events (length turns)) start p place shard node why
 
 -- Where a replica did as a write asks, the write's point is one that is taken at this moment.
@@ -77,7 +78,7 @@ ServedAreNamed start events spans p = (place : Placement) → IsUsedBy start p p
 abbrev pub AllAreExplained : (start : Option MetaState) (turns : List Turn) (events : List Event) → ToldBy start turns events → TurnPlace → Type 0
 AllAreExplained start turns events told p =
     (place : Placement) → IsUsedBy start p place → (shard node : ℕ) (why : Reason) → IsCounted place shard node → IsHeard start (Within events told.spans p) p place shard node why
-    → (steady : IsSteadyNode start turns events told p place shard node) × IsExplained (IsKnownMember start turns events p shard node steady.name) why
+    → (steady : IsSteadyNode start turns events told p place shard node) × IsExplained (IsKnownMember start turns events p shard node steady.name) (MayFail true (faults_told told.ends events (length turns)) start p place shard node) why
 
 -- What is known of a call: it is one of a run that a legal list tells of, stops are alone in their lines, nodes have one name, and what it hears is explained.
 pub record IsKnownCall (start : Option MetaState) (turns : List Turn) (events : List Event) (told : ToldBy start turns events) (p : TurnPlace) : Type 0 where

@@ -8,6 +8,7 @@ use Rattle.m3_model.specs.declared.turn.Turn.{Turn}
 use Rattle.cluster_core.specs.Legal.{Legal}
 use Rattle.cluster_core.specs.declared.event.Event.{Event}
 use Rattle.transcripts.specs.Deliveries.{IsDelivered, IsLateMessage, LateMessage}
+use Rattle.transcripts.specs.Reasons.{MayFail}
 use Rattle.transcripts.specs.Record.{TurnPlace, IsTurnPlace}
 use Rattle.told_by.specs.Hears.{HearsLate}
 use Rattle.told_by.specs.Told.{ToldBy}
@@ -24,7 +25,7 @@ pub record IsKnownDelivery (start : Option MetaState) (turns : List Turn) (event
   pub halts : HaltsAlone turns
   pub named : (m : LateMessage) → IsLateMessage start p m → (shard : ℕ) → HearsLate start (Within events told.spans p) p m shard None → IsNamedOnce events m.used m.node
   pub explained : (m : LateMessage) → IsLateMessage start p m → (shard : ℕ) (why : Reason) → HearsLate start (Within events told.spans p) p m shard (Some why)
-      → (steady : IsSteadyNode start turns events told p m.used shard m.node) × IsExplained (IsKnownMember start turns events p shard m.node steady.name) why
+      → (steady : IsSteadyNode start turns events told p m.used shard m.node) × IsExplained (IsKnownMember start turns events p shard m.node steady.name) (MayFail true (faults_told told.ends events (length turns)) start p m.used shard m.node) why
 
 -- The outcomes of a `deliver` are those of late messages, each with its cause.
 abbrev pub OutcomesAreSaid : Type 0

@@ -1,5 +1,5 @@
 -- Why a restart and a bootstrap are refused: the disk of one of the node's replicas failed, or its files were found damaged.
-use Rattle.std.specs.Prelude.{◌≡◌, ℕ, List, length, take, Option, true, IsTrue}
+use Rattle.std.specs.Prelude.{◌≡◌, ℕ, ⊤, List, length, take, Option, true}
 use Rattle.m3_model.specs.declared.act.Act.{Act}
 use Rattle.m3_model.specs.declared.act.Act.TheVariants as act
 use Rattle.m3_model.specs.declared.answer.Answer.{Answer}
@@ -8,9 +8,8 @@ use Rattle.m3_model.specs.declared.rules.MetaState.{MetaState}
 use Rattle.m3_model.specs.declared.turn.Turn.{Turn}
 use Rattle.cluster_core.specs.Legal.{Legal}
 use Rattle.cluster_core.specs.declared.event.Event.{Event}
-use Rattle.transcripts.specs.Caused.{IsOwn}
+use Rattle.transcripts.specs.Caused.{HadBefore, IsOwn}
 use Rattle.transcripts.specs.Deliveries.{LateMessage}
-use Rattle.transcripts.specs.Placements.{has_replica, placement_at}
 use Rattle.transcripts.specs.Record.{TurnPlace, IsTurnPlace}
 use Rattle.told_by.specs.Makes.{IsNamedLast}
 use Rattle.told_by.specs.Spans.{IsAlone}
@@ -24,19 +23,14 @@ NamesReplica (act.Bootstrap node asked) (answer.Disk name shard) s = shard ≡ s
 NamesReplica (act.Bootstrap node asked) (answer.Corrupt name shard damage) s = shard ≡ s
 NamesReplica _ _ s = ⊥
 
--- the nodes of this name have a replica of the shard before the turn's line
-abbrev pub AreMembers : Option MetaState → List Event → ℕ → TurnPlace → List ℕ → ℕ → Type 0
-AreMembers start events from p name shard = (node : ℕ) → IsNamedLast (take from events) node name → IsTrue (has_replica (placement_at start p) shard node)
+-- where the act is a restart, the slots that it reaches had a replica before its line
+abbrev pub AreReached : Option MetaState → List Event → ℕ → TurnPlace → Act → ℕ → Type 0
+AreReached start events from p (act.Restart name pick) shard = (node : ℕ) → IsNamedLast (take from events) node name → HadBefore start p shard node
+AreReached start events from p _ shard = ⊤
 
--- the node that the act is for
-abbrev pub IsForNode : Act → List ℕ → Type 0
-IsForNode (act.Restart node pick) name = node ≡ name
-IsForNode (act.Bootstrap node asked) name = node ≡ name
-IsForNode _ name = ⊥
-
--- Where a turn that is alone in its line answers so of a member, a transcript says why.
+-- Where a turn that is alone in its line answers so of a slot that it reaches, a transcript says why.
 abbrev pub NodeAnswersAreSaid : Type 0
 NodeAnswersAreSaid =
     (start : Option MetaState) (turns : List Turn) (events : List Event) → Legal true events → (told : ToldBy start turns events) → (p : TurnPlace) → IsTurnPlace turns p → IsAlone turns p
-    → (name : List ℕ) (shard : ℕ) → IsForNode p.turn.act name → NamesReplica p.turn.act p.turn.answer shard → AreMembers start events (told.spans.from p) p name shard
+    → (shard : ℕ) → NamesReplica p.turn.act p.turn.answer shard → AreReached start events (told.spans.from p) p p.turn.act shard
     → (messages : List LateMessage) → IsOwn true (faults_told told.ends events (length turns)) start messages p p.turn.act p.turn.answer

@@ -15,7 +15,7 @@ use Rattle.cluster_core.specs.declared.event.StepCall.{StepCall}
 use Rattle.cluster_core.specs.declared.event.StepReply.TheVariants as reply
 use Rattle.transcripts.specs.Fates.{IsStoppedAt, OfNode, is_stopped}
 use Rattle.transcripts.specs.Faults.{Fault, IsClosedByFault, closes, is_restart}
-use Rattle.transcripts.specs.Placements.{has_replica, placement_after, start_placement}
+use Rattle.transcripts.specs.Placements.{HadReplica}
 use Rattle.transcripts.specs.Record.{TurnPlace, IsTurnPlace, inner_turns}
 use Rattle.told_by.specs.Hears.{Happens, InStretch, IsNamedBy}
 use Rattle.told_by.specs.Spans.{IsAlone}
@@ -49,13 +49,13 @@ DownHasCause =
     → (node shard : ℕ) (name : List ℕ) → IsNamedBy events node name → (c : StepCall) → Happens (InStretch events (told.spans.from p) (told.spans.to p)) (event.Step node shard c (reply.Refused reason.Down))
     → (is_stopped (inner_turns p.lines) name ≡ true) ⊎ IsClosedSince (faults_told told.ends events (length turns)) p node shard name
 
--- the slot's replica stays where it is after each earlier line with one of these faults of it
-abbrev pub StaysThere : List Fault → Option MetaState → TurnPlace → ℕ → ℕ → Type 0
-StaysThere faults start p node shard =
-    (fault : Fault) → IsIn faults fault → fault.node ≡ node → fault.shard ≡ shard → fault.line < length p.lines → IsTrue (has_replica (placement_after (start_placement start) (inner_turns (take (suc fault.line) p.lines))) shard node)
+-- the slot had a replica by the end of each earlier line with one of these faults of it
+abbrev pub WasThere : List Fault → Option MetaState → TurnPlace → ℕ → ℕ → Type 0
+WasThere faults start p node shard =
+    (fault : Fault) → IsIn faults fault → fault.node ≡ node → fault.shard ≡ shard → fault.line < length p.lines → HadReplica start (inner_turns (take (suc fault.line) p.lines)) shard node
 
--- So where the replica stays there, a transcript says why it is down.
+-- So where the slot had a replica then, a transcript says why it is down.
 abbrev pub DownIsSaid : Type 0
 DownIsSaid =
-    (faults : List Fault) (start : Option MetaState) (p : TurnPlace) (place : Placement) (node shard : ℕ) (name : List ℕ) → OfNode place node (λ own. own ≡ name) → StaysThere faults start p node shard
+    (faults : List Fault) (start : Option MetaState) (p : TurnPlace) (place : Placement) (node shard : ℕ) (name : List ℕ) → OfNode place node (λ own. own ≡ name) → WasThere faults start p node shard
     → (is_stopped (inner_turns p.lines) name ≡ true) ⊎ IsClosedSince faults p node shard name → IsStoppedAt p place node ⊎ IsClosedByFault faults start p place shard node

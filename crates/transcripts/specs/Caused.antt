@@ -1,6 +1,7 @@
 -- Why an answer is what it is: a refusal has its cause, and what has none is answered in its own way.
 use Rattle.std.specs.Prelude.{◌≡◌, ℕ, ◌+◌, ◌*◌, ◌≤◌, ◌<◌, List, [], ◌∷◌, ◌++◌, length, map, count_by, Option, Some, None, Bool, true, false, slice_get, IsTrue, ◌⊎◌, ⊤}
 use Rattle.std.specs.List.{flat_map}
+use Rattle.m3_model.specs.Ascends.{Ascends}
 use Rattle.m3_model.specs.Members.{IsIn}
 use Rattle.m3_model.specs.declared.limits.TheConstants.{MOST_EVENTS, MOST_REQUEST_EVENTS}
 use Rattle.m3_model.specs.declared.placement.Placement.{Placement}
@@ -20,7 +21,7 @@ use Rattle.transcripts.specs.Deliveries.{LateMessage, IsDelivered, IsSameMessage
 use Rattle.transcripts.specs.Fates.{is_stopped, OfNode}
 use Rattle.transcripts.specs.Faults.{Fault, AreDifferent, IsUntaken, HasFailed, IsDamaged}
 use Rattle.transcripts.specs.Levels.{IsAcked, MissesLevel, IsFoundFor}
-use Rattle.transcripts.specs.Placements.{placement_after, placement_at, placements, start_placement, MayStand, has_replica}
+use Rattle.transcripts.specs.Placements.{placement_after, placement_at, placements, start_placement, HadReplica, IsCounted, MayStand, has_replica}
 use Rattle.transcripts.specs.Reasons.{IsShown}
 use Rattle.transcripts.specs.Record.{Record, Life, InnerTurn, TurnPlace, IsTurnPlace, IsAfter, acts_of, inner_turns}
 use Rattle.transcripts.specs.Refusals.{refusal_by}
@@ -29,20 +30,27 @@ use Rattle.transcripts.specs.Waiting.{is_covering}
 
 -- ---- answers that are the act's own
 
--- the node of this name in the present placement has a replica of the shard
-pub record IsReplicaOf (start : Option MetaState) (p : TurnPlace) (name : List ℕ) (node shard : ℕ) : Type 0 where
+-- the node has this name in a placement that may stand
+pub record IsCalled (start : Option MetaState) (p : TurnPlace) (name : List ℕ) (node : ℕ) : Type 0 where
   pub place : Placement
   pub stands : MayStand start p place
   pub named : OfNode place node (λ own. own ≡ name)
-  pub member : IsTrue (has_replica (Some place) shard node)
 
--- the disk of the node's replica of the shard failed in this line
-abbrev pub OnDisk : List Fault → Option MetaState → TurnPlace → List ℕ → ℕ → Type 0
-OnDisk faults start p name shard = (node : ℕ) × IsReplicaOf start p name node shard × HasFailed faults p shard node
+-- a restart reaches each slot of its node that had a replica before its line
+abbrev pub HadBefore : Option MetaState → TurnPlace → ℕ → ℕ → Type 0
+HadBefore start p shard node = HadReplica start (inner_turns p.lines) shard node
+
+-- a bootstrap reaches each member before its line
+abbrev pub IsMemberBefore : Option MetaState → TurnPlace → ℕ → ℕ → Type 0
+IsMemberBefore start p shard node = IsTrue (has_replica (placement_at start p) shard node)
+
+-- the disk of one of the slots that are reached of the node of this name failed in this line
+abbrev pub OnDisk : List Fault → Option MetaState → TurnPlace → (ℕ → Type 0) → List ℕ → ℕ → Type 0
+OnDisk faults start p Reached name shard = (node : ℕ) × IsCalled start p name node × Reached node × HasFailed faults p shard node
 
 -- its files were found damaged in this line
-abbrev pub InFiles : List Fault → Option MetaState → TurnPlace → List ℕ → ℕ → Type 0
-InFiles faults start p name shard = (node : ℕ) × IsReplicaOf start p name node shard × IsDamaged faults p shard node
+abbrev pub InFiles : List Fault → Option MetaState → TurnPlace → (ℕ → Type 0) → List ℕ → ℕ → Type 0
+InFiles faults start p Reached name shard = (node : ℕ) × IsCalled start p name node × Reached node × IsDamaged faults p shard node
 
 -- the name is that of this one of the nodes
 abbrev pub NamesNode : List (List ℕ × List ℕ) → List ℕ → ℕ → Type 0
@@ -52,9 +60,19 @@ NamesNode nodes name node = (group : List ℕ) × (slice_get nodes node ≡ Some
 abbrev pub IsUnmade : List Fault → TurnPlace → List (List ℕ × List ℕ) → ℕ → List ℕ → ℕ → Type 0
 IsUnmade faults p nodes shards name shard = (node : ℕ) × NamesNode nodes name node × (shard < shards) × IsUntaken faults p shard node
 
--- no replica turns available by a bootstrap yet, and a placement that stands is printed
-abbrev pub IsBootstrapped : Option MetaState → TurnPlace → List (ℕ × List ℕ) → Placement → ℕ → Type 0
-IsBootstrapped start p available place version = (available ≡ []) × MayStand start p place × (version ≡ place.version)
+-- the shard is one that the bootstrap covers, and the placement has it available on the node of this name
+pub record IsAvailableOn (place : Placement) (name : List ℕ) (asked : Option ℕ) (shard : ℕ) : Type 0 where
+  pub covered : IsTrue (is_covering shard asked)
+  pub node : ℕ
+  pub named : OfNode place node (λ own. own ≡ name)
+  pub counted : IsCounted place shard node
+
+-- a bootstrap prints a placement that stands, and by shard those that turned available in it
+pub record IsBootstrapped (start : Option MetaState) (p : TurnPlace) (name : List ℕ) (asked : Option ℕ) (available : List (ℕ × List ℕ)) (place : Placement) (version : ℕ) : Type 0 where
+  pub stands : MayStand start p place
+  pub version_is : version ≡ place.version
+  pub by_shard : Ascends (λ a b. a.0 < b.0) available
+  pub each : (x : ℕ × List ℕ) → IsIn available x → IsAvailableOn place name asked x.0
 
 -- the answer is the act's own: ok, or too few replicas answered; what a read finds is said by what it keeps
 abbrev pub IsOwn : Bool → List Fault → Option MetaState → List LateMessage → TurnPlace → Act → Answer → Type 0
@@ -66,10 +84,10 @@ IsOwn tells faults start messages p (act.Fates list) answer.Done = ⊤
 IsOwn tells faults start messages p act.Deliver (answer.Outcomes outcomes) = IsDelivered tells faults start p messages outcomes
 IsOwn tells faults start messages p (act.Stop node) answer.Done = ⊤
 IsOwn tells faults start messages p (act.Restart node pick) answer.Done = ⊤
-IsOwn tells faults start messages p (act.Restart node pick) (answer.Disk name shard) = (name ≡ node) × OnDisk faults start p name shard
-IsOwn tells faults start messages p (act.Bootstrap node asked) (answer.Available available place version) = IsBootstrapped start p available place version
-IsOwn tells faults start messages p (act.Bootstrap node asked) (answer.Disk name shard) = (name ≡ node) × IsTrue (is_covering shard asked) × OnDisk faults start p name shard
-IsOwn tells faults start messages p (act.Bootstrap node asked) (answer.Corrupt name shard damage) = (name ≡ node) × IsTrue (is_covering shard asked) × InFiles faults start p name shard × IsShown damage
+IsOwn tells faults start messages p (act.Restart node pick) (answer.Disk name shard) = (name ≡ node) × OnDisk faults start p (HadBefore start p shard) name shard
+IsOwn tells faults start messages p (act.Bootstrap node asked) (answer.Available available place version) = IsBootstrapped start p node asked available place version
+IsOwn tells faults start messages p (act.Bootstrap node asked) (answer.Disk name shard) = (name ≡ node) × IsTrue (is_covering shard asked) × OnDisk faults start p (IsMemberBefore start p shard) name shard
+IsOwn tells faults start messages p (act.Bootstrap node asked) (answer.Corrupt name shard damage) = (name ≡ node) × IsTrue (is_covering shard asked) × InFiles faults start p (IsMemberBefore start p shard) name shard × IsShown damage
 IsOwn tells faults start messages p (act.Write ns id t v level version) (answer.Acks acks) = IsAcked start p id level version acks
 IsOwn tells faults start messages p (act.Write ns id t v level version) (answer.Consistency got needed reasons shard) = MissesLevel tells faults start p got needed reasons shard
 IsOwn tells faults start messages p (act.Fetch ns id from to level version) (answer.Found series short) = IsFoundFor tells faults start p (Some id) level version short

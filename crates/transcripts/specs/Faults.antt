@@ -11,7 +11,7 @@ use Rattle.m3_model.specs.declared.answer.Answer.TheVariants as answer
 use Rattle.m3_model.specs.declared.placement.Placement.{Placement}
 use Rattle.m3_model.specs.declared.rules.MetaState.{MetaState}
 use Rattle.transcripts.specs.Fates.{OfNode}
-use Rattle.transcripts.specs.Placements.{has_replica, placement_after, start_placement}
+use Rattle.transcripts.specs.Placements.{HadReplica}
 use Rattle.transcripts.specs.Record.{InnerTurn, TurnPlace, inner_turns}
 
 -- The disk of a slot couldn't be taken, by a fault of the disks as a whole; the slot's own disk failed; or bytes of its files were found damaged.
@@ -72,7 +72,7 @@ is_restart name turn = restarts turn.act turn.answer
     restarts (act.Restart node pick) answer.Done = pointwise nat_eq name node
     restarts _ _ = false
 
--- a fault or damage closed the replica in this line or an earlier one that left it there, and its node wasn't restarted since
+-- a fault or damage closed the replica in this line, or in an earlier one by whose end the slot had one, and its node wasn't restarted since
 pub record IsClosedByFault (faults : List Fault) (start : Option MetaState) (p : TurnPlace) (place : Placement) (shard node : ℕ) : Type 0 where
   pub fault : Fault
   pub among : IsIn faults fault
@@ -80,5 +80,5 @@ pub record IsClosedByFault (faults : List Fault) (start : Option MetaState) (p :
   pub of_shard : fault.shard ≡ shard
   pub closing : IsTrue (closes fault.kind)
   pub not_later : fault.line ≤ length p.lines
-  pub was_there : fault.line < length p.lines → IsTrue (has_replica (placement_after (start_placement start) (inner_turns (take (suc fault.line) p.lines))) shard node)
+  pub was_there : fault.line < length p.lines → HadReplica start (inner_turns (take (suc fault.line) p.lines)) shard node
   pub not_restarted : OfNode place node (λ name. list_any (is_restart name) (inner_turns (drop (suc fault.line) p.lines)) ≡ false)

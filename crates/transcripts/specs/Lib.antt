@@ -9,6 +9,7 @@ pub mod Waiting
 pub mod Refusals
 pub mod Reasons
 pub mod Levels
+pub mod Moves
 pub mod Deliveries
 pub mod Joined
 pub mod Kept

@@ -1,5 +1,5 @@
 -- The placements that replies print; M3DB's page "Placement".
-use Rattle.std.specs.Prelude.{◌≡◌, ℕ, List, [], ◌∷◌, ◌++◌, Option, Some, None, Bool, false, if◌then◌else◌, fold, nat_lt, nat_eq}
+use Rattle.std.specs.Prelude.{◌≡◌, ℕ, List, [], ◌∷◌, ◌++◌, Option, Some, None, Bool, false, if◌then◌else◌, fold, nat_lt, nat_eq, IsTrue}
 use Rattle.std.specs.List.{filter_map, list_any}
 use Rattle.std.specs.Option.{option_map_or}
 use Rattle.m3_model.specs.Members.{IsIn}
@@ -82,3 +82,9 @@ IsCounted place shard node = IsIn (counted_nodes place shard) node
 -- the node has a replica of the shard, whether it counts or moves
 abbrev pub has_replica : Option Placement → ℕ → ℕ → Bool
 has_replica place shard node = option_map_or (λ p. list_any (nat_eq node) (nodes_of (shard_at p shard))) place false
+
+-- the slot had a replica: some placement that was found, or printed in these turns, has one
+pub record HadReplica (start : Option MetaState) (turns : List InnerTurn) (shard node : ℕ) : Type 0 where
+  pub place : Placement
+  pub known : IsIn (placements start turns) place
+  pub member : IsTrue (has_replica (Some place) shard node)

@@ -13,6 +13,7 @@ use Rattle.m3_model.specs.declared.rules.MetaState.{MetaState}
 use Rattle.m3_model.specs.declared.rules.Rules.{Rules}
 use Rattle.transcripts.specs.Fates.{IsCutAt, IsStoppedAt}
 use Rattle.transcripts.specs.Faults.{Fault, HasFailed, IsDamaged, IsClosedByFault}
+use Rattle.transcripts.specs.Moves.{IsFencedAbove, IsUnowned}
 use Rattle.transcripts.specs.Points.{point_of}
 use Rattle.transcripts.specs.Record.{TurnPlace}
 use Rattle.transcripts.specs.Rules.{rules_at}
@@ -23,13 +24,14 @@ abbrev pub IsShown : Damage → Type 0
 IsShown (damaged.Digest file kept found) = kept ≢ found
 IsShown (damaged.Form file at) = ⊤
 
--- Why the replica of a node for a shard may refuse whatever it is asked: the node is stopped, or a fault closed the replica; it waits for a bootstrap; its disk
--- failed, or its files were found damaged, in this line; or memory is wanted, which may come at any place. Where disks don't tell what they hold, nothing is
--- said of a bootstrap's end and of fences, which the files decide.
+-- Why the replica of a node for a shard may refuse whatever it is asked: the node is stopped, or a fault closed the replica; it waits for a bootstrap; the node
+-- doesn't own the shard at the version; a move of the shard fenced it above the version; its disk failed, or its files were found damaged, in this line; or
+-- memory is wanted, which may come at any place. Where disks don't tell what they hold, nothing is said of a bootstrap's end and of fences, which the files decide.
 abbrev pub MayFail : Bool → List Fault → Option MetaState → TurnPlace → Placement → ℕ → ℕ → Reason → Type 0
 MayFail tells faults start p place shard node reason.Down = IsStoppedAt p place node ⊎ IsClosedByFault faults start p place shard node
 MayFail tells faults start p place shard node reason.Boot = tells ≡ true → WaitsForBoot start p place shard node
-MayFail tells faults start p place shard node (reason.Stale fence) = tells ≡ false
+MayFail tells faults start p place shard node reason.NotOwned = IsUnowned tells start p place shard node
+MayFail tells faults start p place shard node (reason.Stale fence) = tells ≡ true → IsFencedAbove start p place shard fence
 MayFail tells faults start p place shard node reason.Disk = HasFailed faults p shard node
 MayFail tells faults start p place shard node (reason.Corrupt damage) = IsDamaged faults p shard node × IsShown damage
 MayFail tells faults start p place shard node reason.Memory = ⊤

@@ -28,11 +28,15 @@ pub record Waiting : Type 0 where
   pub place : Option Placement
   pub waits : Bool
 
--- whether the replica waits after an act with its answer: a restart of its node has it wait; a bootstrap that covers it ends that, where it is a member
--- from the beginning to the end of that line
+-- a bootstrap that covers the replica was answered ok; it counts where the replica is a member from the beginning to the end of that line
+abbrev pub is_begun_by : Replica → Bool → Act → Answer → Bool
+is_begun_by x stays (act.Bootstrap node asked) (answer.Available available place version) = stays && (pointwise nat_eq x.name node && is_covering x.shard asked)
+is_begun_by x stays _ _ = false
+
+-- whether the replica waits after an act with its answer: a restart of its node has it wait, a bootstrap that covers it ends that
 abbrev pub waits_by : Replica → Bool → Act → Answer → Bool → Bool
 waits_by x stays (act.Restart node pick) answer.Done before = pointwise nat_eq x.name node || before
-waits_by x stays (act.Bootstrap node asked) (answer.Available available place version) before = not (stays && (pointwise nat_eq x.name node && is_covering x.shard asked)) && before
+waits_by x stays (act.Bootstrap node asked) (answer.Available available place version) before = not (is_begun_by x stays (act.Bootstrap node asked) (answer.Available available place version)) && before
 waits_by x stays _ _ before = before
 
 -- the same after several
