@@ -21,7 +21,7 @@ use Rattle.m3_model.specs.Levels.{majority}
 use Rattle.transcripts.specs.Calls.{Call}
 use Rattle.transcripts.specs.Deliveries.{LateMessage}
 use Rattle.transcripts.specs.Record.{TurnPlace}
-use Rattle.told_by.specs.Hears.{AnySlot, Happens, IsMember, IsOwnCall, IsLatePut, IsSweepCall, IsStreamCall, IsRepairCall, IsRestartCall, IsJoinCall, IsBeginCall, HasEnough, HasServed, HasStep, HearsAcks, HearsBy, HearsFound, HearsLate, HearsOutcomes, HearsReason, HearsRefused, HearsShard, HearsShort, HearsStatus, HearsTooFew, IsHeard}
+use Rattle.told_by.specs.Hears.{AnySlot, Happens, IsMember, IsOwnCall, IsLatePut, IsSweepCall, IsStreamCall, IsRepairCall, IsRestartCall, IsJoinCall, IsBeginOf, HasEnough, HasServed, HasStep, HearsAcks, HearsBy, HearsFound, HearsLate, HearsOutcomes, HearsReason, HearsRefused, HearsShard, HearsShort, HearsStatus, HearsTooFew, IsHeard}
 use Rattle.told_by.specs.Makes.{MayMake}
 use Rattle.told_by.specs.Spans.{IsOfTurn}
 
@@ -144,11 +144,11 @@ module _ (start : Option MetaState) (past : List Event) (Old New : ℕ → Event
   hears_on a (answer.Peers got needed reasons s) h = λ x m. reason_on IsStreamCall x.0 s x.1 (h x m)
   hears_on a (answer.Repaired shards) h = λ x m y k. reason_on IsRepairCall y.0 x.shard y.1 (h x m y k)
   hears_on a (answer.Status now replicas version) h = status_on now version replicas h
-  hears_on (act.Init rf shards seed nodes) (answer.Placed place version) h = λ n s tenure given. let step = h n s tenure given in (step.0, step.1, step_on IsBeginCall n s step.0 step.2)
+  hears_on (act.Init rf shards seed nodes) (answer.Placed place version) h = λ n s tenure given. let step = h n s tenure given in (step.0, step.1, step_on (IsBeginOf tenure) n s step.0 step.2)
   hears_on (act.Stop node) answer.Done h = λ n s slot. happens_on (event.Step n s call.Stop reply.Done) (h n s slot)
   hears_on (act.Restart node pick) answer.Done h = λ n s slot. happens_on (event.Step n s call.Restart reply.Done) (h n s slot)
   hears_on (act.Restart node pick) (answer.Disk name s) h = (h.0, refused_on AnySlot node s IsRestartCall reason.Disk h.1)
   hears_on (act.Bootstrap node only) (answer.Disk name s) h = (h.0, h.1, refused_on (IsMember s) node s IsJoinCall reason.Disk h.2)
   hears_on (act.Bootstrap node only) (answer.Corrupt name s damage) h = (h.0, h.1, h.2, refused_on (IsMember s) node s IsJoinCall (reason.Corrupt damage) h.3)
-  hears_on (act.Bootstrap node only) (answer.Available available place version) h = λ n s tenure slot given. let step = h n s tenure slot given in (step.0, step.1, step_on IsBeginCall n s step.0 step.2)
+  hears_on (act.Bootstrap node only) (answer.Available available place version) h = λ n s tenure slot given. let step = h n s tenure slot given in (step.0, step.1, step_on (IsBeginOf tenure) n s step.0 step.2)
   hears_on _ _ h = h

@@ -28,7 +28,7 @@ use Rattle.m3_model.specs.declared.placement.ShardState.TheVariants.{Available}
 use Rattle.cluster_core.specs.declared.event.Asked.TheVariants as asked
 use Rattle.cluster_core.specs.declared.event.StepCall.TheVariants as call
 use Rattle.transcripts.specs.Placements.{IsCounted, counted_nodes}
-use Rattle.told_by.specs.Hears.{HasServed, HasStep, HearsOpened, InStretch, IsBeginCall, IsFirstBegun}
+use Rattle.told_by.specs.Hears.{HasServed, HasStep, HearsOpened, InStretch, IsBeginOf, IsFirstBegun}
 use Rattle.placement_core.proofs.ListLemmas.{IsIn-from_Any}
 use Rattle.told_by.specs.Lines.{IsAskOrStep, AreSteps, Finds, place_after}
 use Rattle.told_by.specs.Makes.{CountsOwnPuts, CountsOwnReads, EndsRestart, MayMake}
@@ -103,10 +103,12 @@ opened_here node zero tenure given =
     let own : Assignment = record { node = 0; tenure = 1; state = Available; source = None } in
     let x = IsIn-from_Any (λ (a : Assignment). (a.node ≡ node) × (a.tenure ≡ tenure)) given.0 given.2 in
     let m : IsIn (own ∷ []) x.0 = subst (λ assignments. IsIn assignments x.0) (sym (some_same (own ∷ []) given.0 given.1)) x.1 in
-    elim m as (λ _. (a : StepReply) × IsFirstBegun a × HasStep (InStretch of_init 0 4) IsBeginCall node 0 a) [
+    elim m as (λ _. (a : StepReply) × IsFirstBegun a × HasStep (InStretch of_init 0 4) (IsBeginOf tenure) node 0 a) [
       | inl same ↦
           let here : 0 ≡ node = ap (λ (a : Assignment). a.node) same ∙ (x.2).0 in
-          subst (λ n. (a : StepReply) × IsFirstBegun a × HasStep (InStretch of_init 0 4) IsBeginCall n 0 a) here (reply.Began 1 [], tt, (begin, tt, (3, (omega arith, omega arith, refl))))
+          let with_it : 1 ≡ tenure = ap (λ (a : Assignment). a.tenure) same ∙ (x.2).1 in
+          subst (λ k. (a : StepReply) × IsFirstBegun a × HasStep (InStretch of_init 0 4) (IsBeginOf k) node 0 a) with_it
+          (subst (λ n. (a : StepReply) × IsFirstBegun a × HasStep (InStretch of_init 0 4) (IsBeginOf 1) n 0 a) here (reply.Began 1 [], tt, (begin, refl, (3, (omega arith, omega arith, refl)))))
       | inr nobody ↦ absurd nobody
     ]
 opened_here node (suc shard) tenure given = absurd (let bad = given.1 in cc)

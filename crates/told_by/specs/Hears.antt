@@ -257,10 +257,9 @@ IsBegun (reply.Refused reason.Down) = ⊤
 IsBegun (reply.Refused reason.NotOwned) = ⊤
 IsBegun _ = ⊥
 
--- a call that begins a replica
-abbrev pub IsBeginCall : StepCall → Type 0
-IsBeginCall (call.Begin tenure) = ⊤
-IsBeginCall _ = ⊥
+-- the call begins a replica with this tenure
+abbrev pub IsBeginOf : ℕ → StepCall → Type 0
+IsBeginOf tenure c = c ≡ call.Begin tenure
 
 -- an `init` that was answered ok began each replica, but for ones that a fault closed and ones that the node doesn't own
 abbrev pub IsFirstBegun : StepReply → Type 0
@@ -271,11 +270,11 @@ IsFirstBegun (reply.Refused (reason.Corrupt damage)) = ⊤
 IsFirstBegun _ = ⊥
 
 abbrev pub HearsOpened : (ℕ → Event → Type 0) → Placement → Type 0
-HearsOpened Here place = (node shard tenure : ℕ) → IsAssigned place node shard tenure → (a : StepReply) × IsFirstBegun a × HasStep Here IsBeginCall node shard a
+HearsOpened Here place = (node shard tenure : ℕ) → IsAssigned place node shard tenure → (a : StepReply) × IsFirstBegun a × HasStep Here (IsBeginOf tenure) node shard a
 
 abbrev pub HearsBegun : List Event → (ℕ → Event → Type 0) → List ℕ → Option ℕ → Type 0
 HearsBegun past Here name only =
-    (node shard tenure : ℕ) → (slot : IsCoveredSlot past name only node shard) → IsAssigned slot.of_node.place node shard tenure → (a : StepReply) × IsBegun a × HasStep Here IsBeginCall node shard a
+    (node shard tenure : ℕ) → (slot : IsCoveredSlot past name only node shard) → IsAssigned slot.of_node.place node shard tenure → (a : StepReply) × IsBegun a × HasStep Here (IsBeginOf tenure) node shard a
 
 -- what a replica says of itself in a `status` is the report of a step
 abbrev pub HearsReport : (ℕ → Event → Type 0) → StatusLine → Type 0

@@ -34,8 +34,8 @@ use Rattle.cluster_core.proofs.TraceLemmas.{lawful_step, replica_own, replica_su
 use Rattle.transcripts.specs.Placements.{has_replica, later_placement, placement_after, printed, start_placement}
 use Rattle.transcripts.specs.Record.{InnerTurn, TurnPlace, IsTurnPlace, inner_turns, joined, lists_of}
 use Rattle.transcripts.specs.Waiting.{Replica, is_assigned, is_covering, is_member, waiting_after, waits_after, waits_at}
-use Rattle.told_by.specs.Hears.{HearsBegun, HearsBy, HearsOpened, InStretch, IsBeginCall, IsBegun, IsFirstBegun}
-use Rattle.told_by.specs.Makes.{EndsRestart, IsCoveredSlot, MayAsk}
+use Rattle.told_by.specs.Hears.{HearsBegun, HearsBy, HearsOpened, InStretch, IsBeginOf, IsBegun, IsFirstBegun}
+use Rattle.told_by.specs.Makes.{EndsRestart, IsAssigned, IsCoveredSlot, MayAsk}
 use Rattle.told_by.specs.Openings.{IsInitOf, opening_length, sets_seed}
 use Rattle.told_by.specs.Spans.{From}
 use Rattle.told_by.specs.Told.{ToldBy}
@@ -103,7 +103,7 @@ init_of _ _ e = absurd (let bad : false ≡ true = e in cc)
 
 -- ---- the slot
 
-module _ (start : Option MetaState) (turns : List Turn) (events : List Event) (legal : Legal true events) (told : ToldBy start turns events) (alone : BootsAlone turns) (n s : ℕ) (name : List ℕ) (known : IsKnownSlot events n s name) where
+module _ (start : Option MetaState) (turns : List Turn) (events : List Event) (legal : Legal true events) (told : ToldBy start turns events) (alone : BootsAlone turns) (n s : ℕ) (name : List ℕ) (known : IsKnownSlot start turns events told n s name) where
   abbrev x : Replica
   x = record { shard = s; node = n; name = name }
 
@@ -113,23 +113,18 @@ module _ (start : Option MetaState) (turns : List Turn) (events : List Event) (l
   stands_after : (i : ℕ) (c : StepCall) (a : StepReply) → At events i (event.Step n s c a) → (replica n s (take (suc i) events)).standing ≡ (after (replica n s (take i events)) c a).standing
   stands_after i c a there = ap (λ (r : ReplicaState). r.standing) (replica_own events legal n s i c a there)
 
-  by_reply : (i tenure : ℕ) (a : StepReply) → IsBegun a ⊎ IsFirstBegun a → At events i (event.Step n s (call.Begin tenure) a) → BootAt i → BootAt (suc i) → ⊥
-  by_reply i tenure (reply.Began fence points) how there now next = let bad : standing.Open ≡ standing.Boot = sym (stands_after i (call.Begin tenure) (reply.Began fence points) there) ∙ next in cc
-  by_reply i tenure (reply.Refused reason.Down) how there now next =
+  by_reply : (i tenure : ℕ) (a : StepReply) → IsBegun a ⊎ IsFirstBegun a → (a ≡ reply.Refused reason.NotOwned → ⊥) → At events i (event.Step n s (call.Begin tenure) a) → BootAt i → BootAt (suc i) → ⊥
+  by_reply i tenure (reply.Began fence points) how owned there now next = let bad : standing.Open ≡ standing.Boot = sym (stands_after i (call.Begin tenure) (reply.Began fence points) there) ∙ next in cc
+  by_reply i tenure (reply.Refused reason.Down) how owned there now next =
       let r = replica n s (take i events) in
       let down = first_down r (call.Begin tenure) (refused_law true (take i events) n s r (call.Begin tenure) reason.Down (lawful_step events legal i n s (call.Begin tenure) (reply.Refused reason.Down) there)) in
       let bad : standing.Down ≡ standing.Boot = sym down ∙ now in
       cc
-  by_reply i tenure (reply.Refused reason.NotOwned) how there now next = known.owned i tenure there
-  by_reply i tenure (reply.Refused reason.Disk) how there now next = let bad : standing.Down ≡ standing.Boot = sym (stands_after i (call.Begin tenure) (reply.Refused reason.Disk) there) ∙ next in cc
-  by_reply i tenure (reply.Refused (reason.Corrupt damage)) how there now next = let bad : standing.Down ≡ standing.Boot = sym (stands_after i (call.Begin tenure) (reply.Refused (reason.Corrupt damage)) there) ∙ next in cc
-  by_reply i tenure _ (inl h) there now next = absurd h
-  by_reply i tenure _ (inr h) there now next = absurd h
-
-  -- where a replica was to begin, it isn't at boot before and after
-  begin_leaves : (i : ℕ) (c : StepCall) (a : StepReply) → IsBeginCall c → IsBegun a ⊎ IsFirstBegun a → At events i (event.Step n s c a) → BootAt i → BootAt (suc i) → ⊥
-  begin_leaves i (call.Begin tenure) a kind how there now next = by_reply i tenure a how there now next
-  begin_leaves i _ a kind how there now next = absurd kind
+  by_reply i tenure (reply.Refused reason.NotOwned) how owned there now next = owned refl
+  by_reply i tenure (reply.Refused reason.Disk) how owned there now next = let bad : standing.Down ≡ standing.Boot = sym (stands_after i (call.Begin tenure) (reply.Refused reason.Disk) there) ∙ next in cc
+  by_reply i tenure (reply.Refused (reason.Corrupt damage)) how owned there now next = let bad : standing.Down ≡ standing.Boot = sym (stands_after i (call.Begin tenure) (reply.Refused (reason.Corrupt damage)) there) ∙ next in cc
+  by_reply i tenure _ (inl h) owned there now next = absurd h
+  by_reply i tenure _ (inr h) owned there now next = absurd h
 
   -- since the line began, or since a restart in it, the slot is at boot
   record Since (k j : ℕ) : Type 0 where
@@ -249,6 +244,10 @@ module _ (start : Option MetaState) (turns : List Turn) (events : List Event) (l
 
   -- ---- begins
 
+  -- a begin with this tenure stands there
+  begin_is : (tenure i : ℕ) (c : StepCall) (a : StepReply) → IsBeginOf tenure c → At events i (event.Step n s c a) → At events i (event.Step n s (call.Begin tenure) a)
+  begin_is tenure i c a is there = subst (λ x. At events i (event.Step n s x a)) is there
+
   -- a bootstrap of the slot, a member when its line begins, leaves it not at boot
   boot_clash : (k j : ℕ) → ((i : ℕ) → told.ends k ≤ i → i ≤ j → BootAt i) → (q : TurnPlace) → IsTurnPlace turns q → length q.lines ≡ k → (told.spans).to q ≤ j → is_member x (placed x start turns k) ≡ true
       → (node : List ℕ) (asked : Option ℕ) (available : List (ℕ × List ℕ)) (place : Placement) (version : ℕ) → q.turn.act ≡ act.Bootstrap node asked → q.turn.answer ≡ answer.Available available place version → name ≡ node → is_covering s asked ≡ true → ⊥
@@ -274,10 +273,16 @@ module _ (start : Option MetaState) (turns : List Turn) (events : List Event) (l
     where
       by_step : HearsBegun (take ((told.spans).from q) events) (InStretch events ((told.spans).from q) ((told.spans).to q)) node asked → (slot : IsCoveredSlot (take ((told.spans).from q) events) node asked n s) → MemberAt slot.of_node.place s n → told.ends k ≤ (told.spans).from q → ⊥
       by_step hears slot m begins =
-          let step = hears n s (m.assigned).tenure slot (m.shard, m.there, Any-from_IsIn (λ (a : Assignment). (a.node ≡ n) × (a.tenure ≡ (m.assigned).tenure)) m.shard m.assigned m.among (m.of_node, refl)) in
+          let tenure = (m.assigned).tenure in
+          let given : IsAssigned slot.of_node.place n s tenure = (m.shard, m.there, Any-from_IsIn (λ (a : Assignment). (a.node ≡ n) × (a.tenure ≡ tenure)) m.shard m.assigned m.among (m.of_node, refl)) in
+          let step = hears n s tenure slot given in
           let made = step.2 in
-          let at = (made.2).1 in
-          begin_leaves (made.2).0 made.0 step.0 made.1 (inl step.1) at.2 (boots (made.2).0 (omega (arith, begins, at.0)) (omega (arith, at.1, finishes))) (boots (suc (made.2).0) (omega (arith, begins, at.0)) (omega (arith, at.1, finishes)))
+          let i = (made.2).0 in
+          let here = (made.2).1 in
+          let there = begin_is tenure i made.0 step.0 made.1 here.2 in
+          let begins_so : IsBootAct q.turn.act = subst IsBootAct (sym acts) tt in
+          by_reply i tenure step.0 (inl step.1) (λ is. known.owned q at slot.of_node.place (inl (begins_so, slot.of_node.last)) tenure given i (here.0, here.1, subst (λ a. At events i (event.Step n s (call.Begin tenure) a)) is there)) there
+          (boots i (omega (arith, begins, here.0)) (omega (arith, here.1, finishes))) (boots (suc i) (omega (arith, begins, here.0)) (omega (arith, here.1, finishes)))
 
   -- a line that prints the run's first placement is an `init`, which began each of its replicas
   init_clash : (k : ℕ) → k < length turns → ((i : ℕ) → told.ends k ≤ i → i ≤ told.ends (suc k) → BootAt i) → placed x start turns k ≡ None → is_member x (placed x start turns (suc k)) ≡ true → ⊥
@@ -327,14 +332,19 @@ module _ (start : Option MetaState) (turns : List Turn) (events : List Event) (l
           subst (HearsOpened (InStretch events ((told.spans).from q) ((told.spans).to q))) same
           (subst (λ b. HearsBy start (take ((told.spans).from q) events) (InStretch events ((told.spans).from q) ((told.spans).to q)) q (act.Init i.rf i.shards i.seed i.nodes) b) i.answered
           (subst (λ a. HearsBy start (take ((told.spans).from q) events) (InStretch events ((told.spans).from q) ((told.spans).to q)) q a q.turn.answer) i.act_is ((told.tells).hears q at))) in
-          by_step init.place m hears (omega (arith, (told.lines).low q at, ap told.ends line_is)) (omega (arith, (told.lines).high q at, ap (λ m. told.ends (suc m)) line_is)) q
+          by_step init.place m hears (omega (arith, (told.lines).low q at, ap told.ends line_is)) (omega (arith, (told.lines).high q at, ap (λ m. told.ends (suc m)) line_is)) (ap printed init.answered)
         where
-          by_step : (place : Placement) (m : MemberAt place s n) → HearsOpened (InStretch events ((told.spans).from q) ((told.spans).to q)) place → told.ends k ≤ (told.spans).from q → (told.spans).to q ≤ told.ends (suc k) → TurnPlace → ⊥
-          by_step place m hears begins finishes z =
-              let step = hears n s (m.assigned).tenure (m.shard, m.there, Any-from_IsIn (λ (a : Assignment). (a.node ≡ n) × (a.tenure ≡ (m.assigned).tenure)) m.shard m.assigned m.among (m.of_node, refl)) in
+          by_step : (place : Placement) (m : MemberAt place s n) → HearsOpened (InStretch events ((told.spans).from q) ((told.spans).to q)) place → told.ends k ≤ (told.spans).from q → (told.spans).to q ≤ told.ends (suc k) → printed q.turn.answer ≡ Some place → ⊥
+          by_step place m hears begins finishes prints =
+              let tenure = (m.assigned).tenure in
+              let given : IsAssigned place n s tenure = (m.shard, m.there, Any-from_IsIn (λ (a : Assignment). (a.node ≡ n) × (a.tenure ≡ tenure)) m.shard m.assigned m.among (m.of_node, refl)) in
+              let step = hears n s tenure given in
               let made = step.2 in
-              let at = (made.2).1 in
-              begin_leaves (made.2).0 made.0 step.0 made.1 (inr step.1) at.2 (boots (made.2).0 (omega (arith, begins, at.0)) (omega (arith, at.1, finishes))) (boots (suc (made.2).0) (omega (arith, begins, at.0)) (omega (arith, at.1, finishes)))
+              let i = (made.2).0 in
+              let here = (made.2).1 in
+              let there = begin_is tenure i made.0 step.0 made.1 here.2 in
+              by_reply i tenure step.0 (inr step.1) (λ is. known.owned q at place (inr (init.sets, prints)) tenure given i (here.0, here.1, subst (λ a. At events i (event.Step n s (call.Begin tenure) a)) is there)) there
+              (boots i (omega (arith, begins, here.0)) (omega (arith, here.1, finishes))) (boots (suc i) (omega (arith, begins, here.0)) (omega (arith, here.1, finishes)))
 
       by_start : (o : Option MetaState) → start ≡ o → ⊥
       by_start (Some state) is = let up = after_up (inner_turns (take k turns)) (start_placement start) state.place (ap start_placement is) in let bad : None ≡ Some up.0 = sym none ∙ up.1 in cc

@@ -177,7 +177,7 @@ module _ (start : Option MetaState) (turns : List Turn) (events : List Event) (l
   calls_halt_nothing (act.Restart node pick) e h = cc
   calls_halt_nothing _ e h = h
 
-  reason_said : is_call p.turn.act ≡ true → (place : Placement) (shard node : ℕ) → (steady : IsSteadyNode start turns events told p place shard node) → (why : Reason) → IsExplained (IsKnownMember start turns events p shard node steady.name) (MayFail true faults start p place shard node) why → IsHeard start (Within events told.spans p) p place shard node why → MayRefuse true faults start p place shard node why
+  reason_said : is_call p.turn.act ≡ true → (place : Placement) (shard node : ℕ) → (steady : IsSteadyNode start turns events told p place shard node) → (why : Reason) → IsExplained (IsKnownMember start turns events told p shard node steady.name) (MayFail true faults start p place shard node) why → IsHeard start (Within events told.spans p) p place shard node why → MayRefuse true faults start p place shard node why
   reason_said calls place shard node steady reason.Cut known h = h
   reason_said calls place shard node steady reason.Memory known h = tt
   reason_said calls place shard node steady reason.Past known h = let s = (h.2).1 in refused_past place.version node shard (h.2).0 h.0 h.1 s.2

@@ -79,11 +79,11 @@ one_place i p done there = each_at (λ k x. x ≡ event.Place p done → place �
 abbrev node : Instance
 node = record { name = name; group = name; listed = true; drained = false }
 
-slot : IsKnownSlot events 0 0 name
-slot = record {
+slot : (told : ToldBy (Some found) turns events) → IsKnownSlot (Some found) turns events told 0 0 name
+slot told = record {
   everywhere = λ i p done own there is. let here : slice_get place.instances 0 ≡ Some own = ap (λ (q : Placement). slice_get q.instances 0) (one_place i p done there) ∙ is in let same : node ≡ own = some_same node own here in ap (λ (x : Instance). x.name) (sym same);
   has_name = λ i p done there has. subst (λ (q : Placement). OfNode q 0 (λ own. own ≡ name)) (one_place i p done there) (record { instance_ = node; stands = refl; holds = refl });
-  owned = λ i tenure there. each_at (λ k x. x ≡ event.Step 0 0 (call.Begin tenure) (reply.Refused reason.NotOwned) → ⊥) 0 events ((λ e. cc), ((λ e. cc), ((λ e. cc), ((λ e. cc), tt)))) i (event.Step 0 0 (call.Begin tenure) (reply.Refused reason.NotOwned)) there refl;
+  owned = λ q at over begins tenure given i here. each_at (λ k x. x ≡ event.Step 0 0 (call.Begin tenure) (reply.Refused reason.NotOwned) → ⊥) 0 events ((λ e. cc), ((λ e. cc), ((λ e. cc), ((λ e. cc), tt)))) i (event.Step 0 0 (call.Begin tenure) (reply.Refused reason.NotOwned)) here.2 refl;
 }
 
 alone : BootsAlone turns
@@ -100,7 +100,7 @@ pub boot_is_heard : BootIsHeard
 boot_is_heard = (
   told,
   legal,
-  record { alone = alone; slot = slot; was = record { lines = 0; not_later = omega arith; member = refl } },
+  record { alone = alone; slot = slot told; was = record { lines = 0; not_later = omega arith; member = refl } },
   (
     3,
     (

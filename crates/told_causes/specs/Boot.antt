@@ -1,11 +1,12 @@
 -- Why a replica isn't begun: it waits for a bootstrap since the run opened, since it was assigned, or since its node was restarted.
-use Rattle.std.specs.Prelude.{◌≡◌, ◌≤◌, ℕ, ⊤, List, length, take, Option, Some, true, IsTrue}
+use Rattle.std.specs.Prelude.{◌≡◌, ◌⊎◌, ◌≤◌, ℕ, ⊤, List, length, take, Option, Some, true, IsTrue}
 use Rattle.m3_model.specs.declared.act.Act.{Act}
 use Rattle.m3_model.specs.declared.act.Act.TheVariants as act
 use Rattle.m3_model.specs.declared.placement.Placement.{Placement}
 use Rattle.m3_model.specs.declared.reason.Reason.TheVariants as reason
 use Rattle.m3_model.specs.declared.rules.MetaState.{MetaState}
 use Rattle.m3_model.specs.declared.turn.Turn.{Turn}
+use Rattle.cluster_core.specs.Earlier.{last_place}
 use Rattle.cluster_core.specs.Legal.{Legal}
 use Rattle.cluster_core.specs.Lists.{At}
 use Rattle.cluster_core.specs.declared.event.Event.{Event}
@@ -14,10 +15,12 @@ use Rattle.cluster_core.specs.declared.event.StepCall.{StepCall}
 use Rattle.cluster_core.specs.declared.event.StepCall.TheVariants as call
 use Rattle.cluster_core.specs.declared.event.StepReply.TheVariants as reply
 use Rattle.transcripts.specs.Fates.{OfNode}
-use Rattle.transcripts.specs.Placements.{has_replica, placement_after, start_placement}
+use Rattle.transcripts.specs.Placements.{has_replica, placement_after, printed, start_placement}
 use Rattle.transcripts.specs.Record.{TurnPlace, IsTurnPlace, inner_turns}
 use Rattle.transcripts.specs.Waiting.{WaitsForBoot, waits_at}
 use Rattle.told_by.specs.Hears.{Happens, InStretch, IsNamedBy}
+use Rattle.told_by.specs.Makes.{IsAssigned}
+use Rattle.told_by.specs.Openings.{sets_seed}
 use Rattle.told_by.specs.Spans.{IsAlone}
 use Rattle.told_by.specs.Told.{ToldBy}
 use Rattle.told_causes.specs.Standing.{IsHaltAct}
@@ -31,11 +34,21 @@ IsBootAct _ = ⊥
 abbrev pub BootsAlone : List Turn → Type 0
 BootsAlone turns = (q : TurnPlace) → IsTurnPlace turns q → IsBootAct q.turn.act → IsAlone turns q
 
+-- the turn begins replicas over this placement: a bootstrap over the one that stands, an `init` over the one that it prints
+abbrev pub BeginsOver : List Event → ℕ → TurnPlace → Placement → Type 0
+BeginsOver events from q place = (IsBootAct q.turn.act × (last_place (take from events) ≡ Some place)) ⊎ ((sets_seed q.turn.act q.turn.answer ≡ true) × (printed q.turn.answer ≡ Some place))
+
+-- a turn that begins the slot with the tenure which its placement gives isn't refused as not owned
+abbrev pub OwnsWhereBegun : (start : Option MetaState) (turns : List Turn) (events : List Event) → ToldBy start turns events → ℕ → ℕ → Type 0
+OwnsWhereBegun start turns events told node shard =
+    (q : TurnPlace) → IsTurnPlace turns q → (place : Placement) → BeginsOver events (told.spans.from q) q place → (tenure : ℕ) → IsAssigned place node shard tenure
+    → (i : ℕ) → InStretch events (told.spans.from q) (told.spans.to q) i (event.Step node shard (call.Begin tenure) (reply.Refused reason.NotOwned)) → ⊥
+
 -- each Place with the slot has its node by this name, and files that hold a higher tenure refuse no begin of it
-pub record IsKnownSlot (events : List Event) (node shard : ℕ) (name : List ℕ) : Type 0 where
+pub record IsKnownSlot (start : Option MetaState) (turns : List Turn) (events : List Event) (told : ToldBy start turns events) (node shard : ℕ) (name : List ℕ) : Type 0 where
   pub everywhere : IsNamedBy events node name
   pub has_name : (i : ℕ) (place : Placement) (done : List (ℕ × ℕ)) → At events i (event.Place place done) → IsTrue (has_replica (Some place) shard node) → OfNode place node (λ own. own ≡ name)
-  pub owned : (i tenure : ℕ) → At events i (event.Step node shard (call.Begin tenure) (reply.Refused reason.NotOwned)) → ⊥
+  pub owned : OwnsWhereBegun start turns events told node shard
 
 -- the slot's replica was a member before the turn's line, or before an earlier one
 pub record WasMember (start : Option MetaState) (p : TurnPlace) (shard node : ℕ) : Type 0 where
@@ -44,16 +57,16 @@ pub record WasMember (start : Option MetaState) (p : TurnPlace) (shard node : �
   pub member : IsTrue (has_replica (placement_after (start_placement start) (inner_turns (take lines p.lines))) shard node)
 
 -- what is known of a replica that is asked: bootstraps are alone in their lines, its slot is known, and it was a member
-pub record IsKnownMember (start : Option MetaState) (turns : List Turn) (events : List Event) (p : TurnPlace) (shard node : ℕ) (name : List ℕ) : Type 0 where
+pub record IsKnownMember (start : Option MetaState) (turns : List Turn) (events : List Event) (told : ToldBy start turns events) (p : TurnPlace) (shard node : ℕ) (name : List ℕ) : Type 0 where
   pub alone : BootsAlone turns
-  pub slot : IsKnownSlot events node shard name
+  pub slot : IsKnownSlot start turns events told node shard name
   pub was : WasMember start p shard node
 
 -- Where a step of a turn that stops and restarts nothing is refused as not begun, its replica waits for a bootstrap.
 abbrev pub BootHasCause : Type 0
 BootHasCause =
     (start : Option MetaState) (turns : List Turn) (events : List Event) → Legal true events → (told : ToldBy start turns events) → (p : TurnPlace) → IsTurnPlace turns p → ¬ IsHaltAct p.turn.act
-    → (node shard : ℕ) (name : List ℕ) → IsKnownMember start turns events p shard node name
+    → (node shard : ℕ) (name : List ℕ) → IsKnownMember start turns events told p shard node name
     → (c : StepCall) → Happens (InStretch events (told.spans.from p) (told.spans.to p)) (event.Step node shard c (reply.Refused reason.Boot)) → waits_at (record { shard = shard; node = node; name = name }) start p ≡ true
 
 -- So where the placement calls the node so, a transcript says why it isn't begun.

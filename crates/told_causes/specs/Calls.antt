@@ -51,7 +51,7 @@ pub record IsSteadyNode (start : Option MetaState) (turns : List Turn) (events :
 abbrev pub ReasonsAreSaid : Type 0
 ReasonsAreSaid =
     (start : Option MetaState) (turns : List Turn) (events : List Event) → Legal true events → (told : ToldBy start turns events) → (p : TurnPlace) → IsTurnPlace turns p → IsTrue (is_call p.turn.act)
-    → (place : Placement) (shard node : ℕ) → (steady : IsSteadyNode start turns events told p place shard node) → (why : Reason) → IsExplained (IsKnownMember start turns events p shard node steady.name) (MayFail true (faults_told told.ends events (length turns)) start p place shard node) why
+    → (place : Placement) (shard node : ℕ) → (steady : IsSteadyNode start turns events told p place shard node) → (why : Reason) → IsExplained (IsKnownMember start turns events told p shard node steady.name) (MayFail true (faults_told told.ends events (length turns)) start p place shard node) why
     → IsHeard start (Within events told.spans p) p place shard node why → MayRefuse true (faults_told told.ends events (length turns)) start p place shard node why
 
 -- Where a replica did as a write asks, the write's point is one that is taken at this moment.
@@ -78,7 +78,7 @@ ServedAreNamed start events spans p = (place : Placement) → IsUsedBy start p p
 abbrev pub AllAreExplained : (start : Option MetaState) (turns : List Turn) (events : List Event) → ToldBy start turns events → TurnPlace → Type 0
 AllAreExplained start turns events told p =
     (place : Placement) → IsUsedBy start p place → (shard node : ℕ) (why : Reason) → IsCounted place shard node → IsHeard start (Within events told.spans p) p place shard node why
-    → (steady : IsSteadyNode start turns events told p place shard node) × IsExplained (IsKnownMember start turns events p shard node steady.name) (MayFail true (faults_told told.ends events (length turns)) start p place shard node) why
+    → (steady : IsSteadyNode start turns events told p place shard node) × IsExplained (IsKnownMember start turns events told p shard node steady.name) (MayFail true (faults_told told.ends events (length turns)) start p place shard node) why
 
 -- What is known of a call: it is one of a run that a legal list tells of, stops are alone in their lines, nodes have one name, and what it hears is explained.
 pub record IsKnownCall (start : Option MetaState) (turns : List Turn) (events : List Event) (told : ToldBy start turns events) (p : TurnPlace) : Type 0 where

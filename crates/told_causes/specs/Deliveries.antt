@@ -25,7 +25,7 @@ pub record IsKnownDelivery (start : Option MetaState) (turns : List Turn) (event
   pub halts : HaltsAlone turns
   pub named : (m : LateMessage) → IsLateMessage start p m → (shard : ℕ) → HearsLate start (Within events told.spans p) p m shard None → IsNamedOnce events m.used m.node
   pub explained : (m : LateMessage) → IsLateMessage start p m → (shard : ℕ) (why : Reason) → HearsLate start (Within events told.spans p) p m shard (Some why)
-      → (steady : IsSteadyNode start turns events told p m.used shard m.node) × IsExplained (IsKnownMember start turns events p shard m.node steady.name) (MayFail true (faults_told told.ends events (length turns)) start p m.used shard m.node) why
+      → (steady : IsSteadyNode start turns events told p m.used shard m.node) × IsExplained (IsKnownMember start turns events told p shard m.node steady.name) (MayFail true (faults_told told.ends events (length turns)) start p m.used shard m.node) why
 
 -- The outcomes of a `deliver` are those of late messages, each with its cause.
 abbrev pub OutcomesAreSaid : Type 0

@@ -38,7 +38,7 @@ ticking = place_after [] act.Tick swept
 -- The premises of the cause of such a refusal can be met: a legal list tells of the run, the replica is a known member, and the refusal happens in the turn's stretch.
 abbrev pub BootIsHeard : Type 0
 BootIsHeard =
-    (told : ToldBy (Some found) turns events) × Legal true events × IsKnownMember (Some found) turns events ticking 0 0 name
+    (told : ToldBy (Some found) turns events) × Legal true events × IsKnownMember (Some found) turns events told ticking 0 0 name
     × Happens (InStretch events (told.spans.from ticking) (told.spans.to ticking)) (event.Step 0 0 (call.Tick rules) (reply.Refused reason.Boot))
 
 -- ---- the short run
