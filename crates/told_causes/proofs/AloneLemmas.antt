@@ -118,6 +118,23 @@ module _ (start : Option MetaState) (turns : List Turn) (events : List Event) (l
   pub lines_before : (q : TurnPlace) → IsTurnPlace turns q → take (length q.lines) turns ≡ q.lines
   lines_before q at = ap (take (length q.lines)) at.in_run ∙ take_front q.lines (q.line ∷ at.after) (length q.lines) (omega arith) ∙ take_all q.lines
 
+  -- where a placement stands when the only turn of a line begins, some event stands before the line
+  pub opened : (q : TurnPlace) → IsTurnPlace turns q → IsAlone turns q → length q.lines < length turns → (place : Placement) → last_place (take ((told.spans).from q) events) ≡ Some place → 1 ≤ told.ends (length q.lines)
+  opened q at only less place last =
+      elim (cases_lt 0 (told.ends (length q.lines))) as (λ _. 1 ≤ told.ends (length q.lines)) [
+        | inl some ↦ some
+        | inr none ↦
+            let there = place_there (take ((told.spans).from q) events) place last in
+            let before = at_take events there.0 ((told.spans).from q) (event.Place place there.1) there.2 in
+            let e = at_some events 0 (omega (arith, at_within events there.0 (event.Place place there.1) before.0)) in
+            let b = (told.tells).init.begun (omega (arith, (told.lines).first, ends_grow start turns events legal told 0 (length q.lines) (omega arith) (omega (arith, less)), none)) e.0 e.1 in
+            let init = b.2 in
+            let early : length (b.0).lines < length turns = line_below turns (b.0) (b.1) in
+            let same = one_line start turns events legal told 0 (length (b.0).lines) (length q.lines) early less (omega (arith, (told.lines).low b.0 b.1, init.from_is)) (omega (arith, (told.lines).high b.0 b.1, init.to_above)) (omega (arith, none)) (omega (arith, before.1, (told.tells).order.not_back q at, (told.lines).high q at)) in
+            let from : (told.spans).from q ≡ 0 = subst (λ z. (told.spans).from z ≡ 0) (alone_place turns q b.0 only at b.1 same) init.from_is in
+            absurd (omega (arith, from, before.1))
+      ]
+
   -- the placement that stands where the only turn of a line begins is the one before the line
   pub stands_alone : (q : TurnPlace) → IsTurnPlace turns q → IsAlone turns q → (place : Placement) → last_place (take ((told.spans).from q) events) ≡ Some place → placement_at start q ≡ Some place
   stands_alone q at only place last =
@@ -126,20 +143,3 @@ module _ (start : Option MetaState) (turns : List Turn) (events : List Event) (l
       ∙ sym (placements_stand start turns events legal told (length q.lines) (omega (arith, less)))
       ∙ sym (quiet_line q at only (opened q at only less place last))
       ∙ last
-    where
-      -- some event stands before the line
-      opened : (q : TurnPlace) → IsTurnPlace turns q → IsAlone turns q → length q.lines < length turns → (place : Placement) → last_place (take ((told.spans).from q) events) ≡ Some place → 1 ≤ told.ends (length q.lines)
-      opened q at only less place last =
-          elim (cases_lt 0 (told.ends (length q.lines))) as (λ _. 1 ≤ told.ends (length q.lines)) [
-            | inl some ↦ some
-            | inr none ↦
-                let there = place_there (take ((told.spans).from q) events) place last in
-                let before = at_take events there.0 ((told.spans).from q) (event.Place place there.1) there.2 in
-                let e = at_some events 0 (omega (arith, at_within events there.0 (event.Place place there.1) before.0)) in
-                let b = (told.tells).init.begun (omega (arith, (told.lines).first, ends_grow start turns events legal told 0 (length q.lines) (omega arith) (omega (arith, less)), none)) e.0 e.1 in
-                let init = b.2 in
-                let early : length (b.0).lines < length turns = line_below turns (b.0) (b.1) in
-                let same = one_line start turns events legal told 0 (length (b.0).lines) (length q.lines) early less (omega (arith, (told.lines).low b.0 b.1, init.from_is)) (omega (arith, (told.lines).high b.0 b.1, init.to_above)) (omega (arith, none)) (omega (arith, before.1, (told.tells).order.not_back q at, (told.lines).high q at)) in
-                let from : (told.spans).from q ≡ 0 = subst (λ z. (told.spans).from z ≡ 0) (alone_place turns q b.0 only at b.1 same) init.from_is in
-                absurd (omega (arith, from, before.1))
-          ]

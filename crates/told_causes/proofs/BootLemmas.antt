@@ -1,6 +1,6 @@
 -- A replica that isn't begun waits for a bootstrap.
-use Rattle.std.proofs.Common.{◌≡◌, ℕ, zero, suc, ◌<◌, ◌≤◌, ◌+◌, ◌-◌, List, [], ◌∷◌, ◌++◌, take, length, refl, sym, ap, ◌∙◌, subst, inl, inr, arith, Bool, true, false, append-nil, length-append}
-use Rattle.std.specs.Prelude.{◌⊎◌, Some, None, Option, not, nat_eq, ◌&&◌, ◌||◌, is_some}
+use Rattle.std.proofs.Common.{◌≡◌, ℕ, zero, suc, ◌<◌, ◌≤◌, ◌+◌, ◌-◌, List, [], ◌∷◌, ◌++◌, take, length, refl, sym, ap, ◌∙◌, subst, inl, inr, arith, Bool, true, false, append-nil}
+use Rattle.std.specs.Prelude.{◌⊎◌, Some, None, Option, nat_eq, ◌&&◌, ◌||◌, is_some}
 use Rattle.std.specs.Cmp.Lexicographic.{pointwise}
 use Rattle.std.proofs.lemmas.Bool.{cases_eq, cases_lt}
 use Rattle.m3_model.specs.Members.{IsIn}
@@ -31,13 +31,14 @@ use Rattle.cluster_core.specs.declared.replica_state.ReplicaState.{ReplicaState}
 use Rattle.cluster_core.proofs.ListLemmas.{at_some, at_take, some_same}
 use Rattle.cluster_core.proofs.PlaceLemmas.{placed_at}
 use Rattle.cluster_core.proofs.TraceLemmas.{lawful_step, replica_own, replica_suc, step_cases}
+use Rattle.transcripts.specs.Fates.{OfNode}
 use Rattle.transcripts.specs.Placements.{has_replica, later_placement, placement_after, printed, start_placement}
 use Rattle.transcripts.specs.Record.{InnerTurn, TurnPlace, IsTurnPlace, inner_turns, joined, lists_of}
 use Rattle.transcripts.specs.Waiting.{Replica, is_assigned, is_covering, is_member, waiting_after, waits_after, waits_at}
 use Rattle.told_by.specs.Hears.{HearsBegun, HearsBy, HearsOpened, InStretch, IsBeginOf, IsBegun, IsFirstBegun}
 use Rattle.told_by.specs.Makes.{EndsRestart, IsAssigned, IsCoveredSlot, MayAsk}
 use Rattle.told_by.specs.Openings.{IsInitOf, opening_length, sets_seed}
-use Rattle.told_by.specs.Spans.{From}
+use Rattle.told_by.specs.Spans.{From, IsAlone}
 use Rattle.told_by.specs.Told.{ToldBy}
 use Rattle.told_by.proofs.LeaveLemmas.{place_there}
 use Rattle.told_by.proofs.LineLemmas.{line_below, take_front}
@@ -50,7 +51,7 @@ use Rattle.told_causes.specs.Standing.{IsHaltAct}
 use Rattle.told_causes.proofs.HaltLemmas.{last_name, late_step, one_line, opening_low}
 use Rattle.told_causes.proofs.NameLemmas.{name_is}
 use Rattle.told_causes.proofs.RefusalLemmas.{first_boot, first_down, refused_law}
-use Rattle.told_causes.proofs.WaitLemmas.{EndsWait, MemberAt, and_both, member_at, member_place, or_right, placed, placed_next, restart_waits, waiting, waiting_place, waits_next, waits_on}
+use Rattle.told_causes.proofs.WaitLemmas.{EndsWait, MemberAt, and_both, assigned_by, member_at, member_place, or_right, placed, placed_next, restart_waits, waiting, waiting_place, waits_next, waits_on}
 
 -- ---- one step
 
@@ -82,7 +83,7 @@ boot_by r (call.Begin tenure) (reply.Began fence points) e = absurd (let bad : s
 boot_by r (call.Begin tenure) a e = inl e
 boot_by r _ _ e = inl e
 
-true_or_not : (b : Bool) → (b ≡ true) ⊎ (b ≡ false)
+pub true_or_not : (b : Bool) → (b ≡ true) ⊎ (b ≡ false)
 true_or_not true = inl refl
 true_or_not false = inr refl
 
@@ -100,6 +101,57 @@ record IsInit (a : Act) (b : Answer) : Type 0 where
 init_of : (a : Act) (b : Answer) → sets_seed a b ≡ true → IsInit a b
 init_of (act.Init rf shards seed nodes) (answer.Placed place version) e = record { rf = rf; shards = shards; seed = seed; nodes = nodes; place = place; version = version; act_is = refl; answered = refl }
 init_of _ _ e = absurd (let bad : false ≡ true = e in cc)
+
+-- ---- bootstraps
+
+-- none is earlier in the list of a turn: it is alone in its line
+pub no_boot_earlier : (turns : List Turn) → BootsAlone turns → (p : TurnPlace) → IsTurnPlace turns p → (t : InnerTurn) → IsIn p.earlier t → IsBootAct t.act → ⊥
+no_boot_earlier turns alone p at t m boots =
+    let q = own_list turns p at t m in
+    let same = alone_place turns q.place p (alone q.place q.in_run (subst (λ (u : InnerTurn). IsBootAct u.act) (sym q.turn_is) boots)) q.in_run at (ap length (sym q.lines_are)) in
+    omega (arith, q.earlier, ap (λ (z : TurnPlace). length z.earlier) same)
+
+-- a begin with this tenure stands there
+begin_is : (events : List Event) (n s tenure i : ℕ) (c : StepCall) (a : StepReply) → IsBeginOf tenure c → At events i (event.Step n s c a) → At events i (event.Step n s (call.Begin tenure) a)
+begin_is events n s tenure i c a is there = subst (λ x. At events i (event.Step n s x a)) is there
+
+-- the turn has a begin of the slot, with the tenure that the placement gives it, where that stands when the turn begins
+pub record HasBegun (events : List Event) (from to n s : ℕ) (stood : Placement) : Type 0 where
+  pub last : last_place (take from events) ≡ Some stood
+  pub tenure : ℕ
+  pub given : IsAssigned stood n s tenure
+  pub answer : StepReply
+  pub begun : IsBegun answer
+  pub place : ℕ
+  pub low : from ≤ place
+  pub high : place < to
+  pub there : At events place (event.Step n s (call.Begin tenure) answer)
+
+-- so a bootstrap that was answered ok, alone in its line, begins each slot that it covers and that is a member when the line begins
+pub covered_begun : (start : Option MetaState) (turns : List Turn) (events : List Event) → Legal true events → (told : ToldBy start turns events) → (q : TurnPlace) → IsTurnPlace turns q → IsAlone turns q
+    → (n s : ℕ) (name : List ℕ) (stood : Placement) → placement_after (start_placement start) (inner_turns (take (length q.lines) turns)) ≡ Some stood → has_replica (Some stood) s n ≡ true
+    → ((i : ℕ) (done : List (ℕ × ℕ)) → At events i (event.Place stood done) → OfNode stood n (λ own. own ≡ name))
+    → (node : List ℕ) (asked : Option ℕ) (available : List (ℕ × List ℕ)) (place : Placement) (version : ℕ) → q.turn.act ≡ act.Bootstrap node asked → q.turn.answer ≡ answer.Available available place version → name ≡ node → is_covering s asked ≡ true
+    → HasBegun events ((told.spans).from q) ((told.spans).to q) n s stood
+covered_begun start turns events legal told q at only n s name stood stands member names node asked available place version acts answers same covers =
+    let k = length q.lines in
+    let from = (told.spans).from q in
+    let last : last_place (take (told.ends k) events) ≡ Some stood = placements_stand start turns events legal told k (omega (arith, line_below turns q at)) ∙ stands in
+    let there = place_there (take (told.ends k) events) stood last in
+    let at_list = at_take events there.0 (told.ends k) (event.Place stood there.1) there.2 in
+    let last_there : last_place (take from events) ≡ Some stood = quiet_line start turns events legal told q at only (omega (arith, at_list.1)) ∙ last in
+    let own = names there.0 there.1 at_list.0 in
+    let slot : IsCoveredSlot (take from events) node asked n s = record { of_node = record { place = stood; last = last_there; named = record { instance_ = own.instance_; stands = own.stands; holds = own.holds ∙ same } }; covers = covers } in
+    let hears : HearsBegun (take from events) (InStretch events from ((told.spans).to q)) node asked =
+    subst (λ b. HearsBy start (take from events) (InStretch events from ((told.spans).to q)) q (act.Bootstrap node asked) b) answers
+    (subst (λ a. HearsBy start (take from events) (InStretch events from ((told.spans).to q)) q a q.turn.answer) acts ((told.tells).hears q at)) in
+    let m = member_at stood s n member in
+    let tenure = (m.assigned).tenure in
+    let given : IsAssigned stood n s tenure = (m.shard, m.there, Any-from_IsIn (λ (a : Assignment). (a.node ≡ n) × (a.tenure ≡ tenure)) m.shard m.assigned m.among (m.of_node, refl)) in
+    let step = hears n s tenure slot given in
+    let made = step.2 in
+    let here = (made.2).1 in
+    record { last = last_there; tenure = tenure; given = given; answer = step.0; begun = step.1; place = (made.2).0; low = here.0; high = here.1; there = begin_is events n s tenure (made.2).0 made.0 step.0 made.1 here.2 }
 
 -- ---- the slot
 
@@ -244,45 +296,20 @@ module _ (start : Option MetaState) (turns : List Turn) (events : List Event) (l
 
   -- ---- begins
 
-  -- a begin with this tenure stands there
-  begin_is : (tenure i : ℕ) (c : StepCall) (a : StepReply) → IsBeginOf tenure c → At events i (event.Step n s c a) → At events i (event.Step n s (call.Begin tenure) a)
-  begin_is tenure i c a is there = subst (λ x. At events i (event.Step n s x a)) is there
-
   -- a bootstrap of the slot, a member when its line begins, leaves it not at boot
   boot_clash : (k j : ℕ) → ((i : ℕ) → told.ends k ≤ i → i ≤ j → BootAt i) → (q : TurnPlace) → IsTurnPlace turns q → length q.lines ≡ k → (told.spans).to q ≤ j → is_member x (placed x start turns k) ≡ true
       → (node : List ℕ) (asked : Option ℕ) (available : List (ℕ × List ℕ)) (place : Placement) (version : ℕ) → q.turn.act ≡ act.Bootstrap node asked → q.turn.answer ≡ answer.Available available place version → name ≡ node → is_covering s asked ≡ true → ⊥
   boot_clash k j boots q at line_is finishes member node asked available place version acts answers same covers =
-      let only = alone q at (subst IsBootAct (sym acts) tt) in
-      let less : k < length turns = omega (arith, sym line_is, ap length at.in_run, length-append q.lines (q.line ∷ at.after)) in
+      let begins_so : IsBootAct q.turn.act = subst IsBootAct (sym acts) tt in
       let p = member_place (placed x start turns k) s n member in
-      let last : last_place (take (told.ends k) events) ≡ Some p.0 = placements_stand start turns events legal told k (omega (arith, less)) ∙ p.1 in
-      let begins : told.ends k ≤ (told.spans).from q = omega (arith, (told.lines).low q at, ap told.ends line_is) in
-      let there = place_there (take (told.ends k) events) p.0 last in
-      let at_list = at_take events there.0 (told.ends k) (event.Place p.0 there.1) there.2 in
-      let last_there : last_place (take ((told.spans).from q) events) ≡ Some p.0 =
-      quiet_line start turns events legal told q at only (omega (arith, ap told.ends line_is, at_list.1)) ∙ ap (λ m. last_place (take (told.ends m) events)) line_is ∙ last in
       let is_there : has_replica (Some p.0) s n ≡ true = subst (λ o. has_replica o s n ≡ true) p.1 member in
-      let own = known.has_name there.0 p.0 there.1 at_list.0 is_there in
-      let slot : IsCoveredSlot (take ((told.spans).from q) events) node asked n s =
-      record { of_node = record { place = p.0; last = last_there; named = record { instance_ = own.instance_; stands = own.stands; holds = subst (λ m. (own.instance_).name ≡ m) same own.holds } }; covers = covers } in
-      let hears : HearsBegun (take ((told.spans).from q) events) (InStretch events ((told.spans).from q) ((told.spans).to q)) node asked =
-      subst (λ b. HearsBy start (take ((told.spans).from q) events) (InStretch events ((told.spans).from q) ((told.spans).to q)) q (act.Bootstrap node asked) b) answers
-      (subst (λ a. HearsBy start (take ((told.spans).from q) events) (InStretch events ((told.spans).from q) ((told.spans).to q)) q a q.turn.answer) acts ((told.tells).hears q at)) in
-      let m = member_at p.0 s n is_there in
-      by_step hears slot m begins
-    where
-      by_step : HearsBegun (take ((told.spans).from q) events) (InStretch events ((told.spans).from q) ((told.spans).to q)) node asked → (slot : IsCoveredSlot (take ((told.spans).from q) events) node asked n s) → MemberAt slot.of_node.place s n → told.ends k ≤ (told.spans).from q → ⊥
-      by_step hears slot m begins =
-          let tenure = (m.assigned).tenure in
-          let given : IsAssigned slot.of_node.place n s tenure = (m.shard, m.there, Any-from_IsIn (λ (a : Assignment). (a.node ≡ n) × (a.tenure ≡ tenure)) m.shard m.assigned m.among (m.of_node, refl)) in
-          let step = hears n s tenure slot given in
-          let made = step.2 in
-          let i = (made.2).0 in
-          let here = (made.2).1 in
-          let there = begin_is tenure i made.0 step.0 made.1 here.2 in
-          let begins_so : IsBootAct q.turn.act = subst IsBootAct (sym acts) tt in
-          by_reply i tenure step.0 (inl step.1) (λ is. known.owned q at slot.of_node.place (inl (begins_so, slot.of_node.last)) tenure given i (here.0, here.1, subst (λ a. At events i (event.Step n s (call.Begin tenure) a)) is there)) there
-          (boots i (omega (arith, begins, here.0)) (omega (arith, here.1, finishes))) (boots (suc i) (omega (arith, begins, here.0)) (omega (arith, here.1, finishes)))
+      let b = covered_begun start turns events legal told q at (alone q at begins_so) n s name p.0 (ap (placed x start turns) line_is ∙ p.1) is_there (λ i done there. known.has_name i p.0 done there is_there) node asked available place version acts answers same covers in
+      let begins : told.ends k ≤ (told.spans).from q = omega (arith, (told.lines).low q at, ap told.ends line_is) in
+      let i = b.place in
+      let low = b.low in
+      let high = b.high in
+      by_reply i b.tenure b.answer (inl b.begun) (λ is. known.owned q at p.0 (inl (begins_so, b.last)) b.tenure b.given i (low, high, subst (λ a. At events i (event.Step n s (call.Begin b.tenure) a)) is b.there)) b.there
+      (boots i (omega (arith, begins, low)) (omega (arith, high, finishes))) (boots (suc i) (omega (arith, begins, low)) (omega (arith, high, finishes)))
 
   -- a line that prints the run's first placement is an `init`, which began each of its replicas
   init_clash : (k : ℕ) → k < length turns → ((i : ℕ) → told.ends k ≤ i → i ≤ told.ends (suc k) → BootAt i) → placed x start turns k ≡ None → is_member x (placed x start turns (suc k)) ≡ true → ⊥
@@ -342,7 +369,7 @@ module _ (start : Option MetaState) (turns : List Turn) (events : List Event) (l
               let made = step.2 in
               let i = (made.2).0 in
               let here = (made.2).1 in
-              let there = begin_is tenure i made.0 step.0 made.1 here.2 in
+              let there = begin_is events n s tenure i made.0 step.0 made.1 here.2 in
               by_reply i tenure step.0 (inr step.1) (λ is. known.owned q at place (inr (init.sets, prints)) tenure given i (here.0, here.1, subst (λ a. At events i (event.Step n s (call.Begin tenure) a)) is there)) there
               (boots i (omega (arith, begins, here.0)) (omega (arith, here.1, finishes))) (boots (suc i) (omega (arith, begins, here.0)) (omega (arith, here.1, finishes)))
 
@@ -393,9 +420,6 @@ module _ (start : Option MetaState) (turns : List Turn) (events : List Event) (l
           let assigned : is_assigned x (placed x start turns k) (placed x start turns (suc k)) ≡ true = assigned_by (is_some (placed x start turns k)) (is_member x (placed x start turns k)) (is_member x (placed x start turns (suc k))) (ap is_some is) (never k (omega arith)) member in
           inl (waits_next x start turns k line.0 line.1 (place_is k (omega (arith, less))) ∙ or_left _ _ assigned)
         where
-          assigned_by : (a b c : Bool) → a ≡ true → b ≡ false → c ≡ true → ((a && not b) && c) ≡ true
-          assigned_by a b c ea eb ec = cc
-
           or_left : (a b : Bool) → a ≡ true → (a || b) ≡ true
           or_left true b e = refl
           or_left false b e = cc
@@ -434,11 +458,7 @@ module _ (start : Option MetaState) (turns : List Turn) (events : List Event) (l
 
       -- in a line with other turns none is a bootstrap
       none_earlier : (stays : Bool) (t : InnerTurn) → IsIn p.earlier t → EndsWait x stays t → ⊥
-      none_earlier stays t m h =
-          let q = own_list turns p at t m in
-          let only = alone q.place q.in_run (subst (λ (u : InnerTurn). IsBootAct u.act) (sym q.turn_is) (subst IsBootAct (sym h.act_is) tt)) in
-          let same = alone_place turns q.place p only q.in_run at (ap length (sym q.lines_are)) in
-          omega (arith, q.earlier, ap (λ (z : TurnPlace). length z.earlier) same)
+      none_earlier stays t m h = no_boot_earlier turns alone p at t m (subst IsBootAct (sym h.act_is) tt)
 
       by_waits : Waits (length p.lines) → waits_at x start p ≡ true
       by_waits (inl waits) =

@@ -1,7 +1,7 @@
 -- Deliveries: each outcome is of its message and has its cause.
 use Rattle.std.specs.Prelude.{[], ◌∷◌}
 use Rattle.cluster_core.specs.Rows.{LawfulStep, MayRefuse}
-use Rattle.transcripts.specs.Deliveries.{AreOutcomes, IsLateMessage, LateMessage, MayComeOf}
+use Rattle.transcripts.specs.Deliveries.{shard_of_message, AreOutcomes, IsLateMessage, LateMessage, MayComeOf}
 use Rattle.m3_model.specs.Rules.{InWindow, IsPast, IsFuture}
 use Rattle.told_by.specs.Hears.{HearsDelivered, HearsLate, HearsOutcomes, IsLatePut}
 use Rattle.told_causes.specs.Deliveries.{IsKnownDelivery, OutcomesAreSaid}
@@ -79,40 +79,37 @@ module _ (start : Option MetaState) (turns : List Turn) (events : List Event) (t
       let runs = who_serves start turns events known.legal told known.halts p known.in_run m.node shard named.0 named.2 h.0 reply.Done (late_serves m shard (h.2).0 h.0 h.1) h.2 in
       record { instance_ = (named.1).instance_; stands = (named.1).stands; holds = ap (is_stopped (inner_turns p.lines)) (named.1).holds ∙ runs }
 
-  came : (m : LateMessage) → IsLateMessage start p m → (shard : ℕ) (o : Option Reason) → HearsLate start (Within events told.spans p) p m shard o → MayComeOf true faults start p m shard o
-  came m late shard None h = let s = (h.2).1 in (late_taken m shard (h.2).0 h.0 h.1 (lawful_step events known.legal (h.2).0 m.node shard h.0 reply.Done s.2), late_runs m late shard h)
-  came m late shard (Some reason.Memory) h = tt
-  came m late shard (Some reason.Past) h = let s = (h.2).1 in late_past m shard (h.2).0 h.0 h.1 (refused m shard (h.2).0 h.0 reason.Past s.2)
-  came m late shard (Some reason.Future) h = let s = (h.2).1 in late_future m shard (h.2).0 h.0 h.1 (refused m shard (h.2).0 h.0 reason.Future s.2)
-  came m late shard (Some reason.Cut) h = let s = (h.2).1 in absurd (refused m shard (h.2).0 h.0 reason.Cut s.2)
-  came m late shard (Some reason.Disk) h =
+  came : (m : LateMessage) → IsLateMessage start p m → (shard : ℕ) → shard ≡ shard_of_message start m → (o : Option Reason) → HearsLate start (Within events told.spans p) p m shard o → MayComeOf true faults start p m shard o
+  came m late shard to None h = let s = (h.2).1 in (late_taken m shard (h.2).0 h.0 h.1 (lawful_step events known.legal (h.2).0 m.node shard h.0 reply.Done s.2), late_runs m late shard h)
+  came m late shard to (Some reason.Memory) h = tt
+  came m late shard to (Some reason.Past) h = let s = (h.2).1 in late_past m shard (h.2).0 h.0 h.1 (refused m shard (h.2).0 h.0 reason.Past s.2)
+  came m late shard to (Some reason.Future) h = let s = (h.2).1 in late_future m shard (h.2).0 h.0 h.1 (refused m shard (h.2).0 h.0 reason.Future s.2)
+  came m late shard to (Some reason.Cut) h = let s = (h.2).1 in absurd (refused m shard (h.2).0 h.0 reason.Cut s.2)
+  came m late shard to (Some reason.Disk) h =
       let s = (h.2).1 in
       fault_here start turns events known.legal told p known.in_run (h.2).0 (event.Step m.node shard h.0 (reply.Refused reason.Disk)) (record { line = length p.lines; node = m.node; shard = shard; kind = Failing }) s.0 s.1 s.2 refl refl
-  came m late shard (Some (reason.Corrupt damage)) h =
+  came m late shard to (Some (reason.Corrupt damage)) h =
       let step = h.1 in
       let s = (step.2).1 in
       (fault_here start turns events known.legal told p known.in_run (step.2).0 (event.Step m.node shard step.0 (reply.Refused (reason.Corrupt damage))) (record { line = length p.lines; node = m.node; shard = shard; kind = Damaged }) s.0 s.1 s.2 refl refl, h.0)
-  came m late shard (Some reason.Down) h =
-      let steady = (known.explained m late shard reason.Down h).0 in
+  came m late shard to (Some reason.Down) h =
+      let steady = (known.explained m late shard to reason.Down h).0 in
       down_said faults start p m.used m.node shard steady.name steady.named steady.there
       (down_cause start turns events known.legal told p known.in_run halts_nothing m.node shard steady.name steady.everywhere h.0 h.2)
-  came m late shard (Some reason.Boot) h =
-      let why = known.explained m late shard reason.Boot h in
+  came m late shard to (Some reason.Boot) h =
+      let why = known.explained m late shard to reason.Boot h in
       let steady = why.0 in
       λ tells. boot_said start p m.used m.node shard steady.name steady.named (boot_cause start turns events known.legal told p known.in_run halts_nothing m.node shard steady.name why.1 h.0 h.2)
-  came m late shard (Some reason.NotOwned) h = (known.explained m late shard reason.NotOwned h).1
-  came m late shard (Some (reason.Stale fence)) h = (known.explained m late shard (reason.Stale fence) h).1
+  came m late shard to (Some reason.NotOwned) h = (known.explained m late shard to reason.NotOwned h).1
+  came m late shard to (Some (reason.Stale fence)) h = (known.explained m late shard to (reason.Stale fence) h).1
 
   each_said : (messages : List LateMessage) (outcomes : List (ℕ × ℕ × Option Reason)) → HearsOutcomes start (Within events told.spans p) p messages outcomes → AreOutcomes true faults start p messages outcomes
   each_said [] [] h = tt
   each_said (m ∷ messages) (x ∷ outcomes) h =
       let one = h.0 in
-      (record { message = one.message; node_is = one.node_is; shard_is = one.shard_is; came = came m one.message x.1 x.2 one.heard }, each_said messages outcomes h.1)
+      (record { message = one.message; node_is = one.node_is; shard_is = one.shard_is; came = came m one.message x.1 one.shard_is x.2 one.heard }, each_said messages outcomes h.1)
   each_said [] (x ∷ outcomes) h = absurd h
   each_said (m ∷ messages) [] h = absurd h
 
 pub outcomes_said : OutcomesAreSaid
-outcomes_said start turns events told p known outcomes answers =
-    let h : HearsDelivered start (Within events told.spans p) p outcomes =
-    subst (λ b. HearsBy start (take ((told.spans).from p) events) (Within events told.spans p) p p.turn.act b) answers ((told.tells).hears p known.in_run) in
-    (h.messages, record { in_order = h.in_order; each = each_said start turns events told p known h.messages outcomes h.each })
+outcomes_said start turns events told p known outcomes h = record { in_order = h.in_order; each = each_said start turns events told p known h.messages outcomes h.each }

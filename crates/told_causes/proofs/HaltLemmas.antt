@@ -33,7 +33,7 @@ use Rattle.told_by.proofs.PrintedLemmas.{ends_grow}
 use Rattle.told_by.proofs.TurnLemmas.{cut_at, place_in}
 use Rattle.told_causes.proofs.NameLemmas.{any_found, name_self, refused_stays, restart_is, stopped_after}
 
-take_cut : {X : Type 0} (xs : List X) (y : X) (zs : List X) → take (suc (length xs)) (xs ++ y ∷ zs) ≡ xs ++ y ∷ []
+pub take_cut : {X : Type 0} (xs : List X) (y : X) (zs : List X) → take (suc (length xs)) (xs ++ y ∷ zs) ≡ xs ++ y ∷ []
 take_cut [] y zs = refl
 take_cut (x ∷ xs) y zs = ap (λ ys. x ∷ ys) (take_cut xs y zs)
 

@@ -21,7 +21,7 @@ use Rattle.transcripts.specs.Deliveries.{LateMessage}
 use Rattle.transcripts.specs.Faults.{Damaged, Failing, Fault}
 use Rattle.transcripts.specs.Placements.{has_replica, placement_after, start_placement}
 use Rattle.transcripts.specs.Record.{TurnPlace, IsTurnPlace, inner_turns}
-use Rattle.told_by.specs.Hears.{AnySlot, HearsBy, HearsRefused, IsJoinCall, IsMember, IsRestartCall}
+use Rattle.told_by.specs.Hears.{AnySlot, HasStep, HearsBy, HearsRefused, IsJoinCall, IsMember, IsRestartCall}
 use Rattle.told_by.specs.Makes.{IsNamedLast}
 use Rattle.told_by.specs.Spans.{IsAlone}
 use Rattle.told_by.specs.Told.{ToldBy}
@@ -44,14 +44,14 @@ module _ (start : Option MetaState) (turns : List Turn) (events : List Event) (l
       let here = stands_alone start turns events legal told p at only h.place h.last in
       record { place = h.place; stands = (inner_turns p.lines ++ (p.earlier ++ []), record { others = []; some_of = tt; are = refl }, ap (placement_after (start_placement start)) nothing_earlier ∙ here); named = h.named }
 
-  on_disk : (name : List ℕ) (shard : ℕ) (Kind : StepCall → Type 0) (Reached : Placement → ℕ → Type 0) (Holds : ℕ → Type 0) → ((node : ℕ) → (last : IsNamedLast (take ((told.spans).from p) events) node name) → Reached last.place node → Holds node)
+  on_disk : (name : List ℕ) (shard : ℕ) (Kind : StepCall → Type 0) (Reached : Placement → ℕ → Type 0) (Holds : ℕ → Type 0) → ((node : ℕ) → (last : IsNamedLast (take ((told.spans).from p) events) node name) → Reached last.place node → HasStep (Within events told.spans p) Kind node shard (reply.Refused reason.Disk) → Holds node)
       → HearsRefused (take ((told.spans).from p) events) (Within events told.spans p) Reached name shard Kind reason.Disk → OnDisk faults start p Holds name shard
   on_disk name shard Kind Reached Holds holds h =
       let step = h.step in
       let i = (step.2).1 in (
         h.node,
         called h.node name h.of_node,
-        holds h.node h.of_node h.reached,
+        holds h.node h.of_node h.reached h.step,
         fault_here start turns events legal told p at (step.2).0 (event.Step h.node shard step.0 (reply.Refused reason.Disk)) (record { line = length p.lines; node = h.node; shard = shard; kind = Failing }) i.0 i.1 i.2 refl refl,
       )
 
@@ -69,10 +69,10 @@ module _ (start : Option MetaState) (turns : List Turn) (events : List Event) (l
         fault_here start turns events legal told p at (step.2).0 (event.Step h.node shard step.0 (reply.Refused (reason.Corrupt harm))) (record { line = length p.lines; node = h.node; shard = shard; kind = Damaged }) i.0 i.1 i.2 refl refl,
       )
 
-  by_act : (shard : ℕ) (messages : List LateMessage) → (a : Act) (b : Answer) → HearsBy start (take ((told.spans).from p) events) (Within events told.spans p) p a b → NamesReplica a b shard → AreReached start events ((told.spans).from p) p a shard → IsOwn true faults start messages p a b
+  by_act : (shard : ℕ) (messages : List LateMessage) → (a : Act) (b : Answer) → HearsBy start (take ((told.spans).from p) events) (Within events told.spans p) p a b → NamesReplica a b shard → AreReached start (Within events told.spans p) p a shard → IsOwn true faults start messages p a b
   by_act shard messages (act.Restart node pick) (answer.Disk named s) h is reached =
-      (h.0, subst (λ m. OnDisk faults start p (HadBefore start p s) m s) (sym h.0) (on_disk node s IsRestartCall AnySlot (HadBefore start p s) (λ n last _. subst (λ m. HadBefore start p m n) (sym is) (reached n last)) h.1))
-  by_act shard messages (act.Bootstrap node asked) (answer.Disk named s) h is reached = (h.0, h.1, subst (λ m. OnDisk faults start p (IsMemberBefore start p s) m s) (sym h.0) (on_disk node s IsJoinCall (IsMember s) (IsMemberBefore start p s) (member node s) h.2))
+      (h.0, subst (λ m. OnDisk faults start p (HadBefore start p s) m s) (sym h.0) (on_disk node s IsRestartCall AnySlot (HadBefore start p s) (λ n last _ step. subst (λ m. HadBefore start p m n) (sym is) (reached n (subst (λ m. HasStep (Within events told.spans p) IsRestartCall n m (reply.Refused reason.Disk)) is step))) h.1))
+  by_act shard messages (act.Bootstrap node asked) (answer.Disk named s) h is reached = (h.0, h.1, subst (λ m. OnDisk faults start p (IsMemberBefore start p s) m s) (sym h.0) (on_disk node s IsJoinCall (IsMember s) (IsMemberBefore start p s) (λ n last reaches _. member node s n last reaches) h.2))
   by_act shard messages (act.Bootstrap node asked) (answer.Corrupt named s harm) h is reached = (h.0, h.1, subst (λ m. InFiles faults start p (IsMemberBefore start p s) m s) (sym h.0) (in_files node s IsJoinCall harm h.3), h.2)
   by_act shard messages _ _ h is reached = absurd is
 

@@ -46,14 +46,14 @@ use Rattle.told_causes.proofs.NameLemmas.{name_is, take_line}
 -- ---- one step
 
 -- the step begins the replica
-record Begins (c : StepCall) (a : StepReply) : Type 0 where
-  tenure : ℕ
-  fence : ℕ
-  points : List Point
-  call_is : c ≡ call.Begin tenure
-  reply_is : a ≡ reply.Began fence points
+pub record Begins (c : StepCall) (a : StepReply) : Type 0 where
+  pub tenure : ℕ
+  pub fence : ℕ
+  pub points : List Point
+  pub call_is : c ≡ call.Begin tenure
+  pub reply_is : a ≡ reply.Began fence points
 
-refused_open : (r : ReplicaState) (c : StepCall) (why : Reason) → (after r c (reply.Refused why)).standing ≡ standing.Open → r.standing ≡ standing.Open
+pub refused_open : (r : ReplicaState) (c : StepCall) (why : Reason) → (after r c (reply.Refused why)).standing ≡ standing.Open → r.standing ≡ standing.Open
 refused_open r (call.Begin tenure) reason.Disk e = absurd (let bad : standing.Down ≡ standing.Open = e in cc)
 refused_open r (call.Put client number rules version point) reason.Disk e = absurd (let bad : standing.Down ≡ standing.Open = e in cc)
 refused_open r (call.Merge page) reason.Disk e = absurd (let bad : standing.Down ≡ standing.Open = e in cc)
@@ -70,7 +70,7 @@ refused_open r (call.Tick rules) _ e = e
 refused_open r _ _ e = e
 
 -- what leaves a replica open: it was, or it begins
-open_by : (r : ReplicaState) (c : StepCall) (a : StepReply) → (after r c a).standing ≡ standing.Open → (r.standing ≡ standing.Open) ⊎ Begins c a
+pub open_by : (r : ReplicaState) (c : StepCall) (a : StepReply) → (after r c a).standing ≡ standing.Open → (r.standing ≡ standing.Open) ⊎ Begins c a
 open_by r c (reply.Refused why) e = inl (refused_open r c why e)
 open_by r call.Restart reply.Done e = absurd (let bad : standing.Boot ≡ standing.Open = e in cc)
 open_by r call.Stop reply.Done e = absurd (let bad : standing.Down ≡ standing.Open = e in cc)

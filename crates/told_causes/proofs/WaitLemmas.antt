@@ -104,6 +104,9 @@ pub and_both : (a b : Bool) → (a && b) ≡ true → (a ≡ true) × (b ≡ tru
 and_both true b e = (refl, e)
 and_both false b e = cc
 
+pub assigned_by : (a b c : Bool) → a ≡ true → b ≡ false → c ≡ true → ((a && not b) && c) ≡ true
+assigned_by a b c ea eb ec = cc
+
 -- the placement in which a replica is a member
 pub member_place : (o : Option Placement) (s n : ℕ) → has_replica o s n ≡ true → (place : Placement) × (o ≡ Some place)
 member_place None s n e = cc

@@ -1,16 +1,15 @@
 -- Why a late message came to what it did.
 use Rattle.std.specs.Prelude.{◌≡◌, ℕ, List, length, Option, Some, None, true}
 use Rattle.m3_model.specs.declared.act.Act.TheVariants as act
-use Rattle.m3_model.specs.declared.answer.Answer.TheVariants as answer
 use Rattle.m3_model.specs.declared.reason.Reason.{Reason}
 use Rattle.m3_model.specs.declared.rules.MetaState.{MetaState}
 use Rattle.m3_model.specs.declared.turn.Turn.{Turn}
 use Rattle.cluster_core.specs.Legal.{Legal}
 use Rattle.cluster_core.specs.declared.event.Event.{Event}
-use Rattle.transcripts.specs.Deliveries.{IsDelivered, IsLateMessage, LateMessage}
+use Rattle.transcripts.specs.Deliveries.{IsDelivered, IsLateMessage, LateMessage, shard_of_message}
 use Rattle.transcripts.specs.Reasons.{MayFail}
 use Rattle.transcripts.specs.Record.{TurnPlace, IsTurnPlace}
-use Rattle.told_by.specs.Hears.{HearsLate}
+use Rattle.told_by.specs.Hears.{HearsDelivered, HearsLate}
 use Rattle.told_by.specs.Told.{ToldBy}
 use Rattle.told_causes.specs.Boot.{IsKnownMember}
 use Rattle.told_causes.specs.Calls.{IsExplained, IsNamedOnce, IsSteadyNode, Within}
@@ -24,11 +23,11 @@ pub record IsKnownDelivery (start : Option MetaState) (turns : List Turn) (event
   pub delivers : p.turn.act ≡ act.Deliver
   pub halts : HaltsAlone turns
   pub named : (m : LateMessage) → IsLateMessage start p m → (shard : ℕ) → HearsLate start (Within events told.spans p) p m shard None → IsNamedOnce events m.used m.node
-  pub explained : (m : LateMessage) → IsLateMessage start p m → (shard : ℕ) (why : Reason) → HearsLate start (Within events told.spans p) p m shard (Some why)
+  pub explained : (m : LateMessage) → IsLateMessage start p m → (shard : ℕ) → shard ≡ shard_of_message start m → (why : Reason) → HearsLate start (Within events told.spans p) p m shard (Some why)
       → (steady : IsSteadyNode start turns events told p m.used shard m.node) × IsExplained (IsKnownMember start turns events told p shard m.node steady.name) (MayFail true (faults_told told.ends events (length turns)) start p m.used shard m.node) why
 
--- The outcomes of a `deliver` are those of late messages, each with its cause.
+-- The outcomes that a `deliver` hears are those of the late messages, each with its cause.
 abbrev pub OutcomesAreSaid : Type 0
 OutcomesAreSaid =
     (start : Option MetaState) (turns : List Turn) (events : List Event) (told : ToldBy start turns events) (p : TurnPlace) → IsKnownDelivery start turns events told p
-    → (outcomes : List (ℕ × ℕ × Option Reason)) → p.turn.answer ≡ answer.Outcomes outcomes → (messages : List LateMessage) × IsDelivered true (faults_told told.ends events (length turns)) start p messages outcomes
+    → (outcomes : List (ℕ × ℕ × Option Reason)) → (hears : HearsDelivered start (Within events told.spans p) p outcomes) → IsDelivered true (faults_told told.ends events (length turns)) start p hears.messages outcomes

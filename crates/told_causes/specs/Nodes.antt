@@ -1,19 +1,22 @@
 -- Why a restart and a bootstrap are refused: the disk of one of the node's replicas failed, or its files were found damaged.
-use Rattle.std.specs.Prelude.{◌≡◌, ℕ, ⊤, List, length, take, Option, true}
+use Rattle.std.specs.Prelude.{◌≡◌, ℕ, ⊤, List, length, Option, true}
 use Rattle.m3_model.specs.declared.act.Act.{Act}
 use Rattle.m3_model.specs.declared.act.Act.TheVariants as act
 use Rattle.m3_model.specs.declared.answer.Answer.{Answer}
 use Rattle.m3_model.specs.declared.answer.Answer.TheVariants as answer
+use Rattle.m3_model.specs.declared.reason.Reason.TheVariants as reason
 use Rattle.m3_model.specs.declared.rules.MetaState.{MetaState}
 use Rattle.m3_model.specs.declared.turn.Turn.{Turn}
 use Rattle.cluster_core.specs.Legal.{Legal}
 use Rattle.cluster_core.specs.declared.event.Event.{Event}
+use Rattle.cluster_core.specs.declared.event.StepReply.TheVariants as reply
 use Rattle.transcripts.specs.Caused.{HadBefore, IsOwn}
 use Rattle.transcripts.specs.Deliveries.{LateMessage}
 use Rattle.transcripts.specs.Record.{TurnPlace, IsTurnPlace}
-use Rattle.told_by.specs.Makes.{IsNamedLast}
+use Rattle.told_by.specs.Hears.{HasStep, IsRestartCall}
 use Rattle.told_by.specs.Spans.{IsAlone}
 use Rattle.told_by.specs.Told.{ToldBy}
+use Rattle.told_causes.specs.Calls.{Within}
 use Rattle.told_causes.specs.Faults.{faults_told}
 
 -- the answer names the disk or the files of a replica of the act's node, by its shard
@@ -23,14 +26,14 @@ NamesReplica (act.Bootstrap node asked) (answer.Disk name shard) s = shard ≡ s
 NamesReplica (act.Bootstrap node asked) (answer.Corrupt name shard damage) s = shard ≡ s
 NamesReplica _ _ s = ⊥
 
--- where the act is a restart, the slots that it reaches had a replica before its line
-abbrev pub AreReached : Option MetaState → List Event → ℕ → TurnPlace → Act → ℕ → Type 0
-AreReached start events from p (act.Restart name pick) shard = (node : ℕ) → IsNamedLast (take from events) node name → HadBefore start p shard node
-AreReached start events from p _ shard = ⊤
+-- where the act is a restart, the slots of the shard whose restart fails for their disk within the turn's stretch had a replica before its line
+abbrev pub AreReached : Option MetaState → (ℕ → Event → Type 0) → TurnPlace → Act → ℕ → Type 0
+AreReached start Here p (act.Restart name pick) shard = (node : ℕ) → HasStep Here IsRestartCall node shard (reply.Refused reason.Disk) → HadBefore start p shard node
+AreReached start Here p _ shard = ⊤
 
 -- Where a turn that is alone in its line answers so of a slot that it reaches, a transcript says why.
 abbrev pub NodeAnswersAreSaid : Type 0
 NodeAnswersAreSaid =
     (start : Option MetaState) (turns : List Turn) (events : List Event) → Legal true events → (told : ToldBy start turns events) → (p : TurnPlace) → IsTurnPlace turns p → IsAlone turns p
-    → (shard : ℕ) → NamesReplica p.turn.act p.turn.answer shard → AreReached start events (told.spans.from p) p p.turn.act shard
+    → (shard : ℕ) → NamesReplica p.turn.act p.turn.answer shard → AreReached start (Within events told.spans p) p p.turn.act shard
     → (messages : List LateMessage) → IsOwn true (faults_told told.ends events (length turns)) start messages p p.turn.act p.turn.answer

@@ -1,5 +1,6 @@
--- More faults: what was caused by some is caused by more.
-use Rattle.std.proofs.Common.{ℕ, List, [], ◌∷◌, ◌⊎◌, inl, inr, Bool}
+-- More faults: what was caused by some is caused by more; and faults of two lists that share none.
+use Rattle.std.proofs.Common.{ℕ, List, [], ◌∷◌, ◌++◌, ◌⊎◌, inl, inr, refl, Bool}
+use Rattle.m3_model.proofs.MemberLemmas.{IsIn-append_cases}
 use Rattle.std.specs.Prelude.{Option, Some, None}
 use Rattle.m3_model.specs.Members.{IsIn}
 use Rattle.m3_model.specs.declared.act.Act.{Act}
@@ -14,7 +15,7 @@ use Rattle.m3_model.specs.declared.rules.MetaState.{MetaState}
 use Rattle.transcripts.specs.Caused.{CausedAt, IsDueBy, IsOwn, refusal_after}
 use Rattle.transcripts.specs.Deliveries.{AreOutcomes, LateMessage, MayComeOf}
 use Rattle.transcripts.specs.Fates.{IsStoppedAt}
-use Rattle.transcripts.specs.Faults.{Fault, IsClosedByFault}
+use Rattle.transcripts.specs.Faults.{AreDifferent, Fault, IsClosedByFault}
 use Rattle.transcripts.specs.Levels.{AreSilent, IsFoundFor, MissesLevel}
 use Rattle.transcripts.specs.Reasons.{MayFail, MayRefuse}
 use Rattle.transcripts.specs.Record.{Record, TurnPlace}
@@ -137,3 +138,9 @@ pub caused_more : (tells : Bool) (faults more : List Fault) → AreAmong faults 
 caused_more tells faults more among past start messages p (inl memory) = inl memory
 caused_more tells faults more among past start messages p (inr (inl full)) = inr (inl full)
 caused_more tells faults more among past start messages p (inr (inr due)) = inr (inr (due.0, due.1, due_more tells faults more among start messages p (refusal_after start p due.0) due.2))
+
+-- the faults of two lists that share none are different where those of each are
+pub different_both : (xs ys : List Fault) → AreDifferent xs → AreDifferent ys → ((fault : Fault) → IsIn xs fault → IsIn ys fault → ⊥) → AreDifferent (xs ++ ys)
+different_both [] ys of_xs of_ys apart = of_ys
+different_both (x ∷ xs) ys of_xs of_ys apart =
+    (λ m. elim (IsIn-append_cases xs ys x m) as (λ _. ⊥) [ inl same ↦ of_xs.0 same | inr other ↦ apart x (inl refl) other ], different_both xs ys of_xs.1 of_ys (λ fault m n. apart fault (inr m) n))

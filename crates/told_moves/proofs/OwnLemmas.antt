@@ -1,0 +1,291 @@
+-- A put or a read that is refused as not owned: its node has no replica of the shard, or has it with a later tenure, or since a line that assigned it anew.
+use Rattle.std.proofs.Common.{◌≡◌, ℕ, zero, suc, ◌<◌, ◌≤◌, List, [], ◌∷◌, ◌++◌, take, length, refl, sym, ap, ◌∙◌, subst, inl, inr, arith, Bool, true, false, append-nil}
+use Rattle.std.specs.Prelude.{◌⊎◌, Option, Some, None, is_some, nat_eq, ◌&&◌}
+use Rattle.std.specs.Cmp.Lexicographic.{pointwise}
+use Rattle.std.proofs.lemmas.Bool.{cases_lt}
+use Rattle.m3_model.specs.Members.{IsIn}
+use Rattle.m3_model.specs.declared.act.Act.{Act}
+use Rattle.m3_model.specs.declared.act.Act.TheVariants as act
+use Rattle.m3_model.specs.declared.answer.Answer.{Answer}
+use Rattle.m3_model.specs.declared.answer.Answer.TheVariants as answer
+use Rattle.m3_model.specs.declared.placement.Placement.{Placement}
+use Rattle.m3_model.specs.declared.reason.Reason.TheVariants as reason
+use Rattle.m3_model.specs.declared.replica.Standing.TheVariants as standing
+use Rattle.m3_model.specs.declared.rules.MetaState.{MetaState}
+use Rattle.m3_model.specs.declared.turn.Turn.{Turn}
+use Rattle.placement_core.proofs.ListLemmas.{IsIn-from_Any}
+use Rattle.cluster_core.specs.Earlier.{last_place}
+use Rattle.cluster_core.specs.Legal.{Legal}
+use Rattle.cluster_core.specs.Lists.{At}
+use Rattle.cluster_core.specs.Replicas.{replica}
+use Rattle.cluster_core.specs.declared.event.Event.{Event}
+use Rattle.cluster_core.specs.declared.event.Event.TheVariants as event
+use Rattle.cluster_core.specs.declared.event.StepCall.{StepCall}
+use Rattle.cluster_core.specs.declared.event.StepCall.TheVariants as call
+use Rattle.cluster_core.specs.declared.event.StepReply.{StepReply}
+use Rattle.cluster_core.specs.declared.event.StepReply.TheVariants as reply
+use Rattle.cluster_core.specs.declared.replica_state.ReplicaState.{ReplicaState}
+use Rattle.cluster_core.proofs.ListLemmas.{at_append, at_take, at_within, some_same}
+use Rattle.cluster_core.proofs.PlaceLemmas.{placed_at}
+use Rattle.cluster_core.proofs.TraceLemmas.{lawful_step, open_begun, replica_own}
+use Rattle.transcripts.specs.Fates.{OfNode}
+use Rattle.transcripts.specs.Moves.{HasAssignment, IsNew, IsUnowned, OwnsNot, is_begun_in, placement_by}
+use Rattle.transcripts.specs.Placements.{MayStand, has_replica, placement_after, placement_at, start_placement}
+use Rattle.transcripts.specs.Record.{InnerTurn, TurnPlace, IsTurnPlace, inner_turns, joined, lists_of}
+use Rattle.transcripts.specs.Waiting.{Replica, is_assigned, is_begun_by, is_covering, is_member}
+use Rattle.told_by.specs.Hears.{IsBegun, IsNamedBy}
+use Rattle.told_by.specs.Openings.{opening_length}
+use Rattle.told_by.specs.Told.{ToldBy}
+use Rattle.told_by.proofs.LeaveLemmas.{place_there}
+use Rattle.told_by.proofs.LineLemmas.{line_below, take_front}
+use Rattle.told_by.proofs.OpeningLemmas.{first_event}
+use Rattle.told_by.proofs.PrintedLemmas.{ends_grow, ends_within, placements_stand}
+use Rattle.told_by.proofs.TurnLemmas.{cut_at, place_in}
+use Rattle.told_causes.specs.Boot.{IsBootAct}
+use Rattle.told_causes.proofs.AloneLemmas.{lines_before}
+use Rattle.told_causes.proofs.BootLemmas.{HasBegun, covered_begun, no_boot_earlier, true_or_not}
+use Rattle.told_causes.proofs.HaltLemmas.{late_step}
+use Rattle.told_causes.proofs.NameLemmas.{any_found, name_is}
+use Rattle.told_causes.proofs.RefusalLemmas.{first_down, refused_law}
+use Rattle.told_causes.proofs.WaitLemmas.{EndsWait, and_both, assigned_by, member_place}
+use Rattle.told_moves.specs.Moves.{IsQuiet, IsRefusedAt, NotOwnedIsSaid}
+use Rattle.told_moves.specs.Order.{IsInOrder, OpensWithin}
+use Rattle.told_moves.proofs.AskLemmas.{begin_asked}
+use Rattle.told_moves.proofs.ReasonLemmas.{first_not_owned, refused_move}
+use Rattle.told_moves.proofs.SlotLemmas.{EndedAt, IsEnded, Tries, ended_at, owned_began, slot, tried_began}
+use Rattle.told_moves.proofs.StoodLemmas.{may_stand, stood}
+use Rattle.told_moves.proofs.TenureLemmas.{GivenAt, given_by, line_low, member_named, member_tenure, name_everywhere, stands_at, stands_from, tenure_grows}
+
+-- ---- turns
+
+-- a turn that begins the replica is a bootstrap that ends its wait
+begun_is : (x : Replica) (stays : Bool) (t : InnerTurn) (a : Act) (b : Answer) → t.act ≡ a → t.answer ≡ b → is_begun_by x stays a b ≡ true → EndsWait x stays t
+begun_is x stays t (act.Bootstrap node asked) (answer.Available available place version) ea eb e = record { node = node; asked = asked; available = available; place = place; version = version; act_is = ea; answered = eb; ends = e }
+begun_is x stays t _ _ ea eb e = absurd (let bad : false ≡ true = e in cc)
+
+-- where no turn of the list is such a bootstrap, none began it
+none_begun : (x : Replica) (before next : Option Placement) (ts : List InnerTurn) → ((t : InnerTurn) → IsIn ts t → EndsWait x (is_member x before && is_member x next) t → ⊥) → is_begun_in x before next ts ≡ false
+none_begun x before next ts none =
+    elim (true_or_not (is_begun_in x before next ts)) as (λ _. is_begun_in x before next ts ≡ false) [
+      | inr e ↦ e
+      | inl e ↦
+          let stays = is_member x before && is_member x next in
+          let t = any_found (λ (turn : InnerTurn). is_begun_by x stays turn.act turn.answer) ts e in
+          absurd (none t.0 t.1 (begun_is x stays t.0 (t.0).act (t.0).answer refl refl t.2))
+    ]
+
+module _ (start : Option MetaState) (turns : List Turn) (events : List Event) (legal : Legal true events) (told : ToldBy start turns events) (order : IsInOrder start turns events told) where
+  -- ---- tenures
+
+  -- a begin's tenure was given before
+  pub begin_given : (n s i tenure : ℕ) (a : StepReply) → At events i (event.Step n s (call.Begin tenure) a) → (k : ℕ) × (k < i) × (1 ≤ k) × GivenAt events legal n s k tenure
+  begin_given n s i tenure a there =
+      let b = begin_asked start turns events legal told i n s tenure a there in
+      let ask = b.2 in
+      let stands = place_there (take b.0 events) ask.place ask.last in
+      (b.0, b.1, omega (arith, (at_take events stands.0 b.0 (event.Place ask.place stands.1) stands.2).1), given_by events legal n s b.0 tenure ask.place ask.last ask.assigned)
+
+  -- where the replica has a tenure above the version, the node has no replica of the shard, or has it with a tenure above the version
+  above_owns_not : (p : TurnPlace) (n s version tenure i : ℕ) (place : Placement) → i ≤ length events → last_place (take i events) ≡ Some place → MayStand start p place → (slot events legal n s i).tenure ≡ Some tenure → version < tenure → OwnsNot start p s n version
+  above_owns_not p n s version tenure i place high last stands owned above =
+      elim (true_or_not (has_replica (Some place) s n)) as (λ _. OwnsNot start p s n version) [
+        | inr gone ↦ record { place = place; may_stand = stands; not_owned = inl gone }
+        | inl member ↦
+            let b = owned_began events legal n s tenure i high owned in
+            let below = b.below in
+            let g = begin_given n s b.place tenure b.answer b.there in
+            let a = member_tenure events legal n s g.0 i tenure place g.2 (omega (arith, g.1, below)) high g.3 last member in
+            let low = a.kind in
+            record { place = place; may_stand = stands; not_owned = inr (record { assignment = a.assignment; among = a.among; of_node = a.of_node; kind = omega (arith, low, above) }) }
+      ]
+
+  -- ---- the line that assigned the slot
+
+  abbrev placed : ℕ → Option Placement
+  placed k = placement_by start turns k
+
+  -- where it is a member, and wasn't at an earlier event, a line in between assigned it
+  record WasAssigned (x : Replica) (e k : ℕ) : Type 0 where
+    line : ℕ
+    early : line < k
+    later : e < told.ends (suc line)
+    assigned : is_assigned x (placed line) (placed (suc line)) ≡ true
+
+  assigned_at : (x : Replica) (e : ℕ) (was : Placement) → 2 ≤ e → last_place (take e events) ≡ Some was → is_member x (Some was) ≡ false → (k : ℕ) → k ≤ length turns → e < told.ends k → is_member x (placed k) ≡ true → WasAssigned x e k
+  assigned_at x e was late last gone zero high before member = absurd (omega (arith, before, late, (told.lines).first, opening_two start))
+    where
+      opening_two : (o : Option MetaState) → opening_length o ≤ 2
+      opening_two None = omega arith
+      opening_two (Some state) = omega arith
+  assigned_at x e was late last gone (suc k) high before member =
+      elim (cases_lt e (told.ends k)) as (λ _. WasAssigned x e (suc k)) [
+        | inl lt ↦ elim (true_or_not (is_member x (placed k))) as (λ _. WasAssigned x e (suc k)) [
+          | inl still ↦ let w = assigned_at x e was late last gone k (omega (arith, high)) lt still in let early = w.early in record { line = w.line; early = omega (arith, early); later = w.later; assigned = w.assigned }
+          | inr new ↦
+              let there = place_there (take e events) was last in
+              let first = first_event events legal there.0 (event.Place was there.1) (at_take events there.0 e (event.Place was there.1) there.2).0 in
+              let p = placed_at events legal first.place [] first.there (told.ends k) (omega (arith, lt)) (ends_within start turns events legal told k (omega (arith, high))) in
+              here p.0 (sym (placements_stand start turns events legal told k (omega (arith, high))) ∙ p.1) new
+        ]
+        | inr ge ↦ elim (stands_from events legal (told.ends k) e ge (omega (arith, before, ends_within start turns events legal told (suc k) high)) was last) as (λ _. WasAssigned x e (suc k)) [
+          | inl same ↦
+              let is : placed k ≡ Some was = sym (placements_stand start turns events legal told k (omega (arith, high))) ∙ same in
+              here was is (ap (is_member x) is ∙ gone)
+          | inr z ↦
+              let one = order.one k z.0 was z.1 (omega (arith, high)) z.2 (omega (arith, z.3, before)) z.4 in
+              let is : placed (suc k) ≡ Some was = sym (placements_stand start turns events legal told (suc k) high) ∙ one in
+              let bad : true ≡ false = sym member ∙ ap (is_member x) is ∙ gone in
+              cc
+        ]
+      ]
+    where
+      here : (place : Placement) → placed k ≡ Some place → is_member x (placed k) ≡ false → WasAssigned x e (suc k)
+      here place is new = record { line = k; early = omega arith; later = before; assigned = assigned_by (is_some (placed k)) (is_member x (placed k)) (is_member x (placed (suc k))) (ap is_some is) new member }
+
+  -- ---- bootstraps since
+
+  -- no begin of a slot whose tenure ended, with a tenure that isn't below those that it began with, leaves it so
+  begin_clash : (n s m tenure : ℕ) (a : StepReply) → IsBegun a → At events m (event.Step n s (call.Begin tenure) a) → IsEnded (slot events legal n s m) → IsEnded (slot events legal n s (suc m)) → ((own : ℕ) → Tries (slot events legal n s m) own → own ≤ tenure) → ⊥
+  begin_clash n s m tenure (reply.Began fence points) begun there now next none =
+      let bad : Some tenure ≡ None = sym (ap (λ (r : ReplicaState). r.tenure) (replica_own events legal n s m (call.Begin tenure) (reply.Began fence points) there)) ∙ next.none in
+      cc
+  begin_clash n s m tenure (reply.Refused reason.Down) begun there now next none =
+      let r = slot events legal n s m in
+      let down = first_down r (call.Begin tenure) (refused_law true (take m events) n s r (call.Begin tenure) reason.Down (lawful_step events legal m n s (call.Begin tenure) (reply.Refused reason.Down) there)) in
+      let bad : standing.Down ≡ standing.Open = sym down ∙ now.open_ in
+      cc
+  begin_clash n s m tenure (reply.Refused reason.NotOwned) begun there now next none =
+      let r = slot events legal n s m in
+      let law = refused_law true (take m events) n s r (call.Begin tenure) reason.NotOwned (lawful_step events legal m n s (call.Begin tenure) (reply.Refused reason.NotOwned) there) in
+      elim law.1 as (λ _. ⊥) [
+        | inl any ↦ let t = IsIn-from_Any (λ own. tenure < own) r.begun any in omega (arith, none t.0 (inl t.1), t.2)
+        | inr other ↦ elim other as (λ _. ⊥) [
+          | inl any ↦ let t = IsIn-from_Any (λ own. tenure < own) r.tried any in omega (arith, none t.0 (inr t.1), t.2)
+          | inr empty ↦ open_begun events legal n s m (omega (arith, at_within events m (event.Step n s (call.Begin tenure) (reply.Refused reason.NotOwned)) there)) now.open_ empty
+        ]
+      ]
+  begin_clash n s m tenure _ begun there now next none = absurd begun
+
+  -- what a slot tried by a place of a line isn't above the tenure that it had when the line began
+  pub tried_low : (k : ℕ) → k < length turns → (n s m tenure : ℕ) → told.ends k ≤ m → m < told.ends (suc k) → GivenAt events legal n s (told.ends k) tenure → (own : ℕ) → Tries (slot events legal n s m) own → own ≤ tenure
+  tried_low k less n s m tenure low high g own tries =
+      let bound = ends_within start turns events legal told (suc k) less in
+      let b = tried_began events legal n s own m (omega (arith, high, bound)) tries in
+      let below = b.below in
+      let was = begin_given n s b.place own b.answer b.there in
+      elim (cases_lt was.0 (told.ends k)) as (λ _. own ≤ tenure) [
+        | inl lt ↦ tenure_grows events legal n s was.0 (told.ends k) own tenure was.2 (omega (arith, lt)) (omega (arith, low, high, bound)) was.3 g
+        | inr ge ↦ line_low start turns events legal told order k less was.0 n s tenure own ge (omega (arith, was.1, below, high)) g was.3
+      ]
+
+  module _ (n s : ℕ) (name : List ℕ) (named : IsNamedBy events n name) where
+    abbrev x : Replica
+    x = record { shard = s; node = n; name = name }
+
+    -- a bootstrap after the end of the slot's tenure that covers it, a member, would have begun it
+    boot_clash : (i : ℕ) → i ≤ length events → (e : EndedAt events legal n s i) → (k : ℕ) → k < length turns → e.place < told.ends k → told.ends (suc k) ≤ i → (line : Turn) → At turns k line
+        → (t : InnerTurn) → IsIn (inner_turns (line ∷ [])) t → EndsWait x (is_member x (placed k) && is_member x (placed (suc k))) t → ⊥
+    boot_clash i bound e k less later finishes line there t m h =
+        let cut = cut_at turns k line there in
+        let q = place_in turns cut.0 line cut.1 cut.2 t (subst (λ ts. IsIn ts t) (append-nil (joined (lists_of line))) m) in
+        let line_is : length (q.0).lines ≡ k = ap length q.3 ∙ cut.3 in
+        let acts : (q.0).turn.act ≡ act.Bootstrap h.node h.asked = ap (λ (u : InnerTurn). u.act) q.2 ∙ h.act_is in
+        let answers : (q.0).turn.answer ≡ answer.Available h.available h.place h.version = ap (λ (u : InnerTurn). u.answer) q.2 ∙ h.answered in
+        let ends = and_both _ _ h.ends in
+        let covers = and_both (pointwise nat_eq name h.node) (is_covering s h.asked) ends.1 in
+        let member = (and_both _ _ ends.0).0 in
+        let p = member_place (placed k) s n member in
+        let is_there : has_replica (Some p.0) s n ≡ true = subst (λ o. has_replica o s n ≡ true) p.1 member in
+        let b = covered_begun start turns events legal told q.0 q.1 (order.boots q.0 q.1 (subst IsBootAct (sym acts) tt)) n s name p.0 (ap placed line_is ∙ p.1) is_there (λ z done here. member_named start turns events legal told order z n s p.0 done name here named is_there)
+        h.node h.asked h.available h.place h.version acts answers (name_is name h.node covers.0) covers.1 in
+        by_begun b (placements_stand start turns events legal told k (omega (arith, less)) ∙ p.1) (omega (arith, (told.lines).low q.0 q.1, ap told.ends line_is)) (omega (arith, (told.lines).high q.0 q.1, ap (λ j. told.ends (suc j)) line_is))
+      where
+        by_begun : {from to : ℕ} {stood : Placement} → HasBegun events from to n s stood → last_place (take (told.ends k) events) ≡ Some stood → told.ends k ≤ from → to ≤ told.ends (suc k) → ⊥
+        by_begun b last begins ends =
+            let low = b.low in
+            let high = b.high in
+            begin_clash n s b.place b.tenure b.answer b.begun b.there (e.since b.place (omega (arith, later, begins, low)) (omega (arith, high, ends, finishes))) (e.since (suc b.place) (omega (arith, later, begins, low)) (omega (arith, high, ends, finishes)))
+            (tried_low k less n s b.place b.tenure (omega (arith, begins, low)) (omega (arith, high, ends)) (given_by events legal n s (told.ends k) b.tenure _ last b.given))
+
+    -- so a member whose tenure ended is new since the line that assigned it
+    is_new : (p : TurnPlace) → IsTurnPlace turns p → (i : ℕ) → told.ends (length p.lines) ≤ i → i ≤ length events → (e : EndedAt events legal n s i) → WasAssigned x e.place (length p.lines) → IsNew true x start p
+    is_new p at i low bound e w = record {
+      lines = w.line;
+      earlier = w.early;
+      assigned = let early = w.early in ap (λ o. is_assigned x o (placement_by start p.lines (suc w.line))) (same w.line (omega (arith, early))) ∙ ap (is_assigned x (placed w.line)) (same (suc w.line) early) ∙ w.assigned;
+      not_since = λ tells k line above there. by_line k line above there (at_within p.lines k line there);
+      not_beside = λ tells. none_begun x (placement_by start p.lines (length p.lines)) (placement_after (placement_by start p.lines (length p.lines)) (p.earlier ++ p.beside)) p.earlier (λ t m h. no_boot_earlier turns order.boots p at t m (subst IsBootAct (sym h.act_is) tt));
+    }
+      where
+        same : (j : ℕ) → j ≤ length p.lines → placement_by start p.lines j ≡ placed j
+        same j le = ap (λ ls. placement_after (start_placement start) (inner_turns ls)) (sym (ap (take j) at.in_run ∙ take_front p.lines (p.line ∷ at.after) j le))
+
+        by_line : (k : ℕ) (line : Turn) → w.line < k → At p.lines k line → k < length p.lines → is_begun_in x (placement_by start p.lines k) (placement_by start p.lines (suc k)) (inner_turns (line ∷ [])) ≡ false
+        by_line k line above there early =
+            let less : k < length turns = omega (arith, early, line_below turns p at) in
+            let later = w.later in
+            let begins : e.place < told.ends k = omega (arith, later, ends_grow start turns events legal told (suc w.line) k above (omega (arith, less))) in
+            let finishes : told.ends (suc k) ≤ i = omega (arith, ends_grow start turns events legal told (suc k) (length p.lines) early (omega (arith, line_below turns p at)), low) in
+            let here : At turns k line = subst (λ ts. At ts k line) (sym at.in_run) (at_append p.lines (p.line ∷ at.after) k line there) in
+            ap (λ o. is_begun_in x o (placement_by start p.lines (suc k)) (inner_turns (line ∷ []))) (same k (omega (arith, early)))
+            ∙ ap (λ o. is_begun_in x (placed k) o (inner_turns (line ∷ []))) (same (suc k) early)
+            ∙ none_begun x (placed k) (placed (suc k)) (inner_turns (line ∷ [])) (λ t m h. boot_clash i bound e k less begins finishes line here t m h)
+
+    -- an open replica without a tenure is of a node that has none of the shard, or is new
+    ended_unowned : (p : TurnPlace) → IsTurnPlace turns p → IsQuiet p → (version i : ℕ) → (told.spans).from p ≤ i → i < (told.spans).to p → (place : Placement) → last_place (take i events) ≡ Some place → placement_at start p ≡ Some place → EndedAt events legal n s i
+        → OwnsNot start p s n version ⊎ IsNew true x start p
+    ended_unowned p at quiet version i low high place last stands e =
+        elim (true_or_not (has_replica (Some place) s n)) as (λ _. OwnsNot start p s n version ⊎ IsNew true x start p) [
+          | inr gone ↦ inl (record { place = place; may_stand = may_stand start turns events legal told order p at place stands; not_owned = inl gone })
+          | inl member ↦ inr (is_new p at i (omega (arith, (told.lines).low p at, low)) (omega (arith, high, (told.tells).order.not_above p at)) e (by_member member))
+        ]
+      where
+        was : (at_end : Placement) × (last_place (take e.place events) ≡ Some at_end)
+        was = stands_at start turns events legal told order e.place n s call.End reply.Done e.there
+
+        gone : has_replica (Some was.0) s n ≡ false
+        gone = order.ends e.place n s reply.Done e.there was.0 was.1
+
+        by_member : has_replica (Some place) s n ≡ true → WasAssigned x e.place (length p.lines)
+        by_member member =
+            let k = length p.lines in
+            let below = e.below in
+            elim (cases_lt e.place (told.ends k)) as (λ _. WasAssigned x e.place k) [
+              | inl lt ↦
+                  let is : placed k ≡ Some place = ap (λ ls. placement_after (start_placement start) (inner_turns ls)) (lines_before start turns events legal told p at) ∙ stands in
+                  assigned_at x e.place was.0 (late_step events legal e.place n s call.End reply.Done e.there) was.1 gone k (omega (arith, line_below turns p at)) lt (ap (is_member x) is ∙ member)
+              | inr ge ↦
+                  let here = stood start turns events legal told order p at quiet.prints_none e.place ge (omega (arith, below, high, (told.lines).high p at)) in
+                  let same : was.0 ≡ place = some_same was.0 place (sym was.1 ∙ here ∙ stands) in
+                  let bad : true ≡ false = sym member ∙ ap (λ q. has_replica (Some q) s n) (sym same) ∙ gone in
+                  cc
+            ]
+
+  not_owned_at : (p : TurnPlace) → IsTurnPlace turns p → IsQuiet p → (used : Placement) (s n : ℕ) → IsRefusedAt start turns events told p used s n reason.NotOwned → IsUnowned true start p used s n
+  not_owned_at p at quiet used s n h =
+      let i = (h.refused).0 in
+      let low = ((h.refused).1).0 in
+      let high = ((h.refused).1).1 in
+      let there = ((h.refused).1).2 in
+      let refused = reply.Refused reason.NotOwned in
+      let r = replica n s (take i events) in
+      let law = refused_law true (take i events) n s r h.asked reason.NotOwned (lawful_step events legal i n s h.asked refused there) in
+      let why = refused_move r h.asked used.version reason.NotOwned h.at_version tt (first_not_owned (take i events) s r h.asked used.version h.at_version law) in
+      let place = stands_at start turns events legal told order i n s h.asked refused there in
+      let line = stood start turns events legal told order p at quiet.prints_none i (omega (arith, (told.lines).low p at, low)) (omega (arith, (told.lines).high p at, high)) in
+      let stands : placement_at start p ≡ Some place.0 = sym line ∙ place.1 in
+      let bound : i ≤ length events = omega (arith, high, (told.tells).order.not_above p at) in
+      elim why.1 as (λ _. IsUnowned true start p used s n) [
+        | inr t ↦ inl (above_owns_not p n s used.version t.0 i place.0 bound place.1 (may_stand start turns events legal told order p at place.0 stands) t.1 t.2)
+        | inl none ↦
+            let e = ended_at events legal n s i bound (record { open_ = why.0; none = none }) in
+            elim (ended_unowned n s h.name (name_everywhere events legal n used h.name h.placed h.named) p at quiet used.version i low high place.0 place.1 stands e) as (λ _. IsUnowned true start p used s n) [
+              | inl not ↦ inl not
+              | inr new ↦
+                  let named = h.named in
+                  inr (record { instance_ = named.instance_; stands = named.stands; holds = subst (λ own. IsNew true (record { shard = s; node = n; name = own }) start p) (sym named.holds) new })
+            ]
+      ]
+
+pub not_owned_said : NotOwnedIsSaid
+not_owned_said start turns events legal told order opens p at quiet used s n h = not_owned_at start turns events legal told order p at quiet used s n h

@@ -1,0 +1,107 @@
+-- What a put or a read that is refused as not owned, or for a fence, says of its replica.
+use Rattle.std.proofs.Common.{◌≡◌, ℕ, ◌<◌, ◌≤◌, List, refl, sym, ap, ◌∙◌, subst, inl, inr, arith, Bool, true, false}
+use Rattle.std.specs.Prelude.{◌⊎◌, Option, Some, None, nat_le, if◌then◌else◌, slice_get, ◌+◌}
+use Rattle.std.specs.Option.{option_or}
+use Rattle.std.proofs.lemmas.Bool.{leb-false, leb-true}
+use Rattle.m3_model.specs.declared.point.Point.{Point}
+use Rattle.m3_model.specs.declared.reason.Reason.{Reason}
+use Rattle.m3_model.specs.declared.reason.Reason.TheVariants as reason
+use Rattle.m3_model.specs.declared.replica.Standing.{Standing}
+use Rattle.m3_model.specs.declared.replica.Standing.TheVariants as standing
+use Rattle.m3_model.specs.declared.rules.Rules.{Rules}
+use Rattle.m3_model.specs.declared.rules.Space.{Space}
+use Rattle.cluster_core.specs.Refusals.{first_refusal, outdated, outside, outside_of, reason_if, shut, unowned}
+use Rattle.cluster_core.specs.Rows.{MayRefuse}
+use Rattle.cluster_core.specs.declared.event.Event.{Event}
+use Rattle.cluster_core.specs.declared.event.StepCall.{StepCall}
+use Rattle.cluster_core.specs.declared.event.StepCall.TheVariants as call
+use Rattle.cluster_core.specs.declared.replica_state.ReplicaState.{ReplicaState}
+use Rattle.cluster_core.proofs.ListLemmas.{some_same}
+use Rattle.told_causes.proofs.RefusalLemmas.{or_cases}
+use Rattle.told_moves.specs.Moves.{IsAtVersion}
+
+-- the reasons that a move of the shard leaves
+abbrev IsOfMove : Reason → Type 0
+IsOfMove reason.NotOwned = Unit {0}
+IsOfMove (reason.Stale fence) = Unit {0}
+IsOfMove _ = ⊥
+
+-- for such a reason the replica is open
+open_or : (x : Standing) (rest : Option Reason) (why : Reason) → IsOfMove why → option_or (shut x) rest ≡ Some why → (x ≡ standing.Open) × (rest ≡ Some why)
+open_or standing.Down rest why is e = absurd (subst IsOfMove (sym (some_same reason.Down why e)) is)
+open_or standing.Boot rest why is e = absurd (subst IsOfMove (sym (some_same reason.Boot why e)) is)
+open_or standing.Open rest why is e = (refl, e)
+
+if_not : (b : Bool) (own why : Reason) → (IsOfMove own → ⊥) → IsOfMove why → reason_if b own ≡ Some why → ⊥
+if_not true own why not is e = not (subst IsOfMove (sym (some_same own why e)) is)
+if_not false own why not is e = cc
+
+outside_not : (rules : Rules) (p : Point) (o : Option Space) (why : Reason) → IsOfMove why → outside_of rules p o ≡ Some why → ⊥
+outside_not rules p None why is e = cc
+outside_not rules p (Some space) why is e =
+    elim (or_cases (reason_if (nat_le (p.t + space.past) rules.now) reason.Past) (reason_if (nat_le (rules.now + space.future) p.t) reason.Future) why e) as (λ _. ⊥) [
+      | inl past ↦ if_not (nat_le (p.t + space.past) rules.now) reason.Past why (λ h. h) is past
+      | inr future ↦ if_not (nat_le (rules.now + space.future) p.t) reason.Future why (λ h. h) is future
+    ]
+
+-- a tenure is above the version, or there is none; or it isn't above it
+abbrev IsAbove : Option ℕ → ℕ → Type 0
+IsAbove o version = (o ≡ None) ⊎ ((tenure : ℕ) × (o ≡ Some tenure) × (version < tenure))
+
+abbrev IsWithin : Option ℕ → ℕ → Type 0
+IsWithin o version = (tenure : ℕ) × (o ≡ Some tenure) × (tenure ≤ version)
+
+unowned_cases : (o : Option ℕ) (version : ℕ) → ((unowned o version ≡ Some reason.NotOwned) × IsAbove o version) ⊎ ((unowned o version ≡ None) × IsWithin o version)
+unowned_cases None version = inl (refl, inl refl)
+unowned_cases (Some tenure) version = by (nat_le tenure version) refl
+  where
+    by : (b : Bool) → nat_le tenure version ≡ b → (((if b then None else Some reason.NotOwned) ≡ Some reason.NotOwned) × IsAbove (Some tenure) version) ⊎ (((if b then None else Some reason.NotOwned) ≡ None) × IsWithin (Some tenure) version)
+    by true is = inr (refl, (tenure, refl, leb-true tenure version is))
+    by false is = inl (refl, inr (tenure, refl, leb-false tenure version is))
+
+outdated_cases : (fence version : ℕ) → ((outdated fence version ≡ Some (reason.Stale fence)) × (version < fence)) ⊎ (outdated fence version ≡ None)
+outdated_cases fence version = by (nat_le fence version) refl
+  where
+    by : (b : Bool) → nat_le fence version ≡ b → (((if b then None else Some (reason.Stale fence)) ≡ Some (reason.Stale fence)) × (version < fence)) ⊎ ((if b then None else Some (reason.Stale fence)) ≡ None)
+    by true is = inr refl
+    by false is = inl (refl, leb-false fence version is)
+
+-- which reason a tenure and a fence give
+abbrev FoundsMove : Option ℕ → ℕ → ℕ → Reason → Type 0
+FoundsMove tenure fence version reason.NotOwned = IsAbove tenure version
+FoundsMove tenure fence version (reason.Stale at) = IsWithin tenure version × (fence ≡ at) × (version < fence)
+FoundsMove tenure fence version _ = ⊥
+
+by_fence : (tenure : Option ℕ) (fence version : ℕ) (why : Reason) → IsOfMove why → IsWithin tenure version → outdated fence version ≡ Some why → FoundsMove tenure fence version why
+by_fence tenure fence version why is within e =
+    elim (outdated_cases fence version) as (λ _. FoundsMove tenure fence version why) [
+      | inl stale ↦ subst (FoundsMove tenure fence version) (some_same (reason.Stale fence) why (sym stale.0 ∙ e)) (within, refl, stale.1)
+      | inr none ↦ let bad : None ≡ Some why = sym none ∙ e in cc
+    ]
+
+by_tenure : (tenure : Option ℕ) (fence version : ℕ) (rest : Option Reason) (why : Reason) → (IsWithin tenure version → rest ≡ Some why → FoundsMove tenure fence version why) → option_or (unowned tenure version) rest ≡ Some why → FoundsMove tenure fence version why
+by_tenure tenure fence version rest why later e =
+    elim (unowned_cases tenure version) as (λ _. FoundsMove tenure fence version why) [
+      | inl above ↦ subst (FoundsMove tenure fence version) (some_same reason.NotOwned why (sym (ap (λ o. option_or o rest) above.0) ∙ e)) above.1
+      | inr within ↦ later within.1 (sym (ap (λ o. option_or o rest) within.0) ∙ e)
+    ]
+
+-- a put or a read that is refused for such a reason is so by an open replica's tenure or fence
+pub refused_move : (r : ReplicaState) (c : StepCall) (version : ℕ) (why : Reason) → IsAtVersion version c → IsOfMove why → first_refusal r c ≡ Some why → (r.standing ≡ standing.Open) × FoundsMove r.tenure r.fence version why
+refused_move r (call.Put client number rules at_version point) version why same is e =
+    let h = open_or r.standing (option_or (unowned r.tenure at_version) (option_or (outdated r.fence at_version) (outside rules point))) why is e in
+    (h.0, subst (λ v. FoundsMove r.tenure r.fence v why) same (by_tenure r.tenure r.fence at_version (option_or (outdated r.fence at_version) (outside rules point)) why (λ within rest.
+    elim (or_cases (outdated r.fence at_version) (outside rules point) why rest) as (λ _. FoundsMove r.tenure r.fence at_version why) [
+      | inl stale ↦ by_fence r.tenure r.fence at_version why is within stale
+      | inr late ↦ absurd (outside_not rules point (slice_get rules.spaces point.ns) why is late)
+    ]) h.1))
+refused_move r (call.Read client number rules at_version pick from to) version why same is e =
+    let h = open_or r.standing (option_or (unowned r.tenure at_version) (outdated r.fence at_version)) why is e in
+    (h.0, subst (λ v. FoundsMove r.tenure r.fence v why) same (by_tenure r.tenure r.fence at_version (outdated r.fence at_version) why (λ within rest. by_fence r.tenure r.fence at_version why is within rest) h.1))
+refused_move r _ version why same is e = absurd same
+
+-- that a put or a read isn't owned is its first reason
+pub first_not_owned : (past : List Event) (s : ℕ) (r : ReplicaState) (c : StepCall) (version : ℕ) → IsAtVersion version c → MayRefuse true past s r c reason.NotOwned → first_refusal r c ≡ Some reason.NotOwned
+first_not_owned past s r (call.Put client number rules at_version point) version same h = h
+first_not_owned past s r (call.Read client number rules at_version pick from to) version same h = h
+first_not_owned past s r _ version same h = absurd same

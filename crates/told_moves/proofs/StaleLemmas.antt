@@ -1,0 +1,133 @@
+-- A put or a read that is refused for a fence is so for one that a bootstrap of the shard asked for, or that an earlier run left.
+use Rattle.std.proofs.Common.{◌≡◌, ℕ, zero, suc, ◌<◌, ◌≤◌, List, [], ◌∷◌, ◌++◌, take, length, refl, sym, ap, ◌∙◌, subst, inl, inr, arith, true}
+use Rattle.std.specs.Prelude.{◌⊎◌, Option, Some, None}
+use Rattle.std.proofs.lemmas.Bool.{cases_lt}
+use Rattle.m3_model.proofs.MemberLemmas.{IsIn-append_left}
+use Rattle.m3_model.specs.Members.{IsIn}
+use Rattle.m3_model.specs.declared.placement.Placement.{Placement}
+use Rattle.m3_model.specs.declared.reason.Reason.TheVariants as reason
+use Rattle.m3_model.specs.declared.rules.MetaState.{MetaState}
+use Rattle.m3_model.specs.declared.turn.Turn.{Turn}
+use Rattle.cluster_core.specs.Earlier.{last_place, place_after}
+use Rattle.cluster_core.specs.Legal.{Legal}
+use Rattle.cluster_core.specs.Replicas.{replica}
+use Rattle.cluster_core.specs.declared.event.Event.{Event}
+use Rattle.cluster_core.specs.declared.event.Event.TheVariants as event
+use Rattle.cluster_core.specs.declared.event.StepReply.TheVariants as reply
+use Rattle.cluster_core.proofs.ListLemmas.{at_take, at_within, fold_suc, some_same}
+use Rattle.cluster_core.proofs.TraceLemmas.{lawful_step}
+use Rattle.transcripts.specs.Moves.{IsBootstrapFor, IsFencedAbove, IsLeftFence, IsOfMove}
+use Rattle.transcripts.specs.Placements.{printed}
+use Rattle.transcripts.specs.Record.{TurnPlace, IsTurnPlace, inner_turns, joined, lists_of}
+use Rattle.told_by.specs.Told.{ToldBy}
+use Rattle.told_by.proofs.LeaveLemmas.{place_there}
+use Rattle.told_by.proofs.PrintedLemmas.{greatest_so_far}
+use Rattle.told_by.proofs.TurnLemmas.{cut_before, flat_map-IsIn, in_cut, in_its_line}
+use Rattle.told_causes.specs.Boot.{IsBootAct}
+use Rattle.told_causes.proofs.AloneLemmas.{alone_place}
+use Rattle.told_causes.proofs.RefusalLemmas.{refused_law}
+use Rattle.told_moves.specs.Moves.{IsPlaced, IsQuiet, IsRefusedAt, StaleIsSaid}
+use Rattle.told_moves.specs.Order.{IsInOrder, IsInitAct, OpensWithin}
+use Rattle.told_moves.proofs.AskLemmas.{IsBootOf, IsMoveAsk}
+use Rattle.told_moves.proofs.FenceLemmas.{MovesBefore, fence_source}
+use Rattle.told_moves.proofs.ReasonLemmas.{refused_move}
+use Rattle.told_moves.proofs.StoodLemmas.{known_place, may_stand, stood}
+use Rattle.told_moves.proofs.TenureLemmas.{assigned_low, assigned_so, stands_at}
+
+-- ---- turns
+
+-- a turn of an earlier line is among those before the line of another
+among_lines : (turns : List Turn) (q p : TurnPlace) → IsTurnPlace turns q → IsTurnPlace turns p → length q.lines < length p.lines → IsIn (inner_turns p.lines) q.turn
+among_lines turns q p at_q at lt =
+    let cut = cut_before q.lines q.line at_q.after p.lines p.line at.after (sym at_q.in_run ∙ at.in_run) lt in
+    flat_map-IsIn (λ (line : Turn). joined (lists_of line)) p.lines q.line q.turn (subst (λ ls. IsIn ls q.line) (sym cut.1) (in_cut q.lines q.line cut.0)) (in_its_line q at_q.stands)
+
+module _ (start : Option MetaState) (turns : List Turn) (events : List Event) (legal : Legal true events) (told : ToldBy start turns events) (order : IsInOrder start turns events told) (opens : OpensWithin start events) where
+  -- what is asked for in a bootstrap's stretch that begins before another turn's ends was asked for in an earlier line
+  asked_earlier : (p q : TurnPlace) → IsTurnPlace turns p → IsTurnPlace turns q → IsQuiet p → IsBootAct q.turn.act → (told.spans).from q < (told.spans).to p → length q.lines < length p.lines
+  asked_earlier p q at at_q quiet boots begins =
+      elim (cases_lt (length q.lines) (length p.lines)) as (λ _. length q.lines < length p.lines) [
+        | inl lt ↦ lt
+        | inr ge ↦ elim (cases_lt (length p.lines) (length q.lines)) as (λ _. length q.lines < length p.lines) [
+          | inl gt ↦ absurd (omega (arith, (told.tells).order.order p q at at_q (inl gt), begins))
+          | inr le ↦
+              let is = alone_place turns q p (order.boots q at_q boots) at_q at (omega (arith, ge, le)) in
+              absurd (quiet.begins_none (subst (λ (z : TurnPlace). IsBootAct z.turn.act) (sym is) boots))
+        ]
+      ]
+
+  -- what a turn asked for before isn't above the placement that stands; the bootstrap that asked for it is before the turn
+  boot_moves : (p : TurnPlace) → IsTurnPlace turns p → IsQuiet p → (s fence k node : ℕ) → k < (told.spans).to p → (ask : IsMoveAsk start turns events legal told k node s fence) → IsBootOf ask.q ask.place node s → IsOfMove start p s fence
+  boot_moves p at quiet s fence k node high ask boot =
+      let there = place_there (take k events) ask.place ask.last in
+      let stands = at_take events there.0 k (event.Place ask.place there.1) there.2 in
+      let named = boot.named in
+      let early = asked_earlier p ask.q at ask.in_run quiet (subst IsBootAct (sym boot.act_is) tt) (omega (arith, (ask.within).0, high)) in
+      record {
+        place = ask.place;
+        known = known_place start turns events legal told order p at quiet.prints_none there.0 ask.place there.1 stands.0 (omega (arith, stands.1, high, (told.lines).high p at));
+        node = node;
+        assigned = assigned_so ask.place node s fence ask.assigned;
+        turn = (ask.q).turn;
+        taken = IsIn-append_left (inner_turns p.lines) (p.earlier ++ p.beside) (ask.q).turn (among_lines turns ask.q p ask.in_run at early);
+        asks = record { instance_ = named.instance_; stands = named.stands; holds = subst (IsBootstrapFor s (named.instance_).name) (sym boot.act_is) (sym named.holds, boot.covers) };
+      }
+
+  -- an `init` asks for the tenures of the list's first placement, which are above no version
+  init_low : (used : Placement) → IsPlaced events used → (s fence k node : ℕ) → k ≤ length events → (ask : IsMoveAsk start turns events legal told k node s fence) → IsInitAct (ask.q).turn.act → printed (ask.q).turn.answer ≡ Some ask.place → fence ≤ used.version
+  init_low used placed s fence k node high ask is prints =
+      let init = (told.tells).init.inits ask.q ask.in_run (order.inits ask.q ask.in_run is ask.place prints) in
+      let same : init.place ≡ ask.place = some_same init.place ask.place (sym (ap printed init.answered) ∙ prints) in
+      let low = assigned_low events legal node s k fence ask.place high ask.last ask.assigned in
+      let z = placed.place_at in
+      let grows = greatest_so_far events legal 0 (suc z) init.place used [] init.placed (omega arith) (omega (arith, at_within events z (event.Place used placed.done) placed.there)) (fold_suc place_after None events z (event.Place used placed.done) placed.there) in
+      omega (arith, low, grows, ap (λ (q : Placement). q.version) same)
+
+  move_cause : (p : TurnPlace) → IsTurnPlace turns p → IsQuiet p → (used : Placement) → IsPlaced events used → (n s fence i : ℕ) → used.version < fence → i < (told.spans).to p → (m : MovesBefore start turns events legal told opens n s i fence) → IsOfMove start p s fence
+  move_cause p at quiet used placed n s fence i above high m =
+      let below = m.below in
+      elim (m.ask).how as (λ _. IsOfMove start p s fence) [
+        | inl boot ↦ boot_moves p at quiet s fence m.place m.node (omega (arith, below, high)) m.ask boot
+        | inr init ↦ absurd (omega (arith, above, init_low used placed s fence m.place m.node (omega (arith, below, high, (told.tells).order.not_above p at)) m.ask init.0 init.1))
+      ]
+
+  -- the fence isn't above the version of the placement that stands
+  cause_low : (p : TurnPlace) → IsTurnPlace turns p → (n s fence i : ℕ) → i < (told.spans).to p → (place : Placement) → last_place (take i events) ≡ Some place → IsLeftFence start fence ⊎ MovesBefore start turns events legal told opens n s i fence → fence ≤ place.version
+  cause_low p at n s fence i high place last (inl left) =
+      let there = place_there (take i events) place last in
+      let some = (at_take events there.0 i (event.Place place there.1) there.2).1 in
+      omega (arith, left.not_above, greatest_so_far events legal 0 i (left.state).place place [] (told.opened left.state left.found).placed (omega (arith, some)) (omega (arith, high, (told.tells).order.not_above p at)) last)
+  cause_low p at n s fence i high place last (inr m) =
+      let below = m.below in
+      let ask = m.ask in
+      let k = m.place in
+      let bound = (told.tells).order.not_above p at in
+      let there = place_there (take k events) ask.place ask.last in
+      let stands = at_take events there.0 k (event.Place ask.place there.1) there.2 in
+      let low = assigned_low events legal m.node s k fence ask.place (omega (arith, below, high, bound)) ask.last ask.assigned in
+      omega (arith, low, greatest_so_far events legal there.0 i ask.place place there.1 stands.0 (omega (arith, stands.1, below)) (omega (arith, high, bound)) last)
+
+  stale_at : (p : TurnPlace) → IsTurnPlace turns p → IsQuiet p → (used : Placement) (s n fence : ℕ) → IsRefusedAt start turns events told p used s n (reason.Stale fence) → IsFencedAbove start p used s fence
+  stale_at p at quiet used s n fence h =
+      let i = (h.refused).0 in
+      let low = ((h.refused).1).0 in
+      let high = ((h.refused).1).1 in
+      let there = ((h.refused).1).2 in
+      let refused = reply.Refused (reason.Stale fence) in
+      let r = replica n s (take i events) in
+      let why = refused_move r h.asked used.version (reason.Stale fence) h.at_version tt (refused_law true (take i events) n s r h.asked (reason.Stale fence) (lawful_step events legal i n s h.asked refused there)) in
+      let is = (why.1).1 in
+      let above : used.version < fence = omega (arith, is, (why.1).2) in
+      let place = stands_at start turns events legal told order i n s h.asked refused there in
+      let line = stood start turns events legal told order p at quiet.prints_none i (omega (arith, (told.lines).low p at, low)) (omega (arith, (told.lines).high p at, high)) in
+      let source = fence_source start turns events legal told opens n s i fence (omega (arith, high, (told.tells).order.not_above p at)) is (omega (arith, above)) in
+      record {
+        above = above;
+        place = place.0;
+        may_stand = may_stand start turns events legal told order p at place.0 (sym line ∙ place.1);
+        not_above = cause_low p at n s fence i high place.0 place.1 source;
+        cause = elim source as (λ _. IsLeftFence start fence ⊎ IsOfMove start p s fence) [ inl left ↦ inl left | inr m ↦ inr (move_cause p at quiet used h.placed n s fence i above high m) ];
+      }
+
+pub stale_said : StaleIsSaid
+stale_said start turns events legal told order opens p at quiet used s n fence h = stale_at start turns events legal told order opens p at quiet used s n fence h

@@ -1,0 +1,162 @@
+-- Why each answer of a run is what it is, put together.
+use Rattle.std.proofs.Common.{◌≡◌, ◌≤◌, ◌<◌, ◌+◌, ℕ, suc, Bool, true, List, [], ◌∷◌, ◌++◌, take, length, refl, sym, ap, ◌∙◌, subst, inl, inr, arith, length-append}
+use Rattle.std.specs.Prelude.{◌⊎◌, Some, None, Option, IsTrue}
+use Rattle.m3_model.proofs.MemberLemmas.{IsIn-append_left, IsIn-append_right}
+use Rattle.m3_model.specs.Calls.{is_call}
+use Rattle.m3_model.specs.Members.{IsIn}
+use Rattle.m3_model.specs.declared.act.Act.{Act}
+use Rattle.m3_model.specs.declared.act.Act.TheVariants as act
+use Rattle.m3_model.specs.declared.answer.Answer.{Answer}
+use Rattle.m3_model.specs.declared.answer.Answer.TheVariants as answer
+use Rattle.m3_model.specs.declared.reason.Reason.{Reason}
+use Rattle.m3_model.specs.declared.reason.Reason.TheVariants as reason
+use Rattle.m3_model.specs.declared.rules.MetaState.{MetaState}
+use Rattle.m3_model.specs.declared.turn.Request.{Request}
+use Rattle.m3_model.specs.declared.turn.Turn.{Turn}
+use Rattle.cluster_core.specs.Legal.{Legal}
+use Rattle.cluster_core.specs.declared.event.Event.{Event}
+use Rattle.cluster_core.specs.declared.event.Event.TheVariants as event
+use Rattle.cluster_core.specs.declared.event.StepCall.{StepCall}
+use Rattle.cluster_core.specs.declared.event.StepCall.TheVariants as call
+use Rattle.cluster_core.specs.declared.event.StepReply.TheVariants as reply
+use Rattle.cluster_core.proofs.ListLemmas.{some_same}
+use Rattle.transcripts.specs.Caused.{Caused, CausedAt, HadBefore, IsDueBy, IsOwn, refusal_after}
+use Rattle.transcripts.specs.Deliveries.{LateMessage}
+use Rattle.transcripts.specs.Faults.{Damaged, Failing, Fault, Taking}
+use Rattle.transcripts.specs.Levels.{MissesLevel}
+use Rattle.transcripts.specs.Placements.{printed}
+use Rattle.transcripts.specs.Record.{Record, TurnPlace, IsTurnPlace}
+use Rattle.transcripts.proofs.MoreFaults.{AreAmong, different_both, own_more}
+use Rattle.told_by.specs.Hears.{HearsBy, InStretch, IsRestartCall}
+use Rattle.told_by.specs.Openings.{opening_length}
+use Rattle.told_by.specs.Spans.{IsAlone}
+use Rattle.told_by.specs.Told.{ToldBy}
+use Rattle.told_by.proofs.LineLemmas.{line_below}
+use Rattle.told_causes.specs.Boot.{IsBootAct}
+use Rattle.told_causes.specs.Calls.{IsKnownCall, Within}
+use Rattle.told_causes.specs.Deliveries.{IsKnownDelivery}
+use Rattle.told_causes.specs.Faults.{fault_of, faults_told}
+use Rattle.told_causes.specs.Nodes.{AreReached, NamesReplica}
+use Rattle.told_causes.specs.Standing.{IsHaltAct}
+use Rattle.told_causes.proofs.CallLemmas.{acks_said}
+use Rattle.told_causes.proofs.DeliverLemmas.{outcomes_said}
+use Rattle.told_causes.proofs.FaultLemmas.{faults_different, faults_steps}
+use Rattle.told_causes.proofs.HaltLemmas.{take_cut}
+use Rattle.told_causes.proofs.LevelLemmas.{fetch_said, match_said, too_few_said}
+use Rattle.told_causes.proofs.NodeLemmas.{node_answers}
+use Rattle.told_moves.specs.Order.{IsInOrder}
+use Rattle.told_runs.specs.Answers.{AreAnswered, IsAnswered, IsDecidedBy, IsOfKind, messages_by, messages_told}
+use Rattle.told_runs.specs.Bounds.{IsBounded}
+use Rattle.told_runs.proofs.BoundLemmas.{full_by_many}
+use Rattle.told_runs.proofs.MemberLemmas.{had_before}
+
+-- What is known of the calls and the deliveries of a run.
+pub record AreKnown (start : Option MetaState) (turns : List Turn) (events : List Event) (told : ToldBy start turns events) : Type 0 where
+  pub calls : (p : TurnPlace) → IsTurnPlace turns p → IsTrue (is_call p.turn.act) → printed p.turn.answer ≡ None → IsKnownCall start turns events told p
+  pub deliveries : (p : TurnPlace) → IsTurnPlace turns p → p.turn.act ≡ act.Deliver → printed p.turn.answer ≡ None → IsKnownDelivery start turns events told p
+
+module _ (taking : List Fault) (start : Option MetaState) (turns : List Turn) (events : List Event) (legal : Legal true events) (told : ToldBy start turns events) (order : IsInOrder start turns events told) (known : AreKnown start turns events told) where
+  abbrev told_faults : List Fault
+  told_faults = faults_told told.ends events (length turns)
+
+  abbrev all_faults : List Fault
+  all_faults = taking ++ told_faults
+
+  told_among : AreAmong told_faults all_faults
+  told_among f m = IsIn-append_right taking told_faults f m
+
+  taking_among : AreAmong taking all_faults
+  taking_among f m = IsIn-append_left taking told_faults f m
+
+  -- the slots that a restart answers `disk` for had a replica
+  restart_reached : (p : TurnPlace) → IsTurnPlace turns p → printed p.turn.answer ≡ None → (shard : ℕ) (a : Act) → AreReached start (Within events told.spans p) p a shard
+  restart_reached p at quiet shard (act.Restart name pick) = λ n h. by n h.0 h.1 (h.2).0 (h.2).1
+    where
+      by : (n : ℕ) (c : StepCall) → IsRestartCall c → (i : ℕ) → InStretch events ((told.spans).from p) ((told.spans).to p) i (event.Step n shard c (reply.Refused reason.Disk)) → HadBefore start p shard n
+      by n call.Restart kind i here = had_before start turns events legal told order p at quiet i n shard (reply.Refused reason.Disk) (omega (arith, here.1, (told.lines).high p at)) here.2
+      by n _ kind i here = absurd kind
+  restart_reached p at quiet shard _ = tt
+
+  -- a restart or a bootstrap that was refused for a disk or for files
+  of_node : (p : TurnPlace) → IsTurnPlace turns p → IsAlone turns p → (a : Act) (b : Answer) → p.turn.act ≡ a → p.turn.answer ≡ b → printed b ≡ None → (shard : ℕ) → NamesReplica a b shard → (messages : List LateMessage) → IsOwn true all_faults start messages p a b
+  of_node p at only a b acts answers quiet shard names messages =
+      let names_it : NamesReplica p.turn.act p.turn.answer shard = subst (λ x. NamesReplica x p.turn.answer shard) (sym acts) (subst (λ y. NamesReplica a y shard) (sym answers) names) in
+      let own = node_answers start turns events legal told p at only shard names_it (restart_reached p at (ap printed answers ∙ quiet) shard p.turn.act) messages in
+      own_more true told_faults all_faults told_among start messages p a b (subst (λ x. IsOwn true told_faults start messages p x b) acts (subst (λ y. IsOwn true told_faults start messages p p.turn.act y) answers own))
+
+  call_known : (p : TurnPlace) → IsTurnPlace turns p → (a : Act) (b : Answer) → p.turn.act ≡ a → p.turn.answer ≡ b → IsTrue (is_call a) → printed b ≡ None → IsKnownCall start turns events told p
+  call_known p at a b acts answers calls quiet = known.calls p at (subst (λ x. IsTrue (is_call x)) (sym acts) calls) (ap printed answers ∙ quiet)
+
+  -- a call that was refused for its level
+  of_level : (p : TurnPlace) → IsTurnPlace turns p → (a : Act) → p.turn.act ≡ a → IsTrue (is_call a) → (got needed : ℕ) (reasons : List (ℕ × Reason)) (shard : ℕ) → p.turn.answer ≡ answer.Consistency got needed reasons shard → MissesLevel true told_faults start p got needed reasons shard
+  of_level p at a acts calls got needed reasons shard answers = too_few_said start turns events told p (call_known p at a (answer.Consistency got needed reasons shard) acts answers calls refl) got needed reasons shard answers
+
+  -- the answer is the act's own
+  own_by : (p : TurnPlace) → IsTurnPlace turns p → (a : Act) (b : Answer) → p.turn.act ≡ a → p.turn.answer ≡ b → (h : HearsBy start (take ((told.spans).from p) events) (Within events told.spans p) p a b) → IsOfKind taking start p a b
+      → IsOwn true all_faults start (messages_by start (take ((told.spans).from p) events) (Within events told.spans p) p a b h) p a b
+  own_by p at (act.Init rf shards seed nodes) (answer.Placed place version) acts answers h kind = kind
+  own_by p at (act.Init rf shards seed nodes) (answer.Disk name shard) acts answers h kind = own_more true taking all_faults taking_among start [] p (act.Init rf shards seed nodes) (answer.Disk name shard) kind
+  own_by p at (act.Namespace name block past future retention) answer.Done acts answers h kind = tt
+  own_by p at (act.Now now) answer.Done acts answers h kind = tt
+  own_by p at (act.Fates list) answer.Done acts answers h kind = tt
+  own_by p at act.Deliver (answer.Outcomes outcomes) acts answers h kind =
+      own_more true told_faults all_faults told_among start h.messages p act.Deliver (answer.Outcomes outcomes) (outcomes_said start turns events told p (known.deliveries p at acts (ap printed answers)) outcomes h)
+  own_by p at (act.Stop node) answer.Done acts answers h kind = tt
+  own_by p at (act.Restart node pick) answer.Done acts answers h kind = tt
+  own_by p at (act.Restart node pick) (answer.Disk name shard) acts answers h kind = of_node p at (order.halts p at (subst IsHaltAct (sym acts) tt)) (act.Restart node pick) (answer.Disk name shard) acts answers refl shard refl []
+  own_by p at (act.Bootstrap node asked) (answer.Available available place version) acts answers h kind = kind
+  own_by p at (act.Bootstrap node asked) (answer.Disk name shard) acts answers h kind = of_node p at (order.boots p at (subst IsBootAct (sym acts) tt)) (act.Bootstrap node asked) (answer.Disk name shard) acts answers refl shard refl []
+  own_by p at (act.Bootstrap node asked) (answer.Corrupt name shard damage) acts answers h kind = of_node p at (order.boots p at (subst IsBootAct (sym acts) tt)) (act.Bootstrap node asked) (answer.Corrupt name shard damage) acts answers refl shard refl []
+  own_by p at (act.Write ns id t v level version) (answer.Acks nodes) acts answers h kind =
+      acks_said start turns events legal told p at order.halts (call_known p at (act.Write ns id t v level version) (answer.Acks nodes) acts answers refl refl).named ns id t v level version nodes acts answers
+  own_by p at (act.Write ns id t v level version) (answer.Consistency got needed reasons shard) acts answers h kind =
+      own_more true told_faults all_faults told_among start [] p (act.Write ns id t v level version) (answer.Consistency got needed reasons shard) (of_level p at (act.Write ns id t v level version) acts refl got needed reasons shard answers)
+  own_by p at (act.Fetch ns id from to level version) (answer.Found series short) acts answers h kind =
+      let call = call_known p at (act.Fetch ns id from to level version) (answer.Found series short) acts answers refl refl in
+      own_more true told_faults all_faults told_among start [] p (act.Fetch ns id from to level version) (answer.Found series short) (fetch_said start turns events told p call ns id from to level version series short acts answers)
+  own_by p at (act.Fetch ns id from to level version) (answer.Consistency got needed reasons shard) acts answers h kind =
+      own_more true told_faults all_faults told_among start [] p (act.Fetch ns id from to level version) (answer.Consistency got needed reasons shard) (of_level p at (act.Fetch ns id from to level version) acts refl got needed reasons shard answers)
+  own_by p at (act.Match ns wanted from to level version) (answer.Found series short) acts answers h kind =
+      let call = call_known p at (act.Match ns wanted from to level version) (answer.Found series short) acts answers refl refl in
+      own_more true told_faults all_faults told_among start [] p (act.Match ns wanted from to level version) (answer.Found series short) (match_said start turns events told p call ns wanted from to level version series short acts answers)
+  own_by p at (act.Match ns wanted from to level version) (answer.Consistency got needed reasons shard) acts answers h kind =
+      own_more true told_faults all_faults told_among start [] p (act.Match ns wanted from to level version) (answer.Consistency got needed reasons shard) (of_level p at (act.Match ns wanted from to level version) acts refl got needed reasons shard answers)
+  own_by p at _ _ acts answers h kind = absurd kind
+
+  due_by : (p : TurnPlace) (at : IsTurnPlace turns p) (o : Option Answer) → IsDecidedBy taking start p o → IsDueBy true all_faults start (messages_told start turns events told p at) p o
+  due_by p at (Some refusal) h = h
+  due_by p at None h = own_by p at p.turn.act p.turn.answer refl refl ((told.tells).hears p at) h
+
+  module _ (past : List Record) (bounded : IsBounded past turns told.ends) where
+    caused_at : (p : TurnPlace) (at : IsTurnPlace turns p) → IsAnswered taking start ((told.spans).to p) p → CausedAt true all_faults past start (messages_told start turns events told p at) p
+    caused_at p at (inl memory) = inl memory
+    caused_at p at (inr (inl full)) =
+        let less : length p.lines < length turns = line_below turns p at in
+        let lines : take (suc (length p.lines)) turns ≡ p.lines ++ p.line ∷ [] = ap (take (suc (length p.lines))) at.in_run ∙ take_cut p.lines p.line at.after in
+        inr (inl (full.0, full_by_many past turns told.ends bounded first p lines less ((told.spans).to p) ((told.lines).high p at) full.1))
+      where
+        first_low : (o : Option MetaState) → opening_length o ≤ 2
+        first_low None = omega arith
+        first_low (Some state) = omega arith
+
+        first : told.ends 0 ≤ 2
+        first = omega (arith, (told.lines).first, first_low start)
+    caused_at p at (inr (inr decided)) = inr (inr (decided.0, decided.1, due_by p at (refusal_after start p decided.0) decided.2))
+
+    pub caused : (unanswered : Option Request) → AreAnswered taking start turns events told → Caused true (record { past = past; present = record { start = start; turns = turns; unanswered = unanswered } }) all_faults
+    caused unanswered answers = record {
+      different = different_both taking told_faults answers.different (faults_different told.ends events (length turns)) (λ f m n. taken_and_told f (answers.untaken f m) n);
+      delivered = answers.delivered;
+      each = λ p at. subst (λ ms. CausedAt true all_faults past start ms p) (answers.messages p at) (caused_at p at (answers.each p at));
+      once = answers.once;
+      whole = answers.whole;
+    }
+      where
+        -- a step tells of no disk that couldn't be taken
+        by_event : (line : ℕ) (e : Event) (f : Fault) → fault_of line e ≡ Some f → f.kind ≡ Taking → ⊥
+        by_event line (event.Step n s c (reply.Refused reason.Disk)) f tells kind = let bad : Failing ≡ Taking = ap (λ (g : Fault). g.kind) (some_same _ f tells) ∙ kind in cc
+        by_event line (event.Step n s c (reply.Refused (reason.Corrupt harm))) f tells kind = let bad : Damaged ≡ Taking = ap (λ (g : Fault). g.kind) (some_same _ f tells) ∙ kind in cc
+        by_event line _ f tells kind = cc
+
+        taken_and_told : (f : Fault) → f.kind ≡ Taking → IsIn told_faults f → ⊥
+        taken_and_told f kind m = let t = faults_steps told.ends events (length turns) f m in by_event f.line t.e f t.tells kind

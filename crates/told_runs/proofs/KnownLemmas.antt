@@ -1,0 +1,239 @@
+-- What is known of each call of a run and of each delivery: nodes have one name, slots had a replica, and moves explain their reasons.
+use Rattle.std.proofs.Common.{◌≡◌, ◌≤◌, ◌<◌, ℕ, suc, true, List, [], ◌∷◌, ◌++◌, take, length, refl, sym, ap, ◌∙◌, subst, inl, inr, arith, append_assoc}
+use Rattle.std.specs.Prelude.{◌⊎◌, Some, None, Option, IsTrue, slice_get}
+use Rattle.m3_model.specs.Calls.{is_call}
+use Rattle.m3_model.specs.Members.{IsIn}
+use Rattle.m3_model.specs.declared.act.Act.{Act}
+use Rattle.m3_model.specs.declared.act.Act.TheVariants as act
+use Rattle.m3_model.specs.declared.placement.Instance.{Instance}
+use Rattle.m3_model.specs.declared.placement.Placement.{Placement}
+use Rattle.m3_model.specs.declared.reason.Reason.{Reason}
+use Rattle.m3_model.specs.declared.reason.Reason.TheVariants as reason
+use Rattle.m3_model.specs.declared.rules.MetaState.{MetaState}
+use Rattle.m3_model.specs.declared.turn.Turn.{Turn}
+use Rattle.cluster_core.specs.Legal.{Legal}
+use Rattle.cluster_core.specs.Lists.{At}
+use Rattle.cluster_core.specs.declared.event.Event.{Event}
+use Rattle.cluster_core.specs.declared.event.Event.TheVariants as event
+use Rattle.cluster_core.specs.declared.event.StepCall.{StepCall}
+use Rattle.cluster_core.specs.declared.event.StepCall.TheVariants as call
+use Rattle.cluster_core.specs.declared.event.StepReply.TheVariants as reply
+use Rattle.cluster_core.proofs.ListLemmas.{at_in}
+use Rattle.transcripts.specs.Calls.{Call, call_of}
+use Rattle.transcripts.specs.Deliveries.{IsBeside, IsLateMessage, LateMessage, shard_of_message}
+use Rattle.transcripts.specs.Fates.{OfNode}
+use Rattle.transcripts.specs.Faults.{Fault}
+use Rattle.transcripts.specs.Placements.{IsCounted, has_replica, placement_after, printed, start_placement}
+use Rattle.transcripts.specs.Reasons.{MayFail}
+use Rattle.transcripts.specs.Record.{TurnPlace, IsTurnPlace, inner_turns}
+use Rattle.told_by.specs.Hears.{HasServed, HearsLate, IsHeard, IsLatePut, IsNamedBy, IsOwnCall}
+use Rattle.told_by.specs.Told.{ToldBy}
+use Rattle.told_by.proofs.LineLemmas.{line_below, take_front}
+use Rattle.told_causes.specs.Boot.{IsBootAct, IsKnownMember, IsKnownSlot, OwnsWhereBegun, WasMember}
+use Rattle.told_causes.specs.Calls.{AllAreExplained, IsExplained, IsKnownCall, IsNamedOnce, IsSteadyNode, IsUsedBy, ServedAreNamed, Within}
+use Rattle.told_causes.specs.Deliveries.{IsKnownDelivery}
+use Rattle.told_causes.specs.Faults.{faults_told}
+use Rattle.told_causes.specs.Standing.{IsHaltAct}
+use Rattle.told_causes.proofs.WaitLemmas.{member_at}
+use Rattle.told_moves.specs.Moves.{IsAtVersion, IsPlaced, IsQuiet, IsRefusedAt, NotOwnedIsSaid, StaleIsSaid}
+use Rattle.told_moves.specs.Order.{IsInOrder, OpensWithin}
+use Rattle.told_moves.proofs.TenureLemmas.{member_named, name_everywhere}
+use Rattle.told_runs.proofs.AnswerLemmas.{AreKnown}
+use Rattle.told_runs.proofs.MemberLemmas.{counted_member, was_there}
+use Rattle.told_runs.proofs.UsedLemmas.{IsKnownPlace, used_known}
+
+module _ (start : Option MetaState) (turns : List Turn) (events : List Event) (legal : Legal true events) (told : ToldBy start turns events) (order : IsInOrder start turns events told) (opens : OpensWithin start events)
+    (owns : (node shard : ℕ) → OwnsWhereBegun start turns events told node shard) (not_owned : NotOwnedIsSaid) (stale : StaleIsSaid) where
+  abbrev faults : List Fault
+  faults = faults_told told.ends events (length turns)
+
+  -- a node of a lawful placement that has a shard has a name there
+  member_called : (place : Placement) (z : ℕ) (done : List (ℕ × ℕ)) → At events z (event.Place place done) → (shard node : ℕ) → has_replica (Some place) shard node ≡ true → (i : Instance) × (slice_get place.instances node ≡ Some i)
+  member_called place z done there shard node member =
+      let m = member_at place shard node member in
+      let listed = (order.lawful z place done there).spread m.shard (at_in place.shards shard m.shard m.there) in
+      let own = listed.listed m.assigned m.among in
+      (own.0, ap (slice_get place.instances) (sym m.of_node) ∙ own.1)
+
+  placed_by : (p : TurnPlace) (place : Placement) → IsKnownPlace start turns events told p place → IsPlaced events place
+  placed_by p place k = record { place_at = k.place_at; done = k.done; there = k.there }
+
+  named_once : (place : Placement) (node : ℕ) → IsPlaced events place → (i : Instance) → slice_get place.instances node ≡ Some i → IsNamedOnce events place node
+  named_once place node placed i stands =
+      let named : OfNode place node (λ own. own ≡ i.name) = record { instance_ = i; stands = stands; holds = refl } in
+      (i.name, named, name_everywhere events legal node place i.name placed named)
+
+  -- ---- one turn
+
+  module _ (p : TurnPlace) (at : IsTurnPlace turns p) (quiet : IsQuiet p) where
+    -- a placement that is known, with a replica of the slot
+    record IsSlotAt (place : Placement) (shard node : ℕ) : Type 0 where
+      known : IsKnownPlace start turns events told p place
+      member : has_replica (Some place) shard node ≡ true
+
+    steady_at : (place : Placement) (shard node : ℕ) → IsSlotAt place shard node → IsSteadyNode start turns events told p place shard node
+    steady_at place shard node slot =
+        let k = slot.known in
+        let i = member_called place k.place_at k.done k.there shard node slot.member in
+        let once = named_once place node (placed_by p place k) i.0 i.1 in
+        record { name = once.0; named = once.1; everywhere = once.2; there = was_there start turns events legal told order p at node shard }
+
+    -- it was a member after so many lines
+    was_member : (place : Placement) (shard node : ℕ) → IsSlotAt place shard node → WasMember start p shard node
+    was_member place shard node slot =
+        let k = slot.known in
+        let front : take k.lines turns ≡ take k.lines p.lines = ap (take k.lines) at.in_run ∙ take_front p.lines (p.line ∷ at.after) k.lines k.not_later in
+        record {
+          lines = k.lines;
+          not_later = k.not_later;
+          member = ap (λ o. has_replica o shard node) (ap (λ ls. placement_after (start_placement start) (inner_turns ls)) (sym front) ∙ k.stood) ∙ slot.member;
+        }
+
+    known_member : (place : Placement) (shard node : ℕ) (slot : IsSlotAt place shard node) → (name : List ℕ) → IsNamedBy events node name → IsKnownMember start turns events told p shard node name
+    known_member place shard node slot name everywhere = record {
+      alone = order.boots;
+      slot = record {
+        everywhere = everywhere;
+        has_name = λ i other done there member. member_named start turns events legal told order i node shard other done name there everywhere member;
+        owned = owns node shard;
+      };
+      was = was_member place shard node slot;
+    }
+
+    refused_at : (place : Placement) (shard node : ℕ) → IsSlotAt place shard node → (steady : IsSteadyNode start turns events told p place shard node) → (c : StepCall) → IsAtVersion place.version c → (why : Reason)
+        → (i : ℕ) × Within events told.spans p i (event.Step node shard c (reply.Refused why)) → IsRefusedAt start turns events told p place shard node why
+    refused_at place shard node slot steady c version why step = record { placed = placed_by p place slot.known; name = steady.name; named = steady.named; asked = c; at_version = version; refused = step }
+
+    -- what moves of the shard explain
+    by_moves : (place : Placement) (shard node : ℕ) → IsSlotAt place shard node → IsSteadyNode start turns events told p place shard node → (c : StepCall) → IsAtVersion place.version c → (why : Reason)
+        → (i : ℕ) × Within events told.spans p i (event.Step node shard c (reply.Refused why)) → IsExplained Unit (MayFail true faults start p place shard node) why
+    by_moves place shard node slot steady c version reason.NotOwned step = not_owned start turns events legal told order opens p at quiet place shard node (refused_at place shard node slot steady c version reason.NotOwned step)
+    by_moves place shard node slot steady c version (reason.Stale fence) step = λ tells. stale start turns events legal told order opens p at quiet place shard node fence (refused_at place shard node slot steady c version (reason.Stale fence) step)
+    by_moves place shard node slot steady c version _ step = tt
+
+    own_version : (version : ℕ) (c : StepCall) → IsOwnCall start p version c → IsAtVersion version c
+    own_version version (call.Put client number rules at_version point) own = own.3
+    own_version version (call.Read client number rules at_version pick from to) own = own.3
+    own_version version _ own = absurd own
+
+    late_version : (m : LateMessage) (c : StepCall) → IsLatePut start p m c → IsAtVersion (m.used).version c
+    late_version m (call.Put client number rules version point) own = own.3
+    late_version m _ own = absurd own
+
+    -- why a replica of a known slot refused a call
+    call_explained : (place : Placement) (shard node : ℕ) (slot : IsSlotAt place shard node) (steady : IsSteadyNode start turns events told p place shard node) (why : Reason) → IsHeard start (Within events told.spans p) p place shard node why
+        → IsExplained (IsKnownMember start turns events told p shard node steady.name) (MayFail true faults start p place shard node) why
+    call_explained place shard node slot steady reason.Boot h = known_member place shard node slot steady.name steady.everywhere
+    call_explained place shard node slot steady reason.NotOwned h = by_moves place shard node slot steady h.0 (own_version place.version h.0 h.1) reason.NotOwned h.2
+    call_explained place shard node slot steady (reason.Stale fence) h = by_moves place shard node slot steady h.0 (own_version place.version h.0 h.1) (reason.Stale fence) h.2
+    call_explained place shard node slot steady _ h = tt
+
+    -- and a late message
+    late_explained : (m : LateMessage) (shard : ℕ) (slot : IsSlotAt m.used shard m.node) (steady : IsSteadyNode start turns events told p m.used shard m.node) (why : Reason) → HearsLate start (Within events told.spans p) p m shard (Some why)
+        → IsExplained (IsKnownMember start turns events told p shard m.node steady.name) (MayFail true faults start p m.used shard m.node) why
+    late_explained m shard slot steady reason.Boot h = known_member m.used shard m.node slot steady.name steady.everywhere
+    late_explained m shard slot steady reason.NotOwned h = by_moves m.used shard m.node slot steady h.0 (late_version m h.0 h.1) reason.NotOwned h.2
+    late_explained m shard slot steady (reason.Stale fence) h = by_moves m.used shard m.node slot steady h.0 (late_version m h.0 h.1) (reason.Stale fence) h.2
+    late_explained m shard slot steady _ h = tt
+
+    -- the placement that the turn's call uses
+    used_slot : (place : Placement) → IsUsedBy start p place → (shard node : ℕ) → IsCounted place shard node → IsSlotAt place shard node
+    used_slot place used shard node counted = record { known = used_known start turns events legal told order p at quiet.prints_none (used.call).version place used.may_use; member = counted_member place shard node counted }
+
+    pub call_known : IsTrue (is_call p.turn.act) → IsKnownCall start turns events told p
+    call_known calls = record {
+      legal = legal;
+      in_run = at;
+      calls = calls;
+      halts = order.halts;
+      named = λ place used shard node h.
+          let sent = h.3 in
+          named_once place node (placed_by p place (used_known start turns events legal told order p at quiet.prints_none (used.call).version place used.may_use)) sent.instance_ sent.stands;
+      explained = λ place used shard node why counted h.
+          let slot = used_slot place used shard node counted in
+          let steady = steady_at place shard node slot in
+          (steady, call_explained place shard node slot steady why h);
+    }
+
+    -- ---- late messages
+
+    -- a late message's write is a turn of the run, not after this one
+    made_in_run : (m : LateMessage) → IsLateMessage start p m → IsTurnPlace turns m.place × (length (m.place).lines ≤ length p.lines)
+    made_in_run m late = by late.made
+      where
+        by : IsTurnPlace p.lines m.place ⊎ IsBeside p m.place → IsTurnPlace turns m.place × (length (m.place).lines ≤ length p.lines)
+        by (inl before) =
+            let q = m.place in
+            let less : length q.lines < length p.lines = line_below p.lines q before in
+            (
+              record {
+                after = before.after ++ p.line ∷ at.after;
+                in_run = at.in_run ∙ ap (λ ls. ls ++ p.line ∷ at.after) before.in_run ∙ append_assoc q.lines (q.line ∷ before.after) (p.line ∷ at.after);
+                stands = before.stands;
+              },
+              omega (arith, less),
+            )
+        by (inr beside) =
+            let q = m.place in
+            (
+              record { after = at.after; in_run = at.in_run ∙ ap (λ ls. ls ++ p.line ∷ at.after) (sym beside.lines_are) ∙ ap (λ l. q.lines ++ l ∷ at.after) (sym beside.line_is); stands = beside.stands },
+              omega (arith, ap length beside.lines_are),
+            )
+
+    module _ (silent : (q : TurnPlace) → IsTurnPlace turns q → IsTrue (is_call q.turn.act) → printed q.turn.answer ≡ None) where
+      late_slot : (m : LateMessage) → IsLateMessage start p m → (shard : ℕ) → shard ≡ shard_of_message start m → IsSlotAt m.used shard m.node
+      late_slot m late shard to =
+          let made = made_in_run m late in
+          let q = m.place in
+          let calls : IsTrue (is_call q.turn.act) = call_is q.turn.act late.call late.of_call in
+          let k = used_known start turns events legal told order q made.0 (silent q made.0 calls) (late.call).version m.used late.may_use in
+          let not_later = k.not_later in
+          record {
+            known = record { lines = k.lines; not_later = omega (arith, not_later, made.1); stood = k.stood; place_at = k.place_at; done = k.done; there = k.there; before = k.before };
+            member = subst (λ s. has_replica (Some m.used) s m.node ≡ true) (sym to) late.member;
+          }
+        where
+          call_is : (a : Act) (c : Call) → call_of a ≡ Some c → IsTrue (is_call a)
+          call_is (act.Write ns id t v level version) c e = refl
+          call_is (act.Fetch ns id from to level version) c e = refl
+          call_is (act.Match ns wanted from to level version) c e = refl
+          call_is _ c e = cc
+
+      pub delivery_known : p.turn.act ≡ act.Deliver → IsKnownDelivery start turns events told p
+      delivery_known delivers = record {
+        legal = legal;
+        in_run = at;
+        delivers = delivers;
+        halts = order.halts;
+        named = λ m late shard h.
+            let of_node = late.late in
+            let k = (late_slot m late (shard_of_message start m) refl).known in
+            named_once m.used m.node (placed_by p m.used k) of_node.instance_ of_node.stands;
+        explained = λ m late shard to why h.
+            let slot = late_slot m late shard to in
+            let steady = steady_at m.used shard m.node slot in
+            (steady, late_explained m shard slot steady why h);
+      }
+
+  -- ---- the run
+
+  calls_quiet : (p : TurnPlace) → IsTrue (is_call p.turn.act) → printed p.turn.answer ≡ None → IsQuiet p
+  calls_quiet p calls prints = record { halts_none = halts p.turn.act calls; begins_none = begins p.turn.act calls; prints_none = prints }
+    where
+      halts : (a : Act) → is_call a ≡ true → IsHaltAct a → ⊥
+      halts (act.Stop node) e h = cc
+      halts (act.Restart node pick) e h = cc
+      halts _ e h = h
+
+      begins : (a : Act) → is_call a ≡ true → IsBootAct a → ⊥
+      begins (act.Bootstrap node asked) e h = cc
+      begins _ e h = h
+
+  deliver_quiet : (p : TurnPlace) → p.turn.act ≡ act.Deliver → printed p.turn.answer ≡ None → IsQuiet p
+  deliver_quiet p delivers prints = record { halts_none = λ h. subst IsHaltAct delivers h; begins_none = λ h. subst IsBootAct delivers h; prints_none = prints }
+
+  pub are_known : ((q : TurnPlace) → IsTurnPlace turns q → IsTrue (is_call q.turn.act) → printed q.turn.answer ≡ None) → AreKnown start turns events told
+  are_known silent = record {
+    calls = λ p at calls prints. call_known p at (calls_quiet p calls prints) calls;
+    deliveries = λ p at delivers prints. delivery_known p at (deliver_quiet p delivers prints) silent delivers;
+  }

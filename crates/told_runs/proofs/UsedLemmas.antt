@@ -1,0 +1,190 @@
+-- The placement that a call uses: where it stands in the list, and after which lines it stood.
+use Rattle.std.proofs.Common.{◌≡◌, ℕ, zero, suc, ◌<◌, ◌≤◌, ◌+◌, List, [], ◌∷◌, ◌++◌, take, length, refl, sym, ap, ◌∙◌, subst, inl, inr, arith, true}
+use Rattle.std.specs.Prelude.{◌⊎◌, Some, None, Option}
+use Rattle.std.proofs.lemmas.Bool.{cases_lt}
+use Rattle.m3_model.proofs.MemberLemmas.{IsIn-append_cases, IsIn-append_left, IsIn-append_right, IsIn-filter_map}
+use Rattle.m3_model.specs.Members.{IsIn}
+use Rattle.m3_model.specs.declared.placement.Placement.{Placement}
+use Rattle.m3_model.specs.declared.rules.MetaState.{MetaState}
+use Rattle.m3_model.specs.declared.turn.Turn.{Turn}
+use Rattle.cluster_core.specs.Earlier.{last_place}
+use Rattle.cluster_core.specs.Legal.{Legal}
+use Rattle.cluster_core.specs.Lists.{At}
+use Rattle.cluster_core.specs.declared.event.Event.{Event}
+use Rattle.cluster_core.specs.declared.event.Event.TheVariants as event
+use Rattle.cluster_core.proofs.ListLemmas.{at_some, some_same}
+use Rattle.transcripts.specs.Calls.{Call}
+use Rattle.transcripts.specs.Placements.{MayStand, MayUse, placement_after, placements, printed, start_placement}
+use Rattle.transcripts.specs.Record.{AreSomeOf, InnerTurn, TurnPlace, IsTurnPlace, inner_turns, joined, lists_of}
+use Rattle.told_by.specs.Openings.{opening_length}
+use Rattle.told_by.specs.Told.{ToldBy}
+use Rattle.told_by.proofs.LineLemmas.{line_below}
+use Rattle.told_by.proofs.PrintedLemmas.{after_from, ends_grow, placements_stand}
+use Rattle.told_by.proofs.TurnLemmas.{alone_is, earlier_line, flat_map-IsIn, in_cut, place_in}
+use Rattle.told_causes.proofs.AloneLemmas.{take_none}
+use Rattle.told_causes.specs.Calls.{IsUsedBy}
+use Rattle.told_moves.specs.Moves.{IsPlaced}
+use Rattle.told_moves.specs.Order.{IsInOrder}
+
+-- some of a list are among it
+some_in : (xs ys : List InnerTurn) (t : InnerTurn) → AreSomeOf xs ys → IsIn xs t → IsIn ys t
+some_in [] ys t some m = absurd m
+some_in (x ∷ xs) [] t some m = absurd some
+some_in (x ∷ xs) (y ∷ ys) t (inl both) (inl same) = inl (sym both.0 ∙ same)
+some_in (x ∷ xs) (y ∷ ys) t (inl both) (inr m) = inr (some_in xs ys t both.1 m)
+some_in (x ∷ xs) (y ∷ ys) t (inr later) m = inr (some_in (x ∷ xs) ys t later m)
+
+-- a turn earlier in the list, or in another list, is one of its line
+in_line : (p : TurnPlace) (turns : List Turn) → IsTurnPlace turns p → (t : InnerTurn) → IsIn (p.earlier ++ p.beside) t → IsIn (joined (lists_of p.line)) t
+in_line p turns at t m =
+    let s = at.stands in
+    let own = p.earlier ++ p.turn ∷ s.later in
+    let here : (list : List InnerTurn) → IsIn (s.front ++ own ∷ s.back) list → IsIn list t → IsIn (joined (lists_of p.line)) t = λ list there k. subst (λ lists. IsIn (joined lists) t) (sym s.in_line) (flat_map-IsIn (λ (l : List InnerTurn). l) (s.front ++ own ∷ s.back) list t there k) in
+    elim (IsIn-append_cases p.earlier p.beside t m) as (λ _. IsIn (joined (lists_of p.line)) t) [
+      | inl earlier ↦ here own (in_cut s.front own s.back) (IsIn-append_left p.earlier (p.turn ∷ s.later) t earlier)
+      | inr beside ↦
+          elim (IsIn-append_cases (joined s.front) (joined s.back) t (subst (λ ts. IsIn ts t) s.others beside)) as (λ _. IsIn (joined (lists_of p.line)) t) [
+            | inl front ↦ subst (λ lists. IsIn (joined lists) t) (sym s.in_line) (among_front s.front (own ∷ s.back) t front)
+            | inr back ↦ subst (λ lists. IsIn (joined lists) t) (sym s.in_line) (among_back s.front own s.back t back)
+          ]
+    ]
+  where
+    among_front : (xs ys : List (List InnerTurn)) (t : InnerTurn) → IsIn (joined xs) t → IsIn (joined (xs ++ ys)) t
+    among_front [] ys t m = absurd m
+    among_front (x ∷ xs) ys t m = elim (IsIn-append_cases x (joined xs) t m) as (λ _. IsIn (x ++ joined (xs ++ ys)) t) [ inl own ↦ IsIn-append_left x (joined (xs ++ ys)) t own | inr other ↦ IsIn-append_right x (joined (xs ++ ys)) t (among_front xs ys t other) ]
+
+    among_back : (xs : List (List InnerTurn)) (own : List InnerTurn) (ys : List (List InnerTurn)) (t : InnerTurn) → IsIn (joined ys) t → IsIn (joined (xs ++ own ∷ ys)) t
+    among_back [] own ys t m = IsIn-append_right own (joined ys) t m
+    among_back (x ∷ xs) own ys t m = IsIn-append_right x (joined (xs ++ own ∷ ys)) t (among_back xs own ys t m)
+
+-- A placement that is known at a turn: it stood after so many lines, and stands in the list before the next.
+pub record IsKnownPlace (start : Option MetaState) (turns : List Turn) (events : List Event) (told : ToldBy start turns events) (p : TurnPlace) (place : Placement) : Type 0 where
+  pub lines : ℕ
+  pub not_later : lines ≤ length p.lines
+  pub stood : placement_after (start_placement start) (inner_turns (take lines turns)) ≡ Some place
+  pub place_at : ℕ
+  pub done : List (ℕ × ℕ)
+  pub there : At events place_at (event.Place place done)
+  pub before : place_at < told.ends lines
+
+module _ (start : Option MetaState) (turns : List Turn) (events : List Event) (legal : Legal true events) (told : ToldBy start turns events) (order : IsInOrder start turns events told) where
+  -- the line of a place in the list, or the opening
+  line_of_place : (k z : ℕ) → k ≤ length turns → z < told.ends k → (z < told.ends 0) ⊎ ((j : ℕ) × (j < k) × (told.ends j ≤ z) × (z < told.ends (suc j)))
+  line_of_place zero z high before = inl before
+  line_of_place (suc k) z high before =
+      elim (cases_lt z (told.ends k)) as (λ _. (z < told.ends 0) ⊎ ((j : ℕ) × (j < suc k) × (told.ends j ≤ z) × (z < told.ends (suc j)))) [
+        | inl lt ↦ elim (line_of_place k z (omega (arith, high)) lt) as (λ _. (z < told.ends 0) ⊎ ((j : ℕ) × (j < suc k) × (told.ends j ≤ z) × (z < told.ends (suc j)))) [
+          | inl opening ↦ inl opening
+          | inr line ↦ inr (line.0, omega (arith, line.1), line.2, line.3)
+        ]
+        | inr ge ↦ inr (k, omega arith, ge, before)
+      ]
+
+  first_stood : (state : MetaState) → start ≡ Some state → placement_after (start_placement start) (inner_turns (take 0 turns)) ≡ Some state.place
+  first_stood state is = ap (λ ts. placement_after (start_placement start) (inner_turns ts)) (take_none turns) ∙ ap start_placement is
+
+  -- the placement that was found
+  found_known : (p : TurnPlace) (state : MetaState) → start ≡ Some state → IsKnownPlace start turns events told p state.place
+  found_known p state is = record {
+    lines = 0;
+    not_later = omega arith;
+    stood = first_stood state is;
+    place_at = 0;
+    done = [];
+    there = (told.opened state is).placed;
+    before = omega (arith, (told.lines).first, ap opening_length is);
+  }
+
+  -- a Place before a line
+  listed_known : (p : TurnPlace) → length p.lines ≤ length turns → (z : ℕ) (place : Placement) (done : List (ℕ × ℕ)) → At events z (event.Place place done) → z < told.ends (length p.lines) → IsKnownPlace start turns events told p place
+  listed_known p high z place done there before =
+      elim (line_of_place (length p.lines) z high before) as (λ _. IsKnownPlace start turns events told p place) [
+        | inl opening ↦ by_start start refl opening
+        | inr line ↦
+            record {
+              lines = suc line.0;
+              not_later = omega (arith, line.1);
+              stood = sym (placements_stand start turns events legal told (suc line.0) (omega (arith, line.1, high))) ∙ order.one line.0 z place done (omega (arith, line.1, high)) line.2 line.3 there;
+              place_at = z;
+              done = done;
+              there = there;
+              before = line.3;
+            }
+      ]
+    where
+      by_start : (o : Option MetaState) → start ≡ o → z < told.ends 0 → IsKnownPlace start turns events told p place
+      by_start None is opening = absurd (omega (arith, opening, (told.lines).first, ap opening_length is))
+      by_start (Some state) is opening = by z there opening
+        where
+          by : (z : ℕ) → At events z (event.Place place done) → z < told.ends 0 → IsKnownPlace start turns events told p place
+          by zero there opening =
+              let both : event.Place state.place [] ≡ event.Place place done = some_same (event.Place state.place []) (event.Place place done) (sym (told.opened state is).placed ∙ there) in
+              let same : state.place ≡ place = cc in
+              subst (IsKnownPlace start turns events told p) same (found_known p state is)
+          by (suc zero) there opening = absurd (legal 1 (event.Place place done) there)
+          by (suc (suc z)) there opening = absurd (omega (arith, opening, (told.lines).first, ap opening_length is))
+
+  module _ (p : TurnPlace) (at : IsTurnPlace turns p) (quiet : printed p.turn.answer ≡ None) where
+    -- one that a turn of an earlier line printed
+    printed_known : (t : InnerTurn) (place : Placement) → IsIn (inner_turns p.lines) t → printed t.answer ≡ Some place → IsKnownPlace start turns events told p place
+    printed_known t place m prints =
+        let q = earlier_line turns p at t m in
+        let h = (told.tells).placements.is_place q.place q.in_run place (ap (λ (u : InnerTurn). printed u.answer) q.turn_is ∙ prints) in
+        let less : length p.lines < length turns = line_below turns p at in
+        listed_known p (omega (arith, less)) h.place_at place h.done h.there
+        (omega (arith, h.in_time, (told.lines).high q.place q.in_run, ends_grow start turns events legal told (suc (length (q.place).lines)) (length p.lines) (omega (arith, q.earlier)) (omega (arith, less))))
+
+    -- no turn of its own line prints one
+    none_beside : (t : InnerTurn) (place : Placement) → IsIn (p.earlier ++ p.beside) t → printed t.answer ≡ Some place → ⊥
+    none_beside t place m prints =
+        let q = place_in turns p.lines p.line at.after at.in_run t (in_line p turns at t m) in
+        let prints_q : printed (q.0).turn.answer ≡ Some place = ap (λ (u : InnerTurn). printed u.answer) q.2 ∙ prints in
+        let same = alone_is turns q.0 p (order.prints q.0 q.1 place prints_q) at (sym (ap length q.3)) in
+        let bad : None ≡ Some place = sym quiet ∙ ap (λ (u : InnerTurn). printed u.answer) (sym same) ∙ prints_q in
+        cc
+
+    by_turn : (t : InnerTurn) (place : Placement) → IsIn (inner_turns p.lines ++ (p.earlier ++ p.beside)) t → printed t.answer ≡ Some place → IsKnownPlace start turns events told p place
+    by_turn t place m prints =
+        elim (IsIn-append_cases (inner_turns p.lines) (p.earlier ++ p.beside) t m) as (λ _. IsKnownPlace start turns events told p place) [
+          | inl before ↦ printed_known t place before prints
+          | inr beside ↦ absurd (none_beside t place beside prints)
+        ]
+
+    -- what a transcript knows
+    known_listed : (place : Placement) → IsIn (placements start (inner_turns p.lines ++ (p.earlier ++ p.beside))) place → IsKnownPlace start turns events told p place
+    known_listed place m = by_start start refl (subst (λ o. IsIn (placements o (inner_turns p.lines ++ (p.earlier ++ p.beside))) place) refl m)
+      where
+        by_print : IsIn (placements None (inner_turns p.lines ++ (p.earlier ++ p.beside))) place → IsKnownPlace start turns events told p place
+        by_print m = let t = IsIn-filter_map (λ (turn : InnerTurn). printed turn.answer) (inner_turns p.lines ++ (p.earlier ++ p.beside)) place m in by_turn t.0 place t.1 t.2
+
+        by_start : (o : Option MetaState) → start ≡ o → IsIn (placements o (inner_turns p.lines ++ (p.earlier ++ p.beside))) place → IsKnownPlace start turns events told p place
+        by_start None is m = by_print m
+        by_start (Some state) is (inl same) = subst (IsKnownPlace start turns events told p) same (found_known p state is)
+        by_start (Some state) is (inr m) = by_print m
+
+    stands_known : (place : Placement) → MayStand start p place → IsKnownPlace start turns events told p place
+    stands_known place h =
+        let after = h.1 in
+        elim (after_from h.0 (start_placement start) place h.2) as (λ _. IsKnownPlace start turns events told p place) [
+          | inl found ↦ by_start start refl found
+          | inr t ↦ by_turn t.0 place (among after.others after.some_of t.0 (subst (λ ts. IsIn ts t.0) after.are t.1)) t.2
+        ]
+      where
+        by_start : (o : Option MetaState) → start ≡ o → start_placement start ≡ Some place → IsKnownPlace start turns events told p place
+        by_start None is found = let bad : None ≡ Some place = sym (ap start_placement is) ∙ found in cc
+        by_start (Some state) is found = subst (IsKnownPlace start turns events told p) (some_same state.place place (sym (ap start_placement is) ∙ found)) (found_known p state is)
+
+        among : (others : List InnerTurn) → AreSomeOf others p.beside → (t : InnerTurn) → IsIn (inner_turns p.lines ++ (p.earlier ++ others)) t → IsIn (inner_turns p.lines ++ (p.earlier ++ p.beside)) t
+        among others some t m =
+            elim (IsIn-append_cases (inner_turns p.lines) (p.earlier ++ others) t m) as (λ _. IsIn (inner_turns p.lines ++ (p.earlier ++ p.beside)) t) [
+              | inl before ↦ IsIn-append_left (inner_turns p.lines) (p.earlier ++ p.beside) t before
+              | inr rest ↦ IsIn-append_right (inner_turns p.lines) (p.earlier ++ p.beside) t (elim (IsIn-append_cases p.earlier others t rest) as (λ _. IsIn (p.earlier ++ p.beside) t) [
+                | inl earlier ↦ IsIn-append_left p.earlier p.beside t earlier
+                | inr other ↦ IsIn-append_right p.earlier p.beside t (some_in others p.beside t some other)
+              ])
+            ]
+
+    -- the placement that a call uses
+    pub used_known : (version : Option ℕ) (place : Placement) → MayUse start p version place → IsKnownPlace start turns events told p place
+    used_known None place h = stands_known place h
+    used_known (Some version) place h = known_listed place h.0

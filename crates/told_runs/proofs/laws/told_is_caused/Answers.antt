@@ -1,0 +1,5 @@
+use Rattle.told_runs.proofs.CausedLemmas.{told_caused}
+use Rattle.told_runs.proofs.laws.told_is_caused.Goals as goal
+
+pub returns : goal.returns
+returns c = told_caused

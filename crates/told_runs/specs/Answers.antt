@@ -1,0 +1,73 @@
+-- What a cluster's own look-ups decide of its answers, beside what its events tell: refusals that are due, answers of the act's own kind, the first placement,
+-- and which disks couldn't be taken.
+use Rattle.std.specs.Prelude.{◌≡◌, ◌⊎◌, ◌≤◌, ℕ, ⊤, List, [], ◌∷◌, ◌++◌, length, take, Option, Some, None}
+use Rattle.m3_model.specs.Members.{IsIn}
+use Rattle.m3_model.specs.declared.act.Act.{Act}
+use Rattle.m3_model.specs.declared.act.Act.TheVariants as act
+use Rattle.m3_model.specs.declared.answer.Answer.{Answer}
+use Rattle.m3_model.specs.declared.answer.Answer.TheVariants as answer
+use Rattle.m3_model.specs.declared.limits.TheConstants.{MOST_EVENTS}
+use Rattle.m3_model.specs.declared.rules.MetaState.{MetaState}
+use Rattle.m3_model.specs.declared.turn.Turn.{Turn}
+use Rattle.placement_plan.specs.First.{IsInitial}
+use Rattle.cluster_core.specs.declared.event.Event.{Event}
+use Rattle.transcripts.specs.Caused.{IsBootstrapped, IsRefusedWhole, IsUnmade, refusal_after}
+use Rattle.transcripts.specs.Deliveries.{LateMessage, IsSameMessage, IsSamePlace}
+use Rattle.transcripts.specs.Faults.{AreDifferent, Fault, Taking}
+use Rattle.transcripts.specs.Record.{InnerTurn, Record, TurnPlace, IsAfter, IsTurnPlace}
+use Rattle.told_by.specs.Hears.{HearsBy, InStretch}
+use Rattle.told_by.specs.Told.{ToldBy}
+
+-- an answer of the act's own kind, with what no event says of it
+abbrev pub IsOfKind : List Fault → Option MetaState → TurnPlace → Act → Answer → Type 0
+IsOfKind taking start p (act.Init rf shards seed nodes) (answer.Placed place version) = IsInitial rf shards nodes place × (version ≡ place.version)
+IsOfKind taking start p (act.Init rf shards seed nodes) (answer.Disk name shard) = IsUnmade taking p nodes shards name shard
+IsOfKind taking start p (act.Namespace name block past future retention) answer.Done = ⊤
+IsOfKind taking start p (act.Now now) answer.Done = ⊤
+IsOfKind taking start p (act.Fates list) answer.Done = ⊤
+IsOfKind taking start p act.Deliver (answer.Outcomes outcomes) = ⊤
+IsOfKind taking start p (act.Stop node) answer.Done = ⊤
+IsOfKind taking start p (act.Restart node pick) answer.Done = ⊤
+IsOfKind taking start p (act.Restart node pick) (answer.Disk name shard) = ⊤
+IsOfKind taking start p (act.Bootstrap node asked) (answer.Available available place version) = IsBootstrapped start p node asked available place version
+IsOfKind taking start p (act.Bootstrap node asked) (answer.Disk name shard) = ⊤
+IsOfKind taking start p (act.Bootstrap node asked) (answer.Corrupt name shard damage) = ⊤
+IsOfKind taking start p (act.Write ns id t v level version) (answer.Acks acks) = ⊤
+IsOfKind taking start p (act.Write ns id t v level version) (answer.Consistency got needed reasons shard) = ⊤
+IsOfKind taking start p (act.Fetch ns id from to level version) (answer.Found series short) = ⊤
+IsOfKind taking start p (act.Fetch ns id from to level version) (answer.Consistency got needed reasons shard) = ⊤
+IsOfKind taking start p (act.Match ns wanted from to level version) (answer.Found series short) = ⊤
+IsOfKind taking start p (act.Match ns wanted from to level version) (answer.Consistency got needed reasons shard) = ⊤
+IsOfKind taking start p _ _ = ⊥
+
+-- the refusal that is due, or an answer of the act's own kind where none is due
+abbrev pub IsDecidedBy : List Fault → Option MetaState → TurnPlace → Option Answer → Type 0
+IsDecidedBy taking start p (Some refusal) = p.turn.answer ≡ refusal
+IsDecidedBy taking start p None = IsOfKind taking start p p.turn.act p.turn.answer
+
+-- the answer is decided so after some turns after which it may have been given
+abbrev pub IsDecided : List Fault → Option MetaState → TurnPlace → Type 0
+IsDecided taking start p = (turns : List InnerTurn) × IsAfter p turns × IsDecidedBy taking start p (refusal_after start p turns)
+
+-- an answer for want of memory, one where the list was full by the end of the turn, or one that is decided
+abbrev pub IsAnswered : List Fault → Option MetaState → ℕ → TurnPlace → Type 0
+IsAnswered taking start end p = (p.turn.answer ≡ answer.Memory) ⊎ (((p.turn.answer ≡ answer.Full) × (MOST_EVENTS ≤ end)) ⊎ IsDecided taking start p)
+
+-- the late messages that a turn delivers, by what it hears
+abbrev pub messages_by : (start : Option MetaState) (past : List Event) (Here : ℕ → Event → Type 0) (p : TurnPlace) (a : Act) (b : Answer) → HearsBy start past Here p a b → List LateMessage
+messages_by start past Here p a (answer.Outcomes outcomes) h = h.messages
+messages_by start past Here p a _ h = []
+
+abbrev pub messages_told : (start : Option MetaState) (turns : List Turn) (events : List Event) → ToldBy start turns events → (p : TurnPlace) → IsTurnPlace turns p → List LateMessage
+messages_told start turns events told p at = messages_by start (take (told.spans.from p) events) (InStretch events (told.spans.from p) (told.spans.to p)) p p.turn.act p.turn.answer (told.tells.hears p at)
+
+-- Each answer of the run is so; no message is delivered twice; a `par` line is refused as a whole only where no placement stands; and these disks couldn't
+-- be taken, no two of them alike.
+pub record AreAnswered (taking : List Fault) (start : Option MetaState) (turns : List Turn) (events : List Event) (told : ToldBy start turns events) : Type 0 where
+  pub each : (p : TurnPlace) → IsTurnPlace turns p → IsAnswered taking start (told.spans.to p) p
+  pub delivered : TurnPlace → List LateMessage  -- which late messages a turn delivers
+  pub messages : (p : TurnPlace) (at : IsTurnPlace turns p) → messages_told start turns events told p at ≡ delivered p
+  pub once : (p q : TurnPlace) → IsTurnPlace turns p → IsTurnPlace turns q → (a b : LateMessage) → IsIn (delivered p) a → IsIn (delivered q) b → IsSameMessage a b → IsSamePlace p q
+  pub whole : (before : List Turn) (line : Turn) (after : List Turn) → turns ≡ before ++ line ∷ after → IsRefusedWhole start before line.request line.reply
+  pub untaken : (fault : Fault) → IsIn taking fault → fault.kind ≡ Taking
+  pub different : AreDifferent taking

@@ -1,0 +1,4 @@
+//! Where a legal list of events tells of a run, each of its answers is what it is for a cause.
+#![tactic(auto)]
+
+pub mod laws;
