@@ -5,7 +5,7 @@ use Rattle.std.specs.List.{list_any}
 use Rattle.transcripts.specs.Caused.{Caused, OnDisk, InFiles}
 use Rattle.transcripts.specs.Levels.{MissesLevel}
 use Rattle.transcripts.specs.Reasons.{MayRefuse, IsShown}
-use Rattle.transcripts.specs.Placements.{MayUse, placement_after, has_replica}
+use Rattle.transcripts.specs.Placements.{MayUse, placement_after, has_replica, HadReplica}
 use Rattle.transcripts.specs.Faults.{Fault, is_restart, Failing, Damaged}
 use Rattle.transcripts.specs.Waiting.{waiting_after}
 use Rattle.transcripts.specs.Fates.{OfNode, is_stopped}
@@ -83,8 +83,8 @@ other_line-refused caused = let bad : 2 ≡ 3 = ap (λ (f : Fault). f.line) (is_
 pub other_restart-refused : ¬ Caused true (life_of restart_failed) (fails 3 2 ∷ [])
 other_restart-refused caused =
     let lines = begun 100 (stopped (codes "c") ∷ []) in
-    let due : OnDisk (fails 3 2 ∷ []) None (place_after lines (act.Restart (codes "c") 0) (answer.Disk (codes "c") 0)) (codes "c") 0 = (due_after lines (act.Restart (codes "c") 0) (answer.Disk (codes "c") 0) _ (λ e. cc) (λ e. cc) caused).1 in
-    elim due.2 as (λ _. ⊥) [ inl e ↦ let bad : 3 ≡ 4 = ap (λ (f : Fault). f.line) e in omega (arith, bad) | inr none ↦ absurd none ]
+    let due : OnDisk (fails 3 2 ∷ []) None (place_after lines (act.Restart (codes "c") 0) (answer.Disk (codes "c") 0)) (HadReplica None (inner_turns lines) 0) (codes "c") 0 = (due_after lines (act.Restart (codes "c") 0) (answer.Disk (codes "c") 0) _ (λ e. cc) (λ e. cc) caused).1 in
+    elim due.3 as (λ _. ⊥) [ inl e ↦ let bad : 3 ≡ 4 = ap (λ (f : Fault). f.line) e in omega (arith, bad) | inr none ↦ absurd none ]
 
 -- the failed init's fault is that of the node that it names
 pub other_init-refused : ¬ Caused true (life_of init_failed) (untaken 0 0 ∷ [])
@@ -113,17 +113,18 @@ corrupt-refused damage caused =
 pub equal_digests-refused : (file digest : List ℕ) (faults : List Fault) → ¬ Caused true (life_of (damaged_boot (damaged.Digest file digest digest))) faults
 equal_digests-refused file digest faults caused =
     let b = answer.Corrupt (codes "c") 0 (damaged.Digest file digest digest) in
-    let due : (codes "c" ≡ codes "c") × IsTrue true × InFiles faults None (place_after back_again (act.Bootstrap (codes "c") None) b) (codes "c") 0 × IsShown (damaged.Digest file digest digest) =
+    let due : (codes "c" ≡ codes "c") × IsTrue true × InFiles faults None (place_after back_again (act.Bootstrap (codes "c") None) b) (λ node. IsTrue (has_replica (placement_after None (inner_turns back_again)) 0 node)) (codes "c") 0 × IsShown (damaged.Digest file digest digest) =
     due_after back_again (act.Bootstrap (codes "c") None) b _ (λ e. cc) (λ e. cc) caused in
     due.3 refl
 
 pub no_shard_restarted-refused : (faults : List Fault) → ¬ Caused true (life_of no_shard_restarted) faults
 no_shard_restarted-refused faults caused =
     let lines = begun 100 (stopped (codes "c") ∷ []) in
-    let due : OnDisk faults None (place_after lines (act.Restart (codes "c") 0) (answer.Disk (codes "c") 1)) (codes "c") 1 = (due_after lines (act.Restart (codes "c") 0) (answer.Disk (codes "c") 1) _ (λ e. cc) (λ e. cc) caused).1 in
-    let same : place ≡ due.1.place = only_used lines (act.Restart (codes "c") 0) (answer.Disk (codes "c") 1) place due.1.place refl due.1.stands in
-    let bad : has_replica (Some place) 1 due.0 ≡ true = subst (λ x. has_replica (Some x) 1 due.0 ≡ true) (sym same) due.1.member in
-    cc
+    let due : OnDisk faults None (place_after lines (act.Restart (codes "c") 0) (answer.Disk (codes "c") 1)) (HadReplica None (inner_turns lines) 1) (codes "c") 1 = (due_after lines (act.Restart (codes "c") 0) (answer.Disk (codes "c") 1) _ (λ e. cc) (λ e. cc) caused).1 in
+    elim due.2.known as (λ _. ⊥) [
+      | inl same ↦ let bad : has_replica (Some place) 1 due.0 ≡ true = subst (λ x. has_replica (Some x) 1 due.0 ≡ true) (sym same) due.2.member in cc
+      | inr none ↦ absurd none
+    ]
 
 pub no_shard_made-refused : (faults : List Fault) → ¬ Caused true (life_of no_shard_made) faults
 no_shard_made-refused faults caused =

@@ -298,16 +298,16 @@ with_eight-caused a b here =
     also tt)
 
 pub write_then_read-caused : Caused true (life_of write_then_read) []
-write_then_read-caused = begun_caused 100 _ refl (only (due true [] [] _ _ _ (all_take _ (rules_when 100) _ _ _ _ _ (stands refl refl refl refl (λ name. refl) (λ name. refl also refl also refl also tt)) refl refl (omega arith) (omega arith))) also only (due true [] [] _ _ _ (found_by _ (rules_when 100) _ _ _ (stands refl refl refl refl (λ name. refl) (λ name. refl also refl also refl also tt)))) also tt)
+write_then_read-caused = begun_caused 100 _ refl (only (due true [] [] _ _ _ (all_take _ (rules_when 100) _ _ _ _ _ (stands refl refl refl refl refl (λ name. refl) (λ name. refl also refl also refl also tt)) refl refl (omega arith) (omega arith))) also only (due true [] [] _ _ _ (found_by _ (rules_when 100) _ _ _ (stands refl refl refl refl refl (λ name. refl) (λ name. refl also refl also refl also tt)))) also tt)
 
 pub edge_writes-caused : Caused true (life_of edge_writes) []
 edge_writes-caused =
     begun_caused 250 _ refl (
-    only (due true [] [] _ _ _ (all_refuse _ (rules_when 250) _ _ _ _ (stands refl refl refl refl (λ name. refl) (λ name. refl also refl also refl also tt)) (past_by (rules_when 250) _ 0 space _ _ refl refl (omega arith))))
-    also only (due true [] [] _ _ _ (all_take _ (rules_when 250) _ _ _ _ _ (stands refl refl refl refl (λ name. refl) (λ name. refl also refl also refl also tt)) refl refl (omega arith) (omega arith)))
-    also only (due true [] [] _ _ _ (all_take _ (rules_when 250) _ _ _ _ _ (stands refl refl refl refl (λ name. refl) (λ name. refl also refl also refl also tt)) refl refl (omega arith) (omega arith)))
-    also only (due true [] [] _ _ _ (all_refuse _ (rules_when 250) _ _ _ _ (stands refl refl refl refl (λ name. refl) (λ name. refl also refl also refl also tt)) (future_by (rules_when 250) _ 0 space _ _ refl refl (omega arith))))
-    also only (due true [] [] _ _ _ (found_by _ (rules_when 250) _ _ _ (stands refl refl refl refl (λ name. refl) (λ name. refl also refl also refl also tt))))
+    only (due true [] [] _ _ _ (all_refuse _ (rules_when 250) _ _ _ _ (stands refl refl refl refl refl (λ name. refl) (λ name. refl also refl also refl also tt)) (past_by (rules_when 250) _ 0 space _ _ refl refl (omega arith))))
+    also only (due true [] [] _ _ _ (all_take _ (rules_when 250) _ _ _ _ _ (stands refl refl refl refl refl (λ name. refl) (λ name. refl also refl also refl also tt)) refl refl (omega arith) (omega arith)))
+    also only (due true [] [] _ _ _ (all_take _ (rules_when 250) _ _ _ _ _ (stands refl refl refl refl refl (λ name. refl) (λ name. refl also refl also refl also tt)) refl refl (omega arith) (omega arith)))
+    also only (due true [] [] _ _ _ (all_refuse _ (rules_when 250) _ _ _ _ (stands refl refl refl refl refl (λ name. refl) (λ name. refl also refl also refl also tt)) (future_by (rules_when 250) _ 0 space _ _ refl refl (omega arith))))
+    also only (due true [] [] _ _ _ (found_by _ (rules_when 250) _ _ _ (stands refl refl refl refl refl (λ name. refl) (λ name. refl also refl also refl also tt))))
     also tt)
 
 -- the rules with both namespaces at moment 250
@@ -321,27 +321,27 @@ narrow_writes-caused =
     also only (due true [] [] _ _ _ tt)
     also only (due true [] [] _ _ _ tt)
     also only (due true [] [] _ _ _ tt)
-    also only (due true [] [] _ _ _ (all_refuse _ both_rules _ _ _ _ (stands refl refl refl refl (λ name. refl) (λ name. refl also refl also refl also tt)) (past_by both_rules _ 1 narrow _ _ refl refl (omega arith))))
-    also only (due true [] [] _ _ _ (all_take _ both_rules _ 1 narrow _ _ (stands refl refl refl refl (λ name. refl) (λ name. refl also refl also refl also tt)) refl refl (omega arith) (omega arith)))
-    also only (due true [] [] _ _ _ (all_take _ both_rules _ 1 narrow _ _ (stands refl refl refl refl (λ name. refl) (λ name. refl also refl also refl also tt)) refl refl (omega arith) (omega arith)))
-    also only (due true [] [] _ _ _ (all_refuse _ both_rules _ _ _ _ (stands refl refl refl refl (λ name. refl) (λ name. refl also refl also refl also tt)) (future_by both_rules _ 1 narrow _ _ refl refl (omega arith))))
-    also only (due true [] [] _ _ _ (all_take _ both_rules _ 0 space _ _ (stands refl refl refl refl (λ name. refl) (λ name. refl also refl also refl also tt)) refl refl (omega arith) (omega arith)))
-    also only (due true [] [] _ _ _ (all_take _ both_rules _ 0 space _ _ (stands refl refl refl refl (λ name. refl) (λ name. refl also refl also refl also tt)) refl refl (omega arith) (omega arith)))
+    also only (due true [] [] _ _ _ (all_refuse _ both_rules _ _ _ _ (stands refl refl refl refl refl (λ name. refl) (λ name. refl also refl also refl also tt)) (past_by both_rules _ 1 narrow _ _ refl refl (omega arith))))
+    also only (due true [] [] _ _ _ (all_take _ both_rules _ 1 narrow _ _ (stands refl refl refl refl refl (λ name. refl) (λ name. refl also refl also refl also tt)) refl refl (omega arith) (omega arith)))
+    also only (due true [] [] _ _ _ (all_take _ both_rules _ 1 narrow _ _ (stands refl refl refl refl refl (λ name. refl) (λ name. refl also refl also refl also tt)) refl refl (omega arith) (omega arith)))
+    also only (due true [] [] _ _ _ (all_refuse _ both_rules _ _ _ _ (stands refl refl refl refl refl (λ name. refl) (λ name. refl also refl also refl also tt)) (future_by both_rules _ 1 narrow _ _ refl refl (omega arith))))
+    also only (due true [] [] _ _ _ (all_take _ both_rules _ 0 space _ _ (stands refl refl refl refl refl (λ name. refl) (λ name. refl also refl also refl also tt)) refl refl (omega arith) (omega arith)))
+    also only (due true [] [] _ _ _ (all_take _ both_rules _ 0 space _ _ (stands refl refl refl refl refl (λ name. refl) (λ name. refl also refl also refl also tt)) refl refl (omega arith) (omega arith)))
     also tt)
 
 pub unmet_then_read-caused : (points : List (ℕ × ℤ)) → Caused true (life_of (unmet_then_read points)) []
 unmet_then_read-caused points =
     begun_caused 100 _ refl (
-    only (due true [] [] _ _ _ (unmet_by _ (rules_when 100) _ _ 1 _ (stands refl refl refl refl (λ name. refl) (λ name. refl also refl also refl also tt)) refl refl (omega arith) refl
+    only (due true [] [] _ _ _ (unmet_by _ (rules_when 100) _ _ 1 _ (stands refl refl refl refl refl (λ name. refl) (λ name. refl also refl also refl also tt)) refl refl (omega arith) refl
     (counted_1 also counted_2 also tt) ((below_1_2 also tt) also tt also tt) (tt also tt also tt)
     (λ some. takes_by (rules_when 100) _ 0 space _ _ refl refl (omega arith) (omega arith))))
-    also only (due true [] [] _ _ _ (found_by _ (rules_when 100) _ _ _ (stands refl refl refl refl (λ name. refl) (λ name. refl also refl also refl also tt))))
+    also only (due true [] [] _ _ _ (found_by _ (rules_when 100) _ _ _ (stands refl refl refl refl refl (λ name. refl) (λ name. refl also refl also refl also tt))))
     also tt)
 
 pub fetch_unmet-caused : Caused true (life_of (at_moment 100 (fetch 0 200) (unmet 1 ((0, reason.Memory) ∷ (2, reason.Memory) ∷ [])))) []
 fetch_unmet-caused =
     at_moment-caused 100 _ _ (
-    due true [] [] _ _ _ (unmet_by _ (rules_when 100) _ _ 1 _ (stands refl refl refl refl (λ name. refl) (λ name. refl also refl also refl also tt)) refl refl (omega arith) refl
+    due true [] [] _ _ _ (unmet_by _ (rules_when 100) _ _ 1 _ (stands refl refl refl refl refl (λ name. refl) (λ name. refl also refl also refl also tt)) refl refl (omega arith) refl
     (counted_0 also counted_2 also tt) ((below_0_2 also tt) also tt also tt) (tt also tt also tt) (λ some. tt)))
 
 pub first_placement_of_two : IsInitial 1 2 two_nodes place_of_two

@@ -8,7 +8,7 @@ use Rattle.transcripts.specs.Faults.{Fault, FaultKind, Taking, Failing, IsClosed
 use Rattle.transcripts.specs.Faults as faults_of
 use Rattle.transcripts.specs.Fates.{is_stopped}
 use Rattle.transcripts.specs.Levels.{MissesLevel}
-use Rattle.transcripts.specs.Placements.{has_replica, placement_after}
+use Rattle.transcripts.specs.Placements.{HadReplica}
 use Rattle.transcripts.specs.Record.{inner_turns}
 use Rattle.m3_model.specs.declared.act.Act.TheVariants as act
 use Rattle.m3_model.specs.declared.act.WriteLevel.TheVariants as write_level
@@ -22,7 +22,7 @@ use Rattle.model_laws.proofs.EachLemmas.{◌also◌}
 use Rattle.model_laws.proofs.PlaceLemmas.{caused_by_places, place_after, due, due_after, only}
 use Rattle.model_laws.proofs.CausedLives.{begun_caused_over, first_moment_after, first_placement, counted_0, counted_2, below_0_2}
 use Rattle.model_laws.proofs.MessageLives.{of_node, unmet_when, takes_near}
-use Rattle.model_laws.proofs.FaultLives.{c_missed, takes_all}
+use Rattle.model_laws.proofs.FaultLives.{c_had, c_missed, takes_all}
 use Rattle.model_laws.proofs.BrokenFaults.{c_may, holds_of, is_listed}
 
 -- ---- one fault for two
@@ -89,19 +89,19 @@ later-refused caused = let bad : 4 ≤ 3 = closing (fails 4 2) (λ f. f.line ≤
 pub at_once-caused : Caused true (life_of c_down) (fails 3 2 ∷ [])
 at_once-caused =
     begun_caused_over _ 100 _ ((λ none. none), tt) refl (
-    only (due true (fails 3 2 ∷ []) [] _ _ _ (c_missed _ _ refl refl refl refl refl takes_all (inr (record { fault = fails 3 2; among = inl refl; of_node = refl; of_shard = refl; closing = refl; not_later = omega arith; was_there = λ before. refl; not_restarted = of_node _ 2 _ refl refl }))))
+    only (due true (fails 3 2 ∷ []) [] _ _ _ (c_missed _ _ refl refl refl refl refl takes_all (inr (record { fault = fails 3 2; among = inl refl; of_node = refl; of_shard = refl; closing = refl; not_later = omega arith; was_there = λ before. c_had (inl refl); not_restarted = of_node _ 2 _ refl refl }))))
     also tt)
 
 pub earlier-caused : Caused true (life_of c_down) (fails 1 2 ∷ [])
 earlier-caused =
     begun_caused_over _ 100 _ ((λ none. none), tt) refl (
-    only (due true (fails 1 2 ∷ []) [] _ _ _ (c_missed _ _ refl refl refl refl refl takes_all (inr (record { fault = fails 1 2; among = inl refl; of_node = refl; of_shard = refl; closing = refl; not_later = omega arith; was_there = λ before. refl; not_restarted = of_node _ 2 _ refl refl }))))
+    only (due true (fails 1 2 ∷ []) [] _ _ _ (c_missed _ _ refl refl refl refl refl takes_all (inr (record { fault = fails 1 2; among = inl refl; of_node = refl; of_shard = refl; closing = refl; not_later = omega arith; was_there = λ before. c_had (inl refl); not_restarted = of_node _ 2 _ refl refl }))))
     also tt)
 
 pub damaged-caused : Caused true (life_of c_down) (damages 1 2 ∷ [])
 damaged-caused =
     begun_caused_over _ 100 _ ((λ none. none), tt) refl (
-    only (due true (damages 1 2 ∷ []) [] _ _ _ (c_missed _ _ refl refl refl refl refl takes_all (inr (record { fault = damages 1 2; among = inl refl; of_node = refl; of_shard = refl; closing = refl; not_later = omega arith; was_there = λ before. refl; not_restarted = of_node _ 2 _ refl refl }))))
+    only (due true (damages 1 2 ∷ []) [] _ _ _ (c_missed _ _ refl refl refl refl refl takes_all (inr (record { fault = damages 1 2; among = inl refl; of_node = refl; of_shard = refl; closing = refl; not_later = omega arith; was_there = λ before. c_had (inl refl); not_restarted = of_node _ 2 _ refl refl }))))
     also tt)
 
 -- ---- before the cluster was made
@@ -118,14 +118,14 @@ after-caused =
     also only (due true faults [] _ _ _ (first_placement, refl))
     also only (due true faults [] _ _ _ tt)
     also only (first_moment_after faults [] (init (answer.Disk (codes "c") 0) ∷ made ∷ named ∷ []) 100 refl)
-    also only (due true faults [] _ _ _ (c_missed _ _ refl refl refl refl refl takes_all (inr (record { fault = fails 1 2; among = inr (inl refl); of_node = refl; of_shard = refl; closing = refl; not_later = omega arith; was_there = λ before. refl; not_restarted = of_node _ 2 _ refl refl }))))
+    also only (due true faults [] _ _ _ (c_missed _ _ refl refl refl refl refl takes_all (inr (record { fault = fails 1 2; among = inr (inl refl); of_node = refl; of_shard = refl; closing = refl; not_later = omega arith; was_there = λ before. c_had (inl refl); not_restarted = of_node _ 2 _ refl refl }))))
     also tt)
 
 -- a fault that closes c isn't that of the first line
-not_before : (faults : List Fault) (fault : Fault) → (fault ≡ fails 0 2) ⊎ (fault ≡ untaken 0 2) → IsTrue (closes fault.kind) → (fault.line < 4 → IsTrue (has_replica (placement_after None (inner_turns (take (suc fault.line) made_second))) 0 2)) → ⊥
+not_before : (faults : List Fault) (fault : Fault) → (fault ≡ fails 0 2) ⊎ (fault ≡ untaken 0 2) → IsTrue (closes fault.kind) → (fault.line < 4 → HadReplica None (inner_turns (take (suc fault.line) made_second)) 0 2) → ⊥
 not_before faults fault known shuts was_there =
     elim known as (λ _. ⊥) [
-      | inl e ↦ let bad : false ≡ true = subst (λ (f : Fault). f.line < 4 → IsTrue (has_replica (placement_after None (inner_turns (take (suc f.line) made_second))) 0 2)) e was_there (omega arith) in cc
+      | inl e ↦ let had : HadReplica None (inner_turns (take 1 made_second)) 0 2 = subst (λ (f : Fault). f.line < 4 → HadReplica None (inner_turns (take (suc f.line) made_second)) 0 2) e was_there (omega arith) in had.known
       | inr e ↦ let bad : false ≡ true = subst (λ (f : Fault). IsTrue (closes f.kind)) e shuts in cc
     ]
 
@@ -150,8 +150,8 @@ damaged_write-refused caused = damage_fails (ap (λ (f : Fault). f.kind) (is_lis
 pub untaken_restart-refused : ¬ Caused true (life_of restart_failed) (untaken 4 2 ∷ [])
 untaken_restart-refused caused =
     let lines = begun 100 (stopped (codes "c") ∷ []) in
-    let on_disk : OnDisk (untaken 4 2 ∷ []) None (place_after lines (act.Restart (codes "c") 0) (answer.Disk (codes "c") 0)) (codes "c") 0 = (due_after lines (act.Restart (codes "c") 0) (answer.Disk (codes "c") 0) _ (λ e. cc) (λ e. cc) caused).1 in
-    elim on_disk.2 as (λ _. ⊥) [ inl e ↦ taking_fails (ap (λ (f : Fault). f.kind) e) | inr none ↦ absurd none ]
+    let on_disk : OnDisk (untaken 4 2 ∷ []) None (place_after lines (act.Restart (codes "c") 0) (answer.Disk (codes "c") 0)) (HadReplica None (inner_turns lines) 0) (codes "c") 0 = (due_after lines (act.Restart (codes "c") 0) (answer.Disk (codes "c") 0) _ (λ e. cc) (λ e. cc) caused).1 in
+    elim on_disk.3 as (λ _. ⊥) [ inl e ↦ taking_fails (ap (λ (f : Fault). f.kind) e) | inr none ↦ absurd none ]
 
 pub failed_init-refused : ¬ Caused true (life_of init_failed) (fails 0 1 ∷ [])
 failed_init-refused caused =

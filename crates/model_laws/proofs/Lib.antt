@@ -2,6 +2,7 @@ pub mod EachLemmas
 pub mod PlaceLemmas
 pub mod ReadLemmas
 pub mod SampleLemmas
+pub mod OwnerLemmas
 pub mod AcceptedLives
 pub mod CausedLives
 pub mod RefusedLives

@@ -8,7 +8,7 @@ use Rattle.m3_model.specs.declared.reason.Reason.TheVariants as reason
 use Rattle.transcripts.specs.Record.{inner_turns}
 use Rattle.transcripts.specs.Rules.{rules_at, rules_after, start_rules}
 use Rattle.m3_model.specs.Rules.{IsPast, IsFuture}
-use Rattle.transcripts.specs.Placements.{placement_after, seed_after}
+use Rattle.transcripts.specs.Placements.{placement_after, placements, seed_after}
 use Rattle.transcripts.specs.Points.{sent_at, acked_at}
 use Rattle.m3_model.specs.Reads.{Read, Found, read_of, IsSought}
 use Rattle.transcripts.specs.Kept.{Kept, KeepsPoints}
@@ -41,15 +41,16 @@ of_shard node name = record { shard = 0; node = node; name = name }
 -- the cluster stands after these lines, with these rules
 pub record StandsAt (lines : List Turn) (rules : Rules) : Type 0 where
   pub place_is : placement_after None (inner_turns lines) ≡ Some place
+  pub one_place : placements None (inner_turns lines) ≡ place ∷ []
   pub rules_is : rules_after (start_rules None) (inner_turns lines) ≡ rules
   pub seed_is : seed_after None (inner_turns lines) ≡ 0
   pub no_fates : (numbering_after 0 lines).fates ≡ []
   pub none_stopped : (name : List ℕ) → is_stopped (inner_turns lines) name ≡ false
   pub none_waits : (name : List ℕ) → Each (λ node. (waiting_after (of_shard node name) None lines).waits ≡ false) (0 ∷ 1 ∷ 2 ∷ [])
 
-pub stands : {lines : List Turn} {rules : Rules} → placement_after None (inner_turns lines) ≡ Some place → rules_after (start_rules None) (inner_turns lines) ≡ rules → seed_after None (inner_turns lines) ≡ 0
+pub stands : {lines : List Turn} {rules : Rules} → placement_after None (inner_turns lines) ≡ Some place → placements None (inner_turns lines) ≡ place ∷ [] → rules_after (start_rules None) (inner_turns lines) ≡ rules → seed_after None (inner_turns lines) ≡ 0
     → (numbering_after 0 lines).fates ≡ [] → ((name : List ℕ) → is_stopped (inner_turns lines) name ≡ false) → ((name : List ℕ) → Each (λ node. (waiting_after (of_shard node name) None lines).waits ≡ false) (0 ∷ 1 ∷ 2 ∷ [])) → StandsAt lines rules
-stands place_is rules_is seed_is no_fates none_stopped none_waits = record { place_is = place_is; rules_is = rules_is; seed_is = seed_is; no_fates = no_fates; none_stopped = none_stopped; none_waits = none_waits }
+stands place_is one_place rules_is seed_is no_fates none_stopped none_waits = record { place_is = place_is; one_place = one_place; rules_is = rules_is; seed_is = seed_is; no_fates = no_fates; none_stopped = none_stopped; none_waits = none_waits }
 
 -- nothing is lost or late then
 pub not_cut : (lines : List Turn) (rules : Rules) (a : Act) (b : Answer) (name : List ℕ) → StandsAt lines rules → is_cut (fate_at (place_after lines a b) name) ≡ false

@@ -53,8 +53,8 @@ of_short shard zero_is short =
     let here : IsShort true [] None (unstrict_place true) place 0 = subst (λ k. IsShort true [] None (unstrict_place true) place k) zero_is short in
     let all : here.got + length here.reasons ≡ 3 = here.others in
     let few : here.got < 2 = here.fewer in
-    let stood : StandsAt lines (rules_when 100) = stands refl refl refl refl (λ name. refl) (λ name. refl also refl also refl also tt) in
-    (here.reasons, omega (arith, all, few), λ r m. only_memory r.1 (window_refuses lines (rules_when 100) (unstrict 0 200) (answer.Found [] true) place r.0 r.1 stood (here.silent.counted r m) (here.silent.refused r m)))
+    let stood : StandsAt lines (rules_when 100) = stands refl refl refl refl refl (λ name. refl) (λ name. refl also refl also refl also tt) in
+    (here.reasons, omega (arith, all, few), λ r m. only_memory r.1 (window_refuses lines (rules_when 100) (unstrict 0 200) (answer.Found [] true) r.0 r.1 stood (here.silent.counted r m) (here.silent.refused r m)))
 
 pub hidden_memory : Caused true (life_of (unstrict_found [] true)) [] → HiddenMemory
 hidden_memory caused =

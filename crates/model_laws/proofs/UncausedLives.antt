@@ -26,7 +26,6 @@ use Rattle.m3_model.specs.declared.answer.Answer.TheVariants as answer
 use Rattle.m3_model.specs.declared.turn.Turn.{Turn}
 use Rattle.m3_model.specs.declared.placement.Assignment.{Assignment}
 use Rattle.m3_model.specs.declared.placement.Instance.{Instance}
-use Rattle.m3_model.specs.declared.placement.Placement.{Placement}
 use Rattle.m3_model.specs.declared.point.Point.{Point}
 use Rattle.m3_model.specs.declared.reason.Reason.{Reason}
 use Rattle.m3_model.specs.declared.reason.Reason.TheVariants as reason
@@ -38,6 +37,7 @@ use Rattle.model_laws.specs.Uncaused.{write_answered, write_first, made_twice, f
 use Rattle.model_laws.specs.Messages.{stopped}
 use Rattle.model_laws.proofs.PlaceLemmas.{place_after, place_after-stands, only_after, due_after, only_used}
 use Rattle.model_laws.proofs.EachLemmas.{◌also◌, each_in, not_in_each, same_of_some, texts_differ}
+use Rattle.model_laws.proofs.OwnerLemmas.{none_unowned, none_fenced}
 use Rattle.model_laws.proofs.SampleLemmas.{hello, of_shard, rules_when, StandsAt, stands, not_cut, WindowRefuses, call_with}
 
 -- what is due of one request at a moment
@@ -94,7 +94,7 @@ taken_by now t v taken stood caused =
 
 -- what is due of the nodes that took the write at 100
 taken_at_100 : (taken : List ℕ) → Caused true (life_of (write_answered (acks taken))) [] → TakenBy 100 100 (pos 5) taken
-taken_at_100 taken caused = taken_by 100 100 (pos 5) taken (stands refl refl refl refl (λ name. refl) (λ name. refl also refl also refl also tt)) caused
+taken_at_100 taken caused = taken_by 100 100 (pos 5) taken (stands refl refl refl refl refl (λ name. refl) (λ name. refl also refl also refl also tt)) caused
 
 pub acks_too_few-refused : ¬ Caused true (life_of (write_answered (acks (0 ∷ [])))) []
 acks_too_few-refused caused = let enough : 2 ≤ 1 = (taken_at_100 (0 ∷ []) caused).enough in omega arith
@@ -139,12 +139,12 @@ takes-window now t v takes =
 
 pub taken_past-refused : ¬ Caused true (life_of (at_moment 250 (write 150 (pos 5)) (acks (0 ∷ 1 ∷ 2 ∷ [])))) []
 taken_past-refused caused =
-    let not_past : 250 < 150 + 100 = (takes-window 250 150 (pos 5) (taken_by 250 150 (pos 5) _ (stands refl refl refl refl (λ name. refl) (λ name. refl also refl also refl also tt)) caused).takes).0 in
+    let not_past : 250 < 150 + 100 = (takes-window 250 150 (pos 5) (taken_by 250 150 (pos 5) _ (stands refl refl refl refl refl (λ name. refl) (λ name. refl also refl also refl also tt)) caused).takes).0 in
     omega arith
 
 pub taken_future-refused : ¬ Caused true (life_of (at_moment 250 (write 300 (pos 5)) (acks (0 ∷ 1 ∷ 2 ∷ [])))) []
 taken_future-refused caused =
-    let not_future : 300 < 250 + 50 = (takes-window 250 300 (pos 5) (taken_by 250 300 (pos 5) _ (stands refl refl refl refl (λ name. refl) (λ name. refl also refl also refl also tt)) caused).takes).1 in
+    let not_future : 300 < 250 + 50 = (takes-window 250 300 (pos 5) (taken_by 250 300 (pos 5) _ (stands refl refl refl refl refl (λ name. refl) (λ name. refl also refl also refl also tt)) caused).takes).1 in
     omega arith
 
 -- What is due where fewer nodes than are needed did as a call asked.
@@ -157,21 +157,22 @@ record UnmetBy (now : ℕ) (a : Act) (due_needed got needed : ℕ) (reasons : Li
   refused : (r : ℕ × Reason) → IsIn reasons r → WindowRefuses (rules_when now) a r.1
   served : 0 < got → MayServe (rules_when now) a
 
--- where nothing is lost, late or stopped, a replica refuses for its window or for want of memory alone
-pub window_refuses : (lines : List Turn) (rules : Rules) (a : Act) (b : Answer) (used : Placement) (node : ℕ) (why : Reason) → StandsAt lines rules → IsCounted place 0 node → MayRefuse true [] None (place_after lines a b) used 0 node why → WindowRefuses rules a why
-window_refuses lines rules a b used node reason.Cut stood counts may = let quiet = not_cut lines rules a b may.1.instance_.name stood in let bad : false ≡ true = sym quiet ∙ may.1.holds in cc
-window_refuses lines rules a b used node reason.Down stood counts may = elim may as (λ _. ⊥) [ inl stopped ↦ let bad : false ≡ true = sym (stood.none_stopped stopped.instance_.name) ∙ stopped.holds in cc | inr closed ↦ closed.among ]
-window_refuses lines rules a b used node reason.Boot stood counts may =
+-- where nothing is lost, late, stopped or moved, a replica refuses for its window or for want of memory alone
+pub window_refuses : (lines : List Turn) (rules : Rules) (a : Act) (b : Answer) (node : ℕ) (why : Reason) → StandsAt lines rules → IsCounted place 0 node → MayRefuse true [] None (place_after lines a b) place 0 node why → WindowRefuses rules a why
+window_refuses lines rules a b node reason.Cut stood counts may = let quiet = not_cut lines rules a b may.1.instance_.name stood in let bad : false ≡ true = sym quiet ∙ may.1.holds in cc
+window_refuses lines rules a b node reason.Down stood counts may = elim may as (λ _. ⊥) [ inl stops ↦ let bad : false ≡ true = sym (stood.none_stopped stops.instance_.name) ∙ stops.holds in cc | inr closed ↦ closed.among ]
+window_refuses lines rules a b node reason.Boot stood counts may =
     let name = (may refl).instance_.name in
     let runs : (waiting_after (of_shard node name) None lines).waits ≡ false = each_in (λ n. (waiting_after (of_shard n name) None lines).waits ≡ false) (0 ∷ 1 ∷ 2 ∷ []) (stood.none_waits name) node counts in
     let bad : false ≡ true = sym runs ∙ (may refl).holds in
     cc
-window_refuses lines rules a b used node (reason.Stale fence) stood counts may = cc
-window_refuses lines rules a b used node reason.Past stood counts may = subst (λ r. IsOutside IsPast r a) stood.rules_is may
-window_refuses lines rules a b used node reason.Future stood counts may = subst (λ r. IsOutside IsFuture r a) stood.rules_is may
-window_refuses lines rules a b used node (reason.Corrupt damage) stood counts may = absurd may.0
-window_refuses lines rules a b used node reason.Memory stood counts may = tt
-window_refuses lines rules a b used node _ stood counts may = absurd may
+window_refuses lines rules a b node reason.NotOwned stood counts may = absurd (none_unowned lines rules a b node stood counts may)
+window_refuses lines rules a b node (reason.Stale fence) stood counts may = absurd (none_fenced lines rules a b fence stood (may refl))
+window_refuses lines rules a b node reason.Past stood counts may = subst (λ r. IsOutside IsPast r a) stood.rules_is may
+window_refuses lines rules a b node reason.Future stood counts may = subst (λ r. IsOutside IsFuture r a) stood.rules_is may
+window_refuses lines rules a b node (reason.Corrupt damage) stood counts may = absurd may.0
+window_refuses lines rules a b node reason.Memory stood counts may = tt
+window_refuses lines rules a b node _ stood counts may = absurd may
 
 unmet_by : (now : ℕ) (a : Act) (b : Answer) (needs : ℕ → ℕ) (got needed : ℕ) (reasons : List (ℕ × Reason)) → StandsAt (begun now []) (rules_when now) → call_of a ≡ Some (call_with needs)
     → MissesLevel true [] None (place_after (begun now []) a b) got needed reasons 0 → UnmetBy now a (needs 3) got needed reasons
@@ -186,7 +187,7 @@ unmet_by now a b needs got needed reasons stood is due =
       counted = counts;
       by_name = subst (λ x. Ascends (λ r s. IsNamedBelow x r.0 s.0) reasons) (sym same) due.silent.by_name;
       others = subst (λ x. got + length reasons ≡ length (counted_nodes x 0)) (sym same) due.others;
-      refused = λ r m. window_refuses (begun now []) (rules_when now) a b due.place r.0 r.1 stood (counts r m) (due.silent.refused r m);
+      refused = λ r m. window_refuses (begun now []) (rules_when now) a b r.0 r.1 stood (counts r m) (subst (λ x. MayRefuse true [] None (place_after (begun now []) a b) x 0 r.0 r.1) (sym same) (due.silent.refused r m));
       served = due.served;
     }
 
@@ -197,7 +198,7 @@ write_unmet now t v got needed reasons stood caused =
 
 -- what is due of the write at 100
 unmet_at_100 : (got needed : ℕ) (reasons : List (ℕ × Reason)) → Caused true (life_of (write_answered (answer.Consistency got needed reasons 0))) [] → UnmetBy 100 (write 100 (pos 5)) 2 got needed reasons
-unmet_at_100 got needed reasons caused = write_unmet 100 100 (pos 5) got needed reasons (stands refl refl refl refl (λ name. refl) (λ name. refl also refl also refl also tt)) caused
+unmet_at_100 got needed reasons caused = write_unmet 100 100 (pos 5) got needed reasons (stands refl refl refl refl refl (λ name. refl) (λ name. refl also refl also refl also tt)) caused
 
 -- a write that may be refused as past lies at or below the moment less 100
 past-outside : (now t : ℕ) (v : ℤ) → WindowRefuses (rules_when now) (write t v) reason.Past → t + 100 ≤ now
@@ -217,35 +218,35 @@ each_refuses now t v why stood caused = (write_unmet now t v 0 2 (by_each why) s
 
 pub past-refused : (t : ℕ) → 250 < t + 100 → ¬ Caused true (life_of (at_moment 250 (write t (pos 5)) (unmet 0 (by_each reason.Past)))) []
 past-refused t inside caused =
-    let outside : t + 100 ≤ 250 = past-outside 250 t (pos 5) (each_refuses 250 t (pos 5) reason.Past (stands refl refl refl refl (λ name. refl) (λ name. refl also refl also refl also tt)) caused) in
+    let outside : t + 100 ≤ 250 = past-outside 250 t (pos 5) (each_refuses 250 t (pos 5) reason.Past (stands refl refl refl refl refl (λ name. refl) (λ name. refl also refl also refl also tt)) caused) in
     omega arith
 
 pub future-refused : (t : ℕ) → t < 250 + 50 → ¬ Caused true (life_of (at_moment 250 (write t (pos 5)) (unmet 0 (by_each reason.Future)))) []
 future-refused t inside caused =
-    let outside : 250 + 50 ≤ t = future-outside 250 t (pos 5) (each_refuses 250 t (pos 5) reason.Future (stands refl refl refl refl (λ name. refl) (λ name. refl also refl also refl also tt)) caused) in
+    let outside : 250 + 50 ≤ t = future-outside 250 t (pos 5) (each_refuses 250 t (pos 5) reason.Future (stands refl refl refl refl refl (λ name. refl) (λ name. refl also refl also refl also tt)) caused) in
     omega arith
 
 pub one_took-refused : ¬ Caused true (life_of (at_moment 250 (write 150 (pos 5)) (unmet 1 ((1, reason.Past) ∷ (2, reason.Past) ∷ [])))) []
 one_took-refused caused =
-    let takes = (write_unmet 250 150 (pos 5) 1 2 _ (stands refl refl refl refl (λ name. refl) (λ name. refl also refl also refl also tt)) caused).served (omega arith) in
+    let takes = (write_unmet 250 150 (pos 5) 1 2 _ (stands refl refl refl refl refl (λ name. refl) (λ name. refl also refl also refl also tt)) caused).served (omega arith) in
     let not_past : 250 < 150 + 100 = (takes-window 250 150 (pos 5) takes).0 in
     omega arith
 
 pub fetch_past-refused : ¬ Caused true (life_of (at_moment 250 (fetch 0 200) (unmet 0 (by_each reason.Past)))) []
 fetch_past-refused caused =
-    let due = unmet_by 250 (fetch 0 200) (unmet 0 (by_each reason.Past)) (needed_read read_level.Majority) 0 2 (by_each reason.Past) (stands refl refl refl refl (λ name. refl) (λ name. refl also refl also refl also tt)) refl (due_at 250 (fetch 0 200) (unmet 0 (by_each reason.Past)) (λ e. cc) (λ e. cc) caused) in
+    let due = unmet_by 250 (fetch 0 200) (unmet 0 (by_each reason.Past)) (needed_read read_level.Majority) 0 2 (by_each reason.Past) (stands refl refl refl refl refl (λ name. refl) (λ name. refl also refl also refl also tt)) refl (due_at 250 (fetch 0 200) (unmet 0 (by_each reason.Past)) (λ e. cc) (λ e. cc) caused) in
     let may = due.refused (0, reason.Past) (inl refl) in
     let point : None ≡ Some may.point = may.of_act in
     cc
 
 pub cut-refused : ¬ Caused true (life_of (write_answered (unmet 0 (by_each reason.Cut)))) []
-cut-refused caused = each_refuses 100 100 (pos 5) reason.Cut (stands refl refl refl refl (λ name. refl) (λ name. refl also refl also refl also tt)) caused
+cut-refused caused = each_refuses 100 100 (pos 5) reason.Cut (stands refl refl refl refl refl (λ name. refl) (λ name. refl also refl also refl also tt)) caused
 
 pub disk-refused : ¬ Caused true (life_of (write_answered (unmet 0 (by_each reason.Disk)))) []
-disk-refused caused = each_refuses 100 100 (pos 5) reason.Disk (stands refl refl refl refl (λ name. refl) (λ name. refl also refl also refl also tt)) caused
+disk-refused caused = each_refuses 100 100 (pos 5) reason.Disk (stands refl refl refl refl refl (λ name. refl) (λ name. refl also refl also refl also tt)) caused
 
 pub boot-refused : ¬ Caused true (life_of (write_answered (unmet 0 (by_each reason.Boot)))) []
-boot-refused caused = each_refuses 100 100 (pos 5) reason.Boot (stands refl refl refl refl (λ name. refl) (λ name. refl also refl also refl also tt)) caused
+boot-refused caused = each_refuses 100 100 (pos 5) reason.Boot (stands refl refl refl refl refl (λ name. refl) (λ name. refl also refl also refl also tt)) caused
 
 pub reason_repeated-refused : ¬ Caused true (life_of (write_answered (unmet 0 ((0, reason.Memory) ∷ (0, reason.Memory) ∷ (1, reason.Memory) ∷ [])))) []
 reason_repeated-refused caused =

@@ -16,8 +16,10 @@ use Rattle.transcripts.specs.Caused.{Caused, CausedAt, IsDueBy, IsOwn, refusal_a
 use Rattle.transcripts.specs.Deliveries.{LateMessage, MayComeOf, AreOutcomes}
 use Rattle.transcripts.specs.Faults.{Fault}
 use Rattle.transcripts.specs.Levels.{IsAcked, AreSilent, MissesLevel, IsShort, IsFoundFor}
+use Rattle.transcripts.specs.Moves.{IsNew, IsUnowned}
 use Rattle.transcripts.specs.Reasons.{MayFail, MayRefuse}
 use Rattle.transcripts.specs.Record.{Life, Record, TurnPlace}
+use Rattle.transcripts.specs.Waiting.{Replica}
 use Rattle.model_laws.specs.Building.{begun, life_of, place, write, acks, unmet, by_each}
 use Rattle.model_laws.specs.Uncaused.{write_answered}
 use Rattle.model_laws.specs.Untold.{MayAnswer}
@@ -30,9 +32,20 @@ use Rattle.model_laws.proofs.UncausedLives.{each_refuses}
 
 -- ---- less is said
 
+new_less : (x : Replica) (start : Option MetaState) (p : TurnPlace) → IsNew true x start p → IsNew false x start p
+new_less x start p new = record { lines = new.lines; earlier = new.earlier; assigned = new.assigned; not_since = λ told. cc; not_beside = λ told. cc }
+
+unowned_less : (start : Option MetaState) (p : TurnPlace) (used : Placement) (shard node : ℕ) → IsUnowned true start p used shard node → IsUnowned false start p used shard node
+unowned_less start p used shard node may =
+    elim may as (λ _. IsUnowned false start p used shard node) [
+      | inl not ↦ inl not
+      | inr new ↦ inr (record { instance_ = new.instance_; stands = new.stands; holds = new_less (record { shard = shard; node = node; name = new.instance_.name }) start p new.holds })
+    ]
+
 fail_less : (faults : List Fault) (start : Option MetaState) (p : TurnPlace) (used : Placement) (shard node : ℕ) (why : Reason) → MayFail true faults start p used shard node why → MayFail false faults start p used shard node why
 fail_less faults start p used shard node reason.Boot may = λ told. cc
-fail_less faults start p used shard node (reason.Stale fence) may = refl
+fail_less faults start p used shard node reason.NotOwned may = unowned_less start p used shard node may
+fail_less faults start p used shard node (reason.Stale fence) may = λ told. cc
 fail_less faults start p used shard node reason.Down may = may
 fail_less faults start p used shard node reason.Disk may = may
 fail_less faults start p used shard node (reason.Corrupt damage) may = may
@@ -44,19 +57,20 @@ refuse_less faults start p used shard node reason.Cut may = may
 refuse_less faults start p used shard node reason.Past may = may
 refuse_less faults start p used shard node reason.Future may = may
 refuse_less faults start p used shard node reason.Boot may = λ told. cc
-refuse_less faults start p used shard node (reason.Stale fence) may = refl
+refuse_less faults start p used shard node reason.NotOwned may = unowned_less start p used shard node may
+refuse_less faults start p used shard node (reason.Stale fence) may = λ told. cc
 refuse_less faults start p used shard node reason.Down may = may
 refuse_less faults start p used shard node reason.Disk may = may
 refuse_less faults start p used shard node (reason.Corrupt damage) may = may
 refuse_less faults start p used shard node reason.Memory may = tt
-refuse_less faults start p used shard node _ may = absurd may
 
 come_less : (faults : List Fault) (start : Option MetaState) (p : TurnPlace) (m : LateMessage) (shard : ℕ) (came : Option Reason) → MayComeOf true faults start p m shard came → MayComeOf false faults start p m shard came
 come_less faults start p m shard None may = may
 come_less faults start p m shard (Some reason.Past) may = may
 come_less faults start p m shard (Some reason.Future) may = may
 come_less faults start p m shard (Some reason.Boot) may = λ told. cc
-come_less faults start p m shard (Some (reason.Stale fence)) may = refl
+come_less faults start p m shard (Some reason.NotOwned) may = unowned_less start p m.used shard m.node may
+come_less faults start p m shard (Some (reason.Stale fence)) may = λ told. cc
 come_less faults start p m shard (Some reason.Down) may = may
 come_less faults start p m shard (Some reason.Disk) may = may
 come_less faults start p m shard (Some (reason.Corrupt damage)) may = may
@@ -169,10 +183,10 @@ pub boot-untold : MayAnswer false (unmet 0 (by_each reason.Boot))
 boot-untold = each_may reason.Boot (λ p node told. cc)
 
 pub fence-untold : (fence : ℕ) → MayAnswer false (unmet 0 (by_each (reason.Stale fence)))
-fence-untold fence = each_may (reason.Stale fence) (λ p node. refl)
+fence-untold fence = each_may (reason.Stale fence) (λ p node told. cc)
 
 pub fence-told : (fence : ℕ) → ¬ MayAnswer true (unmet 0 (by_each (reason.Stale fence)))
-fence-told fence caused = each_refuses 100 100 (pos 5) (reason.Stale fence) (stands refl refl refl refl (λ name. refl) (λ name. refl also refl also refl also tt)) caused
+fence-told fence caused = each_refuses 100 100 (pos 5) (reason.Stale fence) (stands refl refl refl refl refl (λ name. refl) (λ name. refl also refl also refl also tt)) caused
 
 -- ---- as much
 
