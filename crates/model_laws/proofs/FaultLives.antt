@@ -52,7 +52,7 @@ c_called p place_is = record { place = place; stands = stood p place place_is; n
 
 -- a bootstrap that turns nothing available leaves the placement
 bootstrapped : (p : TurnPlace) (name : List ℕ) (asked : Option ℕ) → placement_after None (inner_turns p.lines ++ (p.earlier ++ [])) ≡ Some place → IsBootstrapped None p name asked [] place 1
-bootstrapped p name asked place_is = record { stands = stood p place place_is; version_is = refl; by_shard = tt; each = λ x none. absurd none }
+bootstrapped p name asked place_is = record { before = place; stands = stood p place place_is; left = refl; version_is = refl }
 
 pub stopped_and_back-caused : Caused true (life_of stopped_and_back) []
 stopped_and_back-caused =

@@ -1,5 +1,5 @@
 -- Placements by their versions.
-use Rattle.std.proofs.Common.{◌≡◌, ◌≢◌, ◌<◌, ℕ, List, [], ◌∷◌, true, false, refl, sym, subst, ap, inl, inr, arith}
+use Rattle.std.proofs.Common.{◌≡◌, ◌≢◌, ◌<◌, ◌∙◌, ℕ, List, [], ◌∷◌, true, false, refl, sym, subst, ap, inl, inr, arith}
 use Rattle.std.specs.Prelude.{Some, None, pos, codes, decimal}
 use Rattle.m3_model.specs.Hash.{murmur3}
 use Rattle.m3_model.specs.Levels.{needed_write}
@@ -45,14 +45,14 @@ abbrev boot_c : Act
 boot_c = act.Bootstrap (codes "c") None
 
 pub stays-caused : Caused true (reopened (c_left 2 2 ∷ [])) []
-stays-caused = caused_by_places true [] (reopened (c_left 2 2 ∷ [])) tt refl (only (due_from true [] [] (Some held_2) [] [] _ _ record { stands = ([], after_all [] _ _, refl); version_is = refl; by_shard = tt; each = λ x none. absurd none }) also tt)
+stays-caused = caused_by_places true [] (reopened (c_left 2 2 ∷ [])) tt refl (only (due_from true [] [] (Some held_2) [] [] _ _ record { before = at_version 2; stands = ([], after_all [] _ _, refl); left = refl; version_is = refl }) also tt)
 
 -- what a bootstrap leaves
 left_is : (faults : List Fault) (version told : ℕ) → Caused true (reopened (c_left version told ∷ [])) faults → (at_version 2 ≡ at_version version) × (told ≡ version)
 left_is faults version told caused =
     let b = answer.Available [] (at_version version) told in
     let left : IsBootstrapped (Some held_2) (place_after [] boot_c b) (codes "c") None [] (at_version version) told = first_due boot_c b [] (λ e. cc) (λ e. cc) caused in
-    (used_from (Some held_2) [] boot_c b (at_version 2) (at_version version) refl left.stands, left.version_is)
+    (used_from (Some held_2) [] boot_c b (at_version 2) left.before refl left.stands ∙ sym left.left, left.version_is)
 
 pub back-refused : (faults : List Fault) → ¬ Caused true (reopened (c_left 1 1 ∷ [])) faults
 back-refused faults caused = let bad : 2 ≡ 1 = ap (λ (x : Placement). x.version) (left_is faults 1 1 caused).0 in omega (arith, bad)

@@ -17,11 +17,12 @@ use Rattle.m3_model.specs.declared.turn.Reply.{Reply}
 use Rattle.m3_model.specs.declared.turn.Reply.TheVariants as reply
 use Rattle.m3_model.specs.declared.turn.Turn.{Turn}
 use Rattle.placement_plan.specs.First.{IsInitial}
+use Rattle.placement_plan.specs.Plans.{AreJoining, IsAvailable}
 use Rattle.transcripts.specs.Deliveries.{LateMessage, IsDelivered, IsSameMessage, IsSamePlace}
 use Rattle.transcripts.specs.Fates.{is_stopped, OfNode}
 use Rattle.transcripts.specs.Faults.{Fault, AreDifferent, IsUntaken, HasFailed, IsDamaged}
 use Rattle.transcripts.specs.Levels.{IsAcked, MissesLevel, IsFoundFor}
-use Rattle.transcripts.specs.Placements.{placement_after, placement_at, placements, start_placement, HadReplica, IsCounted, MayStand, has_replica}
+use Rattle.transcripts.specs.Placements.{placement_after, placement_at, placements, start_placement, HadReplica, MayStand, has_replica}
 use Rattle.transcripts.specs.Reasons.{IsShown}
 use Rattle.transcripts.specs.Record.{Record, Life, InnerTurn, TurnPlace, IsTurnPlace, IsAfter, acts_of, inner_turns}
 use Rattle.transcripts.specs.Refusals.{refusal_by}
@@ -60,19 +61,26 @@ NamesNode nodes name node = (group : List ℕ) × (slice_get nodes node ≡ Some
 abbrev pub IsUnmade : List Fault → TurnPlace → List (List ℕ × List ℕ) → ℕ → List ℕ → ℕ → Type 0
 IsUnmade faults p nodes shards name shard = (node : ℕ) × NamesNode nodes name node × (shard < shards) × IsUntaken faults p shard node
 
--- the shard is one that the bootstrap covers, and the placement has it available on the node of this name
-pub record IsAvailableOn (place : Placement) (name : List ℕ) (asked : Option ℕ) (shard : ℕ) : Type 0 where
-  pub covered : IsTrue (is_covering shard asked)
+-- the moves of these shards to the bootstrap's node end: it covers them and is joining them, and they stand by number
+pub record EndsMoves (before : Placement) (name : List ℕ) (asked : Option ℕ) (available : List (ℕ × List ℕ)) (place : Placement) : Type 0 where
   pub node : ℕ
-  pub named : OfNode place node (λ own. own ≡ name)
-  pub counted : IsCounted place shard node
-
--- a bootstrap prints a placement that stands, and by shard those that turned available in it
-pub record IsBootstrapped (start : Option MetaState) (p : TurnPlace) (name : List ℕ) (asked : Option ℕ) (available : List (ℕ × List ℕ)) (place : Placement) (version : ℕ) : Type 0 where
-  pub stands : MayStand start p place
-  pub version_is : version ≡ place.version
+  pub named : OfNode before node (λ own. own ≡ name)
   pub by_shard : Ascends (λ a b. a.0 < b.0) available
-  pub each : (x : ℕ × List ℕ) → IsIn available x → IsAvailableOn place name asked x.0
+  pub covered : (x : ℕ × List ℕ) → IsIn available x → IsTrue (is_covering x.0 asked)
+  pub joining : AreJoining before.shards (map (λ x. (x.0, node)) available)
+  pub next : IsAvailable before (map (λ x. (x.0, node)) available) place
+
+-- what a bootstrap leaves of the placement that it meets: the same where no shard turned available, and else the one in which their moves are over
+abbrev pub IsLeftBy : Placement → List ℕ → Option ℕ → List (ℕ × List ℕ) → Placement → Type 0
+IsLeftBy before name asked [] place = place ≡ before
+IsLeftBy before name asked (x ∷ available) place = EndsMoves before name asked (x ∷ available) place
+
+-- a bootstrap prints what it leaves of a placement that stands, and the shards that turned available by it
+pub record IsBootstrapped (start : Option MetaState) (p : TurnPlace) (name : List ℕ) (asked : Option ℕ) (available : List (ℕ × List ℕ)) (place : Placement) (version : ℕ) : Type 0 where
+  pub before : Placement
+  pub stands : MayStand start p before
+  pub left : IsLeftBy before name asked available place
+  pub version_is : version ≡ place.version
 
 -- the answer is the act's own: ok, or too few replicas answered; what a read finds is said by what it keeps
 abbrev pub IsOwn : Bool → List Fault → Option MetaState → List LateMessage → TurnPlace → Act → Answer → Type 0
