@@ -46,11 +46,11 @@ use Rattle.model_laws.proofs.PlaceLemmas.{EachSplit, EachInLine, DeliversOnce, i
 use Rattle.model_laws.proofs.SampleLemmas.{rules_when, StandsAt, stands, reached_by, WindowRefuses, call_with}
 
 -- a fact of each element with its number
-abbrev EachAt : {X : Type 0} → (ℕ → X → Type 0) → List X → Type 0
+abbrev pub EachAt : {X : Type 0} → (ℕ → X → Type 0) → List X → Type 0
 EachAt P [] = Unit {0}
 EachAt P (x ∷ xs) = P 0 x × EachAt (λ n. P (suc n)) xs
 
-each_at : {X : Type 0} (P : ℕ → X → Type 0) (xs : List X) → EachAt P xs → (i : ℕ) (x : X) → slice_get xs i ≡ Some x → P i x
+pub each_at : {X : Type 0} (P : ℕ → X → Type 0) (xs : List X) → EachAt P xs → (i : ℕ) (x : X) → slice_get xs i ≡ Some x → P i x
 each_at P [] each i x e = cc
 each_at P (y ∷ ys) each zero x e = subst (P zero) (same_of_some y x e) each.0
 each_at P (y ∷ ys) each (suc i) x e = each_at (λ n. P (suc n)) ys each.1 i x e

@@ -1,0 +1,146 @@
+-- Which fences moves leave.
+use Rattle.std.proofs.Common.{ℕ, ◌≡◌, ◌≢◌, ◌<◌, ◌≤◌, ◌∙◌, true, false, List, [], ◌∷◌, ◌++◌, refl, sym, subst, inl, inr, arith}
+use Rattle.std.specs.Prelude.{Some, None, codes}
+use Rattle.m3_model.specs.Members.{IsIn}
+use Rattle.m3_model.specs.declared.act.Act.{Act}
+use Rattle.m3_model.specs.declared.act.Act.TheVariants as act
+use Rattle.m3_model.specs.declared.answer.Answer.TheVariants as answer
+use Rattle.m3_model.specs.declared.placement.Assignment.{Assignment}
+use Rattle.m3_model.specs.declared.placement.Placement.{Placement}
+use Rattle.m3_model.specs.declared.reason.Reason.TheVariants as reason
+use Rattle.m3_model.specs.declared.rules.MetaState.{MetaState}
+use Rattle.m3_model.specs.declared.turn.Turn.{Turn}
+use Rattle.placement_core.specs.Shards.{shard_at}
+use Rattle.transcripts.specs.Fates.{OfNode}
+use Rattle.transcripts.specs.Faults.{Fault}
+use Rattle.transcripts.specs.Moves.{IsBootstrapFor, IsFencedAbove, IsOfMove}
+use Rattle.transcripts.specs.Placements.{placements}
+use Rattle.transcripts.specs.Reasons.{MayRefuse}
+use Rattle.transcripts.specs.Record.{InnerTurn, TurnPlace, inner_turns}
+use Rattle.model_laws.specs.Building.{place_of_two, two_made}
+use Rattle.model_laws.proofs.EachLemmas.{◌also◌, each_in, same_of_some, texts_differ}
+use Rattle.model_laws.proofs.PlaceLemmas.{only_used, stands_then}
+use Rattle.move_laws.specs.Moving.{b_to_a, on_a, joining, bootstrap, b_drained, a_joins, a_refused, moved_to_a, call_at, MayRefuseAfter, MayRefuseBeside}
+use Rattle.move_laws.proofs.MovingLemmas.{of_name}
+
+-- ---- of a move
+
+-- the lines in which a's bootstrap was asked, and no memory was there
+abbrev asked : List Turn
+asked = two_made ++ b_drained ∷ a_refused ∷ []
+
+-- a is to have the shard from version 2 on
+a_joining : (p : TurnPlace) (turn : InnerTurn) → IsIn (placements None (inner_turns p.lines ++ (p.earlier ++ p.beside))) b_to_a → IsIn (inner_turns p.lines ++ (p.earlier ++ p.beside)) turn → IsBootstrapFor 1 (codes "a") turn.act → IsOfMove None p 1 2
+a_joining p turn known taken asks = record {
+  place = b_to_a;
+  known = known;
+  node = 0;
+  assigned = record { assignment = joining 0 2 1; among = inr (inl refl); of_node = refl; kind = refl };
+  turn = turn;
+  taken = taken;
+  asks = record { instance_ = _; stands = refl; holds = asks };
+}
+
+pub asked-caused : MayRefuseAfter true [] asked place_of_two 1 (reason.Stale 2)
+asked-caused told = record {
+  above = omega arith;
+  place = b_to_a;
+  may_stand = stands_then _ _ _ _ refl;
+  not_above = omega arith;
+  cause = inr (a_joining _ (record { act = act.Bootstrap (codes "a") None; answer = answer.Memory }) (inr (inl refl)) (inr (inr (inr (inl refl)))) (refl, refl));
+}
+
+pub ended-caused : MayRefuseAfter true [] moved_to_a place_of_two 1 (reason.Stale 2)
+ended-caused told = record { above = omega arith; place = on_a; may_stand = stands_then _ _ _ _ refl; not_above = omega arith; cause = inr (a_joining _ a_joins (inr (inl refl)) (inr (inr (inr (inl refl)))) (refl, refl)) }
+
+pub beside-caused : MayRefuseBeside true [] (two_made ++ b_drained ∷ []) (a_joins ∷ []) place_of_two 1 (reason.Stale 2)
+beside-caused told = record {
+  above = omega arith;
+  place = b_to_a;
+  may_stand = (inner_turns (two_made ++ b_drained ∷ []), record { others = []; some_of = tt; are = refl }, refl);
+  not_above = omega arith;
+  cause = inr (a_joining _ a_joins (inr (inl refl)) (inr (inr (inr (inl refl)))) (refl, refl));
+}
+
+-- ---- bounds
+
+pub not_above-refused : (faults : List Fault) (fence : ℕ) → fence ≤ 2 → ¬ MayRefuseAfter true faults asked b_to_a 1 (reason.Stale fence)
+not_above-refused faults fence low may = let above : 2 < fence = (may refl).above in omega (arith, above, low)
+
+pub above_standing-refused : (faults : List Fault) (fence : ℕ) → 2 < fence → ¬ MayRefuseAfter true faults asked place_of_two 1 (reason.Stale fence)
+above_standing-refused faults fence high may =
+    let fenced = may refl in
+    let p = call_at asked place_of_two 1 (reason.Stale fence) in
+    let same : b_to_a ≡ fenced.place = only_used asked p.turn.act p.turn.answer b_to_a fenced.place refl fenced.may_stand in
+    let low : fence ≤ 2 = subst (λ (q : Placement). fence ≤ q.version) (sym same) fenced.not_above in
+    omega (arith, high, low)
+
+-- a run that found nothing has fences of its own moves alone
+of_move : (p : TurnPlace) (used : Placement) (shard fence : ℕ) → IsFencedAbove None p used shard fence → IsOfMove None p shard fence
+of_move p used shard fence fenced = elim fenced.cause as (λ _. IsOfMove None p shard fence) [ inl left ↦ let bad = left.found in cc | inr of ↦ of ]
+
+-- ---- of no move
+
+pub no_move-refused : (faults : List Fault) → ¬ MayRefuseAfter true faults moved_to_a place_of_two 1 (reason.Stale 3)
+no_move-refused faults may =
+    let of = of_move (call_at moved_to_a place_of_two 1 (reason.Stale 3)) place_of_two 1 3 (may refl) in
+    each_in (λ q. (a : Assignment) → IsIn (shard_at q 1) a → a.tenure ≢ 3) (place_of_two ∷ b_to_a ∷ on_a ∷ []) (
+    each_in (λ (a : Assignment). a.tenure ≢ 3) (shard_at place_of_two 1) ((λ e. omega (arith, e)) also tt)
+    also each_in (λ (a : Assignment). a.tenure ≢ 3) (shard_at b_to_a 1) ((λ e. omega (arith, e)) also (λ e. omega (arith, e)) also tt)
+    also each_in (λ (a : Assignment). a.tenure ≢ 3) (shard_at on_a 1) ((λ e. omega (arith, e)) also tt)
+    also tt) of.place of.known of.assigned.assignment of.assigned.among of.assigned.kind
+
+pub none_asked-refused : (faults : List Fault) → ¬ MayRefuseAfter true faults (two_made ++ b_drained ∷ []) place_of_two 1 (reason.Stale 2)
+none_asked-refused faults may =
+    let lines = two_made ++ b_drained ∷ [] in
+    let of = of_move (call_at lines place_of_two 1 (reason.Stale 2)) place_of_two 1 2 (may refl) in
+    each_in (λ (turn : InnerTurn). (name : List ℕ) → IsBootstrapFor 1 name turn.act → ⊥) (inner_turns lines) ((λ name asks. asks) also (λ name asks. asks) also (λ name asks. asks) also tt) of.turn of.taken of.asks.instance_.name of.asks.holds
+
+-- the lines in which the other node's bootstrap was asked, and that of another shard
+abbrev asked_others : List Turn
+asked_others = two_made ++ b_drained ∷ bootstrap (codes "b") None answer.Memory ∷ bootstrap (codes "a") (Some 0) answer.Memory ∷ []
+
+-- whoever has a shard since version 2 is node 0
+joining_0 : (q : Placement) → IsIn (place_of_two ∷ b_to_a ∷ []) q → (a : Assignment) → IsIn (shard_at q 1) a → a.tenure ≡ 2 → a.node ≡ 0
+joining_0 = each_in (λ q. (a : Assignment) → IsIn (shard_at q 1) a → a.tenure ≡ 2 → a.node ≡ 0) (place_of_two ∷ b_to_a ∷ []) (
+    each_in (λ (a : Assignment). a.tenure ≡ 2 → a.node ≡ 0) (shard_at place_of_two 1) ((λ e. absurd (omega (arith, e))) also tt)
+    also each_in (λ (a : Assignment). a.tenure ≡ 2 → a.node ≡ 0) (shard_at b_to_a 1) ((λ e. absurd (omega (arith, e))) also (λ e. refl) also tt)
+    also tt)
+
+-- that is a
+named_a : (a : Act) (q : Placement) → IsIn (place_of_two ∷ b_to_a ∷ []) q → OfNode q 0 (λ name. IsBootstrapFor 1 name a) → IsBootstrapFor 1 (codes "a") a
+named_a a = each_in (λ q. OfNode q 0 (λ name. IsBootstrapFor 1 name a) → IsBootstrapFor 1 (codes "a") a) (place_of_two ∷ b_to_a ∷ []) (of_name place_of_two (λ name. IsBootstrapFor 1 name a) 0 _ refl also of_name b_to_a (λ name. IsBootstrapFor 1 name a) 0 _ refl also tt)
+
+pub others_asked-refused : (faults : List Fault) → ¬ MayRefuseAfter true faults asked_others place_of_two 1 (reason.Stale 2)
+others_asked-refused faults may =
+    let of = of_move (call_at asked_others place_of_two 1 (reason.Stale 2)) place_of_two 1 2 (may refl) in
+    let node : of.node ≡ 0 = sym of.assigned.of_node ∙ joining_0 of.place of.known of.assigned.assignment of.assigned.among of.assigned.kind in
+    let asks : IsBootstrapFor 1 (codes "a") of.turn.act = named_a of.turn.act of.place of.known (subst (λ n. OfNode of.place n (λ name. IsBootstrapFor 1 name of.turn.act)) node of.asks) in
+    each_in (λ (turn : InnerTurn). IsBootstrapFor 1 (codes "a") turn.act → ⊥) (inner_turns asked_others) (
+    (λ no. no)
+    also (λ no. no)
+    also (λ no. no)
+    also (λ no. texts_differ (codes "a") (codes "b") refl refl (sym no.0))
+    also (λ no. let bad : false ≡ true = no.1 in cc)
+    also tt) of.turn of.taken asks
+
+pub another_shard-refused : (faults : List Fault) → ¬ MayRefuse true faults None (call_at asked place_of_two 0 (reason.Stale 2)) place_of_two 0 0 (reason.Stale 2)
+another_shard-refused faults may =
+    let of = of_move (call_at asked place_of_two 0 (reason.Stale 2)) place_of_two 0 2 (may refl) in
+    each_in (λ q. (a : Assignment) → IsIn (shard_at q 0) a → a.tenure ≢ 2) (place_of_two ∷ b_to_a ∷ []) (
+    each_in (λ (a : Assignment). a.tenure ≢ 2) (shard_at place_of_two 0) ((λ e. omega (arith, e)) also tt)
+    also each_in (λ (a : Assignment). a.tenure ≢ 2) (shard_at b_to_a 0) ((λ e. omega (arith, e)) also tt)
+    also tt) of.place of.known of.assigned.assignment of.assigned.among of.assigned.kind
+
+-- ---- left
+
+pub left-of_move : (state : MetaState) (p : TurnPlace) (used : Placement) (shard fence : ℕ) → state.place.version ≤ used.version → IsFencedAbove (Some state) p used shard fence → IsOfMove (Some state) p shard fence
+left-of_move state p used shard fence later fenced =
+    elim fenced.cause as (λ _. IsOfMove (Some state) p shard fence) [
+      | inl left ↦ (
+          let same : state ≡ left.state = same_of_some state left.state left.found in
+          let low : fence ≤ state.place.version = subst (λ (s : MetaState). fence ≤ s.place.version) (sym same) left.not_above in
+          let high : used.version < fence = fenced.above in
+          absurd (omega (arith, low, high, later)))
+      | inr of ↦ of
+    ]

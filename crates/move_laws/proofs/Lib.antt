@@ -1,0 +1,5 @@
+pub mod MovingLemmas
+pub mod OwnerLives
+pub mod FenceLives
+pub mod BootLives
+pub mod SlotLives
