@@ -59,10 +59,10 @@ halts q at stops = absurd (by (turn_among turns q at))
     by (inr (inr (inr (inr nothing)))) = nothing
 
 -- the list has one Place, no refusal and no fault
-one_place : (i : ℕ) (p : Placement) (done : List (ℕ × ℕ)) → At events i (event.Place p done) → place ≡ p
+pub one_place : (i : ℕ) (p : Placement) (done : List (ℕ × ℕ)) → At events i (event.Place p done) → place ≡ p
 one_place i p done there = each_at (λ k x. x ≡ event.Place p done → place ≡ p) 0 events ((λ e. cc), ((λ e. absurd (cc)), ((λ e. absurd (cc)), ((λ e. absurd (cc)), ((λ e. absurd (cc)), ((λ e. absurd (cc)), ((λ e. absurd (cc)), ((λ e. absurd (cc)), ((λ e. absurd (cc)), ((λ e. absurd (cc)), ((λ e. absurd (cc)), ((λ e. absurd (cc)), ((λ e. absurd (cc)), ((λ e. absurd (cc)), tt)))))))))))))) i (event.Place p done) there refl
 
-never_refused : (i n s : ℕ) (c : StepCall) (why : Reason) → At events i (event.Step n s c (reply.Refused why)) → ⊥
+pub never_refused : (i n s : ℕ) (c : StepCall) (why : Reason) → At events i (event.Step n s c (reply.Refused why)) → ⊥
 never_refused i n s c why there = each_at (λ k x. x ≡ event.Step n s c (reply.Refused why) → ⊥) 0 events ((λ e. cc), ((λ e. cc), ((λ e. cc), ((λ e. cc), ((λ e. cc), ((λ e. cc), ((λ e. cc), ((λ e. cc), ((λ e. cc), ((λ e. cc), ((λ e. cc), ((λ e. cc), ((λ e. cc), ((λ e. cc), tt)))))))))))))) i (event.Step n s c (reply.Refused why)) there refl
 
 no_fault : (i line : ℕ) (x : Event) (fault : Fault) → At events i x → fault_of line x ≡ Some fault → ⊥

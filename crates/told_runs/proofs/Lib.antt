@@ -6,3 +6,4 @@ pub mod KnownLemmas
 pub mod SilentLemmas
 pub mod OwnsLemmas
 pub mod CausedLemmas
+pub mod SampleLemmas
