@@ -1,6 +1,6 @@
 -- Who asked for a begin or a fence: an `init` or a bootstrap, over a placement that gives a node the shard with this tenure.
 use Rattle.std.proofs.Common.{◌≡◌, ℕ, zero, suc, ◌<◌, ◌≤◌, List, [], ◌∷◌, take, length, refl, sym, ap, ◌∙◌, subst, inl, inr, arith, true}
-use Rattle.std.specs.Prelude.{◌⊎◌, Option, Some, None, IsTrue}
+use Rattle.std.specs.Prelude.{◌⊎◌, Option, Some, IsTrue}
 use Rattle.m3_model.specs.Members.{IsIn}
 use Rattle.m3_model.specs.declared.act.Act.{Act}
 use Rattle.m3_model.specs.declared.act.Act.TheVariants as act
@@ -13,7 +13,6 @@ use Rattle.cluster_core.specs.Asks.{IsAskFor, StepWasAsked, WasAsked}
 use Rattle.cluster_core.specs.Earlier.{last_place}
 use Rattle.cluster_core.specs.Legal.{Legal}
 use Rattle.cluster_core.specs.Lists.{At}
-use Rattle.cluster_core.specs.declared.event.Asked.{Asked}
 use Rattle.cluster_core.specs.declared.event.Asked.TheVariants as asked
 use Rattle.cluster_core.specs.declared.event.Event.{Event}
 use Rattle.cluster_core.specs.declared.event.Event.TheVariants as event

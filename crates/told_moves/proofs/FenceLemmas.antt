@@ -1,7 +1,6 @@
 -- Where a replica's fence comes from: an earlier run, or a move of the shard that was asked for.
-use Rattle.std.proofs.Common.{◌≡◌, ℕ, suc, ◌<◌, ◌≤◌, List, [], ◌∷◌, ◌++◌, take, length, refl, sym, ap, ◌∙◌, subst, inl, inr, arith, Bool, true, false, cond}
-use Rattle.std.specs.Prelude.{◌⊎◌, Option, Some, None, nat_le}
-use Rattle.std.proofs.lemmas.Bool.{cases_lt}
+use Rattle.std.proofs.Common.{◌≡◌, ℕ, suc, ◌<◌, ◌≤◌, List, [], ◌∷◌, ◌++◌, length, refl, sym, ap, ◌∙◌, subst, inl, inr, arith, Bool, true, false, cond}
+use Rattle.std.specs.Prelude.{◌⊎◌, Option, nat_le}
 use Rattle.m3_model.specs.Members.{IsIn}
 use Rattle.m3_model.proofs.MemberLemmas.{IsIn-append_cases}
 use Rattle.m3_model.specs.declared.point.Point.{Point}
@@ -14,7 +13,7 @@ use Rattle.placement_core.proofs.ListLemmas.{IsIn-from_Any}
 use Rattle.cluster_core.specs.Legal.{Legal}
 use Rattle.cluster_core.specs.Lists.{At}
 use Rattle.cluster_core.specs.Replicas.{after, greater}
-use Rattle.cluster_core.specs.Rows.{IsBegan, LawfulStep}
+use Rattle.cluster_core.specs.Rows.{IsBegan}
 use Rattle.cluster_core.specs.declared.event.Event.{Event}
 use Rattle.cluster_core.specs.declared.event.Event.TheVariants as event
 use Rattle.cluster_core.specs.declared.event.StepCall.{StepCall}

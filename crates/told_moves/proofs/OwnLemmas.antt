@@ -20,7 +20,6 @@ use Rattle.cluster_core.specs.Lists.{At}
 use Rattle.cluster_core.specs.Replicas.{replica}
 use Rattle.cluster_core.specs.declared.event.Event.{Event}
 use Rattle.cluster_core.specs.declared.event.Event.TheVariants as event
-use Rattle.cluster_core.specs.declared.event.StepCall.{StepCall}
 use Rattle.cluster_core.specs.declared.event.StepCall.TheVariants as call
 use Rattle.cluster_core.specs.declared.event.StepReply.{StepReply}
 use Rattle.cluster_core.specs.declared.event.StepReply.TheVariants as reply
@@ -28,8 +27,7 @@ use Rattle.cluster_core.specs.declared.replica_state.ReplicaState.{ReplicaState}
 use Rattle.cluster_core.proofs.ListLemmas.{at_append, at_take, at_within, some_same}
 use Rattle.cluster_core.proofs.PlaceLemmas.{placed_at}
 use Rattle.cluster_core.proofs.TraceLemmas.{lawful_step, open_begun, replica_own}
-use Rattle.transcripts.specs.Fates.{OfNode}
-use Rattle.transcripts.specs.Moves.{HasAssignment, IsNew, IsUnowned, OwnsNot, is_begun_in, placement_by}
+use Rattle.transcripts.specs.Moves.{IsNew, IsUnowned, OwnsNot, is_begun_in, placement_by}
 use Rattle.transcripts.specs.Placements.{MayStand, has_replica, placement_after, placement_at, start_placement}
 use Rattle.transcripts.specs.Record.{InnerTurn, TurnPlace, IsTurnPlace, inner_turns, joined, lists_of}
 use Rattle.transcripts.specs.Waiting.{Replica, is_assigned, is_begun_by, is_covering, is_member}
@@ -49,7 +47,7 @@ use Rattle.told_causes.proofs.NameLemmas.{any_found, name_is}
 use Rattle.told_causes.proofs.RefusalLemmas.{first_down, refused_law}
 use Rattle.told_causes.proofs.WaitLemmas.{EndsWait, and_both, assigned_by, member_place}
 use Rattle.told_moves.specs.Moves.{IsQuiet, IsRefusedAt, NotOwnedIsSaid}
-use Rattle.told_moves.specs.Order.{IsInOrder, OpensWithin}
+use Rattle.told_moves.specs.Order.{IsInOrder}
 use Rattle.told_moves.proofs.AskLemmas.{begin_asked}
 use Rattle.told_moves.proofs.ReasonLemmas.{first_not_owned, refused_move}
 use Rattle.told_moves.proofs.SlotLemmas.{EndedAt, IsEnded, Tries, ended_at, owned_began, slot, tried_began}

@@ -1,5 +1,5 @@
 -- What a put or a read that is refused as not owned, or for a fence, says of its replica.
-use Rattle.std.proofs.Common.{◌≡◌, ℕ, ◌<◌, ◌≤◌, List, refl, sym, ap, ◌∙◌, subst, inl, inr, arith, Bool, true, false}
+use Rattle.std.proofs.Common.{◌≡◌, ℕ, ◌<◌, ◌≤◌, List, refl, sym, ap, ◌∙◌, subst, inl, inr, Bool, true, false}
 use Rattle.std.specs.Prelude.{◌⊎◌, Option, Some, None, nat_le, if◌then◌else◌, slice_get, ◌+◌}
 use Rattle.std.specs.Option.{option_or}
 use Rattle.std.proofs.lemmas.Bool.{leb-false, leb-true}
@@ -89,12 +89,14 @@ by_tenure tenure fence version rest why later e =
 -- a put or a read that is refused for such a reason is so by an open replica's tenure or fence
 pub refused_move : (r : ReplicaState) (c : StepCall) (version : ℕ) (why : Reason) → IsAtVersion version c → IsOfMove why → first_refusal r c ≡ Some why → (r.standing ≡ standing.Open) × FoundsMove r.tenure r.fence version why
 refused_move r (call.Put client number rules at_version point) version why same is e =
-    let h = open_or r.standing (option_or (unowned r.tenure at_version) (option_or (outdated r.fence at_version) (outside rules point))) why is e in
-    (h.0, subst (λ v. FoundsMove r.tenure r.fence v why) same (by_tenure r.tenure r.fence at_version (option_or (outdated r.fence at_version) (outside rules point)) why (λ within rest.
-    elim (or_cases (outdated r.fence at_version) (outside rules point) why rest) as (λ _. FoundsMove r.tenure r.fence at_version why) [
-      | inl stale ↦ by_fence r.tenure r.fence at_version why is within stale
-      | inr late ↦ absurd (outside_not rules point (slice_get rules.spaces point.ns) why is late)
-    ]) h.1))
+    let h = open_or r.standing (option_or (unowned r.tenure at_version) (option_or (outdated r.fence at_version) (outside rules point))) why is e in (
+      h.0,
+      subst (λ v. FoundsMove r.tenure r.fence v why) same (by_tenure r.tenure r.fence at_version (option_or (outdated r.fence at_version) (outside rules point)) why (λ within rest.
+          elim (or_cases (outdated r.fence at_version) (outside rules point) why rest) as (λ _. FoundsMove r.tenure r.fence at_version why) [
+            | inl stale ↦ by_fence r.tenure r.fence at_version why is within stale
+            | inr late ↦ absurd (outside_not rules point (slice_get rules.spaces point.ns) why is late)
+          ]) h.1),
+    )
 refused_move r (call.Read client number rules at_version pick from to) version why same is e =
     let h = open_or r.standing (option_or (unowned r.tenure at_version) (outdated r.fence at_version)) why is e in
     (h.0, subst (λ v. FoundsMove r.tenure r.fence v why) same (by_tenure r.tenure r.fence at_version (outdated r.fence at_version) why (λ within rest. by_fence r.tenure r.fence at_version why is within rest) h.1))

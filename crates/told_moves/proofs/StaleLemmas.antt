@@ -1,5 +1,5 @@
 -- A put or a read that is refused for a fence is so for one that a bootstrap of the shard asked for, or that an earlier run left.
-use Rattle.std.proofs.Common.{◌≡◌, ℕ, zero, suc, ◌<◌, ◌≤◌, List, [], ◌∷◌, ◌++◌, take, length, refl, sym, ap, ◌∙◌, subst, inl, inr, arith, true}
+use Rattle.std.proofs.Common.{◌≡◌, ℕ, suc, ◌<◌, ◌≤◌, List, [], ◌++◌, take, length, sym, ap, ◌∙◌, subst, inl, inr, arith, true}
 use Rattle.std.specs.Prelude.{◌⊎◌, Option, Some, None}
 use Rattle.std.proofs.lemmas.Bool.{cases_lt}
 use Rattle.m3_model.proofs.MemberLemmas.{IsIn-append_left}

@@ -111,8 +111,8 @@ module _ (start : Option MetaState) (turns : List Turn) (events : List Event) (l
     inner_turns p.lines ++ (p.earlier ++ []),
     record { others = []; some_of = tt; are = refl },
     fold-append (λ o (turn : InnerTurn). later_placement (printed turn.answer) o) (start_placement start) (inner_turns p.lines) (p.earlier ++ [])
-    ∙ none_after (p.earlier ++ []) (placement_at start p) (λ t m stood prints. none t (subst (λ ts. IsIn ts t) (append-nil p.earlier) m) stood prints)
-    ∙ is,
+        ∙ none_after (p.earlier ++ []) (placement_at start p) (λ t m stood prints. none t (subst (λ ts. IsIn ts t) (append-nil p.earlier) m) stood prints)
+        ∙ is,
   )
     where
       none : (t : InnerTurn) → IsIn p.earlier t → (stood : Placement) → printed t.answer ≡ Some stood → ⊥

@@ -1,5 +1,5 @@
 -- The tenures by which placements give a slot: they never fall, and each begin is by the one of the placement that stands.
-use Rattle.std.proofs.Common.{◌≡◌, ℕ, zero, suc, ◌<◌, ◌≤◌, List, [], ◌∷◌, ◌++◌, take, map, length, refl, sym, ap, ◌∙◌, subst, inl, inr, arith, true}
+use Rattle.std.proofs.Common.{◌≡◌, ℕ, zero, suc, ◌<◌, ◌≤◌, List, [], ◌∷◌, take, map, length, refl, sym, ap, ◌∙◌, subst, inl, inr, arith, true}
 use Rattle.std.specs.Prelude.{◌⊎◌, Some, None, Option, slice_get, slice_index_or}
 use Rattle.std.proofs.lemmas.Bool.{cases_lt}
 use Rattle.m3_model.proofs.MemberLemmas.{IsIn-append_cases, IsIn-map, map-IsIn}
@@ -145,8 +145,7 @@ module _ (events : List Event) (legal : Legal true events) where
   given_least n s i tenure one high g version shard y =
       let first = first_of i one high in
       let u = at_unique events legal first.place [] first.there s i g.version version g.shard shard g.is y in
-      let sound = at_sound events legal first.place [] first.there s i g.version g.shard one high g.is in
-      (
+      let sound = at_sound events legal first.place [] first.there s i g.version g.shard one high g.is in (
         omega (arith, u.0, tenure_low n s i tenure one high g),
         λ x m of_node.
             let it : x ≡ (g.has).assigned = same_node g.shard x (g.has).assigned sound.distinct (subst (λ z. IsIn z x) (sym u.1) m) (g.has).among (of_node ∙ sym (g.has).of_node) in
@@ -162,8 +161,7 @@ module _ (events : List Event) (legal : Legal true events) where
             let u = at_unique events legal first.place [] first.there s (suc k) was version old shard same y in
             (omega (arith, u.0, before.0), λ x m of_node. before.1 x (subst (λ z. IsIn z x) (sym u.1) m) of_node)
         | inr c ↦
-            let u = at_unique events legal first.place [] first.there s (suc k) (suc was) version c.next shard c.is y in
-            (
+            let u = at_unique events legal first.place [] first.there s (suc k) (suc was) version c.next shard c.is y in (
               omega (arith, u.0, before.0),
               λ x m of_node. elim (step_had (suc was) old c.next c.to x c.step (subst (λ z. IsIn z x) (sym u.1) m)) as (λ _. tenure ≤ x.tenure) [
                 | inl h ↦ omega (arith, before.1 h.assigned h.among (h.of_node ∙ of_node), h.tenure_is)

@@ -1,7 +1,5 @@
 -- Why a replica's node doesn't own its shard, and why a replica is fenced: moves of the shard.
-use Rattle.std.specs.Prelude.{◌≡◌, ℕ, List, length, Option, None, true}
-use Rattle.m3_model.specs.declared.act.Act.{Act}
-use Rattle.m3_model.specs.declared.act.Act.TheVariants as act
+use Rattle.std.specs.Prelude.{◌≡◌, ℕ, List, Option, None, true}
 use Rattle.m3_model.specs.declared.placement.Placement.{Placement}
 use Rattle.m3_model.specs.declared.reason.Reason.{Reason}
 use Rattle.m3_model.specs.declared.reason.Reason.TheVariants as reason
@@ -18,7 +16,7 @@ use Rattle.transcripts.specs.Fates.{OfNode}
 use Rattle.transcripts.specs.Moves.{IsFencedAbove, IsUnowned}
 use Rattle.transcripts.specs.Placements.{printed}
 use Rattle.transcripts.specs.Record.{TurnPlace, IsTurnPlace}
-use Rattle.told_by.specs.Hears.{Happens, InStretch, IsNamedBy}
+use Rattle.told_by.specs.Hears.{Happens, InStretch}
 use Rattle.told_by.specs.Told.{ToldBy}
 use Rattle.told_causes.specs.Boot.{IsBootAct}
 use Rattle.told_causes.specs.Standing.{IsHaltAct}
