@@ -46,7 +46,7 @@ use Rattle.m3_cluster.proofs.HaltSteps.{named_elsewhere, not_stopped}
 use Rattle.m3_cluster.proofs.KnownNodes.{some_there}
 use Rattle.m3_cluster.proofs.LateLemmas.{late_stays}
 use Rattle.m3_cluster.proofs.LinkLemmas.{links_none, links_some, steps_among, steps_append, steps_in, steps_none}
-use Rattle.m3_cluster.proofs.MoreFaults.{AreAmong}
+use Rattle.transcripts.proofs.MoreFaults.{AreAmong}
 use Rattle.m3_cluster.proofs.NumberLemmas.{and_then}
 use Rattle.m3_cluster.proofs.QuietLemmas.{Tells, extends_same, fates_kept, fates_stay, grown_goes, grown_prints, leaves_all, quiet_change, rules_stay, stopped_stays, stops_kept, tells_corrupt, tells_disk, tells_memory, tells_state, tells_unknown}
 use Rattle.m3_cluster.proofs.ReplicaLemmas.{IsAsked, IsDone, damage_of, fault_of, links_steps, replica_next, replica_sound, steps_at}

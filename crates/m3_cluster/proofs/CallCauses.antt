@@ -62,7 +62,7 @@ use Rattle.m3_cluster.proofs.ActLinks.{ListsFaults, sent_links}
 use Rattle.m3_cluster.proofs.CallLemmas.{place_after, At, on, rules_there, seed_there, stands_there, version_is}
 use Rattle.m3_cluster.proofs.FaultLinks.{IsHeard, put_heard_each, put_nodes}
 use Rattle.m3_cluster.proofs.KnownNodes.{KnownNode, known_node, counted_slot, against, put_against, read_against, answered_was, refused_was}
-use Rattle.m3_cluster.proofs.MoreFaults.{AreAmong}
+use Rattle.transcripts.proofs.MoreFaults.{AreAmong}
 use Rattle.m3_cluster.proofs.ShardLemmas.{shard_low, written_point, written_of, distinct_by_name}
 
 -- ---- the nodes of a shard that were asked

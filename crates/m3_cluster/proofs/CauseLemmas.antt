@@ -6,7 +6,7 @@ use Rattle.std.proofs.lemmas.Bool.{lt-ltb, le-leb, lt-leb, le-ltb}
 use Rattle.std.proofs.lemmas.Option.{slice_get_within}
 use Rattle.m3_outside.specs.declared.disk.Disk.{Ghosts}
 use Rattle.m3_outside.specs.DiskState.{DiskState, IsLawful}
-use Rattle.transcripts.specs.Caused.{CausedAt, InFiles, OnDisk}
+use Rattle.transcripts.specs.Caused.{CausedAt, HadBefore, InFiles, IsLeftBy, IsMemberBefore, OnDisk}
 use Rattle.transcripts.specs.Faults.{Fault}
 use Rattle.transcripts.specs.Fates.{is_stopped}
 use Rattle.m3_model.specs.Hash.{shard_of}
@@ -46,7 +46,7 @@ use Rattle.m3_cluster.proofs.CallLemmas.{place_after, At, on, stands_there, seed
 use Rattle.m3_cluster.proofs.DeliverCauses.{delivered_before, delivered_due}
 use Rattle.m3_cluster.proofs.DueLemmas.{due_nowhere, due_there, standing}
 use Rattle.m3_cluster.proofs.FateCauses.{listed_where, unlisted_where, missing_same, none_missing, stopped_as_told}
-use Rattle.m3_cluster.proofs.MoreFaults.{AreAmong}
+use Rattle.transcripts.proofs.MoreFaults.{AreAmong}
 use Rattle.m3_cluster.proofs.NodeCauses.{bootstrap_refusal, damaged_due, held_up_due, no_damage, restart_refusal, shard_away, shard_there, unstarted_due}
 use Rattle.m3_cluster.proofs.SpaceLemmas.{space_at}
 use Rattle.m3_cluster.proofs.TurnFaults.{IsCausedLine}
@@ -267,7 +267,7 @@ restarted_due {D} {G} {state} {tells} {faults} {lines} {c} {m} h more g name pic
     let was = refused.was in
     due_there h more [] (act.Restart name pick) (answer.Disk node shard) None
     (restart_refusal m.net.state.place m.net.state.rules (is_stopped (inner_turns lines)) name pick true true (listed_where m.net.state.place name was.node was.found) (stopped_as_told h name was.node true was.found was.is))
-    (step.0, subst (λ n. OnDisk more None (place_after lines (act.Restart name pick) (answer.Disk node shard)) n shard) (sym step.0) (unstarted_due h more g name pick shard (answer.Disk node shard) refused lists))
+    (step.0, subst (λ n. OnDisk more None (place_after lines (act.Restart name pick) (answer.Disk node shard)) (HadBefore None (place_after lines (act.Restart name pick) (answer.Disk node shard)) shard) n shard) (sym step.0) (unstarted_due h more g name pick shard (answer.Disk node shard) refused lists))
 restarted_due {D} {G} {state} {tells} {faults} {lines} {c} {m} h more g name pick answer.Memory step lists = inl refl
 restarted_due {D} {G} {state} {tells} {faults} {lines} {c} {m} h more g name pick _ step lists = absurd step
 
@@ -299,12 +299,17 @@ bootstrapped_due {D} {G} {state} {tells} {faults} {lines} {c} {m} h tell lawful 
         let x = answer.Corrupt node shard damage in
         let due = damaged_due h e more g name asked shard damage x held listed in
         due_there h more [] (act.Bootstrap name asked) x None (free held.runs held.has_shard)
-        (done.0, due.0, subst (λ n. InFiles more None (place_after lines (act.Bootstrap name asked) x) n shard) (sym done.0) due.1, due.2)
+        (done.0, due.0, subst (λ n. InFiles more None (place_after lines (act.Bootstrap name asked) x) (IsMemberBefore None (place_after lines (act.Bootstrap name asked) x) shard) n shard) (sym done.0) due.1, due.2)
 
     by_answer : (x : Answer) (done : IsBootstrapped state m name asked x g) → ListsFaults tells lines m (bootstrapped_links state m name asked x g done) more → CausedAt tells more [] None [] (place_after lines (act.Bootstrap name asked) x)
     by_answer (answer.Available available place version) done listed =
         due_there h more [] (act.Bootstrap name asked) (answer.Available available place version) None (free (done.3).runs (done.3).has_shard)
-        (done.0, subst (MayStand None (place_after lines (act.Bootstrap name asked) (answer.Available available place version))) (sym done.1) (stands_there h (act.Bootstrap name asked) (answer.Available available place version)), done.2 ∙ ap (λ (p : Placement). p.version) (sym done.1))
+        (record {
+          before = m.net.state.place;
+          stands = stands_there h (act.Bootstrap name asked) (answer.Available available place version);
+          left = subst (λ shards. IsLeftBy m.net.state.place name asked shards place) (sym done.0) done.1;
+          version_is = done.2 ∙ ap (λ (p : Placement). p.version) (sym done.1);
+        })
     by_answer (answer.Unknown unknown) done listed = unknown_of unknown done.0
     by_answer (answer.State node) done listed =
         let was = done.0 in
@@ -315,7 +320,7 @@ bootstrapped_due {D} {G} {state} {tells} {faults} {lines} {c} {m} h tell lawful 
         let held = done.1 in
         let due = held_up_due h more g name asked shard (answer.Disk node shard) held listed in
         due_there h more [] (act.Bootstrap name asked) (answer.Disk node shard) None (free held.runs held.has_shard)
-        (done.0, due.0, subst (λ n. OnDisk more None (place_after lines (act.Bootstrap name asked) (answer.Disk node shard)) n shard) (sym done.0) due.1)
+        (done.0, due.0, subst (λ n. OnDisk more None (place_after lines (act.Bootstrap name asked) (answer.Disk node shard)) (IsMemberBefore None (place_after lines (act.Bootstrap name asked) (answer.Disk node shard)) shard) n shard) (sym done.0) due.1)
     by_answer (answer.Corrupt node shard damage) done listed = corrupt_of tells refl node shard damage done listed
     by_answer answer.Memory done listed = inl refl
     by_answer _ done listed = absurd done

@@ -55,8 +55,8 @@ use Rattle.m3_cluster.specs.declared.members.Members.{Members}
 use Rattle.m3_cluster.proofs.ActLinks.{ListsFaults, late_links}
 use Rattle.m3_cluster.proofs.CallLemmas.{place_after, At, on, rules_there}
 use Rattle.m3_cluster.proofs.FaultLinks.{late_failed, own_slot}
-use Rattle.m3_cluster.proofs.KnownNodes.{KnownNode, known_node, counted_slot, against, machine_put, down_cause, boot_cause, stale_cause, stale_is}
-use Rattle.m3_cluster.proofs.MoreFaults.{AreAmong}
+use Rattle.m3_cluster.proofs.KnownNodes.{KnownNode, known_node, counted_slot, against, machine_put, down_cause, boot_cause, stale_cause, stale_is, untold}
+use Rattle.transcripts.proofs.MoreFaults.{AreAmong}
 use Rattle.m3_cluster.proofs.OptionLemmas.{same_of_some}
 use Rattle.m3_cluster.proofs.ReplicaLemmas.{IsAsked, IsDone, replica_less, replica_next, standing_by, standing_next, open_owns}
 use Rattle.m3_cluster.proofs.ShardLemmas.{shard_low}
@@ -284,7 +284,7 @@ came {D} {G} {state} {tells} {faults} {lines} {c} {m} h more b message one outco
     (λ open_ x e.
     let owns = open_owns state tells (λ q. Unit {0}) (λ q. ⊥) going.machine going.replica open_ in
     let cause = stale_cause tells going.machine.fence x owns.1 e in
-    subst (λ r. MayComeOf tells more None p message one.shard (Some r)) (sym cause.0) cause.1)
+    subst (λ r. MayComeOf tells more None p message one.shard (Some r)) (sym cause.0) (untold cause.1))
     (λ x e. outside_cause (λ r. MayComeOf tells more None p message one.shard (Some r)) rules one.point x there e
     (λ past. subst (λ r. IsPast r message.point) (sym rules_are) (subst (IsPast rules) held.point past))
     (λ future. subst (λ r. IsFuture r message.point) (sym rules_are) (subst (IsFuture rules) held.point future)))

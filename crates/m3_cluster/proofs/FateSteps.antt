@@ -36,7 +36,7 @@ use Rattle.m3_cluster.specs.declared.cluster.Cluster.{Cluster}
 use Rattle.m3_cluster.specs.declared.members.Members.{Members}
 use Rattle.m3_cluster.proofs.CallLemmas.{At, on}
 use Rattle.m3_cluster.proofs.LateLemmas.{late_stays}
-use Rattle.m3_cluster.proofs.MoreFaults.{AreAmong}
+use Rattle.transcripts.proofs.MoreFaults.{AreAmong}
 use Rattle.m3_cluster.proofs.NodeLemmas.{NamedNode, node_found, same_node}
 use Rattle.m3_cluster.proofs.NumberLemmas.{numbering_push}
 use Rattle.m3_cluster.proofs.QuietLemmas.{extends_same, grown_goes, quiet_change, stops_kept, tells_memory, tells_unknown}

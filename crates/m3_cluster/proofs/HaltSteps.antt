@@ -36,7 +36,7 @@ use Rattle.m3_cluster.proofs.CallLemmas.{At, on}
 use Rattle.m3_cluster.proofs.FateSteps.{names_differ}
 use Rattle.m3_cluster.proofs.LateLemmas.{late_stays}
 use Rattle.m3_cluster.proofs.LinkLemmas.{links_none, links_some, steps_among, steps_none, stops_standing}
-use Rattle.m3_cluster.proofs.MoreFaults.{AreAmong}
+use Rattle.transcripts.proofs.MoreFaults.{AreAmong}
 use Rattle.m3_cluster.proofs.NodeLemmas.{node_found, same_node, set_elsewhere, set_here}
 use Rattle.m3_cluster.proofs.NumberLemmas.{and_then}
 use Rattle.m3_cluster.proofs.QuietLemmas.{extends_same, fates_kept, grown_goes, quiet_change, tells_state, tells_unknown}

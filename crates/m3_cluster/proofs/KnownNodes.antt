@@ -44,7 +44,7 @@ use Rattle.m3_cluster.specs.Steps.{spaces_in}
 use Rattle.m3_cluster.specs.declared.cluster.Cluster.{Cluster}
 use Rattle.m3_cluster.specs.declared.members.Members.{Members}
 use Rattle.m3_cluster.proofs.CallLemmas.{place_after, At, on, fate_is}
-use Rattle.m3_cluster.proofs.MoreFaults.{AreAmong}
+use Rattle.transcripts.proofs.MoreFaults.{AreAmong}
 use Rattle.m3_cluster.proofs.OptionLemmas.{same_of_some}
 use Rattle.m3_cluster.proofs.ReplicaLemmas.{open_owns}
 use Rattle.m3_cluster.proofs.ShardLemmas.{slot_listed}
@@ -96,6 +96,10 @@ stale_is fence why e = by_test (nat_le fence 1) e
 pub stale_cause : (tells : Bool) (fence : ℕ) (why : Reason) → (tells ≡ true → fence ≡ 1) → outdated fence 1 ≡ Some why → (why ≡ reason.Stale fence) × (tells ≡ false)
 stale_cause true fence why low e = let none : outdated fence 1 ≡ None = ap (λ f. outdated f 1) (low refl) in let bad : None ≡ Some why = sym none ∙ e in cc
 stale_cause false fence why low e = (stale_is fence why e, refl)
+
+-- so nothing is said of it where they tell
+pub untold : {tells : Bool} {X : Type 0} → tells ≡ false → tells ≡ true → X
+untold e told = let bad : true ≡ false = sym told ∙ e in cc
 
 -- what stands against a put of version 1 at a machine
 pub machine_put : {D : Type 0} (state : D → DiskState) (tells : Bool) (Sent Sure : Point → Type 0) (x : MachineState D) (client number : ℕ) (rules : Rules) (p : Point) → HasReplica state tells Sent Sure x → refusal x (step.Put client number rules 1 p) ≡ against x.standing x.fence (outside rules p)
@@ -244,7 +248,7 @@ refused_was {D} {G} {state} {tells} {faults} {lines} {c} {m} {shard} {node} h mo
     (λ is x e.
     let owns = open_owns state tells (WasSent (spaces_in m) (inner_turns lines)) (WasAcked m (inner_turns lines) (slot_at node shard)) known.machine known.serving.replica is in
     let cause = stale_cause tells known.machine.fence x owns.1 e in
-    subst (MayRefuse tells more None p place shard node) (sym cause.0) cause.1)
+    subst (MayRefuse tells more None p place shard node) (sym cause.0) (untold cause.1))
     own_cause
     tt
     failed

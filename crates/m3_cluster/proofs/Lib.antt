@@ -23,7 +23,6 @@ pub mod LateLemmas
 pub mod LinkLemmas
 pub mod ListLemmas
 pub mod MadeLemmas
-pub mod MoreFaults
 pub mod NodeActs
 pub mod NodeCauses
 pub mod NodeLemmas

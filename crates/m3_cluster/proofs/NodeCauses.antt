@@ -9,7 +9,7 @@ use Rattle.std.proofs.lemmas.Bool.{lt-ltb, le-ltb, eqb-true}
 use Rattle.std.proofs.lemmas.List.Elements.{All-cons, All-nil}
 use Rattle.m3_outside.specs.declared.disk.Disk.{Ghosts}
 use Rattle.m3_outside.specs.DiskState.{DiskState, IsLawful}
-use Rattle.transcripts.specs.Caused.{InFiles, IsReplicaOf, OnDisk}
+use Rattle.transcripts.specs.Caused.{HadBefore, InFiles, IsCalled, IsMemberBefore, OnDisk}
 use Rattle.transcripts.specs.Faults.{Fault, Failing, Damaged}
 use Rattle.transcripts.specs.Placements.{has_replica}
 use Rattle.transcripts.specs.Reasons.{IsShown}
@@ -35,6 +35,7 @@ use Rattle.replica_machine.specs.Machines.{MachineState}
 use Rattle.session.specs.Changes.{IsStepped, Step}
 use Rattle.session.specs.Slots.{MachineMap, slot_cmp}
 use Rattle.session.specs.declared.slot.Slot.{Slot}
+use Rattle.transcripts.proofs.PlacementLemmas.{stood_known}
 use Rattle.m3_cluster.specs.Chains.{Boot, TakesLinks, boot_link, covered_slots, first_tenure, refused_restart_at, restart_at, slots_of_node, stop_at}
 use Rattle.m3_outside.specs.Depots.{TellAll}
 use Rattle.m3_cluster.specs.Replicas.{HasReplica}
@@ -44,7 +45,7 @@ use Rattle.m3_cluster.specs.Steps.{spaces_in}
 use Rattle.m3_cluster.specs.declared.cluster.Cluster.{Cluster}
 use Rattle.m3_cluster.specs.declared.members.Members.{Members}
 use Rattle.m3_cluster.proofs.ActLinks.{ListsFaults, refused_boot, unbooted_links, unstarted_links}
-use Rattle.m3_cluster.proofs.CallLemmas.{place_after, At, on, stands_there}
+use Rattle.m3_cluster.proofs.CallLemmas.{place_after, At, on, place_at, stands_there}
 use Rattle.m3_cluster.proofs.FaultLinks.{link_damage, link_fault}
 use Rattle.m3_cluster.proofs.KnownNodes.{some_there}
 use Rattle.m3_cluster.proofs.NodeLemmas.{node_found}
@@ -82,25 +83,34 @@ shard_away m (Some shard) name h = ap (λ b. cond b None (Some (decimal shard)))
 
 -- ---- whose disk failed
 
--- the node of this name has the slot's replica
-replica_there : {D : Type 0} {G : Ghosts D} {state : D → DiskState} {tells : Bool} {faults : List Fault} {lines : List Turn} {c : Cluster D G} {m : Members D G} (h : At state tells faults lines c m) (a : Act) (b : Answer) (name : List ℕ) (halted : Bool) (is : IsNode m name halted)
-    (s : Slot) (shard : ℕ) → IsIn m.slots.items s → s.node ≡ is.node → s.shard ≡ shard → IsReplicaOf None (place_after lines a b) name is.node shard
-replica_there {D} {G} {state} {tells} {faults} {lines} {c} {m} h a b name halted is s shard among of_node of_shard =
+-- the node is called so
+called_so : {D : Type 0} {G : Ghosts D} {state : D → DiskState} {tells : Bool} {faults : List Fault} {lines : List Turn} {c : Cluster D G} {m : Members D G} (h : At state tells faults lines c m) (a : Act) (b : Answer) (name : List ℕ) (halted : Bool) (is : IsNode m name halted)
+    → IsCalled None (place_after lines a b) name is.node
+called_so {D} {G} {state} {tells} {faults} {lines} {c} {m} h a b name halted is =
     let at = node_found name m.net.state.place.instances is.node is.found in
+    record { place = m.net.state.place; stands = stands_there h a b; named = record { instance_ = at.instance_; stands = at.stands; holds = at.name_is } }
+
+-- it has the slot's replica before the line
+member_before : {D : Type 0} {G : Ghosts D} {state : D → DiskState} {tells : Bool} {faults : List Fault} {lines : List Turn} {c : Cluster D G} {m : Members D G} (h : At state tells faults lines c m) (a : Act) (b : Answer) (node : ℕ)
+    (s : Slot) (shard : ℕ) → IsIn m.slots.items s → s.node ≡ node → s.shard ≡ shard → IsMemberBefore None (place_after lines a b) shard node
+member_before {D} {G} {state} {tells} {faults} {lines} {c} {m} h a b node s shard among of_node of_shard =
     let member = slot_replica m.net.state.place s (subst (λ (slots : List Slot). IsIn slots s) (on h).well.slots among) in
-    record {
-      place = m.net.state.place;
-      stands = stands_there h a b;
-      named = record { instance_ = at.instance_; stands = at.stands; holds = at.name_is };
-      member = subst (λ k. IsTrue (has_replica (Some m.net.state.place) k is.node)) of_shard (subst (λ n. IsTrue (has_replica (Some m.net.state.place) s.shard n)) of_node member);
-    }
+    ap (λ o. has_replica o shard node) (place_at h a b) ∙ subst (λ k. has_replica (Some m.net.state.place) k node ≡ true) of_shard (subst (λ n. has_replica (Some m.net.state.place) s.shard n ≡ true) of_node member)
+
+-- and so it had one
+had_one : {D : Type 0} {G : Ghosts D} {state : D → DiskState} {tells : Bool} {faults : List Fault} {lines : List Turn} {c : Cluster D G} {m : Members D G} (h : At state tells faults lines c m) (a : Act) (b : Answer) (node : ℕ)
+    (s : Slot) (shard : ℕ) → IsIn m.slots.items s → s.node ≡ node → s.shard ≡ shard → HadBefore None (place_after lines a b) shard node
+had_one {D} {G} {state} {tells} {faults} {lines} {c} {m} h a b node s shard among of_node of_shard =
+    let member = slot_replica m.net.state.place s (subst (λ (slots : List Slot). IsIn slots s) (on h).well.slots among) in
+    record { place = m.net.state.place; known = stood_known None (inner_turns lines) m.net.state.place (place_at h a b); member = subst (λ k. has_replica (Some m.net.state.place) k node ≡ true) of_shard (subst (λ n. has_replica (Some m.net.state.place) s.shard n ≡ true) of_node member) }
 
 -- the slot's disk failed in this line
 pub on_disk : {D : Type 0} {G : Ghosts D} {state : D → DiskState} {tells : Bool} {faults : List Fault} {lines : List Turn} {c : Cluster D G} {m : Members D G} (h : At state tells faults lines c m) (more : List Fault) (a : Act) (b : Answer) (name : List ℕ) (halted : Bool) (is : IsNode m name halted)
-    (s : Slot) (shard : ℕ) → IsIn m.slots.items s → s.node ≡ is.node → s.shard ≡ shard → IsIn more (record { line = length lines; node = s.node; shard = s.shard; kind = Failing }) → OnDisk more None (place_after lines a b) name shard
-on_disk {D} {G} {state} {tells} {faults} {lines} {c} {m} h more a b name halted is s shard among of_node of_shard failed = (
+    (s : Slot) (shard : ℕ) (Reached : ℕ → Type 0) → Reached is.node → s.node ≡ is.node → s.shard ≡ shard → IsIn more (record { line = length lines; node = s.node; shard = s.shard; kind = Failing }) → OnDisk more None (place_after lines a b) Reached name shard
+on_disk {D} {G} {state} {tells} {faults} {lines} {c} {m} h more a b name halted is s shard Reached reached of_node of_shard failed = (
   is.node,
-  replica_there h a b name halted is s shard among of_node of_shard,
+  called_so h a b name halted is,
+  reached,
   subst (λ k. IsIn more (record { line = length lines; node = is.node; shard = k; kind = Failing })) of_shard (subst (λ n. IsIn more (record { line = length lines; node = n; shard = s.shard; kind = Failing })) of_node failed),
 )
 
@@ -115,7 +125,7 @@ between all before x later parts = subst (λ xs. IsIn xs x) (sym parts) (IsIn-ap
 
 -- a start that the disk of a slot refused
 pub unstarted_due : {D : Type 0} {G : Ghosts D} {state : D → DiskState} {tells : Bool} {faults : List Fault} {lines : List Turn} {c : Cluster D G} {m : Members D G} (h : At state tells faults lines c m) (more : List Fault) (g : Members D G) (name : List ℕ) (pick shard : ℕ) (b : Answer)
-    (refused : IsUnstarted state m name shard reason.Disk g) → ListsFaults tells lines m (unstarted_links state m name shard reason.Disk g refused) more → OnDisk more None (place_after lines (act.Restart name pick) b) name shard
+    (refused : IsUnstarted state m name shard reason.Disk g) → ListsFaults tells lines m (unstarted_links state m name shard reason.Disk g refused) more → OnDisk more None (place_after lines (act.Restart name pick) b) (HadBefore None (place_after lines (act.Restart name pick) b) shard) name shard
 unstarted_due {D} {G} {state} {tells} {faults} {lines} {c} {m} h more g name pick shard b refused lists =
     let node = refused.was.node in
     let step = refused.refused in
@@ -127,12 +137,12 @@ unstarted_due {D} {G} {state} {tells} {faults} {lines} {c} {m} h more g name pic
     let there : IsIn (unstarted_links state m name shard reason.Disk g refused) link =
     IsIn-append_left (map restart_at step.before ++ link ∷ []) (map stop_at (slots_of_node node m.slots.items)) link (IsIn-append_right (map restart_at step.before) (link ∷ []) link (inl refl)) in
     let failed = lists.failed s among (link_fault s link (unstarted_links state m name shard reason.Disk g refused) there refl refl) in
-    on_disk h more (act.Restart name pick) b name true refused.was s shard among of_node step.shard_is failed
+    on_disk h more (act.Restart name pick) b name true refused.was s shard (HadBefore None (place_after lines (act.Restart name pick) b) shard) (had_one h (act.Restart name pick) b node s shard among of_node step.shard_is) of_node step.shard_is failed
 
 -- a bootstrap that the disk of a slot refused
 pub held_up_due : {D : Type 0} {G : Ghosts D} {state : D → DiskState} {tells : Bool} {faults : List Fault} {lines : List Turn} {c : Cluster D G} {m : Members D G} (h : At state tells faults lines c m) (more : List Fault) (g : Members D G) (name : List ℕ) (asked : Option ℕ) (shard : ℕ) (b : Answer)
     (held : IsHeldUp state m name asked shard reason.Disk g) → ListsFaults tells lines m (unbooted_links state (covered_slots held.runs.node asked m.slots.items) shard reason.Disk m.net.machines g.net.machines held.refused) more
-    → IsTrue (is_covering shard asked) × OnDisk more None (place_after lines (act.Bootstrap name asked) b) name shard
+    → IsTrue (is_covering shard asked) × OnDisk more None (place_after lines (act.Bootstrap name asked) b) (IsMemberBefore None (place_after lines (act.Bootstrap name asked) b) shard) name shard
 held_up_due {D} {G} {state} {tells} {faults} {lines} {c} {m} h more g name asked shard b held lists =
     let node = held.runs.node in
     let step = held.refused in
@@ -146,13 +156,13 @@ held_up_due {D} {G} {state} {tells} {faults} {lines} {c} {m} h more g name asked
     let there : IsIn links link = IsIn-append_right (map boot_link step.booted.boots) (link ∷ []) link (inl refl) in
     let failed = lists.failed s among (link_fault s link links there refl refl) in (
       subst (λ k. IsTrue (is_covering k asked)) step.shard_is both.1,
-      on_disk h more (act.Bootstrap name asked) b name false held.runs s shard among (eqb-true s.node node both.0) step.shard_is failed,
+      on_disk h more (act.Bootstrap name asked) b name false held.runs s shard (IsMemberBefore None (place_after lines (act.Bootstrap name asked) b) shard) (member_before h (act.Bootstrap name asked) b node s shard among (eqb-true s.node node both.0) step.shard_is) (eqb-true s.node node both.0) step.shard_is failed,
     )
 
 -- a bootstrap that found the files of a slot damaged, where disks don't tell
 pub damaged_due : {D : Type 0} {G : Ghosts D} {state : D → DiskState} {tells : Bool} {faults : List Fault} {lines : List Turn} {c : Cluster D G} {m : Members D G} (h : At state tells faults lines c m) → tells ≡ false → (more : List Fault) (g : Members D G) (name : List ℕ) (asked : Option ℕ) (shard : ℕ) (damage : Damage) (b : Answer)
     (held : IsHeldUp state m name asked shard (reason.Corrupt damage) g) → ListsFaults tells lines m (unbooted_links state (covered_slots held.runs.node asked m.slots.items) shard (reason.Corrupt damage) m.net.machines g.net.machines held.refused) more
-    → IsTrue (is_covering shard asked) × InFiles more None (place_after lines (act.Bootstrap name asked) b) name shard × IsShown damage
+    → IsTrue (is_covering shard asked) × InFiles more None (place_after lines (act.Bootstrap name asked) b) (IsMemberBefore None (place_after lines (act.Bootstrap name asked) b) shard) name shard × IsShown damage
 damaged_due {D} {G} {state} {tells} {faults} {lines} {c} {m} h free more g name asked shard damage b held lists =
     let node = held.runs.node in
     let step = held.refused in
@@ -165,12 +175,12 @@ damaged_due {D} {G} {state} {tells} {faults} {lines} {c} {m} h free more g name 
     let link = refused_boot s (reason.Corrupt damage) in
     let links = unbooted_links state (covered_slots node asked m.slots.items) shard (reason.Corrupt damage) m.net.machines g.net.machines step in
     let there : IsIn links link = IsIn-append_right (map boot_link step.booted.boots) (link ∷ []) link (inl refl) in
-    let found = lists.damaged free s among (link_damage s link links there refl refl) in
-    let replica = replica_there h (act.Bootstrap name asked) b name false held.runs s shard among of_node step.shard_is in (
+    let found = lists.damaged free s among (link_damage s link links there refl refl) in (
       subst (λ k. IsTrue (is_covering k asked)) step.shard_is both.1,
       (
         node,
-        replica,
+        called_so h (act.Bootstrap name asked) b name false held.runs,
+        member_before h (act.Bootstrap name asked) b node s shard among of_node step.shard_is,
         subst (λ k. IsIn more (record { line = length lines; node = node; shard = k; kind = Damaged })) step.shard_is (subst (λ n. IsIn more (record { line = length lines; node = n; shard = s.shard; kind = Damaged })) of_node found),
       ),
       step.shown damage refl,

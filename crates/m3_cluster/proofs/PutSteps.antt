@@ -39,7 +39,7 @@ use Rattle.m3_cluster.proofs.ActLinks.{ListsFaults, late_links, put_links}
 use Rattle.m3_cluster.proofs.CallLemmas.{At}
 use Rattle.m3_cluster.proofs.LateLemmas.{Extends}
 use Rattle.m3_cluster.proofs.LinkLemmas.{IsPutOf, puts_asked, puts_shut}
-use Rattle.m3_cluster.proofs.MoreFaults.{AreAmong}
+use Rattle.transcripts.proofs.MoreFaults.{AreAmong}
 use Rattle.m3_cluster.proofs.NumberLemmas.{and_then}
 use Rattle.m3_cluster.proofs.ReplicaLemmas.{fault_of, IsDone, standing_after, steps_at}
 use Rattle.m3_cluster.proofs.ServingLemmas.{Leaves, StaysRight, closed_now, machine_instance, machine_placed, machine_slot, placed_on, sent_on, serving_next, shut_on}

@@ -38,7 +38,7 @@ use Rattle.m3_cluster.proofs.CallLemmas.{At, on, rules_there}
 use Rattle.m3_cluster.proofs.LateLemmas.{Extends, late_stays}
 use Rattle.m3_cluster.proofs.NumberLemmas.{turn_of, and_then, numbering_more}
 use Rattle.m3_cluster.proofs.OptionLemmas.{same_some}
-use Rattle.m3_cluster.proofs.MoreFaults.{AreAmong}
+use Rattle.transcripts.proofs.MoreFaults.{AreAmong}
 use Rattle.m3_cluster.proofs.ServingLemmas.{Leaves, replica_at, serving_stays, stopped_push}
 use Rattle.m3_cluster.proofs.StandLemmas.{Grows, Goes, Numbered, call_numbered, kept_on, other_numbered, rules_push, stands_on}
 

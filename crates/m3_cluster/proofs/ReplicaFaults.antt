@@ -22,6 +22,7 @@ use Rattle.replica_machine.specs.Machines.{MachineState}
 use Rattle.session.specs.Changes.{Step, TakesSteps, IsStepped}
 use Rattle.session.specs.Slots.{slot_at}
 use Rattle.session.specs.declared.slot.Slot.{Slot}
+use Rattle.transcripts.proofs.MoreFaults.{different_both}
 use Rattle.m3_cluster.specs.Chains.{Link, TakesLinks}
 use Rattle.m3_outside.specs.Depots.{Depot}
 use Rattle.m3_cluster.specs.Depots.{place_of_slot, count_at}
@@ -131,11 +132,6 @@ count_next state (step ∷ steps) x y taken =
     count_more (is_fault step.reply) (has_fault steps) last_count (state x.disk).faults (state (taken.0).disk).faults (state y.disk).faults (λ is. counts.rose (fault_is step.reply is)) counts.later (count_next state steps taken.0 y taken.2)
 
 -- ---- the faults of a line are different, and of one slot there is at most one
-
-pub different_both : (xs ys : List Fault) → AreDifferent xs → AreDifferent ys → ((fault : Fault) → IsIn xs fault → IsIn ys fault → ⊥) → AreDifferent (xs ++ ys)
-different_both [] ys of_xs of_ys apart = of_ys
-different_both (x ∷ xs) ys of_xs of_ys apart =
-    (λ m. ⊎_elim (λ (same : IsIn xs x). of_xs.0 same) (λ (other : IsIn ys x). apart x (inl refl) other) (IsIn-append_cases xs ys x m), different_both xs ys of_xs.1 of_ys (λ fault m n. apart fault (inr m) n))
 
 -- a fault of the line is that of one of its slots
 pub fault_from : (line : ℕ) (links : List Link) (slots : List Slot) (fault : Fault) → IsIn (line_faults line links slots) fault → (s : Slot) × IsIn slots s × (has_fault (steps_at s links) ≡ true) × (fault_of line s ≡ fault)

@@ -38,7 +38,7 @@ use Rattle.m3_cluster.proofs.CallLemmas.{At, on}
 use Rattle.m3_cluster.proofs.HaltSteps.{named_elsewhere, named_here, node_has, of_node, stop_asked}
 use Rattle.m3_cluster.proofs.LateLemmas.{late_stays}
 use Rattle.m3_cluster.proofs.LinkLemmas.{links_none, links_some, or_true, restarts_standing, standing_append, steps_among, steps_append, steps_none, stops_standing}
-use Rattle.m3_cluster.proofs.MoreFaults.{AreAmong}
+use Rattle.transcripts.proofs.MoreFaults.{AreAmong}
 use Rattle.m3_cluster.proofs.NodeLemmas.{set_elsewhere, set_here}
 use Rattle.m3_cluster.proofs.NumberLemmas.{and_then}
 use Rattle.m3_cluster.proofs.OptionLemmas.{same_of_some}

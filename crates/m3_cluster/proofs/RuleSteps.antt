@@ -24,7 +24,7 @@ use Rattle.m3_cluster.specs.declared.cluster.Cluster.{Cluster}
 use Rattle.m3_cluster.specs.declared.members.Members.{Members}
 use Rattle.m3_cluster.proofs.CallLemmas.{At, on}
 use Rattle.m3_cluster.proofs.LateLemmas.{Extends, late_stays}
-use Rattle.m3_cluster.proofs.MoreFaults.{AreAmong}
+use Rattle.transcripts.proofs.MoreFaults.{AreAmong}
 use Rattle.transcripts.specs.Record.{line_of}
 use Rattle.m3_cluster.proofs.QuietLemmas.{extends_by, fates_kept, grown_goes, quiet_change, stops_kept, tells_clock, tells_limit, tells_memory, tells_order}
 use Rattle.m3_cluster.proofs.ServingLemmas.{Leaves, serving_stays}

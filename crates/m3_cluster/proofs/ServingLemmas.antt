@@ -10,7 +10,7 @@ use Rattle.m3_outside.specs.declared.disk.Disk.{Ghosts}
 use Rattle.m3_outside.specs.DiskState.{DiskState}
 use Rattle.transcripts.specs.Faults.{Fault, IsClosedByFault, closes, is_restart}
 use Rattle.transcripts.specs.Waiting.{Replica, Waiting, is_assigned, is_member, waiting_after, waiting_by, waits_by}
-use Rattle.transcripts.specs.Placements.{has_replica, later_placement, placement_after, printed}
+use Rattle.transcripts.specs.Placements.{HadReplica, has_replica, later_placement, placement_after, printed}
 use Rattle.transcripts.specs.Fates.{is_stopped, stopped_by}
 use Rattle.m3_model.specs.Members.{IsIn}
 use Rattle.transcripts.specs.Points.{point_of, sent_point}
@@ -39,7 +39,8 @@ use Rattle.m3_cluster.specs.declared.cluster.Cluster.{Cluster}
 use Rattle.m3_cluster.specs.declared.members.Members.{Members}
 use Rattle.m3_cluster.proofs.CallLemmas.{At, on}
 use Rattle.m3_cluster.proofs.LateLemmas.{Extends, point_of-append, sent_point-append, shard_same}
-use Rattle.m3_cluster.proofs.MoreFaults.{AreAmong}
+use Rattle.transcripts.proofs.PlacementLemmas.{stood_known}
+use Rattle.transcripts.proofs.MoreFaults.{AreAmong}
 use Rattle.m3_cluster.proofs.NumberLemmas.{and_then, inner_turns-push, turn_of}
 use Rattle.m3_cluster.proofs.OptionLemmas.{same_some}
 use Rattle.m3_cluster.proofs.ReplicaLemmas.{IsAsked, IsDone, links_steps, replica_less, replica_next, standing_after, standing_next, steps_at}
@@ -132,16 +133,15 @@ none_of_push p (y ∷ xs) x h e = by_test (p y) h (none_of_push p xs x)
     by_test true f rest = cc
     by_test false f rest = rest f e
 
--- it was there after the line of a fault: after an earlier one, or after the last
+-- the slot had a replica by the end of a fault's line: of an earlier one, or of the last
 there_on : (lines : List Turn) (a : Act) (b : Answer) (place : Placement) (s : Slot) (n : ℕ) → IsPlaced (and_then lines a b) place s
-    → (n < length lines → IsTrue (has_replica (placement_after None (inner_turns (take (suc n) lines))) s.shard s.node))
-    → IsTrue (has_replica (placement_after None (inner_turns (take (suc n) (and_then lines a b)))) s.shard s.node)
+    → (n < length lines → HadReplica None (inner_turns (take (suc n) lines)) s.shard s.node) → HadReplica None (inner_turns (take (suc n) (and_then lines a b))) s.shard s.node
 there_on lines a b place s n placed before =
-    elim (cases_lt n (length lines)) as (λ _. IsTrue (has_replica (placement_after None (inner_turns (take (suc n) (and_then lines a b)))) s.shard s.node)) [
-      | inl low ↦ subst (λ xs. IsTrue (has_replica (placement_after None (inner_turns xs)) s.shard s.node)) (sym (take-append-le (suc n) lines (line_of a b ∷ []) (omega (arith, low)))) (before low)
+    elim (cases_lt n (length lines)) as (λ _. HadReplica None (inner_turns (take (suc n) (and_then lines a b))) s.shard s.node) [
+      | inl low ↦ subst (λ xs. HadReplica None (inner_turns xs) s.shard s.node) (sym (take-append-le (suc n) lines (line_of a b ∷ []) (omega (arith, low)))) (before low)
       | inr high ↦
           let all : take (suc n) (and_then lines a b) ≡ and_then lines a b = take_all (suc n) (and_then lines a b) (let later = length-append lines (line_of a b ∷ []) in omega (arith, high, later)) in
-          subst (λ xs. IsTrue (has_replica (placement_after None (inner_turns xs)) s.shard s.node)) (sym all) (ap (λ o. has_replica o s.shard s.node) placed.stands ∙ placed.member)
+          subst (λ xs. HadReplica None (inner_turns xs) s.shard s.node) (sym all) (record { place = place; known = stood_known None (inner_turns (and_then lines a b)) place placed.stands; member = placed.member })
     ]
 
 pub closed_on : (faults more : List Fault) (lines : List Turn) (a : Act) (b : Answer) (place : Placement) (s : Slot) → AreAmong faults more → ((one : Instance) → slice_get place.instances s.node ≡ Some one → is_restart one.name (turn_of a b) ≡ false)

@@ -33,7 +33,7 @@ use Rattle.m3_cluster.proofs.BootSteps.{bootstrap_goes}
 use Rattle.m3_cluster.proofs.CallLemmas.{At, on}
 use Rattle.m3_cluster.proofs.FateSteps.{fates_goes}
 use Rattle.m3_cluster.proofs.HaltSteps.{stop_goes}
-use Rattle.m3_cluster.proofs.MoreFaults.{AreAmong}
+use Rattle.transcripts.proofs.MoreFaults.{AreAmong}
 use Rattle.m3_cluster.proofs.NumberLemmas.{and_then}
 use Rattle.transcripts.specs.Record.{line_of}
 use Rattle.m3_cluster.proofs.QuietLemmas.{quiet_call, quiet_change, tells_consistency, tells_found, tells_memory, tells_order, tells_unknown}

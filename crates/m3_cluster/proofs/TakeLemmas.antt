@@ -49,7 +49,7 @@ use Rattle.m3_cluster.proofs.ActLinks.{ListsFaults, answer_links, delivered_link
 use Rattle.m3_cluster.proofs.CallLemmas.{At, on, rules_there, version_is}
 use Rattle.m3_cluster.proofs.LateLemmas.{Delays, Extends, ascends_take, late_more, late_none, late_stays, shard_same, take-IsIn}
 use Rattle.m3_cluster.proofs.LinkLemmas.{IsPutOf, links_none, links_some, steps_among, steps_in}
-use Rattle.m3_cluster.proofs.MoreFaults.{AreAmong}
+use Rattle.transcripts.proofs.MoreFaults.{AreAmong}
 use Rattle.m3_cluster.proofs.NumberLemmas.{turn_of, and_then}
 use Rattle.m3_cluster.proofs.OptionLemmas.{same_some}
 use Rattle.m3_cluster.proofs.PutSteps.{late_calls, put_calls, put_done, put_nodes, serving_puts}

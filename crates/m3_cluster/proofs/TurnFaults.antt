@@ -16,7 +16,7 @@ use Rattle.m3_model.proofs.SplitLemmas.{split_push}
 use Rattle.transcripts.proofs.PlaceLemmas.{IsOnly, at_push, only_place}
 use Rattle.m3_cluster.specs.Serves.{IsHistory, WasDelivered, life_of}
 use Rattle.m3_cluster.proofs.CallLemmas.{place_after}
-use Rattle.m3_cluster.proofs.MoreFaults.{AreAmong, caused_more}
+use Rattle.transcripts.proofs.MoreFaults.{AreAmong, caused_more}
 use Rattle.m3_cluster.proofs.NumberLemmas.{and_then}
 
 place_is : (lines : List Turn) (a : Act) (b : Answer) (p : TurnPlace) → IsOnly lines (record { act = a; answer = b }) p → place_after lines a b ≡ p

@@ -6,6 +6,7 @@ use Rattle.m3_model.specs.Members.{IsIn}
 use Rattle.m3_model.specs.declared.placement.Placement.{Placement}
 use Rattle.m3_model.specs.declared.rules.MetaState.{MetaState}
 use Rattle.m3_model.specs.declared.turn.Turn.{Turn}
+use Rattle.transcripts.proofs.PlacementLemmas.{after_from}
 use Rattle.transcripts.specs.Placements.{later_placement, newer, placement_after, printed, start_placement}
 use Rattle.transcripts.specs.Record.{InnerTurn, TurnPlace, IsTurnPlace, inner_turns, joined, lists_of}
 use Rattle.cluster_core.specs.Earlier.{last_place}
@@ -103,24 +104,6 @@ after_new (u ∷ ts) base t q (inl e) is =
     let r = after_up ts (later_placement (printed u.answer) base) s.0 s.1 in
     (r.0, r.1, omega (arith, s.2, r.2))
 after_new (u ∷ ts) base t q (inr m) is = after_new ts (later_placement (printed u.answer) base) t q m is
-
-later_from : (o base : Option Placement) (p : Placement) → later_placement o base ≡ Some p → (base ≡ Some p) ⊎ (o ≡ Some p)
-later_from None base p e = inl e
-later_from (Some next) None p e = inr e
-later_from (Some next) (Some q) p e =
-    elim (cases_lt next.version q.version) as (λ _. (Some q ≡ Some p) ⊎ (Some next ≡ Some p)) [
-      | inl lt ↦ inl (sym (ap (λ t. Some (if t then q else next)) (lt-ltb next.version q.version lt)) ∙ e)
-      | inr ge ↦ inr (sym (ap (λ t. Some (if t then q else next)) (le-ltb next.version q.version ge)) ∙ e)
-    ]
-
--- what stands stood before, or a turn printed it
-pub after_from : (ts : List InnerTurn) (base : Option Placement) (p : Placement) → placement_after base ts ≡ Some p → (base ≡ Some p) ⊎ ((t : InnerTurn) × IsIn ts t × (printed t.answer ≡ Some p))
-after_from [] base p e = inl e
-after_from (t ∷ ts) base p e =
-    elim (after_from ts (later_placement (printed t.answer) base) p e) as (λ _. (base ≡ Some p) ⊎ ((u : InnerTurn) × IsIn (t ∷ ts) u × (printed u.answer ≡ Some p))) [
-      | inl here ↦ elim (later_from (printed t.answer) base p here) as (λ _. (base ≡ Some p) ⊎ ((u : InnerTurn) × IsIn (t ∷ ts) u × (printed u.answer ≡ Some p))) [ inl old ↦ inl old | inr new ↦ inr (t, inl refl, new) ]
-      | inr later ↦ inr (later.0, inr later.1, later.2)
-    ]
 
 -- ---- lines
 

@@ -16,10 +16,11 @@ use Rattle.cluster_core.specs.declared.event.Event.TheVariants as event
 use Rattle.cluster_core.proofs.ListLemmas.{at_same, at_some, some_same}
 use Rattle.transcripts.specs.Placements.{MayStand, later_placement, placement_after, placement_at, placements, printed, start_placement}
 use Rattle.transcripts.specs.Record.{InnerTurn, TurnPlace, IsTurnPlace, inner_turns}
+use Rattle.transcripts.proofs.PlacementLemmas.{after_from, known_first, known_more, known_printed}
 use Rattle.told_by.specs.Openings.{opening_length}
 use Rattle.told_by.specs.Told.{ToldBy}
 use Rattle.told_by.proofs.LineLemmas.{line_below}
-use Rattle.told_by.proofs.PrintedLemmas.{after_from, ends_grow, ends_within, placements_stand}
+use Rattle.told_by.proofs.PrintedLemmas.{ends_grow, ends_within, placements_stand}
 use Rattle.told_by.proofs.TurnLemmas.{inner-append, own_list}
 use Rattle.told_causes.proofs.AloneLemmas.{alone_place, lines_before, quiet_places}
 use Rattle.told_causes.proofs.HaltLemmas.{one_line, opening_low}
@@ -36,29 +37,6 @@ later_none (Some place) base none = absurd (none place refl)
 none_after : (ts : List InnerTurn) (base : Option Placement) → ((t : InnerTurn) → IsIn ts t → (place : Placement) → printed t.answer ≡ Some place → ⊥) → placement_after base ts ≡ base
 none_after [] base none = refl
 none_after (t ∷ ts) base none = ap (λ o. placement_after o ts) (later_none (printed t.answer) base (none t (inl refl))) ∙ none_after ts base (λ u m. none u (inr m))
-
--- ---- placements that are known
-
--- the placement at the start is known
-known_first : (o : Option MetaState) (ts : List InnerTurn) (place : Placement) → start_placement o ≡ Some place → IsIn (placements o ts) place
-known_first None ts place is = cc
-known_first (Some state) ts place is = inl (some_same state.place place is)
-
--- one that a turn prints is
-known_printed : (o : Option MetaState) (ts : List InnerTurn) (t : InnerTurn) (place : Placement) → IsIn ts t → printed t.answer ≡ Some place → IsIn (placements o ts) place
-known_printed None ts t place m is = filter_map-IsIn (λ (turn : InnerTurn). printed turn.answer) ts t place m is
-known_printed (Some state) ts t place m is = inr (filter_map-IsIn (λ (turn : InnerTurn). printed turn.answer) ts t place m is)
-
-more_printed : (xs ys : List InnerTurn) (place : Placement) → IsIn (placements None xs) place → IsIn (placements None (xs ++ ys)) place
-more_printed xs ys place m =
-    let t = IsIn-filter_map (λ (turn : InnerTurn). printed turn.answer) xs place m in
-    known_printed None (xs ++ ys) t.0 place (IsIn-append_left xs ys t.0 t.1) t.2
-
--- what is known stays known
-pub known_more : (o : Option MetaState) (xs ys : List InnerTurn) (place : Placement) → IsIn (placements o xs) place → IsIn (placements o (xs ++ ys)) place
-known_more None xs ys place m = more_printed xs ys place m
-known_more (Some state) xs ys place (inl first) = inl first
-known_more (Some state) xs ys place (inr m) = inr (more_printed xs ys place m)
 
 -- ---- the list
 

@@ -16,10 +16,11 @@ use Rattle.cluster_core.proofs.ListLemmas.{at_some, some_same}
 use Rattle.transcripts.specs.Calls.{Call}
 use Rattle.transcripts.specs.Placements.{MayStand, MayUse, placement_after, placements, printed, start_placement}
 use Rattle.transcripts.specs.Record.{AreSomeOf, InnerTurn, TurnPlace, IsTurnPlace, inner_turns, joined, lists_of}
+use Rattle.transcripts.proofs.PlacementLemmas.{after_from}
 use Rattle.told_by.specs.Openings.{opening_length}
 use Rattle.told_by.specs.Told.{ToldBy}
 use Rattle.told_by.proofs.LineLemmas.{line_below}
-use Rattle.told_by.proofs.PrintedLemmas.{after_from, ends_grow, placements_stand}
+use Rattle.told_by.proofs.PrintedLemmas.{ends_grow, placements_stand}
 use Rattle.told_by.proofs.TurnLemmas.{alone_is, earlier_line, flat_map-IsIn, in_cut, place_in}
 use Rattle.told_causes.proofs.AloneLemmas.{take_none}
 use Rattle.told_causes.specs.Calls.{IsUsedBy}

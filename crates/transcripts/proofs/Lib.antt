@@ -1,2 +1,3 @@
 pub mod PlaceLemmas
 pub mod MoreFaults
+pub mod PlacementLemmas
