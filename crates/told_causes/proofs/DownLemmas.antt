@@ -1,6 +1,6 @@
 -- A replica that is down has its cause.
 use Rattle.std.proofs.Common.{◌≡◌, ℕ, zero, suc, ◌<◌, ◌≤◌, ◌+◌, ◌-◌, List, [], ◌∷◌, ◌++◌, take, drop, length, refl, sym, ap, ◌∙◌, subst, inl, inr, arith, Bool, true, false, length-append}
-use Rattle.std.specs.Prelude.{◌⊎◌, Some, None, Option, IsTrue}
+use Rattle.std.specs.Prelude.{◌⊎◌, Some, Option, IsTrue}
 use Rattle.std.specs.List.{list_any}
 use Rattle.std.proofs.lemmas.Bool.{cases_eq}
 use Rattle.m3_model.specs.Members.{IsIn}
@@ -29,14 +29,13 @@ use Rattle.transcripts.specs.Faults.{Fault, closes, is_restart, Failing, Damaged
 use Rattle.transcripts.specs.Record.{InnerTurn, TurnPlace, IsTurnPlace, inner_turns, lists_of}
 use Rattle.told_by.specs.Hears.{IsNamedBy}
 use Rattle.told_by.specs.Makes.{MayAsk}
-use Rattle.told_by.specs.Openings.{opening_length}
 use Rattle.told_by.specs.Told.{ToldBy}
 use Rattle.told_by.proofs.PrintedLemmas.{ends_within}
 use Rattle.told_by.proofs.TurnLemmas.{alone_is, at_cut, inner-append}
 use Rattle.told_causes.specs.Faults.{fault_of, faults_told}
 use Rattle.told_causes.specs.Standing.{DownHasCause, DownIsSaid, IsClosedSince, IsHaltAct}
 use Rattle.told_causes.proofs.FaultLemmas.{steps_faults}
-use Rattle.told_causes.proofs.HaltLemmas.{late_step, restarts, stop_halts, stops}
+use Rattle.told_causes.proofs.HaltLemmas.{late_step, opening_two, restarts, stop_halts, stops}
 use Rattle.told_causes.proofs.NameLemmas.{any_append, drop_line, drop_past, stopped_on}
 use Rattle.told_causes.proofs.RefusalLemmas.{first_down, refused_law}
 
@@ -221,10 +220,6 @@ module _ (start : Option MetaState) (turns : List Turn) (events : List Event) (l
   down_has_cause zero high down =
       let c = called (told.ends 0) (ends_within start turns events legal told 0 high) down in
       absurd (omega (arith, late_step events legal c.0 n s c.1 c.2 c.4, c.3, (told.lines).first, opening_two start))
-    where
-      opening_two : (o : Option MetaState) → opening_length o ≤ 2
-      opening_two None = omega arith
-      opening_two (Some state) = omega arith
   down_has_cause (suc k) high down =
       let line = at_some turns k (omega (arith, high)) in
       let grows = (told.lines).ascends k (omega (arith, high)) in

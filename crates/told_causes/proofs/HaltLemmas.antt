@@ -47,6 +47,10 @@ pub opening_low : (o : Option MetaState) (i : ℕ) → 2 ≤ i → opening_lengt
 opening_low None i h = omega arith
 opening_low (Some state) i h = h
 
+pub opening_two : (o : Option MetaState) → opening_length o ≤ 2
+opening_two None = omega arith
+opening_two (Some state) = omega arith
+
 -- the name of a node in the placement that stands is the one that all placements give it
 pub last_name : (events : List Event) (i n : ℕ) (name node : List ℕ) → IsNamedBy events n name → IsNamedLast (take i events) n node → name ≡ node
 last_name events i n name node named h =

@@ -17,7 +17,6 @@ use Rattle.placement_core.proofs.ListLemmas.{IsIn-from_Any}
 use Rattle.cluster_core.specs.Earlier.{last_place}
 use Rattle.cluster_core.specs.Legal.{Legal}
 use Rattle.cluster_core.specs.Lists.{At}
-use Rattle.cluster_core.specs.Replicas.{replica}
 use Rattle.cluster_core.specs.declared.event.Event.{Event}
 use Rattle.cluster_core.specs.declared.event.Event.TheVariants as event
 use Rattle.cluster_core.specs.declared.event.StepCall.TheVariants as call
@@ -32,7 +31,6 @@ use Rattle.transcripts.specs.Placements.{MayStand, has_replica, placement_after,
 use Rattle.transcripts.specs.Record.{InnerTurn, TurnPlace, IsTurnPlace, inner_turns, joined, lists_of}
 use Rattle.transcripts.specs.Waiting.{Replica, is_assigned, is_begun_by, is_covering, is_member}
 use Rattle.told_by.specs.Hears.{IsBegun, IsNamedBy}
-use Rattle.told_by.specs.Openings.{opening_length}
 use Rattle.told_by.specs.Told.{ToldBy}
 use Rattle.told_by.proofs.LeaveLemmas.{place_there}
 use Rattle.told_by.proofs.LineLemmas.{line_below, take_front}
@@ -42,14 +40,14 @@ use Rattle.told_by.proofs.TurnLemmas.{cut_at, place_in}
 use Rattle.told_causes.specs.Boot.{IsBootAct}
 use Rattle.told_causes.proofs.AloneLemmas.{lines_before}
 use Rattle.told_causes.proofs.BootLemmas.{HasBegun, covered_begun, no_boot_earlier, true_or_not}
-use Rattle.told_causes.proofs.HaltLemmas.{late_step}
+use Rattle.told_causes.proofs.HaltLemmas.{late_step, opening_two}
 use Rattle.told_causes.proofs.NameLemmas.{any_found, name_is}
 use Rattle.told_causes.proofs.RefusalLemmas.{first_down, refused_law}
 use Rattle.told_causes.proofs.WaitLemmas.{EndsWait, and_both, assigned_by, member_place}
 use Rattle.told_moves.specs.Moves.{IsQuiet, IsRefusedAt, NotOwnedIsSaid}
 use Rattle.told_moves.specs.Order.{IsInOrder}
 use Rattle.told_moves.proofs.AskLemmas.{begin_asked}
-use Rattle.told_moves.proofs.ReasonLemmas.{first_not_owned, refused_move}
+use Rattle.told_moves.proofs.ReasonLemmas.{RefusedIn, refused_in}
 use Rattle.told_moves.proofs.SlotLemmas.{EndedAt, IsEnded, Tries, ended_at, owned_began, slot, tried_began}
 use Rattle.told_moves.proofs.StoodLemmas.{may_stand, stood}
 use Rattle.told_moves.proofs.TenureLemmas.{GivenAt, given_by, line_low, member_named, member_tenure, name_everywhere, stands_at, stands_from, tenure_grows}
@@ -111,10 +109,6 @@ module _ (start : Option MetaState) (turns : List Turn) (events : List Event) (l
 
   assigned_at : (x : Replica) (e : ℕ) (was : Placement) → 2 ≤ e → last_place (take e events) ≡ Some was → is_member x (Some was) ≡ false → (k : ℕ) → k ≤ length turns → e < told.ends k → is_member x (placed k) ≡ true → WasAssigned x e k
   assigned_at x e was late last gone zero high before member = absurd (omega (arith, before, late, (told.lines).first, opening_two start))
-    where
-      opening_two : (o : Option MetaState) → opening_length o ≤ 2
-      opening_two None = omega arith
-      opening_two (Some state) = omega arith
   assigned_at x e was late last gone (suc k) high before member =
       elim (cases_lt e (told.ends k)) as (λ _. WasAssigned x e (suc k)) [
         | inl lt ↦ elim (true_or_not (is_member x (placed k))) as (λ _. WasAssigned x e (suc k)) [
@@ -259,25 +253,13 @@ module _ (start : Option MetaState) (turns : List Turn) (events : List Event) (l
                   cc
             ]
 
-  not_owned_at : (p : TurnPlace) → IsTurnPlace turns p → IsQuiet p → (used : Placement) (s n : ℕ) → IsRefusedAt start turns events told p used s n reason.NotOwned → IsUnowned true start p used s n
-  not_owned_at p at quiet used s n h =
-      let i = (h.refused).0 in
-      let low = ((h.refused).1).0 in
-      let high = ((h.refused).1).1 in
-      let there = ((h.refused).1).2 in
-      let refused = reply.Refused reason.NotOwned in
-      let r = replica n s (take i events) in
-      let law = refused_law true (take i events) n s r h.asked reason.NotOwned (lawful_step events legal i n s h.asked refused there) in
-      let why = refused_move r h.asked used.version reason.NotOwned h.at_version tt (first_not_owned (take i events) s r h.asked used.version h.at_version law) in
-      let place = stands_at start turns events legal told order i n s h.asked refused there in
-      let line = stood start turns events legal told order p at quiet.prints_none i (omega (arith, (told.lines).low p at, low)) (omega (arith, (told.lines).high p at, high)) in
-      let stands : placement_at start p ≡ Some place.0 = sym line ∙ place.1 in
-      let bound : i ≤ length events = omega (arith, high, (told.tells).order.not_above p at) in
-      elim why.1 as (λ _. IsUnowned true start p used s n) [
-        | inr t ↦ inl (above_owns_not p n s used.version t.0 i place.0 bound place.1 (may_stand start turns events legal told order p at place.0 stands) t.1 t.2)
+  not_owned_at : (p : TurnPlace) → IsTurnPlace turns p → IsQuiet p → (used : Placement) (s n : ℕ) → IsRefusedAt start turns events told p used s n reason.NotOwned → RefusedIn start turns events told p n s used.version reason.NotOwned → IsUnowned true start p used s n
+  not_owned_at p at quiet used s n h r =
+      elim r.founds as (λ _. IsUnowned true start p used s n) [
+        | inr t ↦ inl (above_owns_not p n s used.version t.0 r.at r.place r.bound r.last (may_stand start turns events legal told order p at r.place r.stands) t.1 t.2)
         | inl none ↦
-            let e = ended_at events legal n s i bound (record { open_ = why.0; none = none }) in
-            elim (ended_unowned n s h.name (name_everywhere events legal n used h.name h.placed h.named) p at quiet used.version i low high place.0 place.1 stands e) as (λ _. IsUnowned true start p used s n) [
+            let e = ended_at events legal n s r.at r.bound (record { open_ = r.open_; none = none }) in
+            elim (ended_unowned n s h.name (name_everywhere events legal n used h.name h.placed h.named) p at quiet used.version r.at r.low r.high r.place r.last r.stands e) as (λ _. IsUnowned true start p used s n) [
               | inl not ↦ inl not
               | inr new ↦
                   let named = h.named in
@@ -286,4 +268,4 @@ module _ (start : Option MetaState) (turns : List Turn) (events : List Event) (l
       ]
 
 pub not_owned_said : NotOwnedIsSaid
-not_owned_said start turns events legal told order opens p at quiet used s n h = not_owned_at start turns events legal told order p at quiet used s n h
+not_owned_said start turns events legal told order p at quiet used s n h = not_owned_at start turns events legal told order p at quiet used s n h (refused_in start turns events legal told order p at quiet used s n reason.NotOwned tt h)

@@ -10,12 +10,9 @@ use Rattle.m3_model.specs.declared.rules.MetaState.{MetaState}
 use Rattle.m3_model.specs.declared.turn.Turn.{Turn}
 use Rattle.cluster_core.specs.Earlier.{last_place, place_after}
 use Rattle.cluster_core.specs.Legal.{Legal}
-use Rattle.cluster_core.specs.Replicas.{replica}
 use Rattle.cluster_core.specs.declared.event.Event.{Event}
 use Rattle.cluster_core.specs.declared.event.Event.TheVariants as event
-use Rattle.cluster_core.specs.declared.event.StepReply.TheVariants as reply
 use Rattle.cluster_core.proofs.ListLemmas.{at_take, at_within, fold_suc, some_same}
-use Rattle.cluster_core.proofs.TraceLemmas.{lawful_step}
 use Rattle.transcripts.specs.Moves.{IsBootstrapFor, IsFencedAbove, IsLeftFence, IsOfMove}
 use Rattle.transcripts.specs.Placements.{printed}
 use Rattle.transcripts.specs.Record.{TurnPlace, IsTurnPlace, inner_turns, joined, lists_of}
@@ -25,14 +22,13 @@ use Rattle.told_by.proofs.PrintedLemmas.{greatest_so_far}
 use Rattle.told_by.proofs.TurnLemmas.{cut_before, flat_map-IsIn, in_cut, in_its_line}
 use Rattle.told_causes.specs.Boot.{IsBootAct}
 use Rattle.told_causes.proofs.AloneLemmas.{alone_place}
-use Rattle.told_causes.proofs.RefusalLemmas.{refused_law}
-use Rattle.told_moves.specs.Moves.{IsPlaced, IsQuiet, IsRefusedAt, StaleIsSaid}
+use Rattle.told_moves.specs.Moves.{IsPlaced, IsQuiet, StaleIsSaid}
 use Rattle.told_moves.specs.Order.{IsInOrder, IsInitAct, OpensWithin}
 use Rattle.told_moves.proofs.AskLemmas.{IsBootOf, IsMoveAsk}
 use Rattle.told_moves.proofs.FenceLemmas.{MovesBefore, fence_source}
-use Rattle.told_moves.proofs.ReasonLemmas.{refused_move}
-use Rattle.told_moves.proofs.StoodLemmas.{known_place, may_stand, stood}
-use Rattle.told_moves.proofs.TenureLemmas.{assigned_low, assigned_so, stands_at}
+use Rattle.told_moves.proofs.ReasonLemmas.{RefusedIn, refused_in}
+use Rattle.told_moves.proofs.StoodLemmas.{known_place, may_stand}
+use Rattle.told_moves.proofs.TenureLemmas.{assigned_low, assigned_so}
 
 -- ---- turns
 
@@ -107,27 +103,18 @@ module _ (start : Option MetaState) (turns : List Turn) (events : List Event) (l
       let low = assigned_low events legal m.node s k fence ask.place (omega (arith, below, high, bound)) ask.last ask.assigned in
       omega (arith, low, greatest_so_far events legal there.0 i ask.place place there.1 stands.0 (omega (arith, stands.1, below)) (omega (arith, high, bound)) last)
 
-  stale_at : (p : TurnPlace) → IsTurnPlace turns p → IsQuiet p → (used : Placement) (s n fence : ℕ) → IsRefusedAt start turns events told p used s n (reason.Stale fence) → IsFencedAbove start p used s fence
-  stale_at p at quiet used s n fence h =
-      let i = (h.refused).0 in
-      let low = ((h.refused).1).0 in
-      let high = ((h.refused).1).1 in
-      let there = ((h.refused).1).2 in
-      let refused = reply.Refused (reason.Stale fence) in
-      let r = replica n s (take i events) in
-      let why = refused_move r h.asked used.version (reason.Stale fence) h.at_version tt (refused_law true (take i events) n s r h.asked (reason.Stale fence) (lawful_step events legal i n s h.asked refused there)) in
-      let is = (why.1).1 in
-      let above : used.version < fence = omega (arith, is, (why.1).2) in
-      let place = stands_at start turns events legal told order i n s h.asked refused there in
-      let line = stood start turns events legal told order p at quiet.prints_none i (omega (arith, (told.lines).low p at, low)) (omega (arith, (told.lines).high p at, high)) in
-      let source = fence_source start turns events legal told opens n s i fence (omega (arith, high, (told.tells).order.not_above p at)) is (omega (arith, above)) in
+  stale_at : (p : TurnPlace) → IsTurnPlace turns p → IsQuiet p → (used : Placement) (s n fence : ℕ) → IsPlaced events used → RefusedIn start turns events told p n s used.version (reason.Stale fence) → IsFencedAbove start p used s fence
+  stale_at p at quiet used s n fence placed h =
+      let is = (h.founds).1 in
+      let above : used.version < fence = omega (arith, is, (h.founds).2) in
+      let source = fence_source start turns events legal told opens n s h.at fence h.bound is (omega (arith, above)) in
       record {
         above = above;
-        place = place.0;
-        may_stand = may_stand start turns events legal told order p at place.0 (sym line ∙ place.1);
-        not_above = cause_low p at n s fence i high place.0 place.1 source;
-        cause = elim source as (λ _. IsLeftFence start fence ⊎ IsOfMove start p s fence) [ inl left ↦ inl left | inr m ↦ inr (move_cause p at quiet used h.placed n s fence i above high m) ];
+        place = h.place;
+        may_stand = may_stand start turns events legal told order p at h.place h.stands;
+        not_above = cause_low p at n s fence h.at h.high h.place h.last source;
+        cause = elim source as (λ _. IsLeftFence start fence ⊎ IsOfMove start p s fence) [ inl left ↦ inl left | inr m ↦ inr (move_cause p at quiet used placed n s fence h.at above h.high m) ];
       }
 
 pub stale_said : StaleIsSaid
-stale_said start turns events legal told order opens p at quiet used s n fence h = stale_at start turns events legal told order opens p at quiet used s n fence h
+stale_said start turns events legal told order opens p at quiet used s n fence h = stale_at start turns events legal told order opens p at quiet used s n fence h.placed (refused_in start turns events legal told order p at quiet used s n (reason.Stale fence) tt h)

@@ -19,7 +19,6 @@ use Rattle.transcripts.specs.Record.{TurnPlace, IsTurnPlace}
 use Rattle.told_by.specs.Hears.{Happens, InStretch}
 use Rattle.told_by.specs.Told.{ToldBy}
 use Rattle.told_causes.specs.Boot.{IsBootAct}
-use Rattle.told_causes.specs.Standing.{IsHaltAct}
 use Rattle.told_moves.specs.Order.{IsInOrder, OpensWithin}
 
 -- a put or a read at this version
@@ -34,9 +33,8 @@ pub record IsPlaced (events : List Event) (place : Placement) : Type 0 where
   pub done : List (ℕ × ℕ)
   pub there : At events place_at (event.Place place done)
 
--- a turn that stops, restarts and begins nothing, and prints no placement
+-- a turn that is no bootstrap and prints no placement
 pub record IsQuiet (p : TurnPlace) : Type 0 where
-  pub halts_none : ¬ IsHaltAct p.turn.act
   pub begins_none : ¬ IsBootAct p.turn.act
   pub prints_none : printed p.turn.answer ≡ None
 
@@ -52,7 +50,7 @@ pub record IsRefusedAt (start : Option MetaState) (turns : List Turn) (events : 
 -- Where a put or a read is refused as not owned, the node has no replica of the shard any more, or not yet, or has it since a later version.
 abbrev pub NotOwnedIsSaid : Type 0
 NotOwnedIsSaid =
-    (start : Option MetaState) (turns : List Turn) (events : List Event) → Legal true events → (told : ToldBy start turns events) → IsInOrder start turns events told → OpensWithin start events
+    (start : Option MetaState) (turns : List Turn) (events : List Event) → Legal true events → (told : ToldBy start turns events) → IsInOrder start turns events told
     → (p : TurnPlace) → IsTurnPlace turns p → IsQuiet p → (used : Placement) (shard node : ℕ) → IsRefusedAt start turns events told p used shard node reason.NotOwned → IsUnowned true start p used shard node
 
 -- Where it is refused for a fence, a move of the shard fenced the replica above the version.

@@ -1,10 +1,9 @@
 -- How a cluster that serves its lines one after the other makes its list, beside what tells of its turns; and what a run finds on its disks.
-use Rattle.std.specs.Prelude.{◌≡◌, ◌≢◌, ◌⊎◌, ◌≤◌, ◌<◌, ℕ, ⊤, List, [], length, suc, take, Option, Some, true, false}
+use Rattle.std.specs.Prelude.{◌≡◌, ◌⊎◌, ◌≤◌, ◌<◌, ℕ, ⊤, List, [], length, suc, take, Option, Some, true, false}
 use Rattle.m3_model.specs.declared.act.Act.{Act}
 use Rattle.m3_model.specs.declared.act.Act.TheVariants as act
 use Rattle.m3_model.specs.declared.placement.Placement.{Placement}
 use Rattle.m3_model.specs.declared.point.Point.{Point}
-use Rattle.m3_model.specs.declared.reason.Reason.TheVariants as reason
 use Rattle.m3_model.specs.declared.rules.MetaState.{MetaState}
 use Rattle.m3_model.specs.declared.turn.Turn.{Turn}
 use Rattle.placement_core.specs.Lawful.{IsLawful}
@@ -23,7 +22,6 @@ use Rattle.told_by.specs.Openings.{sets_seed}
 use Rattle.told_by.specs.Spans.{IsAlone}
 use Rattle.told_by.specs.Told.{ToldBy}
 use Rattle.told_causes.specs.Boot.{BootsAlone}
-use Rattle.told_causes.specs.Standing.{HaltsAlone}
 
 -- the act makes the first placement
 abbrev pub IsInitAct : Act → Type 0
@@ -34,10 +32,9 @@ IsInitAct _ = ⊥
 abbrev pub PrintsAlone : List Turn → Type 0
 PrintsAlone turns = (q : TurnPlace) → IsTurnPlace turns q → (place : Placement) → printed q.turn.answer ≡ Some place → IsAlone turns q
 
--- stops, restarts, bootstraps and placement lines are alone in their lines; an `init` that prints a placement is answered ok; each Place is a lawful
--- placement, and a line has one at most; a tenure ends where the placement that stands has no replica of the slot
+-- bootstraps and placement lines are alone in their lines; an `init` that prints a placement is answered ok; each Place is a lawful placement, and a line
+-- has one at most; a tenure ends where the placement that stands has no replica of the slot
 pub record IsInOrder (start : Option MetaState) (turns : List Turn) (events : List Event) (told : ToldBy start turns events) : Type 0 where
-  pub halts : HaltsAlone turns
   pub boots : BootsAlone turns
   pub prints : PrintsAlone turns
   pub inits : (q : TurnPlace) → IsTurnPlace turns q → IsInitAct q.turn.act → (place : Placement) → printed q.turn.answer ≡ Some place → sets_seed q.turn.act q.turn.answer ≡ true
@@ -45,7 +42,6 @@ pub record IsInOrder (start : Option MetaState) (turns : List Turn) (events : Li
   pub one : (k i : ℕ) (place : Placement) (done : List (ℕ × ℕ)) → k < length turns → told.ends k ≤ i → i < told.ends (suc k) → At events i (event.Place place done) → last_place (take (told.ends (suc k)) events) ≡ Some place
   pub ends : (i node shard : ℕ) (a : StepReply) → At events i (event.Step node shard call.End a) → (place : Placement) → last_place (take i events) ≡ Some place → has_replica (Some place) shard node ≡ false
 
--- the files of a slot hold no tenure above the first with which it begins, and no fence above that and the version that the run found
+-- the fence with which a slot first begins is its tenure, or isn't above the version that the run found
 pub record OpensWithin (start : Option MetaState) (events : List Event) : Type 0 where
-  pub owned : (i node shard tenure : ℕ) → At events i (event.Step node shard (call.Begin tenure) (reply.Refused reason.NotOwned)) → (replica node shard (take i events)).begun ≢ []
   pub fenced : (i node shard tenure fence : ℕ) (points : List Point) → At events i (event.Step node shard (call.Begin tenure) (reply.Began fence points)) → (replica node shard (take i events)).begun ≡ [] → (fence ≡ tenure) ⊎ IsLeftFence start fence
