@@ -1,10 +1,10 @@
 -- Replicas that each placement of a run has: none of them is new, and none is unowned.
-use Rattle.std.proofs.Common.{ℕ, suc, ◌≡◌, ◌<◌, ◌≤◌, ◌∙◌, Bool, true, false, List, [], ◌∷◌, take, drop, take-append-drop, refl, sym, subst, ap, inl, inr, arith}
-use Rattle.std.specs.Prelude.{Option, Some, None, ◌⊎◌, if◌then◌else◌, nat_lt}
+use Rattle.std.proofs.Common.{ℕ, zero, suc, ◌≡◌, ◌<◌, ◌≤◌, ◌∙◌, Bool, true, false, List, [], ◌∷◌, take, drop, take-append-drop, refl, sym, subst, ap, inl, inr, arith}
+use Rattle.std.specs.Prelude.{Option, Some, None, ◌⊎◌, if◌then◌else◌, nat_lt, slice_get}
 use Rattle.std.proofs.lemmas.Grind.{flat_map-append}
 use Rattle.std.specs.List.{filter_map}
 use Rattle.m3_model.specs.Members.{IsIn}
-use Rattle.m3_model.proofs.MemberLemmas.{IsIn-append_left, IsIn-filter_map, filter_map-IsIn}
+use Rattle.m3_model.proofs.MemberLemmas.{IsIn-append_cases, IsIn-append_right, IsIn-append_left, IsIn-filter_map, filter_map-IsIn}
 use Rattle.m3_model.specs.declared.act.Act.{Act}
 use Rattle.m3_model.specs.declared.answer.Answer.{Answer}
 use Rattle.m3_model.specs.declared.placement.Assignment.{Assignment}
@@ -62,13 +62,23 @@ first_turns k lines x h =
     let turns = λ (line : Turn). joined (lists_of line) in
     subst (λ xs. IsIn (inner_turns xs) x) (take-append-drop k lines) (subst (λ xs. IsIn xs x) (sym (flat_map-append turns (take k lines) (drop k lines))) (IsIn-append_left (inner_turns (take k lines)) (inner_turns (drop k lines)) x h))
 
--- and print none that the lines don't
+-- each line has turns of the lines
+pub turn_in : (lines : List Turn) (k : ℕ) (line : Turn) → slice_get lines k ≡ Some line → (x : InnerTurn) → IsIn (inner_turns (line ∷ [])) x → IsIn (inner_turns lines) x
+turn_in [] k line stands x h = cc
+turn_in (first ∷ lines) zero line stands x h =
+    elim (IsIn-append_cases (joined (lists_of line)) [] x h) as (λ _. IsIn (inner_turns (first ∷ lines)) x) [
+      | inl own ↦ IsIn-append_left (joined (lists_of first)) (inner_turns lines) x (subst (λ (l : Turn). IsIn (joined (lists_of l)) x) (sym (same_of_some first line stands)) own)
+      | inr none ↦ absurd none
+    ]
+turn_in (first ∷ lines) (suc k) line stands x h = IsIn-append_right (joined (lists_of first)) (inner_turns lines) x (turn_in lines k line stands x h)
+
+-- the first lines print no placement that the lines don't
 first_printed : (k : ℕ) (lines : List Turn) (q : Placement) → IsIn (placements None (inner_turns (take k lines))) q → IsIn (placements None (inner_turns lines)) q
 first_printed k lines q h =
     let source = IsIn-filter_map (λ (t : InnerTurn). printed t.answer) (inner_turns (take k lines)) q h in
     filter_map-IsIn (λ (t : InnerTurn). printed t.answer) (inner_turns lines) source.0 q (first_turns k lines source.0 source.1) source.2
 
-first_placements : (start : Option MetaState) (k : ℕ) (lines : List Turn) (q : Placement) → IsIn (placements start (inner_turns (take k lines))) q → IsIn (placements start (inner_turns lines)) q
+pub first_placements : (start : Option MetaState) (k : ℕ) (lines : List Turn) (q : Placement) → IsIn (placements start (inner_turns (take k lines))) q → IsIn (placements start (inner_turns lines)) q
 first_placements None k lines q h = first_printed k lines q h
 first_placements (Some state) k lines q h = elim h as (λ _. IsIn (placements (Some state) (inner_turns lines)) q) [ inl found ↦ inl found | inr prints ↦ inr (first_printed k lines q prints) ]
 

@@ -79,6 +79,21 @@ a_joins = record { act = act.Bootstrap (codes "a") None; answer = a_took }
 abbrev pub a_refused : Turn
 a_refused = bootstrap (codes "a") None answer.Memory
 
+-- the move was cancelled
+abbrev pub cancelled : Placement
+cancelled = at_step 3 (holding 1 1 ∷ [])
+
+-- by this line
+abbrev pub a_cancelled : Turn
+a_cancelled = line (act.Cancel (codes "a")) (answer.Placed cancelled 3)
+
+-- a bootstrap of a before its move began, and one after it was cancelled
+abbrev pub asked_before : List Turn
+asked_before = two_made ++ bootstrap (codes "a") None (answer.Available [] place_of_two 1) ∷ b_drained ∷ []
+
+abbrev pub asked_after : List Turn
+asked_after = two_made ++ b_drained ∷ a_cancelled ∷ bootstrap (codes "a") None (answer.Available [] cancelled 3) ∷ []
+
 -- b was added again, and its shard is to come back
 abbrev pub b_added : Turn
 b_added = line (act.Add (codes "b") (codes "g2")) (answer.Placed a_to_b 4)

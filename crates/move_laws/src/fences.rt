@@ -9,7 +9,7 @@ ghost use Rattle.transcripts.specs.Moves.{IsFencedAbove, IsOfMove};
 ghost use Rattle.transcripts.specs.Reasons.{MayRefuse};
 ghost use Rattle.transcripts.specs.Record.{TurnPlace};
 ghost use Rattle.model_laws.specs.Building.{place_of_two, two_made};
-ghost use Rattle.move_laws.specs.Moving.{b_to_a, b_drained, a_joins, a_refused, bootstrap, moved_to_a, call_at, MayRefuseAfter, MayRefuseBeside};
+ghost use Rattle.move_laws.specs.Moving.{asked_after, asked_before, b_to_a, b_drained, a_joins, a_refused, bootstrap, moved_to_a, call_at, MayRefuseAfter, MayRefuseBeside};
 
 /// A move fences its shard from when its bootstrap is asked on, whatever is answered, also where it is asked beside the call.
 pub fn fence_of_move()
@@ -34,9 +34,11 @@ pub fn fence_of_no_move()
 {}
 
 /// A fence is of a move whose bootstrap wasn't asked: no bootstrap was, or only that of the other node and that of another
-/// shard.
+/// shard, or one of the node before its move began or after it was cancelled.
 pub fn fence_not_asked()
     ensures none { (faults : List Fault) → ¬ MayRefuseAfter true faults (two_made ++ b_drained ∷ []) place_of_two 1 (reason.Stale 2) }
+    ensures early { (faults : List Fault) → ¬ MayRefuseAfter true faults asked_before place_of_two 1 (reason.Stale 2) }
+    ensures cancelled { (faults : List Fault) → ¬ MayRefuseAfter true faults asked_after place_of_two 1 (reason.Stale 2) }
     ensures other { (faults : List Fault) → ¬ MayRefuseAfter true faults (two_made ++ b_drained ∷ bootstrap (codes "b") None answer.Memory ∷ bootstrap (codes "a") (Some 0) answer.Memory ∷ []) place_of_two 1 (reason.Stale 2) }
 {}
 

@@ -10,7 +10,7 @@ use Rattle.m3_model.specs.declared.rules.MetaState.{MetaState}
 use Rattle.m3_model.specs.declared.turn.Turn.{Turn}
 use Rattle.placement_core.specs.Shards.{shard_at}
 use Rattle.transcripts.specs.Fates.{OfNode}
-use Rattle.transcripts.specs.Placements.{MayStand, has_replica, placement_after, placements, start_placement}
+use Rattle.transcripts.specs.Placements.{MayStand, has_replica, placement_after, start_placement}
 use Rattle.transcripts.specs.Record.{InnerTurn, TurnPlace, inner_turns}
 use Rattle.transcripts.specs.Waiting.{Replica, is_assigned, is_begun_by, is_covering, is_member}
 
@@ -56,15 +56,25 @@ abbrev pub IsBootstrapFor : ℕ → List ℕ → Act → Type 0
 IsBootstrapFor shard name (act.Bootstrap node asked) = (node ≡ name) × IsTrue (is_covering shard asked)
 IsBootstrapFor shard name _ = ⊥
 
--- a placement of this run, or the one that it found, assigns the shard with the fence as tenure, and a bootstrap of that node and shard was asked before
--- the turn or beside it
+-- in one of these lines the turn was taken, and the placement stood at the line's beginning or at its end
+pub record IsTakenIn (start : Option MetaState) (lines : List Turn) (place : Placement) (turn : InnerTurn) : Type 0 where
+  pub number : ℕ
+  pub line : Turn
+  pub stands : slice_get lines number ≡ Some line
+  pub taken : IsIn (inner_turns (line ∷ [])) turn
+  pub stood : (placement_by start lines number ≡ Some place) ⊎ (placement_by start lines (suc number) ≡ Some place)
+
+-- the turn was taken before this one or beside it, while the placement stood
+abbrev pub IsTakenBy : Option MetaState → TurnPlace → Placement → InnerTurn → Type 0
+IsTakenBy start p place turn = IsTakenIn start p.lines place turn ⊎ (IsIn (p.earlier ++ p.beside) turn × MayStand start p place)
+
+-- a placement assigns the shard with the fence as tenure, and while it stood a bootstrap of that node and shard was asked, before the turn or beside it
 pub record IsOfMove (start : Option MetaState) (p : TurnPlace) (shard fence : ℕ) : Type 0 where
   pub place : Placement
-  pub known : IsIn (placements start (inner_turns p.lines ++ (p.earlier ++ p.beside))) place
   pub node : ℕ
   pub assigned : HasAssignment place shard node (λ tenure. tenure ≡ fence)
   pub turn : InnerTurn
-  pub taken : IsIn (inner_turns p.lines ++ (p.earlier ++ p.beside)) turn
+  pub taken : IsTakenBy start p place turn
   pub asks : OfNode place node (λ name. IsBootstrapFor shard name turn.act)
 
 -- an earlier run may have left the fence: it isn't above the version that this one found
