@@ -1,24 +1,27 @@
 -- What a bootstrap prints.
-use Rattle.std.proofs.Common.{ℕ, zero, suc, ◌≡◌, ◌≢◌, ◌<◌, ◌∙◌, true, false, List, [], ◌∷◌, refl, sym, subst, ap, inl, inr, arith}
+use Rattle.std.proofs.Common.{ℕ, zero, suc, ◌≡◌, ◌≢◌, ◌<◌, ◌∙◌, true, false, List, [], ◌∷◌, length, refl, sym, subst, ap, inl, inr, arith}
 use Rattle.std.specs.Prelude.{Option, Some, None, codes, slice_get, IsTrue}
 use Rattle.m3_model.specs.Members.{IsIn}
 use Rattle.m3_model.specs.declared.act.Act.TheVariants as act
 use Rattle.m3_model.specs.declared.answer.Answer.{Answer}
 use Rattle.m3_model.specs.declared.answer.Answer.TheVariants as answer
 use Rattle.m3_model.specs.declared.placement.Assignment.{Assignment}
+use Rattle.m3_model.specs.declared.placement.Instance.{Instance}
 use Rattle.m3_model.specs.declared.placement.Placement.{Placement}
 use Rattle.m3_model.specs.declared.placement.ShardState.TheVariants.{Initializing, Available, Leaving}
 use Rattle.placement_core.specs.Shards.{Shard, shard_at}
+use Rattle.placement_core.specs.Steps.{Ends}
+use Rattle.placement_plan.specs.First.{first_instances}
 use Rattle.placement_plan.specs.Plans.{EndsAsNamed, IsAvailable, IsJoiningPair}
 use Rattle.transcripts.specs.Caused.{Caused, EndsMoves, IsBootstrapped, IsDueBy, IsLeftBy, refusal_after}
 use Rattle.transcripts.specs.Fates.{OfNode}
 use Rattle.transcripts.specs.Faults.{Fault}
 use Rattle.transcripts.specs.Waiting.{is_covering}
-use Rattle.model_laws.specs.Building.{begun, life_of, place}
+use Rattle.model_laws.specs.Building.{begun, life_of, nodes, place}
 use Rattle.model_laws.specs.Faulty.{bootstrap_c}
 use Rattle.model_laws.proofs.EachLemmas.{◌also◌, each_in, ascends_by, same_of_some, texts_differ}
 use Rattle.model_laws.proofs.PlaceLemmas.{place_after, place_after-stands, after_all, caused_by_places, due_after, due_from, due_here, only, only_used, used_from}
-use Rattle.move_laws.specs.Moving.{b_to_a, on_a, joining, a_took, a_joined, bootstrap, held_moving, reopened_moving}
+use Rattle.move_laws.specs.Moving.{both_moving, both_on_a, both_to_a, first_on_a, held, holding, leaving, reopened_with, b_to_a, on_a, joining, a_took, a_joined, bootstrap, reopened_moving}
 use Rattle.move_laws.proofs.MovingLemmas.{of_name}
 
 -- ---- accepted
@@ -44,31 +47,33 @@ ends asked covers = record {
   next = turned_available;
 }
 
--- a bootstrap that is the only line of a run which found the move
-opened : (name : List ℕ) (asked : Option ℕ) (b : Answer) → IsDueBy true [] (Some held_moving) [] (place_after [] (act.Bootstrap name asked) b) (refusal_after (Some held_moving) (place_after [] (act.Bootstrap name asked) b) []) → Caused true (reopened_moving (bootstrap name asked b ∷ [])) []
-opened name asked b here = caused_by_places true [] (reopened_moving (bootstrap name asked b ∷ [])) tt refl (only (due_from true [] [] (Some held_moving) [] [] _ _ here) also tt)
+-- a bootstrap that is the only line of a run which found this placement
+opened : (from : Placement) (name : List ℕ) (asked : Option ℕ) (b : Answer) → IsDueBy true [] (Some (held from)) [] (place_after [] (act.Bootstrap name asked) b) (refusal_after (Some (held from)) (place_after [] (act.Bootstrap name asked) b) [])
+    → Caused true (reopened_with from (bootstrap name asked b ∷ [])) []
+opened from name asked b here = caused_by_places true [] (reopened_with from (bootstrap name asked b ∷ [])) tt refl (only (due_from true [] [] (Some (held from)) [] [] _ _ here) also tt)
 
 pub ended-caused : Caused true (reopened_moving (a_joined ∷ [])) []
-ended-caused = opened (codes "a") None a_took (record { before = b_to_a; stands = ([], after_all [] _ _, refl); left = ends None refl; version_is = refl })
+ended-caused = opened b_to_a (codes "a") None a_took (record { before = b_to_a; stands = ([], after_all [] _ _, refl); left = ends None refl; version_is = refl })
 
 pub passed_over-caused : Caused true (reopened_moving (bootstrap (codes "a") None (answer.Available [] b_to_a 2) ∷ [])) []
-passed_over-caused = opened (codes "a") None (answer.Available [] b_to_a 2) (record { before = b_to_a; stands = ([], after_all [] _ _, refl); left = refl; version_is = refl })
+passed_over-caused = opened b_to_a (codes "a") None (answer.Available [] b_to_a 2) (record { before = b_to_a; stands = ([], after_all [] _ _, refl); left = refl; version_is = refl })
 
 pub of_shard-caused : Caused true (reopened_moving (bootstrap (codes "a") (Some 1) a_took ∷ [])) []
-of_shard-caused = opened (codes "a") (Some 1) a_took (record { before = b_to_a; stands = ([], after_all [] _ _, refl); left = ends (Some 1) refl; version_is = refl })
+of_shard-caused = opened b_to_a (codes "a") (Some 1) a_took (record { before = b_to_a; stands = ([], after_all [] _ _, refl); left = ends (Some 1) refl; version_is = refl })
 
 -- ---- refused
 
 -- what such a bootstrap leaves
-left_of : (faults : List Fault) (name : List ℕ) (asked : Option ℕ) (available : List (ℕ × List ℕ)) (q : Placement) (version : ℕ) → refusal_after (Some held_moving) (place_after [] (act.Bootstrap name asked) (answer.Available available q version)) [] ≡ None
-    → Caused true (reopened_moving (bootstrap name asked (answer.Available available q version) ∷ [])) faults → IsLeftBy b_to_a name asked available q
-left_of faults name asked available q version none caused =
+left_of : (from : Placement) (faults : List Fault) (name : List ℕ) (asked : Option ℕ) (available : List (ℕ × List ℕ)) (q : Placement) (version : ℕ)
+    → refusal_after (Some (held from)) (place_after [] (act.Bootstrap name asked) (answer.Available available q version)) [] ≡ None
+    → Caused true (reopened_with from (bootstrap name asked (answer.Available available q version) ∷ [])) faults → IsLeftBy from name asked available q
+left_of from faults name asked available q version none caused =
     let a = act.Bootstrap name asked in
     let b = answer.Available available q version in
     let p = place_after [] a b in
-    let due = due_here true faults [] (Some held_moving) (caused.delivered p) [] a b (λ e. cc) (λ e. cc) (caused.each p (place_after-stands [] a b [])) in
-    let told : IsBootstrapped (Some held_moving) p name asked available q version = subst (IsDueBy true faults (Some held_moving) (caused.delivered p) p) none due in
-    subst (λ x. IsLeftBy x name asked available q) (sym (used_from (Some held_moving) [] a b b_to_a told.before refl told.stands)) told.left
+    let due = due_here true faults [] (Some (held from)) (caused.delivered p) [] a b (λ e. cc) (λ e. cc) (caused.each p (place_after-stands [] a b [])) in
+    let told : IsBootstrapped (Some (held from)) p name asked available q version = subst (IsDueBy true faults (Some (held from)) (caused.delivered p) p) none due in
+    subst (λ x. IsLeftBy x name asked available q) (sym (used_from (Some (held from)) [] a b from told.before refl told.stands)) told.left
 
 not_joining : Available ≢ Initializing
 not_joining e = cc
@@ -90,11 +95,11 @@ a_joins_second node pair =
     (subst (λ (s : Shard). IsIn s joins.0) (sym (same_of_some (shard_at b_to_a 1) pair.shard pair.stands)) joins.1) joins.3.0 joins.2
 
 pub uncovered-refused : (faults : List Fault) → ¬ Caused true (reopened_moving (bootstrap (codes "a") (Some 0) a_took ∷ [])) faults
-uncovered-refused faults caused = let bad : false ≡ true = (left_of faults (codes "a") (Some 0) ((1, 1 ∷ []) ∷ []) on_a 3 refl caused).covered (1, 1 ∷ []) (inl refl) in cc
+uncovered-refused faults caused = let bad : false ≡ true = (left_of b_to_a faults (codes "a") (Some 0) ((1, 1 ∷ []) ∷ []) on_a 3 refl caused).covered (1, 1 ∷ []) (inl refl) in cc
 
 pub other_node-refused : (faults : List Fault) → ¬ Caused true (reopened_moving (bootstrap (codes "b") None a_took ∷ [])) faults
 other_node-refused faults caused =
-    let moves = left_of faults (codes "b") None ((1, 1 ∷ []) ∷ []) on_a 3 refl caused in
+    let moves = left_of b_to_a faults (codes "b") None ((1, 1 ∷ []) ∷ []) on_a 3 refl caused in
     let node : 0 ≡ moves.node = a_joins_second moves.node (moves.joining (1, moves.node) (inl refl)) in
     let same : codes "a" ≡ codes "b" = of_name b_to_a (λ own. own ≡ codes "b") 0 _ refl (subst (λ n. OfNode b_to_a n (λ own. own ≡ codes "b")) (sym node) moves.named) in
     texts_differ (codes "a") (codes "b") refl refl same
@@ -111,24 +116,92 @@ still-refused faults peers caused =
 
 pub beside-refused : (faults : List Fault) (peers : List ℕ) → ¬ Caused true (reopened_moving (bootstrap (codes "a") None (answer.Available ((0, peers) ∷ (1, 1 ∷ []) ∷ []) on_a 3) ∷ [])) faults
 beside-refused faults peers caused =
-    let moves = left_of faults (codes "a") None ((0, peers) ∷ (1, 1 ∷ []) ∷ []) on_a 3 refl caused in
+    let moves = left_of b_to_a faults (codes "a") None ((0, peers) ∷ (1, 1 ∷ []) ∷ []) on_a 3 refl caused in
     first_stays moves.node (moves.joining (0, moves.node) (inl refl))
 
 pub stays-refused : (faults : List Fault) (peers : List ℕ) → ¬ Caused true (reopened_moving (bootstrap (codes "a") None (answer.Available ((1, peers) ∷ []) b_to_a 2) ∷ [])) faults
-stays-refused faults peers caused = let bad : 2 ≡ 3 = (left_of faults (codes "a") None ((1, peers) ∷ []) b_to_a 2 refl caused).next.follows.version in omega (arith, bad)
+stays-refused faults peers caused = let bad : 2 ≡ 3 = (left_of b_to_a faults (codes "a") None ((1, peers) ∷ []) b_to_a 2 refl caused).next.follows.version in omega (arith, bad)
 
 pub unprinted-refused : (faults : List Fault) → ¬ Caused true (reopened_moving (bootstrap (codes "a") None (answer.Available [] on_a 3) ∷ [])) faults
-unprinted-refused faults caused = let bad : 3 ≡ 2 = ap (λ (q : Placement). q.version) (left_of faults (codes "a") None [] on_a 3 refl caused) in omega (arith, bad)
+unprinted-refused faults caused = let bad : 3 ≡ 2 = ap (λ (q : Placement). q.version) (left_of b_to_a faults (codes "a") None [] on_a 3 refl caused) in omega (arith, bad)
 
 pub twice-refused : (faults : List Fault) (peers others : List ℕ) → ¬ Caused true (reopened_moving (bootstrap (codes "a") None (answer.Available ((1, peers) ∷ (1, others) ∷ []) on_a 3) ∷ [])) faults
-twice-refused faults peers others caused = let bad : 1 < 1 = (left_of faults (codes "a") None ((1, peers) ∷ (1, others) ∷ []) on_a 3 refl caused).by_shard.0 (1, others) (inl refl) in omega (arith, bad)
+twice-refused faults peers others caused = let bad : 1 < 1 = (left_of b_to_a faults (codes "a") None ((1, peers) ∷ (1, others) ∷ []) on_a 3 refl caused).by_shard.0 (1, others) (inl refl) in omega (arith, bad)
 
 pub order-refused : (faults : List Fault) (peers others : List ℕ) → ¬ Caused true (reopened_moving (bootstrap (codes "a") None (answer.Available ((1, peers) ∷ (0, others) ∷ []) on_a 3) ∷ [])) faults
-order-refused faults peers others caused = let bad : 1 < 0 = (left_of faults (codes "a") None ((1, peers) ∷ (0, others) ∷ []) on_a 3 refl caused).by_shard.0 (0, others) (inl refl) in omega (arith, bad)
+order-refused faults peers others caused = let bad : 1 < 0 = (left_of b_to_a faults (codes "a") None ((1, peers) ∷ (0, others) ∷ []) on_a 3 refl caused).by_shard.0 (0, others) (inl refl) in omega (arith, bad)
 
 pub missing-refused : (faults : List Fault) (peers others : List ℕ) → ¬ Caused true (reopened_moving (bootstrap (codes "a") None (answer.Available ((1, peers) ∷ (2, others) ∷ []) on_a 3) ∷ [])) faults
 missing-refused faults peers others caused =
-    let moves = left_of faults (codes "a") None ((1, peers) ∷ (2, others) ∷ []) on_a 3 refl caused in
+    let moves = left_of b_to_a faults (codes "a") None ((1, peers) ∷ (2, others) ∷ []) on_a 3 refl caused in
     let pair = moves.joining (2, moves.node) (inr (inl refl)) in
     let bad : None ≡ Some pair.shard = pair.stands in
     cc
+
+pub other_names-refused : (faults : List Fault) → ¬ Caused true (reopened_moving (bootstrap (codes "a") None (answer.Available ((1, 1 ∷ []) ∷ []) (record on_a { instances = first_instances nodes }) 3) ∷ [])) faults
+other_names-refused faults caused =
+    let bad : 3 ≡ 2 = ap (λ (is : List Instance). length is) (left_of b_to_a faults (codes "a") None ((1, 1 ∷ []) ∷ []) (record on_a { instances = first_instances nodes }) 3 refl caused).next.instances in
+    omega (arith, bad)
+
+-- ---- two moves
+
+-- how a shard stands once a has it
+second_ends : (b : Shard) → Some (holding 0 2 ∷ []) ≡ Some b → Ends (leaving 1 1 ∷ joining 0 2 1 ∷ []) b 0
+second_ends b next = (joining 0 2 1, inr (inl refl), record { node = refl; from = 1; joins = (refl, refl); next_is = same_of_some b (holding 0 2 ∷ []) (sym next) })
+
+both_end : (k : ℕ) (a b : Shard) → slice_get both_to_a.shards k ≡ Some a → slice_get both_on_a.shards k ≡ Some b → EndsAsNamed ((0, 0) ∷ (1, 0) ∷ []) k a b
+both_end zero a b is next = subst (λ (s : Shard). Ends s b 0) (same_of_some (shard_at both_to_a 0) a is) (second_ends b next)
+both_end (suc zero) a b is next = subst (λ (s : Shard). Ends s b 0) (same_of_some (shard_at both_to_a 1) a is) (second_ends b next)
+both_end (suc (suc k)) a b is next = cc
+
+first_ends : (k : ℕ) (a b : Shard) → slice_get both_to_a.shards k ≡ Some a → slice_get first_on_a.shards k ≡ Some b → EndsAsNamed ((0, 0) ∷ []) k a b
+first_ends zero a b is next = subst (λ (s : Shard). Ends s b 0) (same_of_some (shard_at both_to_a 0) a is) (second_ends b next)
+first_ends (suc zero) a b is next = same_of_some b a (sym next ∙ is)
+first_ends (suc (suc k)) a b is next = cc
+
+-- a is joining each of them
+joining_both : (k : ℕ) → slice_get both_to_a.shards k ≡ Some (leaving 1 1 ∷ joining 0 2 1 ∷ []) → IsJoiningPair both_to_a.shards (k, 0)
+joining_both k stands = record { shard = leaving 1 1 ∷ joining 0 2 1 ∷ []; stands = stands; joins = (1, (joining 0 2 1, inr (inl refl), refl, (refl, refl))) }
+
+pub both-caused : Caused true (both_moving None ((0, 1 ∷ []) ∷ (1, 1 ∷ []) ∷ []) both_on_a) []
+both-caused =
+    let available : List (ℕ × List ℕ) = (0, 1 ∷ []) ∷ (1, 1 ∷ []) ∷ [] in
+    opened both_to_a (codes "a") None (answer.Available available both_on_a 3) (record {
+      before = both_to_a;
+      stands = ([], after_all [] _ _, refl);
+      left = record {
+        node = 0;
+        named = record { instance_ = _; stands = refl; holds = refl };
+        by_shard = ascends_by (λ (x y : ℕ × List ℕ). x.0 < y.0) available ((omega arith also tt) also tt also tt);
+        covered = each_in (λ (x : ℕ × List ℕ). IsTrue (is_covering x.0 None)) available (refl also refl also tt);
+        joining = each_in (IsJoiningPair both_to_a.shards) ((0, 0) ∷ (1, 0) ∷ []) (joining_both 0 refl also joining_both 1 refl also tt);
+        next = record { follows = record { version = refl; version_fits = omega arith; rf = refl; shards = record { count = refl; each = both_end } }; instances = refl };
+      };
+      version_is = refl;
+    })
+
+pub first-caused : Caused true (both_moving (Some 0) ((0, 1 ∷ []) ∷ []) first_on_a) []
+first-caused =
+    let available : List (ℕ × List ℕ) = (0, 1 ∷ []) ∷ [] in
+    opened both_to_a (codes "a") (Some 0) (answer.Available available first_on_a 3) (record {
+      before = both_to_a;
+      stands = ([], after_all [] _ _, refl);
+      left = record {
+        node = 0;
+        named = record { instance_ = _; stands = refl; holds = refl };
+        by_shard = ascends_by (λ (x y : ℕ × List ℕ). x.0 < y.0) available (tt also tt);
+        covered = each_in (λ (x : ℕ × List ℕ). IsTrue (is_covering x.0 (Some 0))) available (refl also tt);
+        joining = each_in (IsJoiningPair both_to_a.shards) ((0, 0) ∷ []) (joining_both 0 refl also tt);
+        next = record { follows = record { version = refl; version_fits = omega arith; rf = refl; shards = record { count = refl; each = first_ends } }; instances = refl };
+      };
+      version_is = refl;
+    })
+
+pub both_order-refused : (faults : List Fault) → ¬ Caused true (both_moving None ((1, 1 ∷ []) ∷ (0, 1 ∷ []) ∷ []) both_on_a) faults
+both_order-refused faults caused = let bad : 1 < 0 = (left_of both_to_a faults (codes "a") None ((1, 1 ∷ []) ∷ (0, 1 ∷ []) ∷ []) both_on_a 3 refl caused).by_shard.0 (0, 1 ∷ []) (inl refl) in omega (arith, bad)
+
+pub left_out-refused : (faults : List Fault) → ¬ Caused true (both_moving None ((0, 1 ∷ []) ∷ []) both_on_a) faults
+left_out-refused faults caused =
+    let kept : holding 0 2 ∷ [] ≡ leaving 1 1 ∷ joining 0 2 1 ∷ [] = (left_of both_to_a faults (codes "a") None ((0, 1 ∷ []) ∷ []) both_on_a 3 refl caused).next.follows.shards.each 1 (leaving 1 1 ∷ joining 0 2 1 ∷ []) (holding 0 2 ∷ []) refl refl in
+    let bad : 1 ≡ 2 = ap (λ (s : Shard). length s) kept in
+    omega (arith, bad)

@@ -24,7 +24,7 @@ use Rattle.model_laws.proofs.PlaceLemmas.{place_after, due_after, only_used, sta
 use Rattle.model_laws.proofs.SampleLemmas.{call_with, rules_when, stands}
 use Rattle.model_laws.proofs.OwnerLemmas.{never_assigned, none_unowned}
 use Rattle.model_laws.proofs.CausedLives.{counted_0, EachAt, each_at}
-use Rattle.move_laws.specs.Moving.{b_to_a, on_a, a_to_b, on_b, joining, holding, b_drained, b_joined, b_joins, moved_to_a, coming_back, coming_back_uncovered, came_back, call_at, MayRefuseAfter, MayRefuseBehind, MayRefuseBeside}
+use Rattle.move_laws.specs.Moving.{b_to_a, on_a, a_to_b, on_b, joining, holding, b_drained, a_joins, b_joined, b_joins, moved_to_a, coming_back, coming_back_uncovered, came_back, call_at, MayRefuseAfter, MayRefuseBehind, MayRefuseBeside}
 use Rattle.move_laws.proofs.MovingLemmas.{below_or, of_b, of_name, only_behind}
 
 pub one_placement-refused : (tells : Bool) (faults : List Fault) → ¬ Caused tells (life_of (write_answered (unmet 0 (by_each reason.NotOwned)))) faults
@@ -44,6 +44,11 @@ one_placement-refused tells faults caused =
 
 pub away-caused : (tells : Bool) → MayRefuseAfter tells [] moved_to_a place_of_two 1 reason.NotOwned
 away-caused tells = inl (record { place = on_a; may_stand = stands_then _ _ _ _ refl; not_owned = inl refl })
+
+pub taken_beside-caused : (tells : Bool) → MayRefuseBeside tells [] (two_made ++ b_drained ∷ []) (a_joins ∷ []) place_of_two 1 reason.NotOwned
+taken_beside-caused tells =
+    let lines = two_made ++ b_drained ∷ [] in
+    inl (record { place = on_a; may_stand = (inner_turns lines ++ ([] ++ a_joins ∷ []), record { others = a_joins ∷ []; some_of = inl (refl, tt); are = refl }, refl); not_owned = inl refl })
 
 -- where this placement alone may stand, and gives the node the shard at or below the version, the node owns it
 owned_in : (q : Placement) (node version : ℕ) (p : TurnPlace) → ((used : Placement) → MayStand None p used → q ≡ used) → has_replica (Some q) 1 node ≡ true

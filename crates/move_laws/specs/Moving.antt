@@ -158,10 +158,34 @@ MayRefuseBeside tells faults lines beside used node why = MayRefuse tells faults
 
 -- ---- runs
 
--- what the meta disk holds of a cluster in which b is to give its shard to a
-abbrev pub held_moving : MetaState
-held_moving = record { rules = record { now = 100; spaces = space ∷ [] }; seed = 0; place = b_to_a }
+-- what the meta disk holds of a cluster with this placement
+abbrev pub held : Placement → MetaState
+held place = record { rules = record { now = 100; spaces = space ∷ [] }; seed = 0; place = place }
 
 -- a run that begins so
+abbrev pub reopened_with : Placement → List Turn → Life
+reopened_with place turns = record { past = []; present = record { start = Some (held place); turns = turns; unanswered = None } }
+
+-- a run that begins while b is to give its shard to a
 abbrev pub reopened_moving : List Turn → Life
-reopened_moving turns = record { past = []; present = record { start = Some held_moving; turns = turns; unanswered = None } }
+reopened_moving turns = reopened_with b_to_a turns
+
+-- both shards stand so, at this version
+abbrev pub at_both : ℕ → List Assignment → List Assignment → Placement
+at_both version first second = record place_of_two { version = version; shards = first ∷ second ∷ [] }
+
+-- b is to give both shards to a
+abbrev pub both_to_a : Placement
+both_to_a = at_both 2 (leaving 1 1 ∷ joining 0 2 1 ∷ []) (leaving 1 1 ∷ joining 0 2 1 ∷ [])
+
+-- a has both
+abbrev pub both_on_a : Placement
+both_on_a = at_both 3 (holding 0 2 ∷ []) (holding 0 2 ∷ [])
+
+-- a has the first one
+abbrev pub first_on_a : Placement
+first_on_a = at_both 3 (holding 0 2 ∷ []) (leaving 1 1 ∷ joining 0 2 1 ∷ [])
+
+-- a run that begins while b is to give both to a, in which a bootstrap of a prints these shards and this placement
+abbrev pub both_moving : Option ℕ → List (ℕ × List ℕ) → Placement → Life
+both_moving shard available place = reopened_with both_to_a (bootstrap (codes "a") shard (answer.Available available place 3) ∷ [])

@@ -5,17 +5,18 @@ ghost use Rattle.transcripts.specs.Caused.{Caused};
 ghost use Rattle.transcripts.specs.Faults.{Fault};
 ghost use Rattle.model_laws.specs.Building.{life_of, unmet, by_each, place_of_two, two_made};
 ghost use Rattle.model_laws.specs.Uncaused.{write_answered};
-ghost use Rattle.move_laws.specs.Moving.{a_to_b, on_b, b_drained, b_joins, moved_to_a, coming_back, coming_back_uncovered, came_back, MayRefuseAfter, MayRefuseBehind, MayRefuseBeside};
+ghost use Rattle.move_laws.specs.Moving.{a_to_b, on_b, a_joins, b_drained, b_joins, moved_to_a, coming_back, coming_back_uncovered, came_back, MayRefuseAfter, MayRefuseBehind, MayRefuseBeside};
 
 /// A member of the only placement doesn't own its shard.
 pub fn notowned_in_one_placement()
     ensures { (tells : Bool) → (faults : List Fault) → ¬ Caused tells (life_of (write_answered (unmet 0 (by_each reason.NotOwned)))) faults }
 {}
 
-/// A node doesn't own a shard that a printed placement took away, also at the version at which it had it. While its move
-/// goes on it does.
+/// A node doesn't own a shard that a printed placement took away, also at the version at which it had it, and where it is
+/// taken away beside the call. While its move goes on it does.
 pub fn shard_taken_away()
     ensures away { (tells : Bool) → MayRefuseAfter tells [] moved_to_a place_of_two 1 reason.NotOwned }
+    ensures beside { (tells : Bool) → MayRefuseBeside tells [] (two_made ++ b_drained ∷ []) (a_joins ∷ []) place_of_two 1 reason.NotOwned }
     ensures leaving { (tells : Bool) → (faults : List Fault) → ¬ MayRefuseAfter tells faults (two_made ++ b_drained ∷ []) place_of_two 1 reason.NotOwned }
 {}
 
