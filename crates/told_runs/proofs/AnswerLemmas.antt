@@ -37,7 +37,7 @@ use Rattle.told_causes.specs.Calls.{IsKnownCall, Within}
 use Rattle.told_causes.specs.Deliveries.{IsKnownDelivery}
 use Rattle.told_causes.specs.Faults.{fault_of, faults_told}
 use Rattle.told_causes.specs.Nodes.{AreReached, NamesReplica}
-use Rattle.told_causes.specs.Standing.{IsHaltAct}
+use Rattle.told_causes.specs.Standing.{HaltsAlone, IsHaltAct}
 use Rattle.told_causes.proofs.CallLemmas.{acks_said}
 use Rattle.told_causes.proofs.DeliverLemmas.{outcomes_said}
 use Rattle.told_causes.proofs.FaultLemmas.{faults_different, faults_steps}
@@ -55,7 +55,7 @@ pub record AreKnown (start : Option MetaState) (turns : List Turn) (events : Lis
   pub calls : (p : TurnPlace) → IsTurnPlace turns p → IsTrue (is_call p.turn.act) → printed p.turn.answer ≡ None → IsKnownCall start turns events told p
   pub deliveries : (p : TurnPlace) → IsTurnPlace turns p → p.turn.act ≡ act.Deliver → printed p.turn.answer ≡ None → IsKnownDelivery start turns events told p
 
-module _ (taking : List Fault) (start : Option MetaState) (turns : List Turn) (events : List Event) (legal : Legal true events) (told : ToldBy start turns events) (order : IsInOrder start turns events told) (known : AreKnown start turns events told) where
+module _ (taking : List Fault) (start : Option MetaState) (turns : List Turn) (events : List Event) (legal : Legal true events) (told : ToldBy start turns events) (order : IsInOrder start turns events told) (halts : HaltsAlone turns) (known : AreKnown start turns events told) where
   abbrev told_faults : List Fault
   told_faults = faults_told told.ends events (length turns)
 
@@ -103,12 +103,12 @@ module _ (taking : List Fault) (start : Option MetaState) (turns : List Turn) (e
       own_more true told_faults all_faults told_among start h.messages p act.Deliver (answer.Outcomes outcomes) (outcomes_said start turns events told p (known.deliveries p at acts (ap printed answers)) outcomes h)
   own_by p at (act.Stop node) answer.Done acts answers h kind = tt
   own_by p at (act.Restart node pick) answer.Done acts answers h kind = tt
-  own_by p at (act.Restart node pick) (answer.Disk name shard) acts answers h kind = of_node p at (order.halts p at (subst IsHaltAct (sym acts) tt)) (act.Restart node pick) (answer.Disk name shard) acts answers refl shard refl []
+  own_by p at (act.Restart node pick) (answer.Disk name shard) acts answers h kind = of_node p at (halts p at (subst IsHaltAct (sym acts) tt)) (act.Restart node pick) (answer.Disk name shard) acts answers refl shard refl []
   own_by p at (act.Bootstrap node asked) (answer.Available available place version) acts answers h kind = kind
   own_by p at (act.Bootstrap node asked) (answer.Disk name shard) acts answers h kind = of_node p at (order.boots p at (subst IsBootAct (sym acts) tt)) (act.Bootstrap node asked) (answer.Disk name shard) acts answers refl shard refl []
   own_by p at (act.Bootstrap node asked) (answer.Corrupt name shard damage) acts answers h kind = of_node p at (order.boots p at (subst IsBootAct (sym acts) tt)) (act.Bootstrap node asked) (answer.Corrupt name shard damage) acts answers refl shard refl []
   own_by p at (act.Write ns id t v level version) (answer.Acks nodes) acts answers h kind =
-      acks_said start turns events legal told p at order.halts (call_known p at (act.Write ns id t v level version) (answer.Acks nodes) acts answers refl refl).named ns id t v level version nodes acts answers
+      acks_said start turns events legal told p at halts (call_known p at (act.Write ns id t v level version) (answer.Acks nodes) acts answers refl refl).named ns id t v level version nodes acts answers
   own_by p at (act.Write ns id t v level version) (answer.Consistency got needed reasons shard) acts answers h kind =
       own_more true told_faults all_faults told_among start [] p (act.Write ns id t v level version) (answer.Consistency got needed reasons shard) (of_level p at (act.Write ns id t v level version) acts refl got needed reasons shard answers)
   own_by p at (act.Fetch ns id from to level version) (answer.Found series short) acts answers h kind =

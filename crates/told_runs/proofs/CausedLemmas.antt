@@ -16,5 +16,5 @@ pub told_caused : IsCausedWhereTold
 told_caused life events legal told taking served =
     let run = life.present in
     let silent : (q : TurnPlace) → IsTurnPlace run.turns q → IsTrue (is_call q.turn.act) → printed q.turn.answer ≡ None = λ q at calls. call_silent taking run.start q ((told.spans).to q) calls ((served.answers).each q at) in
-    let known = are_known run.start run.turns events legal told served.order served.opens (owns run.start run.turns events legal told served.order served.opens) not_owned_said stale_said silent in
-    caused taking run.start run.turns events legal told served.order known life.past served.bound run.unanswered served.answers
+    let known = are_known run.start run.turns events legal told served.order served.halts served.opens (owns run.start run.turns events legal told served.order served.owned) not_owned_said stale_said silent in
+    caused taking run.start run.turns events legal told served.order served.halts known life.past served.bound run.unanswered served.answers

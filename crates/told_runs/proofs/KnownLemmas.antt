@@ -33,7 +33,7 @@ use Rattle.told_causes.specs.Boot.{IsBootAct, IsKnownMember, IsKnownSlot, OwnsWh
 use Rattle.told_causes.specs.Calls.{AllAreExplained, IsExplained, IsKnownCall, IsNamedOnce, IsSteadyNode, IsUsedBy, ServedAreNamed, Within}
 use Rattle.told_causes.specs.Deliveries.{IsKnownDelivery}
 use Rattle.told_causes.specs.Faults.{faults_told}
-use Rattle.told_causes.specs.Standing.{IsHaltAct}
+use Rattle.told_causes.specs.Standing.{HaltsAlone}
 use Rattle.told_causes.proofs.WaitLemmas.{member_at}
 use Rattle.told_moves.specs.Moves.{IsAtVersion, IsPlaced, IsQuiet, IsRefusedAt, NotOwnedIsSaid, StaleIsSaid}
 use Rattle.told_moves.specs.Order.{IsInOrder, OpensWithin}
@@ -42,7 +42,7 @@ use Rattle.told_runs.proofs.AnswerLemmas.{AreKnown}
 use Rattle.told_runs.proofs.MemberLemmas.{counted_member, was_there}
 use Rattle.told_runs.proofs.UsedLemmas.{IsKnownPlace, used_known}
 
-module _ (start : Option MetaState) (turns : List Turn) (events : List Event) (legal : Legal true events) (told : ToldBy start turns events) (order : IsInOrder start turns events told) (opens : OpensWithin start events)
+module _ (start : Option MetaState) (turns : List Turn) (events : List Event) (legal : Legal true events) (told : ToldBy start turns events) (order : IsInOrder start turns events told) (halts : HaltsAlone turns) (opens : OpensWithin start events)
     (owns : (node shard : ℕ) → OwnsWhereBegun start turns events told node shard) (not_owned : NotOwnedIsSaid) (stale : StaleIsSaid) where
   abbrev faults : List Fault
   faults = faults_told told.ends events (length turns)
@@ -107,7 +107,7 @@ module _ (start : Option MetaState) (turns : List Turn) (events : List Event) (l
     -- what moves of the shard explain
     by_moves : (place : Placement) (shard node : ℕ) → IsSlotAt place shard node → IsSteadyNode start turns events told p place shard node → (c : StepCall) → IsAtVersion place.version c → (why : Reason)
         → (i : ℕ) × Within events told.spans p i (event.Step node shard c (reply.Refused why)) → IsExplained Unit (MayFail true faults start p place shard node) why
-    by_moves place shard node slot steady c version reason.NotOwned step = not_owned start turns events legal told order opens p at quiet place shard node (refused_at place shard node slot steady c version reason.NotOwned step)
+    by_moves place shard node slot steady c version reason.NotOwned step = not_owned start turns events legal told order p at quiet place shard node (refused_at place shard node slot steady c version reason.NotOwned step)
     by_moves place shard node slot steady c version (reason.Stale fence) step = λ tells. stale start turns events legal told order opens p at quiet place shard node fence (refused_at place shard node slot steady c version (reason.Stale fence) step)
     by_moves place shard node slot steady c version _ step = tt
 
@@ -145,7 +145,7 @@ module _ (start : Option MetaState) (turns : List Turn) (events : List Event) (l
       legal = legal;
       in_run = at;
       calls = calls;
-      halts = order.halts;
+      halts = halts;
       named = λ place used shard node h.
           let sent = h.3 in
           named_once place node (placed_by p place (used_known start turns events legal told order p at quiet.prints_none (used.call).version place used.may_use)) sent.instance_ sent.stands;
@@ -204,7 +204,7 @@ module _ (start : Option MetaState) (turns : List Turn) (events : List Event) (l
         legal = legal;
         in_run = at;
         delivers = delivers;
-        halts = order.halts;
+        halts = halts;
         named = λ m late shard h.
             let of_node = late.late in
             let k = (late_slot m late (shard_of_message start m) refl).known in
@@ -218,19 +218,14 @@ module _ (start : Option MetaState) (turns : List Turn) (events : List Event) (l
   -- ---- the run
 
   calls_quiet : (p : TurnPlace) → IsTrue (is_call p.turn.act) → printed p.turn.answer ≡ None → IsQuiet p
-  calls_quiet p calls prints = record { halts_none = halts p.turn.act calls; begins_none = begins p.turn.act calls; prints_none = prints }
+  calls_quiet p calls prints = record { begins_none = begins p.turn.act calls; prints_none = prints }
     where
-      halts : (a : Act) → is_call a ≡ true → IsHaltAct a → ⊥
-      halts (act.Stop node) e h = cc
-      halts (act.Restart node pick) e h = cc
-      halts _ e h = h
-
       begins : (a : Act) → is_call a ≡ true → IsBootAct a → ⊥
       begins (act.Bootstrap node asked) e h = cc
       begins _ e h = h
 
   deliver_quiet : (p : TurnPlace) → p.turn.act ≡ act.Deliver → printed p.turn.answer ≡ None → IsQuiet p
-  deliver_quiet p delivers prints = record { halts_none = λ h. subst IsHaltAct delivers h; begins_none = λ h. subst IsBootAct delivers h; prints_none = prints }
+  deliver_quiet p delivers prints = record { begins_none = λ h. subst IsBootAct delivers h; prints_none = prints }
 
   pub are_known : ((q : TurnPlace) → IsTurnPlace turns q → IsTrue (is_call q.turn.act) → printed q.turn.answer ≡ None) → AreKnown start turns events told
   are_known silent = record {

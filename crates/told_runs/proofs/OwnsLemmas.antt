@@ -31,12 +31,13 @@ use Rattle.told_by.proofs.PrintedLemmas.{ends_within}
 use Rattle.told_causes.specs.Boot.{BeginsOver, IsBootAct, OwnsWhereBegun}
 use Rattle.told_causes.proofs.AloneLemmas.{opened, quiet_line}
 use Rattle.told_causes.proofs.RefusalLemmas.{refused_law}
-use Rattle.told_moves.specs.Order.{IsInOrder, OpensWithin}
+use Rattle.told_moves.specs.Order.{IsInOrder}
+use Rattle.told_runs.specs.Laws.{OwnsFiles}
 use Rattle.told_moves.proofs.OwnLemmas.{begin_given, tried_low}
 use Rattle.told_moves.proofs.SlotLemmas.{Tries, slot, tried_began}
 use Rattle.told_moves.proofs.TenureLemmas.{GivenAt, given_by, tenure_grows}
 
-module _ (start : Option MetaState) (turns : List Turn) (events : List Event) (legal : Legal true events) (told : ToldBy start turns events) (order : IsInOrder start turns events told) (opens : OpensWithin start events) where
+module _ (start : Option MetaState) (turns : List Turn) (events : List Event) (legal : Legal true events) (told : ToldBy start turns events) (order : IsInOrder start turns events told) (owned : OwnsFiles events) where
   -- a begin with a tenure that isn't below those which the slot tried isn't refused so
   owned_begin : (n s i tenure : ℕ) → At events i (event.Step n s (call.Begin tenure) (reply.Refused reason.NotOwned)) → ((own : ℕ) → Tries (slot events legal n s i) own → own ≤ tenure) → ⊥
   owned_begin n s i tenure there low =
@@ -46,7 +47,7 @@ module _ (start : Option MetaState) (turns : List Turn) (events : List Event) (l
         | inl any ↦ let t = IsIn-from_Any (λ own. tenure < own) r.begun any in omega (arith, low t.0 (inl t.1), t.2)
         | inr other ↦ elim other as (λ _. ⊥) [
           | inl any ↦ let t = IsIn-from_Any (λ own. tenure < own) r.tried any in omega (arith, low t.0 (inr t.1), t.2)
-          | inr empty ↦ opens.owned i n s tenure there empty
+          | inr empty ↦ owned i n s tenure there empty
         ]
       ]
 

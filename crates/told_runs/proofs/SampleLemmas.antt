@@ -83,7 +83,6 @@ stands n some high =
 
 order : IsInOrder None turns events sample_told
 order = record {
-  halts = each_turn _ (λ h. absurd h) (λ h. absurd h) (λ h. absurd h) (λ h. absurd h);
   boots = each_turn _ (λ h. absurd h) (λ h. absurd h) (λ h. absurd h) (λ h. absurd h);
   prints = each_turn _ (λ p e. (line_of begun placed, refl, refl)) (λ p e. cc) (λ p e. cc) (λ p e. cc);
   inits = each_turn _ (λ h p e. refl) (λ h. absurd h) (λ h. absurd h) (λ h. absurd h);
@@ -98,7 +97,6 @@ order = record {
 
 opens : OpensWithin None events
 opens = record {
-  owned = λ i n s tenure there. absurd (never_refused i n s (call.Begin tenure) reason.NotOwned there);
   fenced = λ i n s tenure fence points there none. inl (began i n s tenure fence points there);
 }
   where
@@ -181,4 +179,4 @@ bounded k line at =
     by (inr (inr (inr (inr none)))) = absurd none
 
 pub short_served : ShortIsServed
-short_served = (sample_legal, sample_told, record { order = order; opens = opens; answers = answered; bound = bounded })
+short_served = (sample_legal, sample_told, record { order = order; halts = each_turn _ (λ h. absurd h) (λ h. absurd h) (λ h. absurd h) (λ h. absurd h); opens = opens; owned = λ i n s tenure there. absurd (never_refused i n s (call.Begin tenure) reason.NotOwned there); answers = answered; bound = bounded })
