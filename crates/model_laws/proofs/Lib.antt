@@ -9,13 +9,4 @@ pub mod RefusedLives
 pub mod UncausedLives
 pub mod GeneralLemmas
 pub mod TagLemmas
-pub mod MessageLives
-pub mod BrokenMessages
-pub mod FaultLives
-pub mod BrokenFaults
 pub mod ShapeLemmas
-pub mod FaultKindLives
-pub mod DeliveryLives
-pub mod ShortLemmas
-pub mod VersionLives
-pub mod UntoldLemmas

@@ -4,7 +4,4 @@ pub mod Refused
 pub mod Uncaused
 pub mod General
 pub mod Messages
-pub mod Faulty
 pub mod Shapes
-pub mod Versions
-pub mod Untold

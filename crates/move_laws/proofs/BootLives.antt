@@ -18,7 +18,7 @@ use Rattle.transcripts.specs.Fates.{OfNode}
 use Rattle.transcripts.specs.Faults.{Fault}
 use Rattle.transcripts.specs.Waiting.{is_covering}
 use Rattle.model_laws.specs.Building.{begun, life_of, nodes, place}
-use Rattle.model_laws.specs.Faulty.{bootstrap_c}
+use Rattle.fault_laws.specs.Faulty.{bootstrap_c}
 use Rattle.model_laws.proofs.EachLemmas.{◌also◌, each_in, ascends_by, same_of_some, texts_differ}
 use Rattle.model_laws.proofs.PlaceLemmas.{place_after, place_after-stands, after_all, caused_by_places, due_after, due_from, due_here, only, only_used, used_from}
 use Rattle.move_laws.specs.Moving.{both_moving, both_on_a, both_to_a, first_on_a, held, holding, leaving, reopened_with, b_to_a, on_a, joining, a_took, a_joined, bootstrap, reopened_moving}

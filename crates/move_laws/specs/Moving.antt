@@ -13,7 +13,7 @@ use Rattle.transcripts.specs.Faults.{Fault, Failing}
 use Rattle.transcripts.specs.Reasons.{MayRefuse}
 use Rattle.transcripts.specs.Record.{InnerTurn, Life, TurnPlace}
 use Rattle.model_laws.specs.Building.{assigned, line, place_after, place_of_two, space, two_made}
-use Rattle.model_laws.specs.Versions.{write_at}
+use Rattle.fault_laws.specs.Versions.{write_at}
 
 -- ---- placements
 

@@ -5,7 +5,7 @@ ghost use Rattle.transcripts.specs.Caused.{Caused};
 ghost use Rattle.transcripts.specs.Faults.{Fault};
 ghost use Rattle.placement_plan.specs.First.{first_instances};
 ghost use Rattle.model_laws.specs.Building.{life_of, nodes, place, begun};
-ghost use Rattle.model_laws.specs.Faulty.{bootstrap_c};
+ghost use Rattle.fault_laws.specs.Faulty.{bootstrap_c};
 ghost use Rattle.move_laws.specs.Moving.{both_moving, both_on_a, first_on_a, b_to_a, on_a, a_took, a_joined, bootstrap, reopened_moving};
 
 /// A bootstrap that ends a move prints its shard, and the next placement; one that ends none prints the placement that stands.

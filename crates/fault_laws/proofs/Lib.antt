@@ -1,0 +1,9 @@
+pub mod MessageLives
+pub mod BrokenMessages
+pub mod FaultLives
+pub mod BrokenFaults
+pub mod FaultKindLives
+pub mod DeliveryLives
+pub mod ShortLemmas
+pub mod VersionLives
+pub mod UntoldLemmas

@@ -1,0 +1,3 @@
+pub mod Faulty
+pub mod Versions
+pub mod Untold

@@ -1,8 +1,0 @@
-use Rattle.model_laws.proofs.DeliveryLives.{beside-caused, beside-refused}
-use Rattle.model_laws.proofs.deliveries.late_message_twice_beside.Goals as goal
-
-pub returns-clause-once : goal.returns-clause-once
-returns-clause-once c = beside-caused
-
-pub returns-clause-twice : goal.returns-clause-twice
-returns-clause-twice c = beside-refused

@@ -1,5 +1,0 @@
-use Rattle.model_laws.proofs.BrokenFaults.{twice-refused}
-use Rattle.model_laws.proofs.faults.fault_listed_twice.Goals as goal
-
-pub returns : goal.returns
-returns c = twice-refused

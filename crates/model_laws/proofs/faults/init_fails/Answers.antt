@@ -1,5 +1,0 @@
-use Rattle.model_laws.proofs.FaultLives.{init_failed-caused}
-use Rattle.model_laws.proofs.faults.init_fails.Goals as goal
-
-pub returns : goal.returns
-returns c = init_failed-caused

@@ -1,5 +1,0 @@
-use Rattle.model_laws.proofs.FaultLives.{restart_failed-caused}
-use Rattle.model_laws.proofs.faults.restart_fails.Goals as goal
-
-pub returns : goal.returns
-returns c = restart_failed-caused

@@ -1,5 +1,0 @@
-use Rattle.model_laws.proofs.FaultLives.{shard_missing-caused}
-use Rattle.model_laws.proofs.faults.shard_not_there.Goals as goal
-
-pub returns : goal.returns
-returns c = shard_missing-caused

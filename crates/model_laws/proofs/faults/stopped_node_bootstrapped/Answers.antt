@@ -1,5 +1,0 @@
-use Rattle.model_laws.proofs.BrokenFaults.{bootstrapped_stopped-refused}
-use Rattle.model_laws.proofs.faults.stopped_node_bootstrapped.Goals as goal
-
-pub returns : goal.returns
-returns c = bootstrapped_stopped-refused

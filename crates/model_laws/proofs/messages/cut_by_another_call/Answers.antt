@@ -1,5 +1,0 @@
-use Rattle.model_laws.proofs.BrokenMessages.{cut_by_other_fate-refused}
-use Rattle.model_laws.proofs.messages.cut_by_another_call.Goals as goal
-
-pub returns : goal.returns
-returns c = cut_by_other_fate-refused

@@ -1,5 +1,0 @@
-use Rattle.model_laws.proofs.BrokenMessages.{lost_and_acked-refused}
-use Rattle.model_laws.proofs.messages.lost_message_answered.Goals as goal
-
-pub returns : goal.returns
-returns c = lost_and_acked-refused

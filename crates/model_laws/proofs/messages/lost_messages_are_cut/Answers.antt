@@ -1,5 +1,0 @@
-use Rattle.model_laws.proofs.MessageLives.{lost_messages-caused}
-use Rattle.model_laws.proofs.messages.lost_messages_are_cut.Goals as goal
-
-pub returns : goal.returns
-returns c = lost_messages-caused

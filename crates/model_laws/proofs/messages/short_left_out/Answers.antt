@@ -1,5 +1,0 @@
-use Rattle.model_laws.proofs.BrokenMessages.{not_short_enough-refused}
-use Rattle.model_laws.proofs.messages.short_left_out.Goals as goal
-
-pub returns : goal.returns
-returns c = not_short_enough-refused

@@ -1,5 +1,0 @@
-use Rattle.model_laws.proofs.BrokenMessages.{stopped_and_acked-refused}
-use Rattle.model_laws.proofs.messages.stopped_node_answered.Goals as goal
-
-pub returns : goal.returns
-returns c = stopped_and_acked-refused

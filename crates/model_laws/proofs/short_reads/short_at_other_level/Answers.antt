@@ -1,5 +1,0 @@
-use Rattle.model_laws.proofs.ShortLemmas.{other_level-refused}
-use Rattle.model_laws.proofs.short_reads.short_at_other_level.Goals as goal
-
-pub returns : goal.returns
-returns c = other_level-refused

@@ -1,5 +1,0 @@
-use Rattle.model_laws.proofs.UntoldLemmas.{caused_less}
-use Rattle.model_laws.proofs.untold.less_where_untold.Goals as goal
-
-pub returns : goal.returns
-returns c = caused_less
