@@ -1,5 +1,5 @@
 -- A put or a read that is refused for a fence is so for one that a bootstrap of the shard asked for, or that an earlier run left.
-use Rattle.std.proofs.Common.{◌≡◌, ℕ, suc, ◌<◌, ◌≤◌, List, [], ◌++◌, take, length, sym, ap, ◌∙◌, subst, inl, inr, arith, true}
+use Rattle.std.proofs.Common.{◌≡◌, ℕ, suc, ◌<◌, ◌≤◌, List, [], ◌∷◌, ◌++◌, take, length, sym, ap, ◌∙◌, subst, inl, inr, arith, true, append-nil}
 use Rattle.std.specs.Prelude.{◌⊎◌, Option, Some, None}
 use Rattle.std.proofs.lemmas.Bool.{cases_lt}
 use Rattle.m3_model.proofs.MemberLemmas.{IsIn-append_left}
@@ -10,16 +10,18 @@ use Rattle.m3_model.specs.declared.rules.MetaState.{MetaState}
 use Rattle.m3_model.specs.declared.turn.Turn.{Turn}
 use Rattle.cluster_core.specs.Earlier.{last_place, place_after}
 use Rattle.cluster_core.specs.Legal.{Legal}
+use Rattle.cluster_core.specs.Lists.{At}
 use Rattle.cluster_core.specs.declared.event.Event.{Event}
 use Rattle.cluster_core.specs.declared.event.Event.TheVariants as event
 use Rattle.cluster_core.proofs.ListLemmas.{at_take, at_within, fold_suc, some_same}
-use Rattle.transcripts.specs.Moves.{IsBootstrapFor, IsFencedAbove, IsLeftFence, IsOfMove}
-use Rattle.transcripts.specs.Placements.{printed}
+use Rattle.transcripts.specs.Moves.{IsBootstrapFor, IsFencedAbove, IsLeftFence, IsOfMove, IsTakenIn, placement_by}
+use Rattle.transcripts.specs.Placements.{placement_after, printed, start_placement}
 use Rattle.transcripts.specs.Record.{TurnPlace, IsTurnPlace, inner_turns, joined, lists_of}
 use Rattle.told_by.specs.Told.{ToldBy}
 use Rattle.told_by.proofs.LeaveLemmas.{place_there}
-use Rattle.told_by.proofs.PrintedLemmas.{greatest_so_far}
-use Rattle.told_by.proofs.TurnLemmas.{cut_before, flat_map-IsIn, in_cut, in_its_line}
+use Rattle.told_by.proofs.LineLemmas.{at_front, line_below, take_front}
+use Rattle.told_by.proofs.PrintedLemmas.{ends_within, greatest_so_far, placements_stand}
+use Rattle.told_by.proofs.TurnLemmas.{at_cut, cut_before, flat_map-IsIn, in_cut, in_its_line}
 use Rattle.told_causes.specs.Boot.{IsBootAct}
 use Rattle.told_causes.proofs.AloneLemmas.{alone_place}
 use Rattle.told_moves.specs.Moves.{IsPlaced, IsQuiet, StaleIsSaid}
@@ -28,7 +30,7 @@ use Rattle.told_moves.proofs.AskLemmas.{IsBootOf, IsMoveAsk}
 use Rattle.told_moves.proofs.FenceLemmas.{MovesBefore, fence_source}
 use Rattle.told_moves.proofs.ReasonLemmas.{RefusedIn, refused_in}
 use Rattle.told_moves.proofs.StoodLemmas.{known_place, may_stand}
-use Rattle.told_moves.proofs.TenureLemmas.{assigned_low, assigned_so}
+use Rattle.told_moves.proofs.TenureLemmas.{assigned_low, assigned_so, stands_from}
 
 -- ---- turns
 
@@ -52,6 +54,28 @@ module _ (start : Option MetaState) (turns : List Turn) (events : List Event) (l
         ]
       ]
 
+  -- a placement that stands somewhere in the stretch of a turn of an earlier line stood when that line began, or when it ended
+  taken_in : (p : TurnPlace) → IsTurnPlace turns p → (q : TurnPlace) → IsTurnPlace turns q → length q.lines < length p.lines → (k : ℕ) → (told.spans).from q ≤ k → k < told.ends (suc (length q.lines)) → (place : Placement) → last_place (take k events) ≡ Some place → IsTakenIn start p.lines place q.turn
+  taken_in p at q at_q early k low high place last =
+      let n = length q.lines in
+      let less : n < length turns = line_below turns q at_q in
+      let bound = ends_within start turns events legal told (suc n) less in
+      let begins = (told.lines).low q at_q in
+      let front : (m : ℕ) → m ≤ length p.lines → take m turns ≡ take m p.lines = λ m within. ap (take m) at.in_run ∙ take_front p.lines (p.line ∷ at.after) m within in
+      let there : At turns n q.line = subst (λ ts. At ts n q.line) (sym at_q.in_run) (at_cut q.lines q.line at_q.after) in
+      record {
+        number = n;
+        line = q.line;
+        stands = at_front p.lines (p.line ∷ at.after) n q.line (subst (λ ts. At ts n q.line) at.in_run there) early;
+        taken = subst (λ ts. IsIn ts q.turn) (sym (append-nil (joined (lists_of q.line)))) (in_its_line q at_q.stands);
+        stood = elim (stands_from events legal (told.ends n) k (omega (arith, begins, low)) (omega (arith, high, bound)) place last) as (λ _. (placement_by start p.lines n ≡ Some place) ⊎ (placement_by start p.lines (suc n) ≡ Some place)) [
+          | inl same ↦ inl (ap (λ ls. placement_after (start_placement start) (inner_turns ls)) (sym (front n (omega (arith, early)))) ∙ sym (placements_stand start turns events legal told n (omega (arith, less))) ∙ same)
+          | inr z ↦
+              inr (ap (λ ls. placement_after (start_placement start) (inner_turns ls)) (sym (front (suc n) early)) ∙ sym (placements_stand start turns events legal told (suc n) less)
+              ∙ order.one n z.0 place z.1 less z.2 (omega (arith, z.3, high)) z.4)
+        ];
+      }
+
   -- what a turn asked for before isn't above the placement that stands; the bootstrap that asked for it is before the turn
   boot_moves : (p : TurnPlace) → IsTurnPlace turns p → IsQuiet p → (s fence k node : ℕ) → k < (told.spans).to p → (ask : IsMoveAsk start turns events legal told k node s fence) → IsBootOf ask.q ask.place node s → IsOfMove start p s fence
   boot_moves p at quiet s fence k node high ask boot =
@@ -61,11 +85,10 @@ module _ (start : Option MetaState) (turns : List Turn) (events : List Event) (l
       let early = asked_earlier p ask.q at ask.in_run quiet (subst IsBootAct (sym boot.act_is) tt) (omega (arith, (ask.within).0, high)) in
       record {
         place = ask.place;
-        known = known_place start turns events legal told order p at quiet.prints_none there.0 ask.place there.1 stands.0 (omega (arith, stands.1, high, (told.lines).high p at));
         node = node;
         assigned = assigned_so ask.place node s fence ask.assigned;
         turn = (ask.q).turn;
-        taken = IsIn-append_left (inner_turns p.lines) (p.earlier ++ p.beside) (ask.q).turn (among_lines turns ask.q p ask.in_run at early);
+        taken = inl (taken_in p at ask.q ask.in_run early k (ask.within).0 (omega (arith, (ask.within).1, (told.lines).high ask.q ask.in_run)) ask.place ask.last);
         asks = record { instance_ = named.instance_; stands = named.stands; holds = subst (IsBootstrapFor s (named.instance_).name) (sym boot.act_is) (sym named.holds, boot.covers) };
       }
 
