@@ -7,12 +7,12 @@ use m3_model::memory::Memory;
 use m3_model::placement::{Assignment, Placement, ShardState};
 use m3_model::seq::Seq;
 use m3_model::text::Text;
-use placement_plan::addition::add;
+use placement_moves::addition::add;
+use placement_moves::drainage::drain;
+use placement_moves::replacement::replace;
 use placement_plan::completion::cancel;
-use placement_plan::drainage::drain;
 use placement_plan::plan_err::PlaceErr;
 use placement_plan::removal::remove;
-use placement_plan::replacement::replace;
 use std::alloc::{AllocError, Global};
 use std::test::Fail;
 

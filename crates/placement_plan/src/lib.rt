@@ -1,16 +1,14 @@
-//! Which placement a request to add, drain, cancel, remove or replace a node leads to, and when there is none.
+//! Which placement a request to cancel moves, end them or remove a node leads to, and when there is none. What all plans
+//! share, those that begin moves too: nodes, their shards and loads, and laws.
 #![tactic(auto)]
 
-pub mod addition;
 pub mod choice;
 pub mod completion;
-pub mod drainage;
 pub mod laws;
 pub mod loads;
 pub mod nodes;
 pub mod plan_err;
-mod readiness;
+pub mod readiness;
 pub mod removal;
-pub mod replacement;
-mod shards;
-mod version;
+pub mod shards;
+pub mod version;

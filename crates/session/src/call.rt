@@ -7,7 +7,7 @@ use net_plan::fate_key::FateKey;
 use net_plan::fates::Fates;
 
 /// A call of a client.
-#[derive(Clone, Copy, Debug)]
+#[derive(Clone, Copy)]
 pub struct Call {
     /// 0 for the lines outside `par`; the client of a list of `par` is one more than the list's place.
     pub client: u32,

@@ -1,6 +1,0 @@
-use Rattle.placement_plan.specs.Plans.{MovesTo}
-use Rattle.placement_plan.proofs.PlaceLemmas.{MadeBelow}
-use Rattle.placement_plan.proofs.replacement.moved_shards.Given as goal
-
-abbrev pub invariant-loop-shard : goal.invariant-loop-shard
-invariant-loop-shard l = MadeBelow (λ s. MovesTo l.version l.from l.to) l.shards l.next.items l.shard-index
