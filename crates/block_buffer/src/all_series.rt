@@ -1,4 +1,4 @@
-ghost use Rattle.std.specs.Prelude.{◌≡◌, ◌||◌, ℕ, ◌+◌, ◌-◌, ◌<◌, ◌^◌, Some, None, cond, not, false, min, length, count_by, nat_le, slice_get, IsSome, IfSome, IfOk, OnOk, ◌++◌};
+ghost use Rattle.std.specs.Prelude.{◌≡◌, ◌||◌, ℕ, ◌+◌, ◌-◌, ◌<◌, ◌^◌, Some, None, cond, not, false, min, length, count_by, nat_le, slice_get, is_some, IsSome, IfSome, IfOk, OnOk, ◌++◌};
 ghost use Rattle.std.specs.List.{flat_map, filter_map, list_any, All};
 ghost use Rattle.std.specs.BTreeSet.{contains, IsOrdered};
 ghost use Rattle.std.specs.Option.{option_copied};
@@ -58,10 +58,16 @@ impl AllSeries {
         }
     }
 
-    // Makes a slot of the series at this time, if there is none. No value changes.
-    pub(crate) fn hold(&mut self, alloc: Global, series: &SeriesKey, t: u64) -> Result<(), Memory>
+    // Makes a slot of the series at this time, if there is none. No value changes. Says whether there is a value.
+    pub(crate) fn hold(
+        &mut self,
+        alloc: Global,
+        series: &SeriesKey,
+        t: u64,
+    ) -> Result<bool, Memory>
         ensures kept { (k : Key) → value_of self.new k ≡ value_of self.old k }
         ensures stands { OnOk result (IsSome (slot_at self.new (key_at series.now t))) }
+        ensures valued { IfOk result (λ valued. valued ≡ is_some (value_of self.old (key_at series.now t))) }
     {
         if self.map.contains_key(series) {
             return self.hold_in(series, t);
@@ -70,22 +76,24 @@ impl AllSeries {
     }
 
     // The same, of a series that isn't there.
-    fn hold_new(&mut self, alloc: Global, series: SeriesKey, t: u64) -> Result<(), Memory>
+    fn hold_new(&mut self, alloc: Global, series: SeriesKey, t: u64) -> Result<bool, Memory>
         requires { finite.get self.old series ≡ None }
         ensures kept { (k : Key) → value_of self.new k ≡ value_of self.old k }
         ensures stands { OnOk result (IsSome (slot_at self.new (key_at series t))) }
+        ensures valued { IfOk result (λ valued. valued ≡ is_some (value_of self.old (key_at series t))) }
     {
         let mut buffer = SeriesBuffer::new(alloc);
         buffer.hold(t)?;
         self.map.insert(series, buffer)?;
-        Ok(())
+        Ok(false)
     }
 
     // The same, of a series that is there.
-    fn hold_in(&mut self, series: &SeriesKey, t: u64) -> Result<(), Memory>
+    fn hold_in(&mut self, series: &SeriesKey, t: u64) -> Result<bool, Memory>
         requires { IsSome (finite.get self.old series.now) }
         ensures kept { (k : Key) → value_of self.new k ≡ value_of self.old k }
         ensures stands { OnOk result (IsSome (slot_at self.new (key_at series.now t))) }
+        ensures valued { IfOk result (λ valued. valued ≡ is_some (value_of self.old (key_at series.now t))) }
     {
         match self.map.get_mut(series) {
             Some(buffer) => buffer.hold(t),

@@ -1,4 +1,4 @@
-ghost use Rattle.std.specs.Prelude.{◌≡◌, ◌+◌, ◌-◌, ◌^◌, ◌<◌, min, Some, None, IfOk, OnOk, OnErr};
+ghost use Rattle.std.specs.Prelude.{◌≡◌, ◌+◌, ◌-◌, ◌^◌, ◌<◌, min, Some, None, is_some, IfOk, OnOk, OnErr};
 ghost use Rattle.std.specs.FinMap as finite;
 ghost use Rattle.m3_model.specs.Contents.{raised, raised_at, is_higher, key_of};
 ghost use Rattle.block_buffer.specs.Joins.{joined, points_of_series, IsJoinedInPart};
@@ -54,13 +54,15 @@ impl Buffer {
         }
     }
 
-    /// Takes the memory that a `put` of this point needs, and gives up the room for any other, in logarithmic time.
+    /// Takes the memory that a `put` of this point needs, and gives up the room for any other, in logarithmic time. Says
+    /// whether a point stands at its key already.
     ///
     /// # Errors
     ///
     /// Want of memory leaves the points as they were, and no room.
-    pub fn room(&mut self, p: &Point) -> Result<(), Memory>
+    pub fn room(&mut self, p: &Point) -> Result<bool, Memory>
         ensures ok { OnOk result (self.new ≡ record { points = self.old.points; room = Some (key_of p.now) }) }
+        ensures stands { IfOk result (λ stands. stands ≡ is_some (finite.get self.old.points (key_of p.now))) }
         ensures err { OnErr result (self.new ≡ record { points = self.old.points; room = None }) }
     {
         self.release();
@@ -73,9 +75,9 @@ impl Buffer {
             ns: p.ns,
             id: p.id.copy(self.alloc)?,
         };
-        self.all.hold(self.alloc, &series, p.t)?;
+        let stands = self.all.hold(self.alloc, &series, p.t)?;
         self.room = Some(key);
-        Ok(())
+        Ok(stands)
     }
 
     /// Joins the point, of which the higher value stays at its key, and uses up the room for it. Says whether that

@@ -106,16 +106,17 @@ impl SeriesBuffer {
         }
     }
 
-    // Makes a slot at this time, if there is none. No value changes.
-    pub(crate) fn hold(&mut self, t: u64) -> Result<(), Memory>
+    // Makes a slot at this time, if there is none. No value changes. Says whether there is a value.
+    pub(crate) fn hold(&mut self, t: u64) -> Result<bool, Memory>
         ensures kept { (q : ℕ) → value_at self.new q ≡ value_at self.old q }
         ensures stands { OnOk result (IsSome (finite.get self.new t)) }
+        ensures valued { IfOk result (λ valued. valued ≡ is_some (value_at self.old t)) }
     {
-        if self.slots.contains_key(&t) {
-            return Ok(());
+        if let Some(slot) = self.slots.get(&t) {
+            return Ok(slot.is_some());
         }
         self.slots.insert(t, None)?;
-        Ok(())
+        Ok(false)
     }
 
     // The value at this time.

@@ -5,7 +5,7 @@ use Rattle.std.proofs.lemmas.List.{take_all, take-take, length-take-le}
 use Rattle.std.proofs.lemmas.Bool.{cases_lt, eqb-true, eq-eqb}
 use Rattle.std.specs.FinMap.{get}
 use Rattle.m3_outside.specs.declared.file_name.FileName.{FileName}
-use Rattle.m3_outside.specs.Files.{Files}
+use Rattle.m3_outside.specs.Files.{Files, IsPresent}
 use Rattle.wire_bytes.specs.Fields.{Begins, StopsAt}
 use Rattle.wire_bytes.proofs.FieldLemmas.{begins_take}
 use Rattle.commit_log.specs.Segment.{segment, Reads, IsSegment, HasChunks}
@@ -90,3 +90,11 @@ front_is files number size name bytes named is read = by (get files name) refl i
           is = read file there ∙ min_take size file long ∙ ap (take 65536) (sym same);
           whole_is = ((λ w. ap length same ∙ long ∙ eqb-true size 65536 w), (λ e. eq-eqb size 65536 (sym long ∙ ap length (sym same) ∙ e)));
         }
+
+-- a segment whose file has a size is there
+pub sized_is_there : (files : Files) (number size : ℕ) (name : FileName) → name ≡ segment number → Some size ≡ option_map length (get files name) → IsPresent (segment number) files
+sized_is_there files number size name named is = by (get files name) refl is
+  where
+    by : (o : Option (List ℕ)) → get files name ≡ o → Some size ≡ option_map length o → IsPresent (segment number) files
+    by None there e = absurd (cc)
+    by (Some file) there e = record { file = file; there = ap (λ (m : FileName). get files m) (sym named) ∙ there }

@@ -1,5 +1,5 @@
 -- The numbers of the segments of a disk's files: they ascend, and are those of the segments that are there.
-use Rattle.std.proofs.Common.{◌≡◌, inl, inr, ℕ, ◌<◌, ◌≤◌, List, [], ◌∷◌, map, refl, sym, ap, ◌∙◌, Bool, true, false, cond, ◌&&◌, Some, None, Option, arith, max}
+use Rattle.std.proofs.Common.{◌≡◌, inl, inr, ℕ, ◌<◌, ◌≤◌, List, [], ◌∷◌, map, refl, sym, ap, ◌∙◌, Bool, true, false, cond, ◌&&◌, Some, None, Option, arith, max, subst}
 use Rattle.std.specs.Prelude.{nat_lt, ◌==◌}
 use Rattle.std.specs.List.{filter}
 use Rattle.std.proofs.lemmas.Bool.{eqb-true, ltb-true}
@@ -99,24 +99,33 @@ none_of (Some file) never = absurd (never file refl)
 pub none_from_after : (files : Files) (next : ℕ) → next ≡ next_after (numbers files) → NoneFrom next files
 none_from_after files next is = λ n le. none_of (get files (segment n)) (λ file there. let h = below_next (numbers files) n (there_in files n file there) in omega (arith, is))
 
--- two ascending lists of the same members are one
-pub same_members : (ms ns : List ℕ) → Ascends (λ a b. a < b) ms → Ascends (λ a b. a < b) ns → ((n : ℕ) → IsIn ms n → IsIn ns n) → ((n : ℕ) → IsIn ns n → IsIn ms n) → ms ≡ ns
-same_members [] [] a b to back = refl
-same_members [] (n ∷ ns) a b to back = absurd (back n (inl refl))
-same_members (m ∷ ms) [] a b to back = absurd (to m (inl refl))
-same_members (m ∷ ms) (n ∷ ns) a b to back =
-    let first : m ≡ n = heads (to m (inl refl)) (back n (inl refl)) in
-    let rest : ms ≡ ns = same_members ms ns a.1 b.1 (λ k h. later n ns k (λ e. let lt = a.0 k h in omega (arith, first, e)) (to k (inr h))) (λ k h. later m ms k (λ e. let lt = b.0 k h in omega (arith, first, e)) (back k (inr h))) in
+-- two lists of the same members are one, where both ascend and of no two elements each is before the other
+pub ascending_is_one : {X : Type 0} (Before : X → X → Type 0) → ((x y : X) → Before x y → Before y x → ⊥) → (xs ys : List X) → Ascends Before xs → Ascends Before ys → ((x : X) → IsIn xs x → IsIn ys x) → ((x : X) → IsIn ys x → IsIn xs x) → xs ≡ ys
+ascending_is_one Before apart [] [] a b to back = refl
+ascending_is_one Before apart [] (y ∷ ys) a b to back = absurd (back y (inl refl))
+ascending_is_one Before apart (x ∷ xs) [] a b to back = absurd (to x (inl refl))
+ascending_is_one {X} Before apart (x ∷ xs) (y ∷ ys) a b to back =
+    let first : x ≡ y = heads (to x (inl refl)) (back y (inl refl)) in
+    let rest : xs ≡ ys =
+    ascending_is_one Before apart xs ys a.1 b.1 (λ z m. later y ys z (λ e. itself z (subst (λ (w : X). Before w z) (first ∙ e) (a.0 z m))) (to z (inr m)))
+    (λ z m. later x xs z (λ e. itself z (subst (λ (w : X). Before w z) (sym first ∙ e) (b.0 z m))) (back z (inr m))) in
     λ i. first i ∷ rest i
   where
-    heads : IsIn (n ∷ ns) m → IsIn (m ∷ ms) n → m ≡ n
+    itself : (z : X) → Before z z → ⊥
+    itself z h = apart z z h h
+
+    heads : IsIn (y ∷ ys) x → IsIn (x ∷ xs) y → x ≡ y
     heads (inl e) h = sym e
     heads (inr f) (inl e) = e
-    heads (inr f) (inr g) = absurd (let p = b.0 m f in let q = a.0 n g in omega (arith, p, q))
+    heads (inr f) (inr g) = absurd (apart x y (a.0 y g) (b.0 x f))
 
-    later : (x : ℕ) (xs : List ℕ) (k : ℕ) → (x ≡ k → ⊥) → IsIn (x ∷ xs) k → IsIn xs k
-    later x xs k apart (inl e) = absurd (apart e)
-    later x xs k apart (inr h) = h
+    later : (w : X) (ws : List X) (z : X) → (w ≡ z → ⊥) → IsIn (w ∷ ws) z → IsIn ws z
+    later w ws z other (inl e) = absurd (other e)
+    later w ws z other (inr m) = m
+
+-- two ascending lists of numbers with the same members are one
+pub same_members : (ms ns : List ℕ) → Ascends (λ a b. a < b) ms → Ascends (λ a b. a < b) ns → ((n : ℕ) → IsIn ms n → IsIn ns n) → ((n : ℕ) → IsIn ns n → IsIn ms n) → ms ≡ ns
+same_members ms ns a b to back = ascending_is_one (λ a b. a < b) (λ x y h g. omega arith) ms ns a b to back
 
 -- what an ascending list keeps of its members below a number
 pub in_below : (ns : List ℕ) (number k : ℕ) → IsIn (filter (λ n. nat_lt n number) ns) k → IsIn ns k × (k < number)

@@ -1,12 +1,14 @@
 ghost use Rattle.std.specs.Prelude.{◌≡◌, ◌≤◌, ℕ, List, true, Some, length, take, IfOk, IsErrOf};
 ghost use Rattle.std.specs.FinMap.{get};
 ghost use Rattle.m3_model.specs.declared.limits.TheConstants.{SEGMENT_BYTES};
-ghost use Rattle.m3_outside.specs.Files.{IsInside};
+ghost use Rattle.m3_outside.specs.Causes.{CountsFaults};
+ghost use Rattle.m3_outside.specs.Files.{IsInside, IsPresent};
 ghost use Rattle.m3_outside.specs.DiskState.{DiskState, Told};
 ghost use Rattle.m3_outside.specs.DiskCalls.{LeavesFiles};
-ghost use Rattle.m3_outside.specs.declared.disk_err.DiskErr.TheVariants.{Failed as DiskFailed};
+ghost use Rattle.m3_outside.specs.declared.disk_err.DiskErr.TheVariants.{Failed as DiskFailed, Memory as WantOfMemory};
 ghost use Rattle.commit_log.specs.Contents.{segment_bytes};
 ghost use Rattle.commit_log.specs.Reading.{IsFront};
+ghost use Rattle.commit_log.specs.Segment.{segment};
 
 use crate::chunk::segment_name;
 use m3_model::limits::SEGMENT_BYTES;
@@ -44,11 +46,14 @@ fn read_file<D: Disk>(
 ///
 /// # Errors
 ///
-/// A fault, or want of memory. All files stay.
+/// A fault, by which the disk's count rose in this call. Want of memory, which a segment that isn't there never has. After
+/// either the files, and what a stop leaves of them, are as they were.
 pub fn read_front<D: Disk>(alloc: Global, disk: &mut D, number: u64) -> Result<Front, DiskErr>
     ensures leaves { LeavesFiles (IsErrOf result DiskFailed) (D.state disk.old) (D.state disk.new) }
     ensures ok { (D.state disk.old).tells ≡ true → IfOk result (λ front. IsFront front.bytes.items front.is_whole (segment_bytes number (D.state disk.old).files)) }
     ensures short { IfOk result (λ front. length front.bytes.items ≤ SEGMENT_BYTES) }
+    ensures memory { IsErrOf result WantOfMemory → Told (D.state disk.old) (IsPresent (segment number)) }
+    ensures faults { CountsFaults (IsErrOf result DiskFailed) (D.state disk.old).faults (D.state disk.new).faults }
 {
     let name = segment_name(number);
     let Some(size) = disk.size(name)? else {

@@ -1,5 +1,6 @@
-ghost use Rattle.std.specs.Prelude.{◌≡◌, ◌<◌, ℕ, true, ◌↔◌, IsTrue, IfOk, OnOk, IfErr, IfSome, IsErrOf};
+ghost use Rattle.std.specs.Prelude.{◌≡◌, ◌<◌, ◌≤◌, ℕ, true, ◌↔◌, IsTrue, IfOk, OnOk, IfErr, IfSome, IsErr, IsErrOf};
 ghost use Rattle.m3_model.specs.declared.limits.TheConstants.{NUMBER_END};
+ghost use Rattle.m3_outside.specs.Causes.{CountsFaults};
 ghost use Rattle.m3_outside.specs.DiskState.{DiskState, Told};
 ghost use Rattle.m3_outside.specs.DiskCalls.{LeavesFiles};
 ghost use Rattle.m3_outside.specs.declared.disk_err.DiskErr.TheVariants.{Failed as DiskFailed};
@@ -78,13 +79,16 @@ pub struct Segments {
 ///
 /// # Errors
 ///
-/// A fault. Want of memory, also where the number `next` would be `NUMBER_END` or a higher one. All files stay.
+/// A fault, by which the disk's count rose in this call. Want of memory, always where the number `next` would be `NUMBER_END`
+/// or a higher one. After either the files, and what a stop leaves of them, are as they were.
 pub fn list_segments<D: Disk>(alloc: Global, disk: &mut D) -> Result<Segments, DiskErr>
     ensures leaves { LeavesFiles (IsErrOf result DiskFailed) (D.state disk.old) (D.state disk.new) }
     ensures ok { (D.state disk.old).tells ≡ true → IfOk result (λ segments. segments.numbers ≡ numbers (D.state disk.old).files) }
     ensures next { IfOk result (λ segments. segments.next ≡ contents.next_after segments.numbers) }
     ensures limit { IfOk result (λ segments. segments.next < NUMBER_END) }
+    ensures full { (D.state disk.old).tells ≡ true → NUMBER_END ≤ contents.next_after (numbers (D.state disk.old).files) → IsErr result }
     ensures fresh { IfOk result (λ segments. Told (D.state disk.new) (NoneFrom segments.next)) }
+    ensures faults { CountsFaults (IsErrOf result DiskFailed) (D.state disk.old).faults (D.state disk.new).faults }
 {
     let numbers = segment_numbers(alloc, disk)?;
     match next_after(&numbers) {

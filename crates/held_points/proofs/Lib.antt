@@ -6,3 +6,4 @@ pub mod IndexLemmas
 pub mod CandidateLemmas
 pub mod AnswerLemmas
 pub mod JoinLemmas
+pub mod CountLemmas

@@ -1,3 +1,4 @@
 pub mod Matched
 pub mod Selected
 pub mod Indexed
+pub mod Counted

@@ -1,13 +1,14 @@
-ghost use Rattle.std.specs.Prelude.{◌≡◌, Some, None, IfOk, OnOk, OnErr};
+ghost use Rattle.std.specs.Prelude.{◌≡◌, ◌⊎◌, ◌<◌, ◌≤◌, Some, None, IsSome, IfOk, OnOk, OnErr};
 ghost use Rattle.std.specs.FinMap as finite;
 ghost use Rattle.m3_model.specs.Contents.{raised, content_of, key_of};
 ghost use Rattle.m3_model.specs.Answers.{IsAnswer};
+ghost use Rattle.m3_model.specs.declared.limits.TheConstants.{MOST_REPLICA_POINTS};
 
 use crate::candidates::{candidates, names};
+use crate::counted::CountedBuffer;
 use crate::listing::{list, unlist};
 use crate::matching::unequal;
 use crate::ranges::ranges;
-use block_buffer::buffer::Buffer;
 use m3_model::memory::Memory;
 use m3_model::point::{Pick, Point, Series};
 use m3_model::seq::Seq;
@@ -15,14 +16,14 @@ use std::alloc::Global;
 use std::marker::Model;
 use tag_index::Index;
 
-/// The points of one shard that one replica holds, in memory. Contracts see it as its content, and beside that the key for
-/// which there is room: at it the next `put` takes no memory.
+/// The points of one shard that one replica holds, in memory: at most `MOST_REPLICA_POINTS`. Contracts see it as its content,
+/// and beside that the key for which there is room: at it the next `put` takes no memory.
 ///
 /// See M3DB's page "Storage Engine".
 #[derive(Drop)]
 pub struct HeldPoints {
     alloc: Global,
-    buffer: Buffer,
+    buffer: CountedBuffer,
     // The identifiers that have a point, by their tags, and that of the point for which there is room.
     index: Index,
     // Whether the point for which there is room is the first of its identifier.
@@ -49,7 +50,7 @@ impl HeldPoints {
     {
         HeldPoints {
             alloc,
-            buffer: Buffer::new(alloc),
+            buffer: CountedBuffer::new(alloc),
             index: Index::new(alloc),
             newly: false,
         }
@@ -60,11 +61,12 @@ impl HeldPoints {
     ///
     /// # Errors
     ///
-    /// Want of memory. Nothing changes.
+    /// Want of memory, always where there are `MOST_REPLICA_POINTS` points and none stands at the key. Nothing changes.
     pub fn room(&mut self, point: &Point) -> Result<(), Memory>
         requires { self.old.room ≡ None }
         ensures ok { OnOk result (self.new ≡ record { points = self.old.points; room = Some (key_of point.now) }) }
         ensures err { OnErr result (self.new ≡ self.old) }
+        ensures fits { OnOk result (IsSome (finite.get self.old.points (key_of point.now)) ⊎ (finite.len self.old.points < MOST_REPLICA_POINTS)) }
     {
         let newly = list(self.alloc, &mut self.index, &point.id)?;
         if let Err(e) = self.buffer.room(point) {
@@ -91,6 +93,14 @@ impl HeldPoints {
     {
         unlist(&mut self.index, self.newly, &point.id);
         self.buffer.release();
+    }
+
+    /// How many points there are, one at each key: never more than `MOST_REPLICA_POINTS`.
+    pub fn len(&self) -> u64
+        ensures counted { result ≡ finite.len self.now.points }
+        ensures limit { result ≤ MOST_REPLICA_POINTS }
+    {
+        self.buffer.len()
     }
 
     /// The points with `from <= t < to` of the series that the pick asks for: of the one identifier, or of each
@@ -123,6 +133,10 @@ impl HeldPoints {
 }
 
 /// The points joined, in memory: of several of one key the higher value. Each costs logarithmic time.
+///
+/// # Errors
+///
+/// Want of memory, always where they have more than `MOST_REPLICA_POINTS` keys.
 pub fn hold(alloc: Global, points: &[Point]) -> Result<HeldPoints, Memory>
     ensures { IfOk result (λ held. held ≡ record { points = content_of points.now; room = None }) }
 {

@@ -2,6 +2,7 @@
 #![tactic(auto)]
 
 mod candidates;
+mod counted;
 pub mod held;
 mod listing;
 mod matching;

@@ -6,7 +6,7 @@ ghost use Rattle.m3_model.specs.declared.point.Series.{Series};
 ghost use Rattle.block_buffer.specs.Ranges.{IsRangeOf};
 ghost use Rattle.held_points.specs.Selected.{IsSelection};
 
-use block_buffer::buffer::Buffer;
+use crate::counted::CountedBuffer;
 use m3_model::memory::Memory;
 use m3_model::point::{Pick, Series};
 use m3_model::seq::Seq;
@@ -16,7 +16,7 @@ use std::alloc::Global;
 // Adds the points of one series in the range, if there are any.
 fn add_range(
     alloc: Global,
-    buffer: &Buffer,
+    buffer: &CountedBuffer,
     all: &mut Vec<Series>,
     pick: Pick,
     from: u64,
@@ -33,7 +33,7 @@ fn add_range(
 // logarithmic time beside its points.
 pub(crate) fn ranges(
     alloc: Global,
-    buffer: &Buffer,
+    buffer: &CountedBuffer,
     ns: u8,
     ids: Seq<Text>,
     from: u64,

@@ -1,7 +1,7 @@
 -- The first damage of files is one, and damaged files hold nothing.
 use Rattle.std.proofs.Common.{◌≡◌, ◌⊎◌, inl, inr, ⊎_elim, ℕ, ◌≤◌, List, [], ◌∷◌, ◌++◌, map, length, take, drop, refl, sym, ap, subst, ◌∙◌, arith, append_assoc, append-nil, length-append, Some, None, Option}
 use Rattle.std.specs.Prelude.{unwrap_or}
-use Rattle.std.proofs.lemmas.List.{take_at, drop_at, drop-drop}
+use Rattle.std.proofs.lemmas.List.{take_at, drop_at, drop-drop, map-append}
 use Rattle.std.specs.FinMap.{get}
 use Rattle.sha2.specs.Sha256.{sha256}
 use Rattle.sha2.proofs.Facts256.{length-sha256}
@@ -19,8 +19,9 @@ use Rattle.wire_bytes.specs.Entries.{AnEntry}
 use Rattle.wire_bytes.proofs.StopLemmas.{stops_one}
 use Rattle.shard_files.specs.declared.entries.LogEntry.{LogEntry}
 use Rattle.shard_files.specs.Entries.{spelled, IsWithin, AreWithin}
-use Rattle.shard_files.specs.Parts.{part_name, part_of, VolumeHolds, counted_volumes, counted_snapshots, snapshot_data, snapshot_checkpoint, SnapshotHolds, NewestIs}
+use Rattle.shard_files.specs.Parts.{part_name, part_of, VolumeHolds, counted_volumes, counted_snapshots, snapshot_data, snapshot_checkpoint, SnapshotHolds, NewestIs, KnownVolume, VolumesAre}
 use Rattle.shard_files.specs.Damage.{Damage, OfForm, OfDigest, bytes_at, FirstFound, BreaksForm, BreaksDigest, IsGone, Differs, IsGate, IsInfo, IsSomeInfo, IsDerived, FormOf, kept_of, Look, AtForm, AtDigest, AtHead, looks, BreaksKept, LookFinds, IsBody, SnapshotLook, AtGate, AtKept, AtBody, SnapshotFinds, SegmentStops, BreaksSegment, Place, InVolume, InSnapshot, InSegment, last_of, places, PlaceFinds, DamagedHoldNothing, DamageIsOne, DigestsDiffer, ToldDigestsDiffer}
+use Rattle.shard_files.specs.Loading.{LogDamageIsFirst}
 use Rattle.shard_files.proofs.SpellingLemmas.{bytes_are}
 use Rattle.shard_files.proofs.VolumeSteps.{of_name}
 
@@ -261,40 +262,51 @@ last_only (m ∷ k ∷ names) n = last_only (k ∷ names) n
 in_split : {X : Type 0} (before : List X) (x : X) (after : List X) → IsIn (before ++ x ∷ after) x
 in_split before x after = IsIn-append_right before (x ∷ after) x (inl refl)
 
+-- nothing is found in whole volumes and in a whole snapshot
+module _ (files : Files) where
+  volume_unbroken : (known : List KnownVolume) → VolumesAre known files → (name : FileName) → IsIn (counted_volumes files) name → (d : Damage) → PlaceFinds files (InVolume name) d → ⊥
+  volume_unbroken known are name m d f =
+      let k = of_name files (counted_volumes files) known are name m in
+      let g = subst (λ (q : FileName). PlaceFinds files (InVolume q) d) k.2.named f in
+      whole_volume k.0.head k.0.rows files k.2.holds g.one d g.found
+
+  snapshot_unbroken : (o : Option Snapshot) → NewestIs o files → (name : FileName) → IsIn (last_of (counted_snapshots files)) name → (d : Damage) → PlaceFinds files (InSnapshot name) d → ⊥
+  snapshot_unbroken None is name m d f = absurd (subst (λ l. IsIn l name) (ap last_of is) m)
+  snapshot_unbroken (Some s) is name m d f =
+      let listed : IsIn (snapshot_checkpoint s.number ∷ []) name = subst (λ l. IsIn l name) (ap last_of is.last ∙ last_only is.older (snapshot_checkpoint s.number)) m in
+      ⊎_elim (λ (e : snapshot_checkpoint s.number ≡ name).
+      let g = subst (λ (q : FileName). PlaceFinds files (InSnapshot q) d) (sym e) f in
+      whole_snapshot s files is.holds g.one d g.found) (λ (none : ⊥). none) listed
+
+  -- of these places none finds anything, where no segment of these does
+  places_unbroken : (known : List KnownVolume) (newest : Option Snapshot) (ns : List ℕ) → VolumesAre known files → NewestIs newest files → ((n : ℕ) → IsIn ns n → (d : Damage) → BreaksSegment files n d → ⊥)
+      → (place : Place) → IsIn (map InVolume (counted_volumes files) ++ (map InSnapshot (last_of (counted_snapshots files)) ++ map InSegment ns)) place → (d : Damage) → PlaceFinds files place d → ⊥
+  places_unbroken known newest ns are is none place m d f =
+      ⊎_elim (λ (v : IsIn (map InVolume (counted_volumes files)) place). let at = IsIn-map InVolume (counted_volumes files) place v in volume_unbroken known are at.0 at.1 d (subst (λ q. PlaceFinds files q d) (sym at.2) f))
+      (λ (rest : IsIn (map InSnapshot (last_of (counted_snapshots files)) ++ map InSegment ns) place).
+      ⊎_elim (λ (s : IsIn (map InSnapshot (last_of (counted_snapshots files))) place). let at = IsIn-map InSnapshot (last_of (counted_snapshots files)) place s in snapshot_unbroken newest is at.0 at.1 d (subst (λ q. PlaceFinds files q d) (sym at.2) f))
+      (λ (n : IsIn (map InSegment ns) place). let at = IsIn-map InSegment ns place n in none at.0 at.1 d (subst (λ q. PlaceFinds files q d) (sym at.2) f)) (IsIn-append_cases (map InSnapshot (last_of (counted_snapshots files))) (map InSegment ns) place rest))
+      (IsIn-append_cases (map InVolume (counted_volumes files)) (map InSnapshot (last_of (counted_snapshots files)) ++ map InSegment ns) place m)
+
 pub damaged_hold_nothing : DamagedHoldNothing
-damaged_hold_nothing files damage first points tenure fence held = by first.one (subst (λ l. IsIn l first.one) (sym first.split) (in_split first.before first.one first.after)) damage first.found
-  where
-    in_volume : (name : FileName) → IsIn (counted_volumes files) name → (d : Damage) → PlaceFinds files (InVolume name) d → ⊥
-    in_volume name m d f =
-        let k = of_name files (counted_volumes files) held.parts.volumes held.holds.volumes name m in
-        let g = subst (λ (q : FileName). PlaceFinds files (InVolume q) d) k.2.named f in
-        whole_volume k.0.head k.0.rows files k.2.holds g.one d g.found
+damaged_hold_nothing files damage first points tenure fence held =
+    places_unbroken files held.parts.volumes held.parts.newest (numbers files) held.holds.volumes held.holds.newest (λ n m d f. segment_unbroken (numbers files) files held.parts.entries held.holds.log.within held.holds.log.parts n m d f) first.one
+    (subst (λ l. IsIn l first.one) (sym first.split) (in_split first.before first.one first.after)) damage first.found
 
-    in_snapshot : (o : Option Snapshot) → NewestIs o files → (name : FileName) → IsIn (last_of (counted_snapshots files)) name → (d : Damage) → PlaceFinds files (InSnapshot name) d → ⊥
-    in_snapshot None is name m d f = absurd (subst (λ l. IsIn l name) (ap last_of is) m)
-    in_snapshot (Some s) is name m d f =
-        let listed : IsIn (snapshot_checkpoint s.number ∷ []) name = subst (λ l. IsIn l name) (ap last_of is.last ∙ last_only is.older (snapshot_checkpoint s.number)) m in
-        ⊎_elim (λ (e : snapshot_checkpoint s.number ≡ name).
-        let g = subst (λ (q : FileName). PlaceFinds files (InSnapshot q) d) (sym e) f in
-        whole_snapshot s files is.holds g.one d g.found) (λ (none : ⊥). none) listed
-
-    in_segment : (n : ℕ) → IsIn (numbers files) n → (d : Damage) → PlaceFinds files (InSegment n) d → ⊥
-    in_segment n m d f = segment_unbroken (numbers files) files held.parts.entries held.holds.log.within held.holds.log.parts n m d f
-
-    of_place : (place : Place) → ((name : FileName) × IsIn (counted_volumes files) name × (InVolume name ≡ place)) ⊎ (((name : FileName) × IsIn (last_of (counted_snapshots files)) name × (InSnapshot name ≡ place)) ⊎ ((n : ℕ) × IsIn (numbers files) n × (InSegment n ≡ place))) → (d : Damage)
-        → PlaceFinds files place d → ⊥
-    of_place place (inl v) d f = in_volume v.0 v.1 d (subst (λ q. PlaceFinds files q d) (sym v.2) f)
-    of_place place (inr (inl s)) d f = in_snapshot held.parts.newest held.holds.newest s.0 s.1 d (subst (λ q. PlaceFinds files q d) (sym s.2) f)
-    of_place place (inr (inr n)) d f = in_segment n.0 n.1 d (subst (λ q. PlaceFinds files q d) (sym n.2) f)
-
-    by : (place : Place) → IsIn (places files) place → (d : Damage) → PlaceFinds files place d → ⊥
-    by place m d f =
-        let vs = map InVolume (counted_volumes files) in
-        let ss = map InSnapshot (last_of (counted_snapshots files)) in
-        let ns = map InSegment (numbers files) in
-        of_place place (⊎_elim (λ (v : IsIn vs place). inl (IsIn-map InVolume (counted_volumes files) place v))
-        (λ (rest : IsIn (ss ++ ns) place). inr (⊎_elim (λ (s : IsIn ss place). inl (IsIn-map InSnapshot (last_of (counted_snapshots files)) place s)) (λ (n : IsIn ns place). inr (IsIn-map InSegment (numbers files) place n)) (IsIn-append_cases ss ns place rest)))
-        (IsIn-append_cases vs (ss ++ ns) place m)) d f
+pub log_damage_is_first : LogDamageIsFirst
+log_damage_is_first known newest number at files are is h =
+    let vs = map InVolume (counted_volumes files) in
+    let ss = map InSnapshot (last_of (counted_snapshots files)) in
+    let bs = map InSegment h.before in
+    let later = InSegment h.one ∷ map InSegment h.after in
+    record {
+      before = vs ++ (ss ++ bs);
+      one = InSegment h.one;
+      after = map InSegment h.after;
+      split = ap (λ (l : List Place). vs ++ (ss ++ l)) (ap (map InSegment) h.split ∙ map-append InSegment h.before (h.one ∷ h.after)) ∙ ap (λ (l : List Place). vs ++ l) (sym (append_assoc ss bs later)) ∙ sym (append_assoc vs (ss ++ bs) later);
+      none = λ place m other f. places_unbroken files known newest h.before are is (λ n k d g. h.none n k d g) place m other f;
+      found = h.found;
+    }
 
 -- ---- digests that are told
 

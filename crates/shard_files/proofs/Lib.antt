@@ -7,6 +7,7 @@ pub mod AmountLemmas
 pub mod GainLemmas
 pub mod EntryLemmas
 pub mod ContentLemmas
+pub mod OnceLemmas
 pub mod CountedLemmas
 pub mod PartLemmas
 pub mod FilesHoldLemmas

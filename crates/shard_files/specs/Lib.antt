@@ -1,5 +1,6 @@
 pub mod Entries
 pub mod Held
+pub mod Once
 pub mod Gains
 pub mod LogSteps
 pub mod HeldLaws

@@ -1,5 +1,5 @@
 -- What is found of the entries in files, or why none are.
-use Rattle.std.specs.Prelude.{◌≡◌, ⊤, ℕ, List, ◌++◌, map, length}
+use Rattle.std.specs.Prelude.{◌≡◌, ⊤, ℕ, List, ◌++◌, map, length, Option}
 use Rattle.m3_model.specs.declared.limits.TheConstants.{SEGMENT_BYTES}
 use Rattle.m3_outside.specs.Files.{Files}
 use Rattle.m3_outside.specs.declared.disk_err.DiskErr.{DiskErr}
@@ -10,7 +10,9 @@ use Rattle.shard_files.specs.declared.entries.LogEntry.{LogEntry}
 use Rattle.shard_files.specs.declared.entries.EntryErr.{EntryErr}
 use Rattle.shard_files.specs.declared.entries.EntryErr.TheVariants as refused
 use Rattle.shard_files.specs.Entries.{spelled, AreWithin}
-use Rattle.shard_files.specs.Damage.{OfForm, FirstFound, FirstStop, BreaksSegment}
+use Rattle.wire_bytes.specs.Snapshots.{Snapshot}
+use Rattle.shard_files.specs.Parts.{KnownVolume, VolumesAre, NewestIs}
+use Rattle.shard_files.specs.Damage.{OfForm, FirstFound, FirstStop, BreaksSegment, FirstDamage}
 use Rattle.shard_files.specs.declared.load_err.LoadErr.{LoadErr}
 use Rattle.shard_files.specs.declared.load_err.LoadErr.TheVariants as failures
 
@@ -58,3 +60,9 @@ abbrev pub MayBeUnsound : Files → LoadErr → Type 0
 MayBeUnsound files failures.Disk = ⊤
 MayBeUnsound files failures.Memory = ⊤
 MayBeUnsound files (failures.Form number at) = IsDamagedAt number at files
+
+-- ---- a law
+
+-- where the volumes that count and the newest snapshot are whole, the log's first damage is the first of all files
+abbrev pub LogDamageIsFirst : Type 0
+LogDamageIsFirst = (known : List KnownVolume) (newest : Option Snapshot) (number at : ℕ) (files : Files) → VolumesAre known files → NewestIs newest files → IsDamagedAt number at files → FirstDamage files (OfForm (segment number) at)

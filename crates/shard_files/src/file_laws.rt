@@ -5,6 +5,7 @@ ghost use Rattle.shard_files.specs.FilesHold.{HoldWhole};
 ghost use Rattle.shard_files.specs.FileLaws.{FilesHoldOne, FilesHoldOrdered, VolumeIsHeld, SnapshotIsHeld, CountedByCheckpoints, EachByItsFiles, AppendKeepsOthers, AppendBrings};
 ghost use Rattle.shard_files.specs.Damage.{DamagedHoldNothing, DamageIsOne, ToldDigestsDiffer};
 ghost use Rattle.shard_files.specs.Keeps.{KeepsThen, StopKeeps};
+ghost use Rattle.shard_files.specs.Loading.{LogDamageIsFirst};
 ghost use Rattle.shard_files.specs.StepLaws.{DoneIsStep, WriteKeeps, NextVolumeIsNew, TakeKeeps, SaveKeeps, NextSnapshotIsNew, CutKeeps, ClearKeeps, TakenByNames, StepsKeep, ClosedIsUncounted, VolumeNeedsItsFiles, CheckpointGoesFirst, SnapshotNeedsItsData};
 
 use m3_outside::disk::Disk;
@@ -147,6 +148,11 @@ pub fn damaged_hold_nothing()
 /// Files have at most one first damage.
 pub fn damage_is_one()
     ensures { DamageIsOne }
+{}
+
+/// Where the volumes and the newest snapshot that count are whole, the first damage of the log is the first of all files.
+pub fn log_damage_is_first()
+    ensures { LogDamageIsFirst }
 {}
 
 /// Where digests are told of a file, the one that is found is that of its bytes, and they differ.

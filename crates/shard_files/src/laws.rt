@@ -7,6 +7,7 @@ ghost use Rattle.shard_files.specs.declared.entries.LogEntry.{LogEntry};
 ghost use Rattle.shard_files.specs.Held.{Held, IsSound};
 ghost use Rattle.shard_files.specs.Loading.{IsDamagedAt};
 ghost use Rattle.shard_files.specs.HeldLaws.{OneSpelling, EntriesAreOne, HeldIsOne, OneMore, GrownIsJoined, StopLeavesPart};
+ghost use Rattle.shard_files.specs.Once.{OnceIsOne, OnceHasContent, HeldOnceIsOne};
 
 use m3_outside::disk::Disk;
 
@@ -48,6 +49,21 @@ pub fn one_more()
 /// A content that grew by part of a gain is the one from before, joined with points of the gain.
 pub fn grown_is_joined()
     ensures { GrownIsJoined }
+{}
+
+/// Lists of the same points have them each once, ascending by key and then by value, in one way.
+pub fn once_is_one()
+    ensures { OnceIsOne }
+{}
+
+/// Points, each once, stand for the same content.
+pub fn once_has_content()
+    ensures { OnceHasContent }
+{}
+
+/// Files hold at most one list of points that has each once and in order, with one tenure and one fence.
+pub fn held_once_is_one()
+    ensures { HeldOnceIsOne }
 {}
 
 /// A stop at any moment since a call began that may bring something leaves files that hold what those of one of the images

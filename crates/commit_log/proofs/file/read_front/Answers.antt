@@ -3,7 +3,7 @@ use Rattle.std.specs.FinMap.{get}
 use Rattle.m3_outside.specs.Files.{Files}
 use Rattle.m3_outside.specs.declared.disk_err.DiskErr.TheVariants.{Failed as DiskFailed}
 use Rattle.commit_log.proofs.Leaves.{leaves_as, leaves_then}
-use Rattle.commit_log.proofs.FileFronts.{front_is}
+use Rattle.commit_log.proofs.FileFronts.{front_is, sized_is_there}
 use Rattle.commit_log.proofs.ReadLemmas.{passed_err}
 use Rattle.commit_log.proofs.file.read_front.Goals as goal
 
@@ -24,3 +24,7 @@ returns-clause-ok g c = λ t.
     let told = c.in_ok-size.ensures.leaves.proceeds.tells ∙ t in
     front_is (g.D.Disk.state c.args.disk.now).files c.args.number c.in-Some.size c.segment_name-name.result c.in_ok-bytes.bytes.items c.segment_name-name.ensures (sym c.in-Some.is ∙ c.in_ok-size.ensures.size t)
     (λ file there. c.in_ok-bytes.ensures.ok told file (ap (λ (m : Files). get m c.segment_name-name.result) same ∙ there) ∙ ap (λ n. take n file) c.min.ensures)
+
+pub returns-in_err-bytes-clause-memory : goal.returns-in_err-bytes-clause-memory
+returns-in_err-bytes-clause-memory g c = λ _ t.
+    sized_is_there (g.D.Disk.state c.args.disk.now).files c.args.number c.in-Some.size c.segment_name-name.result c.segment_name-name.ensures (sym c.in-Some.is ∙ c.in_ok-size.ensures.size t)

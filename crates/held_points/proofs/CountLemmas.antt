@@ -1,0 +1,45 @@
+-- How many points are held, with one more and with room for one.
+use Rattle.std.proofs.Common.{◌≡◌, ℕ, ◌+◌, ◌<◌, refl, sym, ap, ◌∙◌, subst, Bool, true, false, cond, not, Option, Some, None, arith}
+use Rattle.std.specs.Prelude.{is_some, IfSome, ℤ}
+use Rattle.std.specs.FinMap as finite
+use Rattle.std.specs.FinMap.{len-empty, len-insert}
+use Rattle.m3_model.specs.declared.limits.TheConstants.{MOST_REPLICA_POINTS}
+use Rattle.m3_model.specs.declared.point.Key.{Key}
+use Rattle.m3_model.specs.declared.point.Point.{Point}
+use Rattle.m3_model.specs.Contents.{Contents, raised, key_of, higher}
+use Rattle.m3_model.specs.Keys.{key_cmp, key_cmp_total}
+use Rattle.block_buffer.specs.Held.{Held}
+use Rattle.held_points.specs.Counted.{IsCounted}
+
+pub none_counted : (held : Held) → held ≡ record { points = finite.empty; room = None } → IsCounted 0 false held
+none_counted held is = subst (IsCounted 0 false) (sym is) (record { counted = sym (len-empty key_cmp ℤ); limit = omega arith; fits = tt })
+
+-- without room the same are held
+pub counted_still : (count : ℕ) (adds : Bool) (held new : Held) → new ≡ record { points = held.points; room = None } → IsCounted count adds held → IsCounted count adds new
+counted_still count adds held new is h = subst (IsCounted count adds) (sym is) (record { counted = h.counted; limit = h.limit; fits = tt })
+
+-- with room for a point at this key
+pub counted_room : (count : ℕ) (adds stands : Bool) (held new : Held) (key : Key) → new ≡ record { points = held.points; room = Some key } → stands ≡ is_some (finite.get held.points key) → (stands ≡ false → count < MOST_REPLICA_POINTS) → IsCounted count adds held
+    → IsCounted count (not stands) new
+counted_room count adds stands held new key is there fits h = subst (IsCounted count (not stands)) (sym is) (record { counted = h.counted; limit = h.limit; fits = (ap not there, λ e. fits (off stands e)) })
+  where
+    off : (b : Bool) → not b ≡ true → b ≡ false
+    off true e = cc
+    off false e = refl
+
+-- what room says of the point for which it is
+pub room_fits : (count : ℕ) (adds : Bool) (held : Held) (key : Key) → held.room ≡ Some key → IsCounted count adds held → (adds ≡ not (is_some (finite.get held.points key))) × (adds ≡ true → count < MOST_REPLICA_POINTS)
+room_fits count adds held key is h = subst (λ (o : Option Key). IfSome o (λ k. (adds ≡ not (is_some (finite.get held.points k))) × (adds ≡ true → count < MOST_REPLICA_POINTS))) is h.fits
+
+-- with the point
+pub counted_more : (count next : ℕ) (adds : Bool) (held new : Held) (p : Point) → held.room ≡ Some (key_of p) → new ≡ record { points = raised held.points p; room = None } → next ≡ cond adds (count + 1) count → IsCounted count adds held → IsCounted next adds new
+counted_more count next adds held new p room is more h =
+    let fits = room_fits count adds held (key_of p) room h in
+    let longer = len-insert key_cmp_total held.points (key_of p) (higher (finite.get held.points (key_of p)) p.v) in
+    by adds (is_some (finite.get held.points (key_of p))) fits.0 fits.1 more longer
+  where
+    by : (adds there : Bool) → adds ≡ not there → (adds ≡ true → count < MOST_REPLICA_POINTS) → next ≡ cond adds (count + 1) count → finite.len (raised held.points p) ≡ cond there (finite.len held.points) (finite.len held.points + 1) → IsCounted next adds new
+    by true true e low more longer = absurd (cc)
+    by true false e low more longer = let was = h.counted in let lt = low refl in subst (IsCounted next true) (sym is) (record { counted = omega (arith, more, longer, was); limit = omega (arith, more, lt); fits = tt })
+    by false true e low more longer = let was = h.counted in let le = h.limit in subst (IsCounted next false) (sym is) (record { counted = omega (arith, more, longer, was); limit = omega (arith, more, le); fits = tt })
+    by false false e low more longer = absurd (cc)
