@@ -8,17 +8,18 @@ use Rattle.m3_model.specs.declared.replica.Standing.TheVariants as standing
 use Rattle.m3_outside.specs.Files.{Files}
 use Rattle.m3_outside.specs.DiskState.{DiskState, Told}
 use Rattle.shard_files.specs.Held.{Held}
+use Rattle.shard_files.specs.Once.{HeldOnce}
 use Rattle.shard_files.specs.declared.load_err.LoadErr.{LoadErr}
 use Rattle.shard_files.specs.declared.load_err.LoadErr.TheVariants as failures
 use Rattle.replica_machine.specs.Damages.{damage_of}
 use Rattle.replica_machine.specs.Machines.{MachineState, shut_machine}
 use Rattle.replica_machine.specs.declared.machine.Began.{Began}
 
--- from Boot: open with what the files hold, of which the tenure isn't higher
+-- from Boot: open with what the files hold, each point once and in order, of which the tenure isn't higher
 pub record BeganFrom {D : Type 0} (state : D → DiskState) (tenure : ℕ) (old new : MachineState D) (began : Began) : Type 0 where
   pub tenure_found : ℕ
   pub fence_found : ℕ
-  pub held : Told (state old.disk) (Held began.points tenure_found fence_found)
+  pub held : Told (state old.disk) (HeldOnce began.points tenure_found fence_found)
   pub not_higher : tenure_found ≤ tenure
   pub fence_is : began.fence ≡ max fence_found tenure
   pub new_is : new ≡ record { standing = standing.Open; tenure = Some tenure; begun = tenure; fence = began.fence; content = content_of began.points; disk = new.disk }

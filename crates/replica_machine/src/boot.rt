@@ -5,8 +5,9 @@ ghost use Rattle.m3_model.specs.declared.replica.Standing.TheVariants.{Down as I
 ghost use Rattle.m3_outside.specs.DiskState.{DiskState, Told, EachImage};
 ghost use Rattle.commit_log.specs.LogEnd.{NoneFrom};
 ghost use Rattle.m3_model.specs.declared.reason.Damage.{Damage};
-ghost use Rattle.shard_files.specs.Held.{Held, IsSound};
+ghost use Rattle.shard_files.specs.Held.{IsSound};
 ghost use Rattle.shard_files.specs.Gains.{a_tenure};
+ghost use Rattle.shard_files.specs.Once.{HeldOnce};
 ghost use Rattle.cluster_core.specs.declared.event.StepCall.TheVariants as call;
 ghost use Rattle.cluster_core.specs.declared.event.StepReply.TheVariants as reply;
 ghost use Rattle.replica_machine.specs.Machines.{IsOwn};
@@ -23,7 +24,7 @@ use m3_model::seq::Seq;
 use m3_outside::disk::Disk;
 use m3_outside::disk_err::DiskErr;
 use shard_files::load_err::LoadErr;
-use shard_store::load::Loaded;
+use shard_open::load::Loaded;
 
 impl<D: Disk> Machine<D> {
     /// Begins a tenure. From Boot it syncs and loads the files, begins a fresh segment of the log, has the tenure in it where
@@ -109,7 +110,7 @@ impl<D: Disk> Machine<D> {
         requires boot { self.old.standing ≡ IsBoot }
         requires high { self.old.begun ≤ tenure }
         requires not_higher { loaded.tenure ≤ tenure }
-        requires held { Told (D.state self.old.disk) (Held loaded.points loaded.tenure loaded.fence) }
+        requires held { Told (D.state self.old.disk) (HeldOnce loaded.points loaded.tenure loaded.fence) }
         requires only { EachImage (D.state self.old.disk) (λ c. c ≡ (D.state self.old.disk).files) }
         requires fresh { Told (D.state self.old.disk) (NoneFrom loaded.next_segment) }
         requires order { loaded.tenure ≤ loaded.fence }
