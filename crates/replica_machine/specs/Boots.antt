@@ -1,5 +1,5 @@
 -- How a machine begins a tenure.
-use Rattle.std.specs.Prelude.{◌≡◌, ◌⊎◌, ℕ, ◌<◌, ◌≤◌, max, [], List, Some}
+use Rattle.std.specs.Prelude.{◌≡◌, ◌⊎◌, ⊤, ℕ, ◌<◌, ◌≤◌, max, [], List, Some}
 use Rattle.m3_model.specs.Contents.{content_of}
 use Rattle.m3_model.specs.declared.point.Point.{Point}
 use Rattle.m3_model.specs.declared.reason.Reason.{Reason}
@@ -53,3 +53,12 @@ abbrev pub IsRefused : {D : Type 0} → MachineState D → MachineState D → Re
 IsRefused old new reason.Disk = new ≡ shut_machine standing.Down old new.disk
 IsRefused old new (reason.Corrupt damage) = new ≡ shut_machine standing.Down old new.disk
 IsRefused old new _ = new ≡ record old { disk = new.disk }
+
+-- the reasons for which a begin may be refused
+abbrev pub IsBootReason : Reason → Type 0
+IsBootReason reason.Down = ⊤
+IsBootReason reason.NotOwned = ⊤
+IsBootReason reason.Disk = ⊤
+IsBootReason (reason.Corrupt damage) = ⊤
+IsBootReason reason.Memory = ⊤
+IsBootReason _ = ⊥

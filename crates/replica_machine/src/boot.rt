@@ -12,7 +12,7 @@ ghost use Rattle.cluster_core.specs.declared.event.StepCall.TheVariants as call;
 ghost use Rattle.cluster_core.specs.declared.event.StepReply.TheVariants as reply;
 ghost use Rattle.replica_machine.specs.Machines.{IsOwn};
 ghost use Rattle.replica_machine.specs.Damages.{damage_of, IsDamageOf, IsFormDamage};
-ghost use Rattle.replica_machine.specs.Boots.{BeganFrom, BeganAgain, HoldsHigher, MayBeUnowned, MayNotLoad, IsRefused};
+ghost use Rattle.replica_machine.specs.Boots.{BeganFrom, BeganAgain, HoldsHigher, MayBeUnowned, MayNotLoad, IsRefused, IsBootReason};
 ghost use Rattle.replica_machine.specs.Steps.{reply_by, IsStep, BringsTo};
 
 use crate::damage::damaged_segment;
@@ -45,6 +45,7 @@ impl<D: Disk> Machine<D> {
         ensures sound { (damage : Damage) → IsErrOf result (reason.Corrupt damage) → Told (D.state self.old.disk) (λ files. ¬ IsSound files) }
         ensures damage { (damage : Damage) → IsErrOf result (reason.Corrupt damage) → Told (D.state self.old.disk) (IsDamageOf damage) }
         ensures form { (damage : Damage) → IsErrOf result (reason.Corrupt damage) → IsFormDamage damage }
+        ensures reasons { IfErr result IsBootReason }
         ensures err { IfErr result (IsRefused self.old self.new) }
         ensures disk { BringsTo (a_tenure tenure) result (D.state self.old.disk) (D.state self.new.disk) }
         ensures step { IsStep D.state self.old (call.Begin tenure) (reply_by (λ began. reply.Began began.fence began.points) result) self.new }
@@ -70,6 +71,7 @@ impl<D: Disk> Machine<D> {
         ensures unowned { IsErrOf result reason.NotOwned → Told (D.state self.old.disk) (HoldsHigher tenure) }
         ensures damage { (damage : Damage) → IsErrOf result (reason.Corrupt damage) → Told (D.state self.old.disk) (IsDamageOf damage) }
         ensures form { (damage : Damage) → IsErrOf result (reason.Corrupt damage) → IsFormDamage damage }
+        ensures reasons { IfErr result IsBootReason }
         ensures err { IfErr result (IsRefused self.old self.new) }
         ensures disk { BringsTo (a_tenure tenure) result (D.state self.old.disk) (D.state self.new.disk) }
         ensures step { IsStep D.state self.old (call.Begin tenure) (reply_by (λ began. reply.Began began.fence began.points) result) self.new }
