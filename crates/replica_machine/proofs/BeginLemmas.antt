@@ -11,6 +11,7 @@ use Rattle.m3_outside.specs.Files.{Files, Stays}
 use Rattle.m3_outside.specs.DiskState.{DiskState, Told, StepOf, Elapses}
 use Rattle.m3_outside.proofs.Moments.{step_as}
 use Rattle.shard_files.specs.Held.{Held, IsSound}
+use Rattle.shard_files.specs.Once.{HeldOnce}
 use Rattle.shard_files.specs.Loading.{MayBeUnsound}
 use Rattle.shard_files.specs.Gains.{nothing, a_tenure, Gains, MayGain}
 use Rattle.shard_files.specs.declared.load_err.LoadErr.{LoadErr}
@@ -148,7 +149,7 @@ module _ {D : Type 0} (state : D → DiskState) (old : MachineState D) (t : ℕ)
       began = record {
         tenure_found = from.tenure_found;
         fence_found = from.fence_found;
-        held = λ told. subst (Held began.points from.tenure_found from.fence_found) (files told) (from.held (same ∙ told));
+        held = λ told. subst (HeldOnce began.points from.tenure_found from.fence_found) (files told) (from.held (same ∙ told));
         not_higher = from.not_higher;
         fence_is = from.fence_is;
         new_is = from.new_is;

@@ -19,11 +19,13 @@ use Rattle.m3_outside.specs.declared.disk_err.DiskErr.{DiskErr}
 use Rattle.m3_outside.specs.declared.disk_err.DiskErr.TheVariants as refused
 use Rattle.placement_core.proofs.ListLemmas.{All-from_each, each-from_All, Any-from_IsIn}
 use Rattle.shard_files.specs.Held.{Held}
+use Rattle.shard_files.specs.Once.{HeldOnce}
 use Rattle.shard_files.specs.Gains.{nothing, a_tenure, Gains, MayGain, Brings}
 use Rattle.shard_store.specs.Stores.{StoreState, closed_over}
 use Rattle.shard_files.proofs.GainLemmas.{covers_itself}
 use Rattle.shard_files.proofs.HeldLemmas.{held_is_one}
-use Rattle.shard_store.proofs.LogStepLemmas.{counts_both, counts_for, counts_same}
+use Rattle.shard_store.proofs.LogStepLemmas.{counts_same}
+use Rattle.shard_open.proofs.Counts.{counts_both, counts_for}
 use Rattle.shard_files.proofs.ContentLemmas.{content_holds, content_source}
 use Rattle.cluster_core.specs.Refusals.{closed, first_refusal}
 use Rattle.cluster_core.specs.Replicas.{IsGone}
@@ -126,7 +128,7 @@ module _ {D : Type 0} (state : D → DiskState) (old : MachineState D) (t : ℕ)
     -- ---- done
 
     module _ (high : old.begun ≤ t) (fence : ℕ) (steps : (state old.disk).tells ≡ true → (c : Files) → (state d).images c → StepOf (Gains (a_tenure t)) (state old.disk).images c) where
-      module _ (boot : old.standing ≡ standing.Boot) (points : List Point) (tenure_found fence_found : ℕ) (low : tenure_found ≤ t) (fence_is : fence ≡ max fence_found t) (held : Told (state old.disk) (Held points tenure_found fence_found))
+      module _ (boot : old.standing ≡ standing.Boot) (points : List Point) (tenure_found fence_found : ℕ) (low : tenure_found ≤ t) (fence_is : fence ≡ max fence_found t) (held : Told (state old.disk) (HeldOnce points tenure_found fence_found))
           (only : EachImage (state old.disk) (λ c. c ≡ (state old.disk).files)) (image : Told (state old.disk) (state old.disk).images) where
         covered : (r : ReplicaState) → IsMachineOf state r old → (state old.disk).tells ≡ true → (p : Point) → IsIn r.sure p → ¬ IsGone r p → Covers points p
         covered r h told p m stays =
@@ -297,7 +299,7 @@ pub record OpenDone {D : Type 0} (state : D → DiskState) (old : MachineState D
   pub step : IsStep state old (call.Begin t) (reply.Began began.fence began.points) new
 
 module _ {D : Type 0} (state : D → DiskState) (s : Standing) (tenure : Option ℕ) (begun : ℕ) (old : MachineState D) (before now : StoreState D) (view : machine_of s tenure begun before ≡ old) (t : ℕ) (began : Began) (u : ⊤) where
-  pub open_done : old.standing ≡ standing.Boot → old.begun ≤ t → (points : List Point) (tenure_found fence_found : ℕ) → tenure_found ≤ t → Told (state old.disk) (Held points tenure_found fence_found) → EachImage (state old.disk) (λ c. c ≡ (state old.disk).files)
+  pub open_done : old.standing ≡ standing.Boot → old.begun ≤ t → (points : List Point) (tenure_found fence_found : ℕ) → tenure_found ≤ t → Told (state old.disk) (HeldOnce points tenure_found fence_found) → EachImage (state old.disk) (λ c. c ≡ (state old.disk).files)
       → Told (state old.disk) (state old.disk).images → now ≡ record { disk = now.disk; open_ = true; content = content_of points; tenure = max tenure_found t; fence = max fence_found t } → Brings (a_tenure t) (Ok u) (state before.disk) (state now.disk)
       → began.fence ≡ now.fence → began.points ≡ points → OpenDone state old t began (machine_of standing.Open (Some t) t now)
   open_done boot high points tenure_found fence_found low held only image ok brings fence there =
@@ -311,7 +313,7 @@ module _ {D : Type 0} (state : D → DiskState) (s : Standing) (tenure : Option 
         from = record {
           tenure_found = tenure_found;
           fence_found = fence_found;
-          held = λ told. subst (λ (ps : List Point). Held ps tenure_found fence_found (state old.disk).files) (sym there) (held told);
+          held = λ told. subst (λ (ps : List Point). HeldOnce ps tenure_found fence_found (state old.disk).files) (sym there) (held told);
           not_higher = low;
           fence_is = fence_is;
           new_is = subst (λ (ps : List Point). new ≡ record { standing = standing.Open; tenure = Some t; begun = t; fence = began.fence; content = content_of ps; disk = now.disk }) (sym there) new_is;

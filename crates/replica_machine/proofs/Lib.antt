@@ -13,3 +13,4 @@ pub mod BeginLemmas
 pub mod PartLemmas
 pub mod NumberLemmas
 pub mod OpeningLemmas
+pub mod BootReasons

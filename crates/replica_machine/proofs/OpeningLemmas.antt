@@ -10,7 +10,8 @@ use Rattle.placement_core.proofs.ListLemmas.{Any-from_IsIn, IsIn-from_Any}
 use Rattle.shard_files.specs.Held.{Held}
 use Rattle.shard_files.specs.Gains.{nothing, a_tenure, Grows, Gains, MayGain}
 use Rattle.shard_files.proofs.HeldLemmas.{held_is_one}
-use Rattle.replica_machine.specs.Openings.{IsUpTo, HaveSamePoints, CameFrom, BeginsAsMade, StaysAsMade, FirstBeginIsAsMade}
+use Rattle.shard_files.specs.Once.{HaveSamePoints}
+use Rattle.replica_machine.specs.Openings.{IsUpTo, CameFrom, BeginsAsMade, StaysAsMade, FirstBeginIsAsMade}
 use Rattle.replica_machine.proofs.DiskLemmas.{each_step}
 
 -- a list that grew by no points has the same
@@ -108,5 +109,15 @@ module _ {D : Type 0} (state : D → DiskState) (lawful : (d : D) → IsLawful (
   pub first_begin_is_as_made : FirstBeginIsAsMade state
   first_begin_is_as_made first tried t old new began tells made from =
       let h = made tells (state old.disk).files ((lawful old.disk).read_is_image tells) in
-      let one = held_is_one h.points began.points h.tenure from.tenure_found h.fence from.fence_found (state old.disk).files h.held (from.held tells) in
-      record { before = h.before; was = h.was; points_before = h.points_before; tenure_before = h.tenure_before; fence_before = h.fence_before; held_before = h.held_before; same = subst (λ (ps : List Point). HaveSamePoints ps h.points_before) one.0 h.same }
+      let loaded = from.held tells in
+      let one = held_is_one h.points loaded.all h.tenure from.tenure_found h.fence from.fence_found (state old.disk).files h.held loaded.held in
+      let same = subst (λ (ps : List Point). HaveSamePoints ps h.points_before) one.0 h.same in
+      record {
+        before = h.before;
+        was = h.was;
+        points_before = h.points_before;
+        tenure_before = h.tenure_before;
+        fence_before = h.fence_before;
+        held_before = h.held_before;
+        once = record { ascending = loaded.once.ascending; same = λ p. (λ m. (same p).0 ((loaded.once.same p).0 m), λ m. (loaded.once.same p).1 ((same p).1 m)) };
+      }

@@ -10,6 +10,7 @@ use Rattle.m3_outside.specs.Causes.{CountsFaults}
 use Rattle.m3_outside.specs.Files.{Stays}
 use Rattle.m3_outside.specs.DiskState.{DiskState, Told, Elapses}
 use Rattle.shard_files.specs.Held.{Held}
+use Rattle.shard_files.specs.Once.{HeldOnce}
 use Rattle.shard_files.specs.Gains.{a_tenure}
 use Rattle.shard_files.specs.Loading.{MayBeUnsound}
 use Rattle.shard_store.specs.Stores.{StoreState, closed_over}
@@ -52,10 +53,11 @@ module _ {D : Type 0} (state : D → DiskState) (s : Standing) (tenure : Option 
       as_old (Err answer) new (not_loaded_done state (machine_of s tenure begun before) t now.disk up low same stays why answer (machine_of s tenure begun now) new faults told is (ap (machine_of s tenure begun) moved) left disk)
 
   module _ {F : Type 0} (faults : CountsFaults F (state before.disk).faults (state now.disk).faults) (files : (state before.disk).tells ≡ true → (state now.disk).files ≡ (state before.disk).files) where
-    pub higher_of : (points : List Point) (held_tenure fence : ℕ) → Told (state now.disk) (Held points held_tenure fence) → t < held_tenure → Told (state before.disk) (state before.disk).images → BeginDone state old t (Err reason.NotOwned) (machine_of s tenure begun now)
+    pub higher_of : (points : List Point) (held_tenure fence : ℕ) → Told (state now.disk) (HeldOnce points held_tenure fence) → t < held_tenure → Told (state before.disk) (state before.disk).images → BeginDone state old t (Err reason.NotOwned) (machine_of s tenure begun now)
     higher_of points held_tenure fence held higher image =
         as_old (Err reason.NotOwned) (machine_of s tenure begun now)
-        (higher_done state (machine_of s tenure begun before) t now.disk up low same stays faults (λ told. record { points = points; held_tenure = held_tenure; fence = fence; held = subst (Held points held_tenure fence) (files told) (held (same ∙ told)); higher = higher }) image
+        (higher_done state (machine_of s tenure begun before) t now.disk up low same stays faults (λ told.
+        let h = held (same ∙ told) in record { points = h.all; held_tenure = held_tenure; fence = fence; held = subst (Held h.all held_tenure fence) (files told) h.held; higher = higher }) image
         (machine_of s tenure begun now) (ap (machine_of s tenure begun) moved))
 
     pub opened_of : (result : Result Began Reason) (new : MachineState D) → IfOk result (BeganFrom state t (machine_of s tenure begun now) new) → IfErr result (IsRefused (machine_of s tenure begun now) new) → IfErr result IsOwn → BringsTo (a_tenure t) result (state now.disk) (state new.disk)

@@ -10,6 +10,7 @@ use Rattle.m3_model.proofs.MemberLemmas.{IsIn-append_left, IsIn-append_right, Is
 use Rattle.m3_outside.specs.Files.{Files}
 use Rattle.placement_core.proofs.ListLemmas.{All-from_each, each-from_All, Any-from_IsIn, IsIn-from_Any}
 use Rattle.shard_files.specs.Held.{Held}
+use Rattle.shard_files.specs.Once.{HaveSamePoints, HeldOnce}
 use Rattle.shard_files.specs.Gains.{a_tenure, Gains, MayGain}
 use Rattle.shard_files.proofs.GainLemmas.{covers_itself, covers_then}
 use Rattle.shard_files.proofs.HeldLemmas.{held_is_one}
@@ -66,20 +67,20 @@ held_tried r t x y may h =
 -- ---- a tenure that began
 
 -- from files of which all is loaded
-pub held_began : (r : ReplicaState) (t fence : ℕ) (points : List Point) (tenure_found fence_found : ℕ) (x y : Files) → Held points tenure_found fence_found x → tenure_found ≤ t → fence ≡ max fence_found t → ((b : ℕ) → IsIn r.begun b → b ≤ t)
+pub held_began : (r : ReplicaState) (t fence : ℕ) (points : List Point) (tenure_found fence_found : ℕ) (x y : Files) → HeldOnce points tenure_found fence_found x → tenure_found ≤ t → fence ≡ max fence_found t → ((b : ℕ) → IsIn r.begun b → b ≤ t)
     → ((p : Point) → IsIn r.sure p → ¬ IsGone r p → Covers points p) → Gains (a_tenure t) x y
     → IsHeldBy (record r { standing = standing.Open; tenure = Some t; fence = fence; sure = r.sure ++ points; doubt = []; doubt_fences = []; begun = r.begun ++ t ∷ [] }) y
-held_began r t fence points tenure_found fence_found x y held low fence_is none_higher there gains =
-    let all = gains points tenure_found fence_found held in
+held_began r t fence points tenure_found fence_found x y loaded low fence_is none_higher there gains =
+    let all = gains loaded.all tenure_found fence_found loaded.held in
     let tenure_is : t ≡ max tenure_found t = omega (arith, low) in
     record {
       points = all.points;
       tenure = max tenure_found t;
       fence = max fence_found t;
       held = all.held;
-      source = All-from_each (λ p. IsIn (r.sure ++ points) p ⊎ ⊥) all.points (λ p m. ⊎_elim (λ (old : IsIn points p). inl (IsIn-append_right r.sure points p old)) (λ (none : ⊥). absurd none) (all.grows.nothing_else p m));
+      source = All-from_each (λ p. IsIn (r.sure ++ points) p ⊎ ⊥) all.points (λ p m. ⊎_elim (λ (old : IsIn loaded.all p). inl (IsIn-append_right r.sure points p ((loaded.once.same p).1 old))) (λ (none : ⊥). absurd none) (all.grows.nothing_else p m));
       all_there = All-from_each (λ p. ¬ IsGone r p → Covers all.points p) (r.sure ++ points) (λ p m stays.
-          covers_then points all.points p (⊎_elim (λ (old : IsIn r.sure p). there p old stays) (λ (new : IsIn points p). covers_itself points p new) (IsIn-append_cases r.sure points p m)) (λ q n. covers_itself all.points q (all.grows.stays q n)));
+          covers_then points all.points p (⊎_elim (λ (old : IsIn r.sure p). there p old stays) (λ (new : IsIn points p). covers_itself points p new) (IsIn-append_cases r.sure points p m)) (λ q n. covers_itself all.points q (all.grows.stays q ((loaded.once.same q).0 n))));
       none_higher = All-from_each (λ b. b ≤ max tenure_found t) (r.begun ++ t ∷ []) (λ b m.
           ⊎_elim (λ (old : IsIn r.begun b). let le = none_higher b old in omega (arith, le)) (λ (new : (t ≡ b) ⊎ ⊥). ⊎_elim (λ (same : t ≡ b). omega (arith, same)) (λ (none : ⊥). absurd none) new) (IsIn-append_cases r.begun (t ∷ []) b m));
       known = inl (subst (IsIn (r.begun ++ t ∷ [])) tenure_is (IsIn-push r.begun t));
@@ -111,20 +112,26 @@ held_again r t fence no_doubt none fence_is none_higher x y gains h =
 -- ---- what the core says of a Began
 
 -- the points of files that the replica may begin with
-module _ (r : ReplicaState) (points : List Point) (tenure_found fence_found : ℕ) (files : Files) (held : Held points tenure_found fence_found files) (h : IsHeldBy r files) where
+module _ (r : ReplicaState) (points : List Point) (tenure_found fence_found : ℕ) (files : Files) (held : HeldOnce points tenure_found fence_found files) (h : IsHeldBy r files) where
+  -- what the replica may begin with is what was loaded
+  same_points : HaveSamePoints points h.points
+  same_points p =
+      let same = (held_is_one h.points held.all h.tenure tenure_found h.fence fence_found files h.held held.held).0 in
+      (λ m. subst (λ (l : List Point). IsIn l p) (sym same) ((held.once.same p).0 m), λ m. (held.once.same p).1 (subst (λ (l : List Point). IsIn l p) same m))
+
   pub loaded_covers : (p : Point) → IsIn r.sure p → ¬ IsGone r p → Covers points p
   loaded_covers p m stays =
-      let same = held_is_one h.points points h.tenure tenure_found h.fence fence_found files h.held held in
-      subst (λ (l : List Point). Covers l p) same.0 (each-from_All (λ p. ¬ IsGone r p → Covers h.points p) r.sure h.all_there p m stays)
+      let there = each-from_All (λ p. ¬ IsGone r p → Covers h.points p) r.sure h.all_there p m stays in
+      record { value = there.value; at_least = there.at_least; stands = (same_points (record p { v = there.value })).1 there.stands }
 
   pub loaded : (t fence : ℕ) → tenure_found ≤ t → fence ≡ max fence_found t → IsLoaded r t fence points
   loaded t fence low fence_is =
-      let same = held_is_one h.points points h.tenure tenure_found h.fence fence_found files h.held held in
+      let same = held_is_one h.points held.all h.tenure tenure_found h.fence fence_found files h.held held.held in
       let same_t = same.1 in
       let same_f = same.2 in
       record {
-        source = subst (λ (l : List Point). All (λ p. IsIn r.sure p ⊎ IsIn r.doubt p) l) same.0 h.source;
-        all_there = subst (λ (l : List Point). All (λ p. ¬ IsGone r p → Covers l p) r.sure) same.0 h.all_there;
+        source = All-from_each (λ p. IsIn r.sure p ⊎ IsIn r.doubt p) points (λ p m. each-from_All (λ p. IsIn r.sure p ⊎ IsIn r.doubt p) h.points h.source p ((same_points p).0 m));
+        all_there = All-from_each (λ p. ¬ IsGone r p → Covers points p) r.sure loaded_covers;
         fence_is =
             ⊎_elim (λ (is : h.fence ≡ max h.tenure r.fence). let up : fence ≡ max t r.fence = omega (arith, is, same_t, same_f, low, fence_is) in inl (up ∙ sym (greater_is_max t r.fence)))
             (λ (any : Any (λ doubtful. h.fence ≡ max doubtful (max h.tenure r.fence)) r.doubt_fences).

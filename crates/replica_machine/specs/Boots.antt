@@ -1,5 +1,5 @@
 -- How a machine begins a tenure.
-use Rattle.std.specs.Prelude.{◌≡◌, ◌⊎◌, ℕ, ◌<◌, ◌≤◌, max, [], List, Some}
+use Rattle.std.specs.Prelude.{◌≡◌, ◌⊎◌, ⊤, ℕ, ◌<◌, ◌≤◌, max, [], List, Some}
 use Rattle.m3_model.specs.Contents.{content_of}
 use Rattle.m3_model.specs.declared.point.Point.{Point}
 use Rattle.m3_model.specs.declared.reason.Reason.{Reason}
@@ -8,17 +8,18 @@ use Rattle.m3_model.specs.declared.replica.Standing.TheVariants as standing
 use Rattle.m3_outside.specs.Files.{Files}
 use Rattle.m3_outside.specs.DiskState.{DiskState, Told}
 use Rattle.shard_files.specs.Held.{Held}
+use Rattle.shard_files.specs.Once.{HeldOnce}
 use Rattle.shard_files.specs.declared.load_err.LoadErr.{LoadErr}
 use Rattle.shard_files.specs.declared.load_err.LoadErr.TheVariants as failures
 use Rattle.replica_machine.specs.Damages.{damage_of}
 use Rattle.replica_machine.specs.Machines.{MachineState, shut_machine}
 use Rattle.replica_machine.specs.declared.machine.Began.{Began}
 
--- from Boot: open with what the files hold, of which the tenure isn't higher
+-- from Boot: open with what the files hold, each point once and in order, of which the tenure isn't higher
 pub record BeganFrom {D : Type 0} (state : D → DiskState) (tenure : ℕ) (old new : MachineState D) (began : Began) : Type 0 where
   pub tenure_found : ℕ
   pub fence_found : ℕ
-  pub held : Told (state old.disk) (Held began.points tenure_found fence_found)
+  pub held : Told (state old.disk) (HeldOnce began.points tenure_found fence_found)
   pub not_higher : tenure_found ≤ tenure
   pub fence_is : began.fence ≡ max fence_found tenure
   pub new_is : new ≡ record { standing = standing.Open; tenure = Some tenure; begun = tenure; fence = began.fence; content = content_of began.points; disk = new.disk }
@@ -52,3 +53,12 @@ abbrev pub IsRefused : {D : Type 0} → MachineState D → MachineState D → Re
 IsRefused old new reason.Disk = new ≡ shut_machine standing.Down old new.disk
 IsRefused old new (reason.Corrupt damage) = new ≡ shut_machine standing.Down old new.disk
 IsRefused old new _ = new ≡ record old { disk = new.disk }
+
+-- the reasons for which a begin may be refused
+abbrev pub IsBootReason : Reason → Type 0
+IsBootReason reason.Down = ⊤
+IsBootReason reason.NotOwned = ⊤
+IsBootReason reason.Disk = ⊤
+IsBootReason (reason.Corrupt damage) = ⊤
+IsBootReason reason.Memory = ⊤
+IsBootReason _ = ⊥

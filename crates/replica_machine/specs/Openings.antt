@@ -1,13 +1,13 @@
 -- What a machine's disk holds before its replica's first begin.
-use Rattle.std.specs.Prelude.{◌≡◌, ◌⊎◌, ◌↔◌, ⊤, ℕ, ◌≤◌, true, List, [], ◌∷◌, ◌++◌, Result}
+use Rattle.std.specs.Prelude.{◌≡◌, ◌⊎◌, ⊤, ℕ, ◌≤◌, true, List, [], ◌∷◌, ◌++◌, Result}
 use Rattle.std.specs.List.{Any}
-use Rattle.m3_model.specs.Members.{IsIn}
 use Rattle.m3_model.specs.declared.point.Point.{Point}
 use Rattle.m3_model.specs.declared.reason.Reason.{Reason}
 use Rattle.m3_outside.specs.Files.{Files}
 use Rattle.m3_outside.specs.DiskState.{DiskState, EachImage, StepOf, Elapses}
 use Rattle.shard_files.specs.Held.{Held, IsSound}
 use Rattle.shard_files.specs.Gains.{nothing, a_tenure, Gains, MayGain}
+use Rattle.shard_files.specs.Once.{HaveSamePoints, IsEachOnce}
 use Rattle.replica_machine.specs.Boots.{BeganFrom}
 use Rattle.replica_machine.specs.Machines.{MachineState}
 use Rattle.replica_machine.specs.Steps.{RestartsTo}
@@ -16,10 +16,6 @@ use Rattle.replica_machine.specs.declared.machine.Began.{Began}
 -- the number isn't above this one, or above one of these
 abbrev pub IsUpTo : ℕ → List ℕ → ℕ → Type 0
 IsUpTo base tried n = (n ≤ base) ⊎ Any (λ t. n ≤ t) tried
-
--- the same points, in whatever order
-abbrev pub HaveSamePoints : List Point → List Point → Type 0
-HaveSamePoints ps qs = (p : Point) → IsIn ps p ↔ IsIn qs p
 
 -- Files that hold the points of one of these files. Their tenure and their fence aren't above its own and the tenures with which a replica was to begin.
 pub record CameFrom (made : Files → Type 0) (tried : List ℕ) (files : Files) : Type 0 where
@@ -53,7 +49,7 @@ pub record StaysAsMade {D : Type 0} (state : D → DiskState) : Type 0 where
   pub refused : (first old new : D) (tried : List ℕ) → (state new).tells ≡ (state old).tells → ((state old).tells ≡ true → (c : Files) → (state new).images c → StepOf (Gains nothing) (state old).images c) → IsAsMade state first tried old → IsAsMade state first tried new
   pub restarted : (first old new : D) (tried : List ℕ) (result : Result ⊤ Reason) → RestartsTo result (state old) (state new) → IsAsMade state first tried old → IsAsMade state first tried new
 
--- one of these files holds these points
+-- one of these files holds these points, here each once and in order
 pub record AreOfOne (made : Files → Type 0) (points : List Point) : Type 0 where
   pub before : Files
   pub was : made before
@@ -61,7 +57,7 @@ pub record AreOfOne (made : Files → Type 0) (points : List Point) : Type 0 whe
   pub tenure_before : ℕ
   pub fence_before : ℕ
   pub held_before : Held points_before tenure_before fence_before before
-  pub same : HaveSamePoints points points_before
+  pub once : IsEachOnce points_before points
 
 -- the first begin that is done has the points of an image of the first disk
 abbrev pub FirstBeginIsAsMade : {D : Type 0} → (D → DiskState) → Type 0

@@ -5,13 +5,14 @@ ghost use Rattle.m3_model.specs.declared.replica.Standing.TheVariants.{Down as I
 ghost use Rattle.m3_outside.specs.DiskState.{DiskState, Told, EachImage};
 ghost use Rattle.commit_log.specs.LogEnd.{NoneFrom};
 ghost use Rattle.m3_model.specs.declared.reason.Damage.{Damage};
-ghost use Rattle.shard_files.specs.Held.{Held, IsSound};
+ghost use Rattle.shard_files.specs.Held.{IsSound};
 ghost use Rattle.shard_files.specs.Gains.{a_tenure};
+ghost use Rattle.shard_files.specs.Once.{HeldOnce};
 ghost use Rattle.cluster_core.specs.declared.event.StepCall.TheVariants as call;
 ghost use Rattle.cluster_core.specs.declared.event.StepReply.TheVariants as reply;
 ghost use Rattle.replica_machine.specs.Machines.{IsOwn};
 ghost use Rattle.replica_machine.specs.Damages.{damage_of, IsDamageOf, IsFormDamage};
-ghost use Rattle.replica_machine.specs.Boots.{BeganFrom, BeganAgain, HoldsHigher, MayBeUnowned, MayNotLoad, IsRefused};
+ghost use Rattle.replica_machine.specs.Boots.{BeganFrom, BeganAgain, HoldsHigher, MayBeUnowned, MayNotLoad, IsRefused, IsBootReason};
 ghost use Rattle.replica_machine.specs.Steps.{reply_by, IsStep, BringsTo};
 
 use crate::damage::damaged_segment;
@@ -23,7 +24,7 @@ use m3_model::seq::Seq;
 use m3_outside::disk::Disk;
 use m3_outside::disk_err::DiskErr;
 use shard_files::load_err::LoadErr;
-use shard_store::load::Loaded;
+use shard_open::load::Loaded;
 
 impl<D: Disk> Machine<D> {
     /// Begins a tenure. From Boot it syncs and loads the files, begins a fresh segment of the log, has the tenure in it where
@@ -44,6 +45,7 @@ impl<D: Disk> Machine<D> {
         ensures sound { (damage : Damage) → IsErrOf result (reason.Corrupt damage) → Told (D.state self.old.disk) (λ files. ¬ IsSound files) }
         ensures damage { (damage : Damage) → IsErrOf result (reason.Corrupt damage) → Told (D.state self.old.disk) (IsDamageOf damage) }
         ensures form { (damage : Damage) → IsErrOf result (reason.Corrupt damage) → IsFormDamage damage }
+        ensures reasons { IfErr result IsBootReason }
         ensures err { IfErr result (IsRefused self.old self.new) }
         ensures disk { BringsTo (a_tenure tenure) result (D.state self.old.disk) (D.state self.new.disk) }
         ensures step { IsStep D.state self.old (call.Begin tenure) (reply_by (λ began. reply.Began began.fence began.points) result) self.new }
@@ -69,6 +71,7 @@ impl<D: Disk> Machine<D> {
         ensures unowned { IsErrOf result reason.NotOwned → Told (D.state self.old.disk) (HoldsHigher tenure) }
         ensures damage { (damage : Damage) → IsErrOf result (reason.Corrupt damage) → Told (D.state self.old.disk) (IsDamageOf damage) }
         ensures form { (damage : Damage) → IsErrOf result (reason.Corrupt damage) → IsFormDamage damage }
+        ensures reasons { IfErr result IsBootReason }
         ensures err { IfErr result (IsRefused self.old self.new) }
         ensures disk { BringsTo (a_tenure tenure) result (D.state self.old.disk) (D.state self.new.disk) }
         ensures step { IsStep D.state self.old (call.Begin tenure) (reply_by (λ began. reply.Began began.fence began.points) result) self.new }
@@ -109,7 +112,7 @@ impl<D: Disk> Machine<D> {
         requires boot { self.old.standing ≡ IsBoot }
         requires high { self.old.begun ≤ tenure }
         requires not_higher { loaded.tenure ≤ tenure }
-        requires held { Told (D.state self.old.disk) (Held loaded.points loaded.tenure loaded.fence) }
+        requires held { Told (D.state self.old.disk) (HeldOnce loaded.points loaded.tenure loaded.fence) }
         requires only { EachImage (D.state self.old.disk) (λ c. c ≡ (D.state self.old.disk).files) }
         requires fresh { Told (D.state self.old.disk) (NoneFrom loaded.next_segment) }
         requires order { loaded.tenure ≤ loaded.fence }

@@ -21,7 +21,7 @@ pub fn stays_as_made<D: Disk>()
     ensures { StaysAsMade D.state }
 {}
 
-/// The first begin that is done has exactly the points of an image of the disk with which the machine was made.
+/// The first begin that is done has exactly the points of an image of the disk with which the machine was made, each once.
 pub fn first_begin_is_as_made<D: Disk>()
     ensures { FirstBeginIsAsMade D.state }
 {}

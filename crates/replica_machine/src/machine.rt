@@ -1,5 +1,7 @@
 ghost use Rattle.std.specs.Prelude.{◌≡◌, ◌≢◌, ◌⊎◌, ℕ, ◌+◌, ◌-◌, ◌^◌, ◌<◌, ◌≤◌, ◌↔◌, max, true, None, Some, OnOk, OnErr, IfOk, IfErr, IsErrOf, length};
+ghost use Rattle.std.specs.FinMap as finite;
 ghost use Rattle.m3_model.specs.Contents.{raised, content_of};
+ghost use Rattle.m3_model.specs.declared.limits.TheConstants.{MOST_REPLICA_POINTS};
 ghost use Rattle.m3_model.specs.Reads.{space_picked};
 ghost use Rattle.m3_model.specs.Rules.{InWindow};
 ghost use Rattle.m3_model.specs.declared.reason.Reason.TheVariants as reason;
@@ -8,7 +10,6 @@ ghost use Rattle.m3_outside.specs.DiskState.{DiskState, Told, Becomes};
 ghost use Rattle.m3_outside.specs.declared.disk_err.DiskErr.TheVariants.{Failed as DiskFailed};
 ghost use Rattle.wire_bytes.specs.Entries.{IsBounded};
 ghost use Rattle.shard_files.specs.Gains.{nothing, a_point, a_fence, a_tenure};
-ghost use Rattle.shard_files.specs.Held.{Held};
 ghost use Rattle.cluster_core.specs.Replicas.{fresh};
 ghost use Rattle.cluster_core.specs.Rows.{open_fence};
 ghost use Rattle.cluster_core.specs.declared.event.StepCall.TheVariants as call;
@@ -33,7 +34,8 @@ use std::marker::Model;
 pub struct Began {
     /// The version below which it refuses.
     pub fence: u64,
-    /// The points that it loaded from its files, also several of one key; none where it was open already.
+    /// The points of its files, each once, ascending by key and then by value: also several of one key. None where it was
+    /// open already.
     pub points: Seq<Point>,
 }
 
@@ -157,7 +159,8 @@ impl<D: Disk> Machine<D> {
     ///
     /// # Errors
     ///
-    /// The first of `Down`, `Boot`, `NotOwned`, `Stale`, `Past` and `Future` that holds, else want of memory or a fault.
+    /// The first of `Down`, `Boot`, `NotOwned`, `Stale`, `Past` and `Future` that holds, else want of memory or a fault. Memory
+    /// is wanted wherever one point more would be held than `MOST_REPLICA_POINTS`.
     /// Each but a fault leaves the machine and its files as they were. After a fault the machine is closed, and the point is
     /// in doubt.
     pub fn put(&mut self, rules: &Rules, version: u64, point: &Point) -> Result<(), Reason>
@@ -241,12 +244,15 @@ impl<D: Disk> Machine<D> {
         self.standing = Standing::Down;
     }
 
-    /// How the machine stands, with its fence where it is open and else 0. It doesn't count segments, snapshots, volumes and
-    /// its points yet: these are 0. Takes no memory.
+    /// How the machine stands, with its fence where it is open and else 0, and how many points it holds, one at each key: never
+    /// more than `MOST_REPLICA_POINTS`, and none where it isn't open. It doesn't count segments, snapshots and volumes yet: these
+    /// are 0. Takes no memory.
     pub fn report(&self) -> Report
         ensures standing { result.standing ≡ self.now.standing }
         ensures fence { result.fence ≡ open_fence self.now.standing self.now.fence }
-        ensures counts { (result.buffered ≡ 0) × (result.segments ≡ 0) × (result.snapshot ≡ 0) × (result.volumes ≡ 0) }
+        ensures held { result.buffered ≡ finite.len self.now.content }
+        ensures limit { result.buffered ≤ MOST_REPLICA_POINTS }
+        ensures counts { (result.segments ≡ 0) × (result.snapshot ≡ 0) × (result.volumes ≡ 0) }
         ensures step { IsStep D.state self.now call.Report (reply.Told result) self.now }
     {
         Report {
@@ -256,7 +262,7 @@ impl<D: Disk> Machine<D> {
             } else {
                 0
             },
-            buffered: 0,
+            buffered: self.store.points_held(),
             segments: 0,
             snapshot: 0,
             volumes: 0,

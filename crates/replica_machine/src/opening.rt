@@ -3,12 +3,12 @@ ghost use Rattle.m3_model.specs.Contents.{content_of};
 ghost use Rattle.m3_outside.specs.DiskState.{DiskState, Told, EachImage};
 ghost use Rattle.commit_log.specs.LogEnd.{NoneFrom};
 ghost use Rattle.shard_files.specs.Gains.{Brings, a_tenure};
-ghost use Rattle.shard_files.specs.Held.{Held};
+ghost use Rattle.shard_files.specs.Once.{HeldOnce};
 ghost use Rattle.shard_store.specs.Stores.{closed_over};
 
 use m3_outside::disk::Disk;
 use m3_outside::disk_err::DiskErr;
-use shard_store::load::Loaded;
+use shard_open::load::Loaded;
 use shard_store::store::Store;
 
 /// Opens a store with what was loaded, and has the tenure in its log.
@@ -22,7 +22,7 @@ pub(crate) fn open_store<D: Disk>(
     tenure: u64,
 ) -> Result<(), DiskErr>
     requires closed { store.old ≡ closed_over store.old.disk }
-    requires held { Told (D.state store.old.disk) (Held loaded.now.points loaded.now.tenure loaded.now.fence) }
+    requires held { Told (D.state store.old.disk) (HeldOnce loaded.now.points loaded.now.tenure loaded.now.fence) }
     requires only { EachImage (D.state store.old.disk) (λ c. c ≡ (D.state store.old.disk).files) }
     requires fresh { Told (D.state store.old.disk) (NoneFrom loaded.now.next_segment) }
     requires order { loaded.now.tenure ≤ loaded.now.fence }

@@ -12,6 +12,8 @@ use Rattle.commit_log.specs.LogEnd.{LogEnd, NoneAbove, NoneFrom, Stands, MayBegi
 use Rattle.shard_files.specs.declared.entries.LogEntry.{LogEntry}
 use Rattle.shard_files.specs.Entries.{IsEntry}
 use Rattle.shard_files.specs.Held.{Held}
+use Rattle.shard_files.specs.Once.{HeldOnce}
+use Rattle.shard_files.proofs.OnceLemmas.{once_has_content}
 use Rattle.shard_files.specs.Gains.{Gain, nothing, Gains, MayGain, Brings}
 use Rattle.shard_files.specs.LogSteps.{gain_in}
 use Rattle.block_buffer.specs.Held.{Held as InMemory}
@@ -129,13 +131,6 @@ brings_all gain u a c goes steps same faults = record {
   faults = record { later = faults.later; stays = faults.stays; rose = λ f. absurd (cc) };
 }
 
--- two counts, one after the other
-pub counts_both : (f g : Type 0) (a b c : ℕ) → CountsFaults f a b → CountsFaults g b c → CountsFaults g a c
-counts_both f g a b c one two = record { later = omega (arith, one.later, two.later); stays = λ e. two.stays (one.stays e); rose = λ h. let r = two.rose h in omega (arith, one.later, r) }
-
-pub counts_for : (f g : Type 0) (a b : ℕ) → (g → f) → CountsFaults f a b → CountsFaults g a b
-counts_for f g a b to one = record { later = one.later; stays = one.stays; rose = λ h. one.rose (to h) }
-
 elapses_same : (step : Files → Files → Type 0) (a : DiskState) → ((x : Files) → a.images x → step x x) → Elapses step a a
 elapses_same step a same = record { later = omega arith; images = λ c image. record { before = c; was = image; stepped = same c image }; nothing_else = λ t c le left. inl left; keeps = λ t c le left. left }
 
@@ -181,8 +176,10 @@ pub brings_nothing_more : (u : ⊤) (a c : DiskState) → (a.tells ≡ true → 
 brings_nothing_more u a c goes same faults = brings_all nothing u a c (λ tells. elapses_as a c (λ x y image gains. all_is_part nothing x y gains) (goes tells)) (λ tells. (goes tells).images) same faults
 
 -- what was read is what each image holds
-pub only_held : (points : List Point) (tenure fence : ℕ) (d : DiskState) → Told d (Held points tenure fence) → EachImage d (λ c. c ≡ d.files) → EachImage d (HoldsOpened (content_of points) tenure fence)
-only_held points tenure fence d held only tells c image = record { points = points; held = subst (Held points tenure fence) (sym (only tells c image)) (held tells); make_up = refl }
+pub only_held : (points : List Point) (tenure fence : ℕ) (d : DiskState) → Told d (HeldOnce points tenure fence) → EachImage d (λ c. c ≡ d.files) → EachImage d (HoldsOpened (content_of points) tenure fence)
+only_held points tenure fence d held only tells c image =
+    let h : HeldOnce points tenure fence d.files = held tells in
+    record { points = h.all; held = subst (Held h.all tenure fence) (sym (only tells c image)) h.held; make_up = sym (once_has_content h.all points h.once) }
 
 -- the same error, handed on
 pub err_to : {X Y E : Type 0} (r : Result X E) (q : Result Y E) (e d : E) → r ≡ Err e → q ≡ Err e → IsErrOf q d → IsErrOf r d

@@ -1,8 +1,6 @@
 //! One replica's points of one shard, on its disk and in memory.
 #![tactic(auto)]
 
-pub mod load;
 mod log_step;
 mod opened;
 pub mod store;
-mod sync;

@@ -1,6 +1,8 @@
 ghost use Rattle.std.specs.Prelude.{◌≡◌, ◌≤◌, true, false, None, max, IfOk, IfErr, OnOk, OnErr, IsErrOf};
+ghost use Rattle.std.specs.FinMap as finite;
 ghost use Rattle.m3_model.specs.Answers.{IsAnswer};
 ghost use Rattle.m3_model.specs.Contents.{raised, content_of};
+ghost use Rattle.m3_model.specs.declared.limits.TheConstants.{MOST_REPLICA_POINTS};
 ghost use Rattle.m3_outside.specs.Causes.{CountsFaults};
 ghost use Rattle.m3_outside.specs.DiskState.{DiskState, Told, EachImage, Elapses, Becomes};
 ghost use Rattle.m3_outside.specs.DiskCalls.{Restarts};
@@ -8,13 +10,12 @@ ghost use Rattle.m3_outside.specs.Files.{Stays};
 ghost use Rattle.m3_outside.specs.declared.disk_err.DiskErr.TheVariants.{Failed as DiskFailed, Memory as WantOfMemory};
 ghost use Rattle.commit_log.specs.LogEnd.{NoneFrom};
 ghost use Rattle.wire_bytes.specs.Entries.{IsBounded};
-ghost use Rattle.shard_files.specs.Held.{Held};
 ghost use Rattle.shard_files.specs.Gains.{Brings, nothing, a_point, a_fence, a_tenure};
 ghost use Rattle.shard_files.specs.Loading.{MayBeUnsound};
+ghost use Rattle.shard_files.specs.Once.{HeldOnce};
 ghost use Rattle.shard_store.specs.Stores.{closed_over, HoldsOpened};
 ghost use Rattle.shard_files.specs.declared.load_err.LoadErr.TheVariants as failures;
 
-use crate::load::{Loaded, load};
 use crate::log_step::begin_log;
 use crate::opened::Opened;
 use held_points::held::hold;
@@ -24,6 +25,7 @@ use m3_model::seq::Seq;
 use m3_outside::disk::Disk;
 use m3_outside::disk_err::DiskErr;
 use shard_files::load_err::LoadErr;
+use shard_open::load::{Loaded, load};
 use std::alloc::Global;
 use std::marker::Model;
 
@@ -83,7 +85,7 @@ impl<D: Disk> Store<D> {
     pub fn load(&mut self) -> Result<Loaded, LoadErr>
         requires { self.old.open_ ≡ false }
         ensures closed { self.new ≡ record self.old { disk = self.new.disk } }
-        ensures ok { IfOk result (λ l. Told (D.state self.new.disk) (Held l.points l.tenure l.fence)) }
+        ensures ok { IfOk result (λ l. Told (D.state self.new.disk) (HeldOnce l.points l.tenure l.fence)) }
         ensures only { IfOk result (λ _. EachImage (D.state self.new.disk) (λ c. c ≡ (D.state self.new.disk).files)) }
         ensures fresh { IfOk result (λ l. Told (D.state self.new.disk) (NoneFrom l.next_segment)) }
         ensures order { IfOk result (λ l. l.tenure ≤ l.fence) }
@@ -100,10 +102,11 @@ impl<D: Disk> Store<D> {
     ///
     /// # Errors
     ///
-    /// A fault: the files hold what they held. Want of memory: the files are as they were. The store stays closed.
+    /// A fault: the files hold what they held. Want of memory, always where the points have more than `MOST_REPLICA_POINTS`
+    /// keys: the files are as they were. The store stays closed.
     pub fn open(&mut self, loaded: &Loaded) -> Result<(), DiskErr>
         requires closed { self.old.open_ ≡ false }
-        requires held { Told (D.state self.old.disk) (Held loaded.now.points loaded.now.tenure loaded.now.fence) }
+        requires held { Told (D.state self.old.disk) (HeldOnce loaded.now.points loaded.now.tenure loaded.now.fence) }
         requires only { EachImage (D.state self.old.disk) (λ c. c ≡ (D.state self.old.disk).files) }
         requires fresh { Told (D.state self.old.disk) (NoneFrom loaded.now.next_segment) }
         requires order { loaded.now.tenure ≤ loaded.now.fence }
@@ -169,8 +172,8 @@ impl<D: Disk> Store<D> {
     ///
     /// # Errors
     ///
-    /// A fault, after which a stop may leave the point or not, and the store is closed. Want of memory, which leaves the store
-    /// and the files as they were.
+    /// A fault, after which a stop may leave the point or not, and the store is closed. Want of memory, always where there are
+    /// `MOST_REPLICA_POINTS` points and none stands at the key, which leaves the store and the files as they were.
     pub fn put(&mut self, point: &Point) -> Result<(), DiskErr>
         requires open_ { self.old.open_ ≡ true }
         requires bounded { IsBounded point.now }
@@ -196,6 +199,17 @@ impl<D: Disk> Store<D> {
     {
         let opened = self.opened.as_ref().unwrap();
         opened.held.fetch(pick, from, to)
+    }
+
+    /// How many points it has in memory, one at each key: never more than `MOST_REPLICA_POINTS`. 0 of a closed store.
+    pub fn points_held(&self) -> u64
+        ensures counted { result ≡ finite.len self.now.content }
+        ensures limit { result ≤ MOST_REPLICA_POINTS }
+    {
+        match &self.opened {
+            Some(opened) => opened.held.len(),
+            None => 0,
+        }
     }
 
     /// The greatest fence or tenure; 0 where there is none, and of a closed store.

@@ -3,7 +3,8 @@ use Rattle.std.specs.Prelude.{⊤, IsErr, IsErrOf}
 use Rattle.m3_outside.specs.Causes.{CountsFaults}
 use Rattle.m3_outside.specs.declared.disk_err.DiskErr.TheVariants.{Failed as DiskFailed}
 use Rattle.shard_files.specs.LogSteps.{gain_in}
-use Rattle.shard_store.proofs.LogStepLemmas.{err_is, brings_nothing, brings_fault, brings_all, after_nothing, steps_after_nothing, counts_both, counts_for}
+use Rattle.shard_store.proofs.LogStepLemmas.{err_is, brings_nothing, brings_fault, brings_all, after_nothing, steps_after_nothing}
+use Rattle.shard_open.proofs.Counts.{counts_both, counts_for}
 use Rattle.shard_store.proofs.log_step.log_entry.Goals as goal
 
 pub returns-in_err-ready_entry-clause-brings : goal.returns-in_err-ready_entry-clause-brings

@@ -2,6 +2,7 @@ use Rattle.std.proofs.Common.{◌≡◌, ap, ◌∙◌, Err, false, rules}
 use Rattle.replica_machine.proofs.OtherLemmas.{store_moved}
 use Rattle.replica_machine.proofs.BeginLemmas.{BeginDone}
 use Rattle.replica_machine.proofs.PartLemmas.{store_closed, not_loaded_of, higher_of, opened_of}
+use Rattle.replica_machine.proofs.BootReasons.{own_reasons, unread_reason}
 use Rattle.replica_machine.proofs.machine.Machine.begin.Given.{Over}
 use Rattle.replica_machine.proofs.machine.Machine.begin.Goals as goal
 
@@ -141,3 +142,9 @@ returns-then-tenure-loaded-clause-step g c =
     higher_of g.D.Disk.state inside.standing inside.tenure inside.begun c.args.self.now inside.store c.load.new.self c.self.view_is c.args.tenure c.requires.boot c.requires.high c.in-Ok.ensures.closed c.in-Ok.ensures.tells
     c.in-Ok.ensures.any_moment c.in-Ok.ensures.faults c.in-Ok.ensures.files loaded.points loaded.tenure loaded.fence c.in-Ok.ensures.ok c.if-tenure-loaded.true lawful.read_is_image in
     done.step
+
+pub returns-in-Err-clause-reasons : goal.returns-in-Err-clause-reasons
+returns-in-Err-clause-reasons g c = unread_reason c.in-Err.why c.not_loaded.result c.not_loaded.ensures.why
+
+pub returns-clause-reasons : goal.returns-clause-reasons
+returns-clause-reasons g c = own_reasons c.open.result c.open.ensures.own

@@ -2,6 +2,7 @@ use Rattle.std.proofs.Common.{◌≡◌, ◌≢◌, ◌<◌, ◌≤◌, ℕ, ap,
 use Rattle.m3_model.specs.declared.replica.Standing.{Standing}
 use Rattle.m3_model.specs.declared.replica.Standing.TheVariants as standing
 use Rattle.replica_machine.proofs.BeginLemmas.{boot_down, boot_unowned, boot_from, boot_again}
+use Rattle.replica_machine.proofs.BootReasons.{own_reasons}
 use Rattle.replica_machine.proofs.machine.Machine.boot.Goals as goal
 
 -- neither closed nor at Boot
@@ -299,3 +300,6 @@ returns-in_default-standing-clause-step g c =
     boot_again g.D.Disk.state c.args.self.now c.args.tenure (sym (ap (λ m. m.standing) c.self.view_is) ∙ open_by c.self.inside.standing down boot) (subst (λ (n : ℕ). n ≤ c.args.tenure) (ap (λ m. m.begun) c.self.view_is) c.if-tenure-self.false)
     c.begin_again.result c.begin_again.new.self e.again e.err e.own e.disk e.step in
     done.step
+
+pub returns-in_default-standing-clause-reasons : goal.returns-in_default-standing-clause-reasons
+returns-in_default-standing-clause-reasons g c = own_reasons c.begin_again.result c.begin_again.ensures.own

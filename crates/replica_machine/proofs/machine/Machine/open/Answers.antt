@@ -1,7 +1,7 @@
 use Rattle.std.proofs.Common.{◌≡◌, ap, ◌∙◌, sym, subst, refl}
 use Rattle.cluster_core.specs.Refusals.{closed}
 use Rattle.m3_outside.specs.DiskState.{Told, EachImage}
-use Rattle.shard_files.specs.Held.{Held}
+use Rattle.shard_files.specs.Once.{HeldOnce}
 use Rattle.commit_log.specs.LogEnd.{NoneFrom}
 use Rattle.replica_machine.specs.declared.machine.Began.{Began}
 use Rattle.replica_machine.proofs.BootLemmas.{BeginLeft, begin_left_of, open_done}
@@ -20,7 +20,7 @@ pub open_store-requires-clause-closed : goal.open_store-requires-clause-closed
 open_store-requires-clause-closed g c = λ a b. store_closed c.self.inside.standing c.self.inside.store c.self.invariant (ap (λ m. m.standing) c.self.view_is ∙ c.requires.boot)
 
 pub open_store-requires-clause-held : goal.open_store-requires-clause-held
-open_store-requires-clause-held g c = λ a b. subst (λ d. Told (g.D.Disk.state d) (Held c.args.loaded.points c.args.loaded.tenure c.args.loaded.fence)) (sym (ap (λ m. m.disk) c.self.view_is)) c.requires.held
+open_store-requires-clause-held g c = λ a b. subst (λ d. Told (g.D.Disk.state d) (HeldOnce c.args.loaded.points c.args.loaded.tenure c.args.loaded.fence)) (sym (ap (λ m. m.disk) c.self.view_is)) c.requires.held
 
 pub open_store-requires-clause-only : goal.open_store-requires-clause-only
 open_store-requires-clause-only g c = λ a b. subst (λ d. EachImage (g.D.Disk.state d) (λ x. x ≡ (g.D.Disk.state d).files)) (sym (ap (λ m. m.disk) c.self.view_is)) c.requires.only

@@ -9,7 +9,8 @@ use Rattle.block_buffer.specs.Held.{Held as InMemory}
 use Rattle.shard_files.specs.Gains.{a_point}
 use Rattle.shard_files.specs.declared.entries.LogEntry.TheVariants as entry
 use Rattle.shard_store.specs.Stores.{IsKeptOn}
-use Rattle.shard_store.proofs.LogStepLemmas.{one_bounded, err_is, brings_none, brings_nothing, brings_fault, brings_all, after_nothing, steps_after_nothing, counts_both, counts_for, kept_for, memory_put}
+use Rattle.shard_store.proofs.LogStepLemmas.{one_bounded, err_is, brings_none, brings_nothing, brings_fault, brings_all, after_nothing, steps_after_nothing, kept_for, memory_put}
+use Rattle.shard_open.proofs.Counts.{counts_both, counts_for}
 use Rattle.shard_store.proofs.opened.Opened.put.Goals as goal
 
 pub returns-in_err-put_points-clause-disk : goal.returns-in_err-put_points-clause-disk

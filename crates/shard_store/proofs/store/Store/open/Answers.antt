@@ -10,7 +10,8 @@ use Rattle.shard_store.specs.declared.opened.Opened.{Opened}
 use Rattle.shard_store.specs.StoreParts.{IsKept}
 use Rattle.shard_store.specs.Stores.{HoldsOpened}
 use Rattle.block_buffer.specs.Held.{Held as InMemory}
-use Rattle.shard_store.proofs.LogStepLemmas.{err_is, brings_none, brings_nothing, brings_nothing_more, only_held, counts_for, err_to}
+use Rattle.shard_store.proofs.LogStepLemmas.{err_is, brings_none, brings_nothing, brings_nothing_more, only_held, err_to}
+use Rattle.shard_open.proofs.Counts.{counts_for}
 use Rattle.shard_store.proofs.store.Store.open.Goals as goal
 
 pub returns-in_err-held-clause-disk : goal.returns-in_err-held-clause-disk

@@ -1,6 +1,6 @@
 use Rattle.std.proofs.Common.{◌∙◌, arith}
-use Rattle.shard_store.proofs.SyncLemmas.{elapses_stays, none_synced, syncs_elapses, one_present, one_synced, all_synced}
-use Rattle.shard_store.proofs.sync.sync_all.Goals as goal
+use Rattle.shard_open.proofs.SyncLemmas.{elapses_stays, none_synced, syncs_elapses, one_present, one_synced, all_synced}
+use Rattle.shard_open.proofs.sync.sync_all.Goals as goal
 
 pub returns-in_err-reserve-clause-any_moment : goal.returns-in_err-reserve-clause-any_moment
 returns-in_err-reserve-clause-any_moment g c tells =

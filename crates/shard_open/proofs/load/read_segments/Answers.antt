@@ -7,7 +7,7 @@ use Rattle.shard_files.specs.Loading.{ReadsEntries, MayBeBroken, MayBeUnsound}
 use Rattle.shard_files.specs.declared.load_err.LoadErr.TheVariants as failures
 use Rattle.shard_files.proofs.DamageLemmas.{found_none, found_next, found_broken}
 use Rattle.shard_files.proofs.SegmentStops.{passed_on}
-use Rattle.shard_store.proofs.load.read_segments.Goals as goal
+use Rattle.shard_open.proofs.load.read_segments.Goals as goal
 
 pub loop-number-init : goal.loop-number-init
 loop-number-init g c = record {

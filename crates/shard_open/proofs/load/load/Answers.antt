@@ -1,6 +1,6 @@
 use Rattle.std.proofs.Common.{◌∙◌}
-use Rattle.shard_store.proofs.SyncLemmas.{elapses_stays}
-use Rattle.shard_store.proofs.load.load.Goals as goal
+use Rattle.shard_open.proofs.SyncLemmas.{elapses_stays}
+use Rattle.shard_open.proofs.load.load.Goals as goal
 
 pub returns-clause-any_moment : goal.returns-clause-any_moment
 returns-clause-any_moment g c tells =

@@ -5,16 +5,18 @@ ghost use Rattle.m3_outside.specs.DiskCalls.{LeavesFiles};
 ghost use Rattle.m3_outside.specs.Files.{Stays};
 ghost use Rattle.commit_log.specs.Contents.{segment_bytes, numbers as numbers_in};
 ghost use Rattle.commit_log.specs.LogEnd.{NoneFrom};
-ghost use Rattle.shard_files.specs.Held.{HoldsEntries, Held};
+ghost use Rattle.shard_files.specs.Held.{HoldsEntries};
 ghost use Rattle.shard_files.specs.Loading.{ReadsEntries, FindsEntries, MayBeBroken, MayBeUnsound, in_segment};
+ghost use Rattle.shard_files.specs.Once.{HeldOnce};
 ghost use Rattle.shard_files.specs.declared.load_err.LoadErr.TheVariants as failures;
 
+use crate::once::each_once;
 use crate::sync::sync_all;
 use commit_log::{Segments, list_segments, read_front};
 use m3_model::point::Point;
 use m3_model::seq::Seq;
 use m3_outside::disk::Disk;
-use shard_files::amount::join_entries;
+use shard_files::amount::{Amount, join_entries};
 use shard_files::entries::{EntryErr, LogEntry};
 use shard_files::load_err::LoadErr;
 use shard_files::segment_entries::read_segment;
@@ -97,7 +99,7 @@ fn held_entries<D: Disk>(alloc: Global, disk: &mut D) -> Result<HeldEntries, Loa
 /// What a replica's disk holds.
 #[derive(Drop)]
 pub struct Loaded {
-    /// The points of its files in the order of the log, also several of one key.
+    /// The points of its files, each once, ascending by key and then by value: also several of one key.
     pub points: Seq<Point>,
     /// The greatest tenure, and 0 where there is none.
     pub tenure: u64,
@@ -110,23 +112,27 @@ pub struct Loaded {
 // Reads what the files of a disk hold, as reads give them.
 fn read_disk<D: Disk>(alloc: Global, disk: &mut D) -> Result<Loaded, LoadErr>
     ensures leaves { LeavesFiles (IsErrOf result failures.Disk) (D.state disk.old) (D.state disk.new) }
-    ensures ok { (D.state disk.old).tells ≡ true → IfOk result (λ l. Held l.points l.tenure l.fence (D.state disk.old).files) }
+    ensures ok { (D.state disk.old).tells ≡ true → IfOk result (λ l. HeldOnce l.points l.tenure l.fence (D.state disk.old).files) }
     ensures fresh { IfOk result (λ l. Told (D.state disk.new) (NoneFrom l.next_segment)) }
     ensures order { IfOk result (λ l. l.tenure ≤ l.fence) }
     ensures err { (D.state disk.old).tells ≡ true → IfErr result (MayBeUnsound (D.state disk.old).files) }
 {
     let found = held_entries(alloc, disk)?;
-    let amount = join_entries(alloc, found.entries)?;
+    let Amount {
+        points,
+        tenure,
+        fence,
+    } = join_entries(alloc, found.entries)?;
     Ok(Loaded {
-        points: amount.points,
-        tenure: amount.tenure,
-        fence: amount.fence,
+        points: each_once(alloc, points)?,
+        tenure,
+        fence,
         next_segment: found.next,
     })
 }
 
 /// Syncs each file of a disk and reads what they hold: this is then what each stop leaves. The log goes on in a fresh
-/// segment of the number `next_segment`, and never in one that was read.
+/// segment of the number `next_segment`, and never in one that was read. Each point costs logarithmic time.
 ///
 /// # Errors
 ///
@@ -134,7 +140,7 @@ fn read_disk<D: Disk>(alloc: Global, disk: &mut D) -> Result<Loaded, LoadErr>
 /// to be an entry. Want of memory, also where the next segment would have the number `NUMBER_END` or a higher one. Reads
 /// give what they gave, and a stop leaves what it might have left before.
 pub fn load<D: Disk>(alloc: Global, disk: &mut D) -> Result<Loaded, LoadErr>
-    ensures ok { IfOk result (λ l. Told (D.state disk.new) (Held l.points l.tenure l.fence)) }
+    ensures ok { IfOk result (λ l. Told (D.state disk.new) (HeldOnce l.points l.tenure l.fence)) }
     ensures only { IfOk result (λ _. EachImage (D.state disk.new) (λ c. c ≡ (D.state disk.new).files)) }
     ensures fresh { IfOk result (λ l. Told (D.state disk.new) (NoneFrom l.next_segment)) }
     ensures order { IfOk result (λ l. l.tenure ≤ l.fence) }
