@@ -59,12 +59,7 @@ impl AllSeries {
     }
 
     // Makes a slot of the series at this time, if there is none. No value changes. Says whether there is a value.
-    pub(crate) fn hold(
-        &mut self,
-        alloc: Global,
-        series: &SeriesKey,
-        t: u64,
-    ) -> Result<bool, Memory>
+    pub(crate) fn hold(&mut self, alloc: Global, series: &SeriesKey, t: u64) -> Result<bool, Memory>
         ensures kept { (k : Key) → value_of self.new k ≡ value_of self.old k }
         ensures stands { OnOk result (IsSome (slot_at self.new (key_at series.now t))) }
         ensures valued { IfOk result (λ valued. valued ≡ is_some (value_of self.old (key_at series.now t))) }
