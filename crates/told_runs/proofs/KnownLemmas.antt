@@ -164,8 +164,7 @@ module _ (start : Option MetaState) (turns : List Turn) (events : List Event) (l
         by : IsTurnPlace p.lines m.place ⊎ IsBeside p m.place → IsTurnPlace turns m.place × (length (m.place).lines ≤ length p.lines)
         by (inl before) =
             let q = m.place in
-            let less : length q.lines < length p.lines = line_below p.lines q before in
-            (
+            let less : length q.lines < length p.lines = line_below p.lines q before in (
               record {
                 after = before.after ++ p.line ∷ at.after;
                 in_run = at.in_run ∙ ap (λ ls. ls ++ p.line ∷ at.after) before.in_run ∙ append_assoc q.lines (q.line ∷ before.after) (p.line ∷ at.after);
@@ -174,8 +173,7 @@ module _ (start : Option MetaState) (turns : List Turn) (events : List Event) (l
               omega (arith, less),
             )
         by (inr beside) =
-            let q = m.place in
-            (
+            let q = m.place in (
               record { after = at.after; in_run = at.in_run ∙ ap (λ ls. ls ++ p.line ∷ at.after) (sym beside.lines_are) ∙ ap (λ l. q.lines ++ l ∷ at.after) (sym beside.line_is); stands = beside.stands },
               omega (arith, ap length beside.lines_are),
             )

@@ -76,11 +76,11 @@ module _ (start : Option MetaState) (turns : List Turn) (events : List Event) (l
       let bound = ends_within start turns events legal told (suc k) less in
       let last = order.one k 0 init.place [] less low (omega (arith, high)) init.placed in
       owned_begin n s i tenure here.2 (λ own tries.
-          let b = tried_began events legal n s own i (omega (arith, high, bound)) tries in
-          let below = b.below in
-          let was = begin_given start turns events legal told order n s b.place own b.answer b.there in
-          let g = was.3 in
-          by_given own was.0 (omega (arith, was.1, below, high)) was.2 g low high less last same bound)
+      let b = tried_began events legal n s own i (omega (arith, high, bound)) tries in
+      let below = b.below in
+      let was = begin_given start turns events legal told order n s b.place own b.answer b.there in
+      let g = was.3 in
+      by_given own was.0 (omega (arith, was.1, below, high)) was.2 g low high less last same bound)
     where
       by_given : (own z : ℕ) → z < told.ends (suc (length q.lines)) → 1 ≤ z → GivenAt events legal n s z own → told.ends (length q.lines) ≤ 0 → i < told.ends (suc (length q.lines)) → length q.lines < length turns
           → {first : Placement} → last_place (take (told.ends (suc (length q.lines))) events) ≡ Some first → first ≡ place → told.ends (suc (length q.lines)) ≤ length events → own ≤ tenure
