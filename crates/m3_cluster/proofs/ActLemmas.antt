@@ -7,7 +7,7 @@ use Rattle.m3_model.specs.declared.answer.Answer.TheVariants as answer
 use Rattle.session.specs.declared.call.Call.{Call}
 use Rattle.m3_cluster.specs.Acts.{OnMembers, next_call, after_call, after_fates}
 use Rattle.m3_cluster.specs.declared.cluster.Cluster.{Cluster}
-use Rattle.m3_cluster.specs.declared.members.Members.{Members}
+use Rattle.cluster_state.specs.declared.members.Members.{Members}
 
 pub none_by_test : {X : Type 0} (o : Option X) → false ≡ is_some o → o ≡ None
 none_by_test None e = refl

@@ -31,12 +31,13 @@ use Rattle.session.specs.declared.call.Call.{Call}
 use Rattle.session.specs.declared.net.Net.{Net}
 use Rattle.session.specs.declared.slot.Slot.{Slot}
 use Rattle.m3_cluster.specs.Acts.{Answers, IsMade, OnMembers, after_call, after_fates, next_call}
-use Rattle.m3_cluster.specs.Chains.{Link, IsUnbooted, TakesLinks, boot_link, covered_slots, first_tenure, restart_at, refused_restart_at, slots_of_node, stop_at}
+use Rattle.cluster_nodes.specs.Chains.{Link, IsUnbooted, TakesLinks, boot_link, covered_slots, restart_at, refused_restart_at, slots_of_node, stop_at}
+use Rattle.cluster_state.specs.Tenures.{first_tenure}
 use Rattle.m3_outside.specs.Depots.{Depot}
-use Rattle.m3_cluster.specs.Nodes.{IsBootstrapped, IsDelivered, IsFated, IsRestarted, IsStopped, IsUnstarted}
-use Rattle.m3_cluster.specs.Steps.{IsFetched, IsMoved, IsNamed, IsWriteAnswer, IsWritten, NamedPoint, placed}
+use Rattle.cluster_nodes.specs.Nodes.{IsBootstrapped, IsDelivered, IsFated, IsRestarted, IsStopped, IsUnstarted}
+use Rattle.cluster_state.specs.Steps.{IsFetched, IsMoved, IsNamed, IsWriteAnswer, IsWritten, NamedPoint, placed}
 use Rattle.m3_cluster.specs.declared.cluster.Cluster.{Cluster}
-use Rattle.m3_cluster.specs.declared.members.Members.{Members}
+use Rattle.cluster_state.specs.declared.members.Members.{Members}
 use Rattle.m3_cluster.proofs.ReplicaLemmas.{damage_of, fault_of, has_damage, has_fault, steps_at}
 
 -- ---- links one after the other

@@ -14,7 +14,8 @@ use Rattle.cluster_core.specs.declared.event.StepReply.TheVariants as reply
 use Rattle.replica_machine.specs.Machines.{MachineState}
 use Rattle.replica_machine.specs.Steps.{IsStep}
 use Rattle.session.specs.Changes.{Step, TakesSteps}
-use Rattle.m3_cluster.specs.Chains.{EndsBoots, IsPassed, first_tenure}
+use Rattle.cluster_nodes.specs.Chains.{EndsBoots, IsPassed}
+use Rattle.cluster_state.specs.Tenures.{first_tenure}
 use Rattle.m3_outside.specs.Depots.{TellAll}
 use Rattle.m3_cluster.specs.Replicas.{HasReplica}
 use Rattle.m3_cluster.proofs.LinkLemmas.{one_asked, or_first, or_true}

@@ -31,14 +31,14 @@ use Rattle.replica_machine.specs.Machines.{MachineState}
 use Rattle.session.specs.Changes.{IsStepped, Step, TakesSteps}
 use Rattle.session.specs.Slots.{MachineMap}
 use Rattle.session.specs.declared.slot.Slot.{Slot}
-use Rattle.m3_cluster.specs.Chains.{AreBooted, Boot, IsPassed, IsUnbooted, Link, boot_link, covered_slots}
+use Rattle.cluster_nodes.specs.Chains.{AreBooted, Boot, IsPassed, IsUnbooted, Link, boot_link, covered_slots}
 use Rattle.m3_outside.specs.Depots.{TellAll}
-use Rattle.m3_cluster.specs.Nodes.{IsBootstrapped, IsHeldUp, IsStartedUp}
+use Rattle.cluster_nodes.specs.Nodes.{IsBootstrapped, IsHeldUp, IsStartedUp}
 use Rattle.m3_cluster.specs.Replicas.{IsShutFor}
 use Rattle.m3_cluster.specs.Serves.{IsServing, WasAcked, WasSent, next_place}
-use Rattle.m3_cluster.specs.Steps.{spaces_in}
+use Rattle.cluster_state.specs.Steps.{spaces_in}
 use Rattle.m3_cluster.specs.declared.cluster.Cluster.{Cluster}
-use Rattle.m3_cluster.specs.declared.members.Members.{Members}
+use Rattle.cluster_state.specs.declared.members.Members.{Members}
 use Rattle.m3_cluster.proofs.ActLinks.{ListsFaults, bootstrapped_links, refused_boot, unbooted_links, unbooted_taken}
 use Rattle.m3_cluster.proofs.BootLemmas.{Closes, IsBoot, IsTried, boot_asked, boot_step, boots_open, tries_open}
 use Rattle.m3_cluster.proofs.CallLemmas.{At, on}
@@ -51,7 +51,7 @@ use Rattle.m3_cluster.proofs.NumberLemmas.{and_then}
 use Rattle.m3_cluster.proofs.QuietLemmas.{Tells, extends_same, fates_kept, fates_stay, grown_goes, grown_prints, leaves_all, quiet_change, rules_stay, stopped_stays, stops_kept, tells_corrupt, tells_disk, tells_memory, tells_state, tells_unknown}
 use Rattle.m3_cluster.proofs.ReplicaLemmas.{IsAsked, IsDone, damage_of, fault_of, links_steps, replica_next, replica_sound, steps_at}
 use Rattle.m3_cluster.proofs.ServingLemmas.{StaysRight, acked_none, closed_now, down_on, machine_instance, machine_placed, machine_slot, placed_on, serving_next, shut_on}
-use Rattle.m3_cluster.proofs.SlotLists.{in_or_out}
+use Rattle.cluster_disks.proofs.SlotLists.{in_or_out}
 use Rattle.m3_cluster.proofs.StandLemmas.{Goes, Grows, other_numbered}
 
 -- ---- the placement that is printed again

@@ -55,9 +55,9 @@ use Rattle.session.proofs.AskedLemmas.{answering-told, refusing-told, told-refus
 use Rattle.replica_machine.proofs.RefusalLemmas.{in_window, outside_cause}
 use Rattle.m3_cluster.specs.Acts.{next_call}
 use Rattle.m3_cluster.specs.Serves.{counted_in, shard_in}
-use Rattle.m3_cluster.specs.Steps.{spaces_in}
+use Rattle.cluster_state.specs.Steps.{spaces_in}
 use Rattle.m3_cluster.specs.declared.cluster.Cluster.{Cluster}
-use Rattle.m3_cluster.specs.declared.members.Members.{Members}
+use Rattle.cluster_state.specs.declared.members.Members.{Members}
 use Rattle.m3_cluster.proofs.ActLinks.{ListsFaults, sent_links}
 use Rattle.m3_cluster.proofs.CallLemmas.{place_after, At, on, rules_there, seed_there, stands_there, version_is}
 use Rattle.m3_cluster.proofs.FaultLinks.{IsHeard, put_heard_each, put_nodes}

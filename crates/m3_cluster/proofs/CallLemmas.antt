@@ -25,7 +25,7 @@ use Rattle.session.specs.Outcomes.{fate_to, version_of}
 use Rattle.m3_cluster.specs.Acts.{next_call}
 use Rattle.m3_cluster.specs.Serves.{Stands, StandsOn}
 use Rattle.m3_cluster.specs.declared.cluster.Cluster.{Cluster}
-use Rattle.m3_cluster.specs.declared.members.Members.{Members}
+use Rattle.cluster_state.specs.declared.members.Members.{Members}
 
 -- the place of the only turn of a line after these lines
 abbrev pub place_after : List Turn → Act → Answer → TurnPlace

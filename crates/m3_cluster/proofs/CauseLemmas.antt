@@ -35,11 +35,11 @@ use Rattle.m3_model.specs.declared.rules.Space.{Space}
 use Rattle.m3_model.specs.declared.turn.Turn.{Turn}
 use Rattle.m3_cluster.specs.Acts.{Answers, next_call}
 use Rattle.m3_outside.specs.Depots.{TellAll}
-use Rattle.m3_cluster.specs.Nodes.{HasShard, IsBootstrapped, IsDelivered, IsFated, IsNoShard, IsNode, IsNowhere, IsRestarted, IsStopped, node_named}
+use Rattle.cluster_nodes.specs.Nodes.{HasShard, IsBootstrapped, IsDelivered, IsFated, IsNoShard, IsNode, IsNowhere, IsRestarted, IsStopped, node_named}
 use Rattle.m3_cluster.specs.Serves.{Stands, shard_in}
-use Rattle.m3_cluster.specs.Steps.{NamedPoint, spaces_in, wish, placed, IsNamed, IsMoved, IsWritten, IsWriteAnswer, IsFetched, IsRead}
+use Rattle.cluster_state.specs.Steps.{NamedPoint, spaces_in, wish, placed, IsNamed, IsMoved, IsWritten, IsWriteAnswer, IsFetched, IsRead}
 use Rattle.m3_cluster.specs.declared.cluster.Cluster.{Cluster}
-use Rattle.m3_cluster.specs.declared.members.Members.{Members}
+use Rattle.cluster_state.specs.declared.members.Members.{Members}
 use Rattle.m3_cluster.proofs.ActLinks.{IsTurn, ListsFaults, TurnLists, TurnsOff, TurnsOn, answer_links, bootstrapped_links, delivered_links, restarted_links, turn_links, turns, written_links}
 use Rattle.m3_cluster.proofs.CallCauses.{AsksWithin, acked_due, unwritten_due, found_due, unfound_due}
 use Rattle.m3_cluster.proofs.CallLemmas.{place_after, At, on, stands_there, seed_there}
@@ -48,7 +48,7 @@ use Rattle.m3_cluster.proofs.DueLemmas.{due_nowhere, due_there, standing}
 use Rattle.m3_cluster.proofs.FateCauses.{listed_where, unlisted_where, missing_same, none_missing, stopped_as_told}
 use Rattle.transcripts.proofs.MoreFaults.{AreAmong}
 use Rattle.m3_cluster.proofs.NodeCauses.{bootstrap_refusal, damaged_due, held_up_due, no_damage, restart_refusal, shard_away, shard_there, unstarted_due}
-use Rattle.m3_cluster.proofs.SpaceLemmas.{space_at}
+use Rattle.cluster_state.proofs.SpaceLemmas.{space_at}
 use Rattle.m3_cluster.proofs.TurnFaults.{IsCausedLine}
 
 some_of : {X : Type 0} (o : Option X) → IsSome o → is_some o ≡ true

@@ -49,18 +49,18 @@ use Rattle.session.proofs.SlotLemmas.{same_slot}
 use Rattle.m3_outside.specs.Depots.{TellAll}
 use Rattle.m3_cluster.specs.Replicas.{HasReplica, IsShutFor}
 use Rattle.m3_cluster.specs.Serves.{IsHeldBack, AreHeldBack, WasAcked, WasDelivered, WasSent, counted_in}
-use Rattle.m3_cluster.specs.Steps.{spaces_in}
+use Rattle.cluster_state.specs.Steps.{spaces_in}
 use Rattle.m3_cluster.specs.declared.cluster.Cluster.{Cluster}
-use Rattle.m3_cluster.specs.declared.members.Members.{Members}
+use Rattle.cluster_state.specs.declared.members.Members.{Members}
 use Rattle.m3_cluster.proofs.ActLinks.{ListsFaults, late_links}
 use Rattle.m3_cluster.proofs.CallLemmas.{place_after, At, on, rules_there}
 use Rattle.m3_cluster.proofs.FaultLinks.{late_failed, own_slot}
 use Rattle.m3_cluster.proofs.KnownNodes.{KnownNode, known_node, counted_slot, against, machine_put, down_cause, boot_cause, stale_cause, stale_is, untold}
 use Rattle.transcripts.proofs.MoreFaults.{AreAmong}
-use Rattle.m3_cluster.proofs.OptionLemmas.{same_of_some}
+use Rattle.cluster_state.proofs.OptionLemmas.{same_of_some}
 use Rattle.m3_cluster.proofs.ReplicaLemmas.{IsAsked, IsDone, replica_less, replica_next, standing_by, standing_next, open_owns}
 use Rattle.m3_cluster.proofs.ShardLemmas.{shard_low}
-use Rattle.m3_cluster.proofs.SpaceLemmas.{space_at}
+use Rattle.cluster_state.proofs.SpaceLemmas.{space_at}
 
 -- ---- their namespaces
 

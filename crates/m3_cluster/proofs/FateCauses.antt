@@ -17,11 +17,11 @@ use Rattle.m3_model.specs.declared.placement.Instance.{Instance}
 use Rattle.m3_model.specs.declared.placement.Placement.{Placement}
 use Rattle.m3_model.specs.declared.turn.Turn.{Turn}
 use Rattle.net_plan.specs.Fates.{Item}
-use Rattle.m3_cluster.specs.Nodes.{node_named, AreNumbered, first_missing}
+use Rattle.cluster_nodes.specs.Nodes.{node_named, AreNumbered, first_missing}
 use Rattle.m3_cluster.specs.declared.cluster.Cluster.{Cluster}
-use Rattle.m3_cluster.specs.declared.members.Members.{Members}
+use Rattle.cluster_state.specs.declared.members.Members.{Members}
 use Rattle.m3_cluster.proofs.CallLemmas.{At, on}
-use Rattle.m3_cluster.proofs.NodeLemmas.{node_found}
+use Rattle.cluster_nodes.proofs.NodeLemmas.{node_found}
 
 -- ---- listed nodes
 

@@ -31,13 +31,13 @@ use Rattle.net_plan.proofs.RowLemmas.{same, get-fates}
 use Rattle.placement_core.proofs.ListLemmas.{same_at}
 use Rattle.m3_cluster.specs.Acts.{after_fates}
 use Rattle.m3_outside.specs.Depots.{TellAll}
-use Rattle.m3_cluster.specs.Nodes.{AreNumbered, IsFated, KeepsButFates}
+use Rattle.cluster_nodes.specs.Nodes.{AreNumbered, IsFated, KeepsButFates}
 use Rattle.m3_cluster.specs.declared.cluster.Cluster.{Cluster}
-use Rattle.m3_cluster.specs.declared.members.Members.{Members}
+use Rattle.cluster_state.specs.declared.members.Members.{Members}
 use Rattle.m3_cluster.proofs.CallLemmas.{At, on}
 use Rattle.m3_cluster.proofs.LateLemmas.{late_stays}
 use Rattle.transcripts.proofs.MoreFaults.{AreAmong}
-use Rattle.m3_cluster.proofs.NodeLemmas.{NamedNode, node_found, same_node}
+use Rattle.cluster_nodes.proofs.NodeLemmas.{NamedNode, node_found, same_node}
 use Rattle.m3_cluster.proofs.NumberLemmas.{numbering_push}
 use Rattle.m3_cluster.proofs.QuietLemmas.{extends_same, grown_goes, quiet_change, stops_kept, tells_memory, tells_unknown}
 use Rattle.m3_cluster.proofs.ServingLemmas.{serving_stays}

@@ -27,9 +27,9 @@ use Rattle.session.specs.Writes.{ArePut}
 use Rattle.session.specs.declared.call.Call.{Call}
 use Rattle.session.specs.declared.slot.Slot.{Slot}
 use Rattle.session.proofs.SlotLemmas.{slot_cmp_total}
-use Rattle.m3_cluster.specs.Chains.{Link}
+use Rattle.cluster_nodes.specs.Chains.{Link}
 use Rattle.m3_cluster.proofs.ActLinks.{late_links, put_links}
-use Rattle.m3_cluster.proofs.OptionLemmas.{same_of_some}
+use Rattle.cluster_state.proofs.OptionLemmas.{same_of_some}
 use Rattle.m3_cluster.proofs.ReplicaLemmas.{has_damage, has_fault, is_damage, is_fault, steps_at}
 
 -- ---- a fault among the steps at a slot

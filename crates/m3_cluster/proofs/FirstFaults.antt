@@ -20,18 +20,19 @@ use Rattle.session.specs.Changes.{Step, TakesSteps}
 use Rattle.session.specs.Slots.{MachineMap, slot_at}
 use Rattle.session.specs.declared.slot.Slot.{Slot}
 use Rattle.transcripts.proofs.MoreFaults.{different_both}
-use Rattle.m3_cluster.specs.Chains.{Link}
+use Rattle.cluster_nodes.specs.Chains.{Link}
 use Rattle.m3_outside.specs.Depots.{Depot}
-use Rattle.m3_cluster.specs.Depots.{place_of_slot, count_at}
-use Rattle.m3_cluster.specs.First.{AreApart, HasOpened, HasReturned, IsFirstBooted, IsGivenBack, first_boot}
+use Rattle.cluster_disks.specs.Depots.{place_of_slot, count_at}
+use Rattle.cluster_disks.specs.First.{AreApart, HasOpened, HasReturned, IsFirstBooted, IsGivenBack, first_boot}
 use Rattle.m3_cluster.specs.Replicas.{faults_at}
 use Rattle.m3_cluster.specs.Serves.{AreCounted, IsEarlier, machine_at}
 use Rattle.m3_cluster.specs.declared.cluster.Cluster.{Cluster}
-use Rattle.m3_cluster.specs.declared.members.Members.{Members}
+use Rattle.cluster_state.specs.declared.members.Members.{Members}
 use Rattle.m3_cluster.proofs.LinkLemmas.{or_first, or_true, steps_among, steps_in}
-use Rattle.m3_cluster.proofs.ReplicaFaults.{came_before, count_next, earlier_more, fault_from, has_damage, has_fault, is_damage, is_fault, line_different, line_earlier, line_faults, machine_is, most_one, none_of, not_before, rose_less, rose_more}
+use Rattle.m3_cluster.proofs.ReplicaFaults.{came_before, count_next, earlier_more, fault_from, has_damage, has_fault, is_damage, is_fault, line_different, line_earlier, line_faults, machine_is, most_one, none_of, not_before, rose_less}
+use Rattle.cluster_disks.proofs.GiveAll.{rose_more}
 use Rattle.m3_cluster.proofs.ReplicaLinks.{steps_at}
-use Rattle.m3_cluster.proofs.SlotLists.{in_or_out}
+use Rattle.cluster_disks.proofs.SlotLists.{in_or_out}
 
 -- ---- what the first boots answered
 

@@ -38,26 +38,27 @@ use Rattle.cluster_core.specs.declared.event.StepReply.TheVariants as reply
 use Rattle.replica_machine.specs.Machines.{MachineState, first_machine}
 use Rattle.replica_machine.specs.Steps.{IsStep}
 use Rattle.session.specs.declared.slot.Slot.{Slot}
-use Rattle.m3_cluster.specs.Chains.{Link, first_tenure}
+use Rattle.cluster_nodes.specs.Chains.{Link}
+use Rattle.cluster_state.specs.Tenures.{first_tenure}
 use Rattle.m3_outside.specs.Depots.{Depot, TellAll}
-use Rattle.m3_cluster.specs.Depots.{place_of_slot}
-use Rattle.m3_cluster.specs.First.{IsFirstBooted, first_boot}
+use Rattle.cluster_disks.specs.Depots.{place_of_slot}
+use Rattle.cluster_disks.specs.First.{IsFirstBooted, first_boot, IsFirst}
 use Rattle.m3_cluster.specs.Replicas.{HasReplica, IsBare, IsShutFor}
 use Rattle.m3_cluster.specs.Serves.{IsServing, IsWellFormed, Stands, StandsOn, WasAcked, WasSent, next_place}
-use Rattle.m3_cluster.specs.Steps.{IsFirst, spaces_in}
+use Rattle.cluster_state.specs.Steps.{spaces_in}
 use Rattle.m3_cluster.specs.declared.cluster.Cluster.{Cluster}
-use Rattle.m3_cluster.specs.declared.members.Members.{Members}
+use Rattle.cluster_state.specs.declared.members.Members.{Members}
 use Rattle.m3_cluster.proofs.ActLinks.{ListsFaults}
 use Rattle.m3_cluster.proofs.BootLemmas.{ClosesBy}
 use Rattle.m3_cluster.proofs.FirstFaults.{answer_at, booted_as, first_damage, first_fault, first_link}
 use Rattle.m3_cluster.proofs.LateLemmas.{late_none}
 use Rattle.m3_cluster.proofs.LinkLemmas.{one_asked}
 use Rattle.m3_cluster.proofs.NumberLemmas.{and_then, numbering_more}
-use Rattle.m3_cluster.proofs.OptionLemmas.{same_some}
+use Rattle.cluster_state.proofs.OptionLemmas.{same_some}
 use Rattle.m3_cluster.proofs.ReplicaLemmas.{IsDone, bare_replica, damage_of, fault_of, begin_refused, given_bare, is_fault, replica_less, replica_next, replica_sound, standing_next}
 use Rattle.m3_cluster.proofs.ReplicaSteps.{giving, gives, lawful_for}
 use Rattle.m3_cluster.proofs.ServingLemmas.{IsPlaced, closed_now, placement_push, stopped_push, turn_cases}
-use Rattle.m3_cluster.proofs.SlotLists.{in_or_out, slot_instance, slot_replica}
+use Rattle.cluster_disks.proofs.SlotLists.{in_or_out, slot_instance, slot_replica}
 use Rattle.m3_cluster.proofs.StandLemmas.{Goes, other_numbered}
 
 -- ---- lists

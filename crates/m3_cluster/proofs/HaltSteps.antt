@@ -24,20 +24,20 @@ use Rattle.placement_core.proofs.ListLemmas.{chosen, filter-IsIn, same_at}
 use Rattle.replica_machine.specs.Machines.{MachineState}
 use Rattle.session.specs.Changes.{Step}
 use Rattle.session.specs.declared.slot.Slot.{Slot}
-use Rattle.m3_cluster.specs.Chains.{Link, slots_of_node, stop_at}
+use Rattle.cluster_nodes.specs.Chains.{Link, slots_of_node, stop_at}
 use Rattle.m3_outside.specs.Depots.{TellAll}
-use Rattle.m3_cluster.specs.Nodes.{IsHalted, IsNode, IsStopped}
+use Rattle.cluster_nodes.specs.Nodes.{IsHalted, IsNode, IsStopped}
 use Rattle.m3_cluster.specs.Replicas.{IsShutFor}
 use Rattle.m3_cluster.specs.Serves.{IsServing, WasSent, next_place}
-use Rattle.m3_cluster.specs.Steps.{spaces_in}
+use Rattle.cluster_state.specs.Steps.{spaces_in}
 use Rattle.m3_cluster.specs.declared.cluster.Cluster.{Cluster}
-use Rattle.m3_cluster.specs.declared.members.Members.{Members}
+use Rattle.cluster_state.specs.declared.members.Members.{Members}
 use Rattle.m3_cluster.proofs.CallLemmas.{At, on}
 use Rattle.m3_cluster.proofs.FateSteps.{names_differ}
 use Rattle.m3_cluster.proofs.LateLemmas.{late_stays}
 use Rattle.m3_cluster.proofs.LinkLemmas.{links_none, links_some, steps_among, steps_none, stops_standing}
 use Rattle.transcripts.proofs.MoreFaults.{AreAmong}
-use Rattle.m3_cluster.proofs.NodeLemmas.{node_found, same_node, set_elsewhere, set_here}
+use Rattle.cluster_nodes.proofs.NodeLemmas.{node_found, same_node, set_elsewhere, set_here}
 use Rattle.m3_cluster.proofs.NumberLemmas.{and_then}
 use Rattle.m3_cluster.proofs.QuietLemmas.{extends_same, fates_kept, grown_goes, quiet_change, tells_state, tells_unknown}
 use Rattle.m3_cluster.proofs.ReplicaLemmas.{IsAsked, standing_after, steps_at}

@@ -19,11 +19,11 @@ use Rattle.m3_cluster.specs.Acts.{IsMade}
 use Rattle.m3_outside.specs.Depots.{Depot}
 use Rattle.m3_cluster.specs.Serves.{Stands}
 use Rattle.m3_cluster.specs.declared.cluster.Cluster.{Cluster}
-use Rattle.m3_cluster.specs.declared.members.Members.{Members}
+use Rattle.cluster_state.specs.declared.members.Members.{Members}
 use Rattle.m3_cluster.proofs.ActLinks.{ListsTaken}
 use Rattle.m3_cluster.proofs.CallLemmas.{place_after}
 use Rattle.m3_cluster.proofs.DueLemmas.{due_free, due_there, standing}
-use Rattle.m3_cluster.proofs.OptionLemmas.{mapped_from}
+use Rattle.cluster_state.proofs.OptionLemmas.{mapped_from}
 use Rattle.m3_cluster.proofs.ShardLemmas.{slot_low}
 
 mapped_at : {X Y : Type 0} (f : X → Y) (xs : List X) (i : ℕ) → slice_get (map f xs) i ≡ option_map f (slice_get xs i)

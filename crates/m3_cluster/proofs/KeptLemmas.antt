@@ -28,12 +28,12 @@ use Rattle.m3_model.specs.declared.turn.Turn.{Turn}
 use Rattle.session.specs.Reads.{first_asked, end_asked}
 use Rattle.m3_cluster.specs.Acts.{Answers, next_call}
 use Rattle.m3_outside.specs.Depots.{TellAll}
-use Rattle.m3_cluster.specs.Nodes.{IsBootstrapped, IsDelivered, IsFated, IsRestarted, IsStopped}
+use Rattle.cluster_nodes.specs.Nodes.{IsBootstrapped, IsDelivered, IsFated, IsRestarted, IsStopped}
 use Rattle.m3_cluster.specs.Serves.{Stands, shard_in}
-use Rattle.m3_cluster.specs.Steps.{spaces_in, wish, IsNamed, IsMoved, IsWritten, IsWriteAnswer, IsFetched, IsRead, NamedPoint, placed}
-use Rattle.m3_cluster.specs.declared.calls.Range.{Range}
+use Rattle.cluster_state.specs.Steps.{spaces_in, wish, IsNamed, IsMoved, IsWritten, IsWriteAnswer, IsFetched, IsRead, NamedPoint, placed}
+use Rattle.cluster_state.specs.declared.calls.Range.{Range}
 use Rattle.m3_cluster.specs.declared.cluster.Cluster.{Cluster}
-use Rattle.m3_cluster.specs.declared.members.Members.{Members}
+use Rattle.cluster_state.specs.declared.members.Members.{Members}
 use Rattle.m3_cluster.proofs.ActLinks.{IsTurn, turns}
 use Rattle.m3_cluster.proofs.CallLemmas.{place_after, At, place_at, rules_there}
 use Rattle.m3_cluster.proofs.DueLemmas.{standing}

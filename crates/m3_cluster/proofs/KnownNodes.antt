@@ -40,12 +40,12 @@ use Rattle.session.specs.declared.slot.Slot.{Slot}
 use Rattle.m3_cluster.specs.Acts.{next_call}
 use Rattle.m3_cluster.specs.Replicas.{HasReplica, IsShutFor}
 use Rattle.m3_cluster.specs.Serves.{IsServing, WasAcked, WasSent, counted_in, next_place}
-use Rattle.m3_cluster.specs.Steps.{spaces_in}
+use Rattle.cluster_state.specs.Steps.{spaces_in}
 use Rattle.m3_cluster.specs.declared.cluster.Cluster.{Cluster}
-use Rattle.m3_cluster.specs.declared.members.Members.{Members}
+use Rattle.cluster_state.specs.declared.members.Members.{Members}
 use Rattle.m3_cluster.proofs.CallLemmas.{place_after, At, on, fate_is}
 use Rattle.transcripts.proofs.MoreFaults.{AreAmong}
-use Rattle.m3_cluster.proofs.OptionLemmas.{same_of_some}
+use Rattle.cluster_state.proofs.OptionLemmas.{same_of_some}
 use Rattle.m3_cluster.proofs.ReplicaLemmas.{open_owns}
 use Rattle.m3_cluster.proofs.ShardLemmas.{slot_listed}
 

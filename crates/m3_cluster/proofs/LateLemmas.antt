@@ -37,16 +37,15 @@ use Rattle.session.specs.Outcomes.{fate_to}
 use Rattle.session.specs.Writes.{is_late, late_to, late_among, filled}
 use Rattle.m3_cluster.specs.Acts.{next_call}
 use Rattle.m3_cluster.specs.Serves.{IsHeldBack, AreHeldBack, HoldsLate, counted_in, shard_in, next_place}
-use Rattle.m3_cluster.specs.Steps.{spaces_in}
+use Rattle.cluster_state.specs.Steps.{spaces_in}
 use Rattle.m3_cluster.specs.declared.cluster.Cluster.{Cluster}
-use Rattle.m3_cluster.specs.declared.members.Members.{Members}
+use Rattle.cluster_state.specs.declared.members.Members.{Members}
 use Rattle.m3_cluster.proofs.CallLemmas.{At, on, place_after, fate_is, seed_there, stands_there}
 use Rattle.m3_cluster.proofs.KnownNodes.{known_node}
-use Rattle.m3_cluster.proofs.ListLemmas.{any_of}
+use Rattle.cluster_state.proofs.ListLemmas.{any_of, ascends_on, ascends_append}
 use Rattle.m3_cluster.proofs.NumberLemmas.{and_then}
-use Rattle.m3_cluster.proofs.OptionLemmas.{mapped_from}
-use Rattle.m3_cluster.proofs.ShardLemmas.{ascends_on}
-use Rattle.m3_cluster.proofs.SpaceLemmas.{namespace_place-append}
+use Rattle.cluster_state.proofs.OptionLemmas.{mapped_from}
+use Rattle.cluster_state.proofs.SpaceLemmas.{namespace_place-append}
 
 -- ---- points, where namespaces are made
 
@@ -186,13 +185,6 @@ pub ascends_take : {X : Type 0} (R : X → X → Type 0) (k : ℕ) (xs : List X)
 ascends_take R zero xs h = tt
 ascends_take R (suc k) [] h = tt
 ascends_take R (suc k) (x ∷ xs) h = (λ y i. h.0 y (take-IsIn k xs y i), ascends_take R k xs h.1)
-
-pub ascends_append : {X : Type 0} (R : X → X → Type 0) (xs ys : List X) → Ascends R xs → Ascends R ys → ((x y : X) → IsIn xs x → IsIn ys y → R x y) → Ascends R (xs ++ ys)
-ascends_append R [] ys hx hy across = hy
-ascends_append R (x ∷ xs) ys hx hy across = (
-  λ y i. elim (IsIn-append_cases xs ys y i) as (λ _. R x y) [ inl a ↦ hx.0 y a | inr b ↦ across x y (inl refl) b ],
-  ascends_append R xs ys hx.1 hy (λ z y i j. across z y (inr i) j),
-)
 
 held_append : {D : Type 0} {G : Ghosts D} (g : Members D G) (lines : List Turn) (messages more : List LateMessage) (bag lates : List LateWrite) → AreHeldBack g lines messages bag → AreHeldBack g lines more lates → AreHeldBack g lines (messages ++ more) (bag ++ lates)
 held_append {D} {G} g lines [] more [] lates h new = new

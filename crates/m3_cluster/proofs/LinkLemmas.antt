@@ -25,12 +25,12 @@ use Rattle.replica_machine.specs.Steps.{IsStep}
 use Rattle.session.specs.Changes.{IsStepped, Step, TakesSteps}
 use Rattle.session.specs.Slots.{MachineMap, slot_cmp}
 use Rattle.session.specs.declared.slot.Slot.{Slot}
-use Rattle.m3_cluster.specs.Chains.{Link, TakesLinks, restart_at, stop_at}
+use Rattle.cluster_nodes.specs.Chains.{Link, TakesLinks, restart_at, stop_at}
 use Rattle.m3_outside.specs.Depots.{TellAll}
 use Rattle.m3_cluster.specs.Replicas.{HasReplica}
 use Rattle.m3_cluster.proofs.ReplicaLemmas.{IsAsked, IsDone, has_fault, is_fault, links_steps, replica_next, standing_after, standing_by, standing_next, steps_at}
 use Rattle.session.proofs.SlotLemmas.{same_slot}
-use Rattle.m3_cluster.proofs.SlotLists.{other_slot, own_slot}
+use Rattle.cluster_disks.proofs.SlotLists.{other_slot, own_slot}
 
 -- ---- the steps at a slot
 

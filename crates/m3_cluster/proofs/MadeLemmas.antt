@@ -17,11 +17,11 @@ use Rattle.placement_core.proofs.ListLemmas.{All-from_each}
 use Rattle.session.specs.declared.slot.Slot.{Slot}
 use Rattle.m3_cluster.specs.Acts.{IsMade}
 use Rattle.m3_outside.specs.Depots.{Depot, TellAll}
-use Rattle.m3_cluster.specs.First.{AreApart, HasReturned}
+use Rattle.cluster_disks.specs.First.{AreApart, HasReturned}
 use Rattle.m3_cluster.specs.Replicas.{IsBare}
 use Rattle.m3_cluster.specs.Serves.{AreCounted, AreDamages, IsUnmade, Stands, faults_of}
 use Rattle.m3_cluster.specs.declared.cluster.Cluster.{Cluster}
-use Rattle.m3_cluster.specs.declared.members.Members.{Members}
+use Rattle.cluster_state.specs.declared.members.Members.{Members}
 use Rattle.m3_cluster.proofs.ActLinks.{ListsTaken}
 use Rattle.m3_cluster.proofs.FirstFaults.{made_counted, returned_counted}
 use Rattle.m3_cluster.proofs.FirstSteps.{init_goes, made_links}
@@ -29,7 +29,7 @@ use Rattle.m3_cluster.proofs.NumberLemmas.{and_then}
 use Rattle.transcripts.specs.Record.{line_of}
 use Rattle.m3_cluster.proofs.QuietLemmas.{Tells, quiet_change, tells_disk, tells_memory, tells_order}
 use Rattle.m3_cluster.proofs.ReplicaLemmas.{bare_back, counted_quiet, damages_next, damages_quiet, line_damages, line_faults}
-use Rattle.m3_cluster.proofs.SlotLists.{slots_apart}
+use Rattle.cluster_disks.proofs.SlotLists.{slots_apart}
 use Rattle.m3_cluster.proofs.StandLemmas.{stands_push}
 use Rattle.m3_cluster.proofs.StepLemmas.{among_all, lists_line}
 

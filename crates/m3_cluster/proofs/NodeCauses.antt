@@ -36,21 +36,22 @@ use Rattle.session.specs.Changes.{IsStepped, Step}
 use Rattle.session.specs.Slots.{MachineMap, slot_cmp}
 use Rattle.session.specs.declared.slot.Slot.{Slot}
 use Rattle.transcripts.proofs.PlacementLemmas.{stood_known}
-use Rattle.m3_cluster.specs.Chains.{Boot, TakesLinks, boot_link, covered_slots, first_tenure, refused_restart_at, restart_at, slots_of_node, stop_at}
+use Rattle.cluster_nodes.specs.Chains.{Boot, TakesLinks, boot_link, covered_slots, refused_restart_at, restart_at, slots_of_node, stop_at}
+use Rattle.cluster_state.specs.Tenures.{first_tenure}
 use Rattle.m3_outside.specs.Depots.{TellAll}
 use Rattle.m3_cluster.specs.Replicas.{HasReplica}
-use Rattle.m3_cluster.specs.Nodes.{HasShard, IsHeldUp, IsNoShard, IsNode, IsUnstarted}
+use Rattle.cluster_nodes.specs.Nodes.{HasShard, IsHeldUp, IsNoShard, IsNode, IsUnstarted}
 use Rattle.m3_cluster.specs.Serves.{WasAcked, WasSent}
-use Rattle.m3_cluster.specs.Steps.{spaces_in}
+use Rattle.cluster_state.specs.Steps.{spaces_in}
 use Rattle.m3_cluster.specs.declared.cluster.Cluster.{Cluster}
-use Rattle.m3_cluster.specs.declared.members.Members.{Members}
+use Rattle.cluster_state.specs.declared.members.Members.{Members}
 use Rattle.m3_cluster.proofs.ActLinks.{ListsFaults, refused_boot, unbooted_links, unstarted_links}
 use Rattle.m3_cluster.proofs.CallLemmas.{place_after, At, on, place_at, stands_there}
 use Rattle.m3_cluster.proofs.FaultLinks.{link_damage, link_fault}
 use Rattle.m3_cluster.proofs.KnownNodes.{some_there}
-use Rattle.m3_cluster.proofs.NodeLemmas.{node_found}
+use Rattle.cluster_nodes.proofs.NodeLemmas.{node_found}
 use Rattle.m3_cluster.proofs.ReplicaLemmas.{IsAsked, IsDone, links_steps, replica_next, replica_sound, steps_at}
-use Rattle.m3_cluster.proofs.SlotLists.{slot_replica}
+use Rattle.cluster_disks.proofs.SlotLists.{slot_replica}
 
 -- ---- refusals
 

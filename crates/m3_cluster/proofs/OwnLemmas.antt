@@ -17,17 +17,18 @@ use Rattle.replica_machine.specs.Machines.{MachineState}
 use Rattle.session.specs.declared.call.Call.{Call}
 use Rattle.session.specs.declared.slot.Slot.{Slot}
 use Rattle.m3_cluster.specs.Acts.{Answers, IsMade, next_call}
-use Rattle.m3_cluster.specs.Depots.{AreOut, OwnedBy, OwnsDisks, place_of_slot}
+use Rattle.cluster_disks.specs.Depots.{AreOut, OwnedBy, place_of_slot}
+use Rattle.m3_cluster.specs.Depots.{OwnsDisks}
 use Rattle.m3_outside.specs.Depots.{Depot}
-use Rattle.m3_cluster.specs.First.{HasReturned, IsGivenBack, IsUntouched}
-use Rattle.m3_cluster.specs.Nodes.{IsBootstrapped, IsDelivered, IsFated, IsRestarted, IsStopped}
-use Rattle.m3_cluster.specs.Steps.{IsMoved, IsNamed, IsWritten, NamedPoint}
+use Rattle.cluster_disks.specs.First.{HasReturned, IsGivenBack, IsUntouched}
+use Rattle.cluster_nodes.specs.Nodes.{IsBootstrapped, IsDelivered, IsFated, IsRestarted, IsStopped}
+use Rattle.cluster_state.specs.Steps.{IsMoved, IsNamed, IsWritten, NamedPoint}
 use Rattle.m3_cluster.specs.declared.cluster.Cluster.{Cluster}
-use Rattle.m3_cluster.specs.declared.members.Members.{Members}
+use Rattle.cluster_state.specs.declared.members.Members.{Members}
 use Rattle.m3_model.specs.declared.act.WriteLevel.{WriteLevel}
 use Rattle.m3_cluster.proofs.ActLinks.{IsTurn, turn_links, turn_taken, turns}
 use Rattle.m3_cluster.proofs.LinkLemmas.{links_none, links_some}
-use Rattle.m3_cluster.proofs.SlotLists.{in_or_out}
+use Rattle.cluster_disks.proofs.SlotLists.{in_or_out}
 
 -- ---- the slots stay
 

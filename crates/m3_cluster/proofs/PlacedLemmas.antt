@@ -21,12 +21,12 @@ use Rattle.m3_outside.specs.declared.disk.Disk.{Ghosts}
 use Rattle.session.specs.declared.call.Call.{Call}
 use Rattle.m3_cluster.specs.Acts.{Answers, IsMade, OnMembers}
 use Rattle.m3_outside.specs.Depots.{Depot}
-use Rattle.m3_cluster.specs.Nodes.{IsFated, IsDelivered, IsStopped, IsRestarted, IsBootstrapped}
+use Rattle.cluster_nodes.specs.Nodes.{IsFated, IsDelivered, IsStopped, IsRestarted, IsBootstrapped}
 use Rattle.m3_cluster.specs.Serves.{place_of}
-use Rattle.m3_cluster.specs.Steps.{NamedPoint, placed, IsNamed, IsMoved, IsWriteAnswer, IsWritten, IsRead, IsFetched}
-use Rattle.m3_cluster.specs.declared.calls.Range.{Range}
+use Rattle.cluster_state.specs.Steps.{NamedPoint, placed, IsNamed, IsMoved, IsWriteAnswer, IsWritten, IsRead, IsFetched}
+use Rattle.cluster_state.specs.declared.calls.Range.{Range}
 use Rattle.m3_cluster.specs.declared.cluster.Cluster.{Cluster}
-use Rattle.m3_cluster.specs.declared.members.Members.{Members}
+use Rattle.cluster_state.specs.declared.members.Members.{Members}
 
 abbrev place_in : {D : Type 0} {G : Ghosts D} → Option (Members D G) → Option Placement
 place_in o = option_map (λ m. m.net.state.place) o

@@ -28,13 +28,13 @@ use Rattle.session.specs.Slots.{MachineMap, slot_at}
 use Rattle.session.specs.Writes.{ArePut}
 use Rattle.session.specs.declared.call.Call.{Call}
 use Rattle.session.specs.declared.slot.Slot.{Slot}
-use Rattle.m3_cluster.specs.Chains.{Link, TakesLinks}
+use Rattle.cluster_nodes.specs.Chains.{Link, TakesLinks}
 use Rattle.m3_outside.specs.Depots.{TellAll}
 use Rattle.m3_cluster.specs.Replicas.{IsShutFor}
 use Rattle.m3_cluster.specs.Serves.{IsServing, WasAcked, WasSent, next_place}
-use Rattle.m3_cluster.specs.Steps.{spaces_in}
+use Rattle.cluster_state.specs.Steps.{spaces_in}
 use Rattle.m3_cluster.specs.declared.cluster.Cluster.{Cluster}
-use Rattle.m3_cluster.specs.declared.members.Members.{Members}
+use Rattle.cluster_state.specs.declared.members.Members.{Members}
 use Rattle.m3_cluster.proofs.ActLinks.{ListsFaults, late_links, put_links}
 use Rattle.m3_cluster.proofs.CallLemmas.{At}
 use Rattle.m3_cluster.proofs.LateLemmas.{Extends}

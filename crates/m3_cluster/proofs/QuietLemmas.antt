@@ -31,13 +31,13 @@ use Rattle.session.specs.declared.slot.Slot.{Slot}
 use Rattle.m3_cluster.specs.Acts.{after_call}
 use Rattle.m3_outside.specs.Depots.{TellAll}
 use Rattle.m3_cluster.specs.Serves.{Stands, StandsOn, EachNode, IsKept, rules_of, place_of, seed_of}
-use Rattle.m3_cluster.specs.Steps.{spaces_in}
+use Rattle.cluster_state.specs.Steps.{spaces_in}
 use Rattle.m3_cluster.specs.declared.cluster.Cluster.{Cluster}
-use Rattle.m3_cluster.specs.declared.members.Members.{Members}
+use Rattle.cluster_state.specs.declared.members.Members.{Members}
 use Rattle.m3_cluster.proofs.CallLemmas.{At, on, rules_there}
 use Rattle.m3_cluster.proofs.LateLemmas.{Extends, late_stays}
 use Rattle.m3_cluster.proofs.NumberLemmas.{turn_of, and_then, numbering_more}
-use Rattle.m3_cluster.proofs.OptionLemmas.{same_some}
+use Rattle.cluster_state.proofs.OptionLemmas.{same_some}
 use Rattle.transcripts.proofs.MoreFaults.{AreAmong}
 use Rattle.m3_cluster.proofs.ServingLemmas.{Leaves, replica_at, serving_stays, stopped_push}
 use Rattle.m3_cluster.proofs.StandLemmas.{Grows, Goes, Numbered, call_numbered, kept_on, other_numbered, rules_push, stands_on}

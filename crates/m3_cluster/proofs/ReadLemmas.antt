@@ -42,12 +42,12 @@ use Rattle.session.proofs.AskedLemmas.{answering-asked, answering-told, answerin
 use Rattle.m3_cluster.specs.Acts.{next_call}
 use Rattle.m3_outside.specs.Depots.{TellAll}
 use Rattle.m3_cluster.specs.Serves.{IsKept, WasAcked, WasSent, counted_in, shard_in}
-use Rattle.m3_cluster.specs.Steps.{spaces_in}
+use Rattle.cluster_state.specs.Steps.{spaces_in}
 use Rattle.m3_cluster.specs.declared.cluster.Cluster.{Cluster}
-use Rattle.m3_cluster.specs.declared.members.Members.{Members}
+use Rattle.cluster_state.specs.declared.members.Members.{Members}
 use Rattle.m3_cluster.proofs.CallLemmas.{At, on}
 use Rattle.m3_cluster.proofs.CallCauses.{IsOpenAt, read_heard, end_low}
-use Rattle.m3_cluster.proofs.OptionLemmas.{same_some}
+use Rattle.cluster_state.proofs.OptionLemmas.{same_some}
 use Rattle.m3_cluster.proofs.ReplicaLemmas.{shown_sent, sure_held}
 use Rattle.m3_cluster.proofs.ShardLemmas.{distinct_by_name}
 

@@ -19,8 +19,8 @@ use Rattle.replica_machine.specs.Machines.{MachineState, MayHaveTenure, IsHeldBy
 use Rattle.session.specs.Changes.{Step}
 use Rattle.session.specs.declared.slot.Slot.{Slot}
 use Rattle.m3_outside.specs.Depots.{Depot, TellAll}
-use Rattle.m3_cluster.specs.Depots.{place_of_slot}
-use Rattle.m3_cluster.specs.First.{IsOpened, first_boot}
+use Rattle.cluster_disks.specs.Depots.{place_of_slot}
+use Rattle.cluster_disks.specs.First.{IsOpened, first_boot}
 use Rattle.m3_cluster.specs.Replicas.{HasReplica, HasNoPoints, IsBare, IsOurs, bare}
 use Rattle.m3_cluster.proofs.ReplicaSteps.{IsAsked, IsDone, replica_next, replica_less}
 

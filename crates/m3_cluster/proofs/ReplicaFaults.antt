@@ -23,15 +23,16 @@ use Rattle.session.specs.Changes.{Step, TakesSteps, IsStepped}
 use Rattle.session.specs.Slots.{slot_at}
 use Rattle.session.specs.declared.slot.Slot.{Slot}
 use Rattle.transcripts.proofs.MoreFaults.{different_both}
-use Rattle.m3_cluster.specs.Chains.{Link, TakesLinks}
+use Rattle.cluster_nodes.specs.Chains.{Link, TakesLinks}
 use Rattle.m3_outside.specs.Depots.{Depot}
-use Rattle.m3_cluster.specs.Depots.{place_of_slot, count_at}
-use Rattle.m3_cluster.specs.First.{AreApart}
+use Rattle.cluster_disks.specs.Depots.{place_of_slot, count_at}
+use Rattle.cluster_disks.specs.First.{AreApart}
 use Rattle.m3_cluster.specs.Replicas.{faults_at}
 use Rattle.m3_cluster.specs.Serves.{AreCounted, AreDamages, IsEarlier, faults_of, machine_at}
 use Rattle.m3_cluster.specs.declared.cluster.Cluster.{Cluster}
-use Rattle.m3_cluster.specs.declared.members.Members.{Members}
+use Rattle.cluster_state.specs.declared.members.Members.{Members}
 use Rattle.m3_cluster.proofs.ReplicaLinks.{steps_at, links_steps}
+use Rattle.cluster_disks.proofs.GiveAll.{rose_more}
 
 -- a step was refused for the disk
 abbrev pub is_fault : StepReply → Bool
@@ -101,12 +102,6 @@ none_found true damaged line links slots none e = append-nil damaged ∙ none re
 none_found false damaged line links slots none e = cc
 
 -- ---- counts
-
-rose_both : (last m n before mid now : ℕ) → min (before + m) last ≤ mid → min (mid + n) last ≤ now → min (before + (m + n)) last ≤ now
-rose_both last m n before mid now first second = omega (arith, first, second)
-
-pub rose_more : (m n before mid now : ℕ) → RoseBy m before mid → RoseBy n mid now → RoseBy (m + n) before now
-rose_more m n before mid now first second = rose_both last_count m n before mid now first second
 
 -- a smaller rise
 pub rose_less : (last m n before now : ℕ) → m ≤ n → min (before + n) last ≤ now → min (before + m) last ≤ now

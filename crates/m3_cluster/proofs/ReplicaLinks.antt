@@ -10,7 +10,7 @@ use Rattle.session.specs.Changes.{Step, TakesSteps, IsStepped, IsSteppedAt}
 use Rattle.session.specs.Slots.{MachineMap, slot_cmp}
 use Rattle.session.specs.declared.slot.Slot.{Slot}
 use Rattle.session.proofs.SlotLemmas.{same_slot, slot_cmp_total}
-use Rattle.m3_cluster.specs.Chains.{Link, TakesLinks}
+use Rattle.cluster_nodes.specs.Chains.{Link, TakesLinks}
 
 -- steps at one slot of all links
 abbrev pub steps_at : Slot → List Link → List Step

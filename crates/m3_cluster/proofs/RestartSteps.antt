@@ -25,23 +25,23 @@ use Rattle.m3_model.proofs.MemberLemmas.{IsIn-append_cases, IsIn-append_left, Is
 use Rattle.replica_machine.specs.Machines.{MachineState}
 use Rattle.session.specs.Changes.{Step}
 use Rattle.session.specs.declared.slot.Slot.{Slot}
-use Rattle.m3_cluster.specs.Chains.{IsUnrestarted, Link, refused_restart_at, restart_at, slots_of_node, stop_at}
+use Rattle.cluster_nodes.specs.Chains.{IsUnrestarted, Link, refused_restart_at, restart_at, slots_of_node, stop_at}
 use Rattle.m3_outside.specs.Depots.{TellAll}
-use Rattle.m3_cluster.specs.Nodes.{IsRestarted, IsStarted, IsUnstarted}
+use Rattle.cluster_nodes.specs.Nodes.{IsRestarted, IsStarted, IsUnstarted}
 use Rattle.m3_cluster.specs.Replicas.{IsShutFor}
 use Rattle.m3_cluster.specs.Serves.{IsServing, WasSent, next_place}
-use Rattle.m3_cluster.specs.Steps.{spaces_in}
+use Rattle.cluster_state.specs.Steps.{spaces_in}
 use Rattle.m3_cluster.specs.declared.cluster.Cluster.{Cluster}
-use Rattle.m3_cluster.specs.declared.members.Members.{Members}
+use Rattle.cluster_state.specs.declared.members.Members.{Members}
 use Rattle.m3_cluster.proofs.ActLinks.{unstarted_links, unstarted_taken}
 use Rattle.m3_cluster.proofs.CallLemmas.{At, on}
 use Rattle.m3_cluster.proofs.HaltSteps.{named_elsewhere, named_here, node_has, of_node, stop_asked}
 use Rattle.m3_cluster.proofs.LateLemmas.{late_stays}
 use Rattle.m3_cluster.proofs.LinkLemmas.{links_none, links_some, or_true, restarts_standing, standing_append, steps_among, steps_append, steps_none, stops_standing}
 use Rattle.transcripts.proofs.MoreFaults.{AreAmong}
-use Rattle.m3_cluster.proofs.NodeLemmas.{set_elsewhere, set_here}
+use Rattle.cluster_nodes.proofs.NodeLemmas.{set_elsewhere, set_here}
 use Rattle.m3_cluster.proofs.NumberLemmas.{and_then}
-use Rattle.m3_cluster.proofs.OptionLemmas.{same_of_some}
+use Rattle.cluster_state.proofs.OptionLemmas.{same_of_some}
 use Rattle.m3_cluster.proofs.QuietLemmas.{Tells, extends_same, fates_kept, fates_stay, grown_goes, leaves_all, quiet_change, rules_stay, stopped_stays, stops_kept, tells_disk, tells_memory, tells_state, tells_unknown}
 use Rattle.m3_cluster.proofs.ReplicaLemmas.{IsAsked, standing_after, steps_at}
 use Rattle.m3_cluster.proofs.ServingLemmas.{StaysRight, acked_none, machine_instance, machine_placed, machine_slot, replica_at, serving_next, shut_on, stopped_push, waits_push}

@@ -20,11 +20,11 @@ use Rattle.session.specs.Slots.{slot_at}
 use Rattle.session.specs.declared.slot.Slot.{Slot}
 use Rattle.m3_cluster.specs.Acts.{Answers, IsMade}
 use Rattle.m3_outside.specs.Depots.{Depot, TellAll}
-use Rattle.m3_cluster.specs.Depots.{place_of_slot, count_at}
+use Rattle.cluster_disks.specs.Depots.{place_of_slot, count_at}
 use Rattle.m3_cluster.specs.Replicas.{IsBare}
 use Rattle.m3_cluster.specs.Serves.{IsEarlier, Serves, faults_of, machine_at}
 use Rattle.m3_cluster.specs.declared.cluster.Cluster.{Cluster}
-use Rattle.m3_cluster.specs.declared.members.Members.{Members}
+use Rattle.cluster_state.specs.declared.members.Members.{Members}
 use Rattle.m3_cluster.proofs.CauseLemmas.{answers_caused}
 use Rattle.m3_cluster.proofs.InitCauses.{made_caused, made_kept}
 use Rattle.m3_cluster.proofs.KeptLemmas.{kept_after}

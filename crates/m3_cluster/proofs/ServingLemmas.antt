@@ -30,21 +30,21 @@ use Rattle.placement_core.proofs.ListLemmas.{All-from_each}
 use Rattle.replica_machine.specs.Machines.{MachineState}
 use Rattle.session.specs.Changes.{IsStepped, Step, TakesSteps}
 use Rattle.session.specs.declared.slot.Slot.{Slot}
-use Rattle.m3_cluster.specs.Chains.{Link, TakesLinks}
+use Rattle.cluster_nodes.specs.Chains.{Link, TakesLinks}
 use Rattle.m3_outside.specs.Depots.{TellAll}
 use Rattle.m3_cluster.specs.Replicas.{IsShutFor}
 use Rattle.m3_cluster.specs.Serves.{IsServing, WasAcked, WasSent, next_place}
-use Rattle.m3_cluster.specs.Steps.{spaces_in}
+use Rattle.cluster_state.specs.Steps.{spaces_in}
 use Rattle.m3_cluster.specs.declared.cluster.Cluster.{Cluster}
-use Rattle.m3_cluster.specs.declared.members.Members.{Members}
+use Rattle.cluster_state.specs.declared.members.Members.{Members}
 use Rattle.m3_cluster.proofs.CallLemmas.{At, on}
 use Rattle.m3_cluster.proofs.LateLemmas.{Extends, point_of-append, sent_point-append, shard_same}
 use Rattle.transcripts.proofs.PlacementLemmas.{stood_known}
 use Rattle.transcripts.proofs.MoreFaults.{AreAmong}
 use Rattle.m3_cluster.proofs.NumberLemmas.{and_then, inner_turns-push, turn_of}
-use Rattle.m3_cluster.proofs.OptionLemmas.{same_some}
+use Rattle.cluster_state.proofs.OptionLemmas.{same_some}
 use Rattle.m3_cluster.proofs.ReplicaLemmas.{IsAsked, IsDone, links_steps, replica_less, replica_next, standing_after, standing_next, steps_at}
-use Rattle.m3_cluster.proofs.SlotLists.{in_or_out, slot_instance, slot_replica}
+use Rattle.cluster_disks.proofs.SlotLists.{in_or_out, slot_instance, slot_replica}
 
 -- ---- what was sent and acknowledged
 

@@ -28,12 +28,13 @@ use Rattle.placement_core.proofs.ListLemmas.{IsIn-filter}
 use Rattle.cluster_core.specs.Lists.{IsDistinct}
 use Rattle.session.specs.Slots.{slot_at}
 use Rattle.session.specs.declared.slot.Slot.{Slot}
-use Rattle.m3_cluster.specs.First.{slots_from, slots_of}
+use Rattle.cluster_disks.specs.First.{slots_from, slots_of}
 use Rattle.m3_cluster.specs.Serves.{shard_in}
 use Rattle.m3_cluster.specs.declared.cluster.Cluster.{Cluster}
-use Rattle.m3_cluster.specs.declared.members.Members.{Members}
+use Rattle.cluster_state.specs.declared.members.Members.{Members}
 use Rattle.m3_cluster.proofs.CallLemmas.{At, on}
-use Rattle.m3_cluster.proofs.OptionLemmas.{same_of_some}
+use Rattle.cluster_state.proofs.OptionLemmas.{same_of_some}
+use Rattle.cluster_state.proofs.ListLemmas.{ascends_on}
 
 -- ---- shards
 
@@ -98,10 +99,6 @@ pub not_below : (place : Placement) (a b : ℕ) → IsNamedBelow place a b → a
 not_below place a b below same =
     let one_is : below.one ≡ below.other = same_of_some below.one below.other (sym below.of_one ∙ ap (slice_get place.instances) same ∙ below.of_other) in
     below_itself below.other.name (subst (λ (x : Instance). IsBelow x.name below.other.name) one_is below.below)
-
-pub ascends_on : {X : Type 0} (R S : X → X → Type 0) (xs : List X) → ((x y : X) → R x y → S x y) → Ascends R xs → Ascends S xs
-ascends_on R S [] on_each h = tt
-ascends_on R S (x ∷ xs) on_each h = (λ y i. on_each x y (h.0 y i), ascends_on R S xs on_each h.1)
 
 pub distinct_by_name : (place : Placement) (ns : List ℕ) → Ascends (IsNamedBelow place) ns → IsDistinct ns
 distinct_by_name place ns h = ascends_on (IsNamedBelow place) ◌≢◌ ns (not_below place) h

@@ -30,14 +30,14 @@ use Rattle.placement_core.specs.Shards.{shard_at}
 use Rattle.replica_machine.specs.Machines.{MachineState}
 use Rattle.session.specs.declared.slot.Slot.{Slot}
 use Rattle.m3_cluster.specs.Acts.{after_call}
-use Rattle.m3_cluster.specs.First.{slots_of}
+use Rattle.cluster_disks.specs.First.{slots_of}
 use Rattle.m3_cluster.specs.Serves.{Stands, StandsOn, EachNode, HoldsLate, IsKept, IsServing, IsWellFormed, counted_in, shard_in, place_of, rules_of, seed_of}
-use Rattle.m3_cluster.specs.Steps.{spaces_in}
+use Rattle.cluster_state.specs.Steps.{spaces_in}
 use Rattle.m3_cluster.specs.declared.cluster.Cluster.{Cluster}
-use Rattle.m3_cluster.specs.declared.members.Members.{Members}
+use Rattle.cluster_state.specs.declared.members.Members.{Members}
 use Rattle.m3_cluster.proofs.LateLemmas.{Extends, shard_same, counted_same, point_of-append}
 use Rattle.m3_cluster.proofs.NumberLemmas.{turn_of, and_then, inner_turns-push, numbering_more, number_on, number_stays, length_on}
-use Rattle.m3_cluster.proofs.OptionLemmas.{same_some}
+use Rattle.cluster_state.proofs.OptionLemmas.{same_some}
 use Rattle.m3_cluster.proofs.ServingLemmas.{stopped_push, turn_cases}
 
 -- ---- a cluster that stands

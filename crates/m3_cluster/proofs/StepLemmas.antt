@@ -21,13 +21,13 @@ use Rattle.session.specs.declared.call.Call.{Call}
 use Rattle.session.specs.declared.slot.Slot.{Slot}
 use Rattle.m3_cluster.specs.Acts.{Answers, after_call, next_call}
 use Rattle.m3_outside.specs.Depots.{Depot, TellAll}
-use Rattle.m3_cluster.specs.Chains.{Link}
-use Rattle.m3_cluster.specs.First.{AreApart}
+use Rattle.cluster_nodes.specs.Chains.{Link}
+use Rattle.cluster_disks.specs.First.{AreApart}
 use Rattle.m3_cluster.specs.Serves.{AreCounted, AreDamages, Stands, faults_of}
-use Rattle.m3_cluster.specs.Steps.{IsFetched, IsRead}
-use Rattle.m3_cluster.specs.declared.calls.Range.{Range}
+use Rattle.cluster_state.specs.Steps.{IsFetched, IsRead}
+use Rattle.cluster_state.specs.declared.calls.Range.{Range}
 use Rattle.m3_cluster.specs.declared.cluster.Cluster.{Cluster}
-use Rattle.m3_cluster.specs.declared.members.Members.{Members}
+use Rattle.cluster_state.specs.declared.members.Members.{Members}
 use Rattle.m3_cluster.proofs.ActLinks.{IsTurn, ListsFaults, TurnLists, TurnsOff, TurnsOn, calls_by, turn_links, turn_taken, turns}
 use Rattle.m3_cluster.proofs.BootSteps.{bootstrap_goes}
 use Rattle.m3_cluster.proofs.CallLemmas.{At, on}
@@ -40,7 +40,7 @@ use Rattle.m3_cluster.proofs.QuietLemmas.{quiet_call, quiet_change, tells_consis
 use Rattle.m3_cluster.proofs.ReplicaLemmas.{counted_next, counted_quiet, damage_listed, damages_next, damages_quiet, fault_listed, line_damages, line_faults}
 use Rattle.m3_cluster.proofs.RestartSteps.{restart_goes}
 use Rattle.m3_cluster.proofs.RuleSteps.{moved_goes, named_goes}
-use Rattle.m3_cluster.proofs.SlotLists.{slots_apart}
+use Rattle.cluster_disks.proofs.SlotLists.{slots_apart}
 use Rattle.m3_cluster.proofs.StandLemmas.{Goes, stands_push}
 use Rattle.m3_cluster.proofs.TakeLemmas.{deliver_goes, write_goes}
 

@@ -38,20 +38,20 @@ use Rattle.session.specs.Writes.{IsAcknowledged, IsSent, IsUnsent, filled, late_
 use Rattle.session.specs.declared.slot.Slot.{Slot}
 use Rattle.session.proofs.AskedLemmas.{answering-asked, answering_ascend, permuted-IsIn}
 use Rattle.m3_cluster.specs.Acts.{after_call, next_call}
-use Rattle.m3_cluster.specs.Chains.{Link}
+use Rattle.cluster_nodes.specs.Chains.{Link}
 use Rattle.m3_outside.specs.Depots.{TellAll}
-use Rattle.m3_cluster.specs.Nodes.{IsDelivered, KeepsButMachines}
+use Rattle.cluster_nodes.specs.Nodes.{IsDelivered, KeepsButMachines}
 use Rattle.m3_cluster.specs.Serves.{AreHeldBack, HoldsLate, IsHeldBack, IsKept, WasAcked, WasSent, counted_in, shard_in}
-use Rattle.m3_cluster.specs.Steps.{NamedPoint, IsPut, IsWritten, placed, spaces_in}
+use Rattle.cluster_state.specs.Steps.{NamedPoint, IsPut, IsWritten, placed, spaces_in}
 use Rattle.m3_cluster.specs.declared.cluster.Cluster.{Cluster}
-use Rattle.m3_cluster.specs.declared.members.Members.{Members}
+use Rattle.cluster_state.specs.declared.members.Members.{Members}
 use Rattle.m3_cluster.proofs.ActLinks.{ListsFaults, answer_links, delivered_links, delivered_taken, sent_links, sent_taken, written_links}
 use Rattle.m3_cluster.proofs.CallLemmas.{At, on, rules_there, version_is}
 use Rattle.m3_cluster.proofs.LateLemmas.{Delays, Extends, ascends_take, late_more, late_none, late_stays, shard_same, take-IsIn}
 use Rattle.m3_cluster.proofs.LinkLemmas.{IsPutOf, links_none, links_some, steps_among, steps_in}
 use Rattle.transcripts.proofs.MoreFaults.{AreAmong}
 use Rattle.m3_cluster.proofs.NumberLemmas.{turn_of, and_then}
-use Rattle.m3_cluster.proofs.OptionLemmas.{same_some}
+use Rattle.cluster_state.proofs.OptionLemmas.{same_some}
 use Rattle.m3_cluster.proofs.PutSteps.{late_calls, put_calls, put_done, put_nodes, serving_puts}
 use Rattle.m3_cluster.proofs.QuietLemmas.{extends_same, fates_kept, grown_goes, quiet_call, stops_kept, tells_unknown}
 use Rattle.m3_cluster.proofs.ReplicaLemmas.{IsDone, steps_at}

@@ -1,38 +1,22 @@
 -- What a cluster answers an act, and what that leaves of it.
-use Rattle.std.specs.Prelude.{◌≡◌, ℕ, ◌+◌, ◌-◌, ◌^◌, List, Option, Some, None, Bool, true, false, IsSome, min, replicate, slice_get, slice_index, slice_set}
+use Rattle.std.specs.Prelude.{◌≡◌, ℕ, ◌+◌, ◌-◌, ◌^◌, List, Option, Some, None, Bool, true, false, IsSome, min, replicate, slice_index, slice_set}
 use Rattle.m3_model.specs.declared.limits.TheConstants.{MOST_CLIENTS}
 use Rattle.std.specs.FinMap as finite
 use Rattle.m3_outside.specs.declared.disk.Disk.{Ghosts}
-use Rattle.m3_model.specs.Members.{IsIn}
-use Rattle.placement_plan.specs.First.{IsFirstPlacement}
 use Rattle.m3_model.specs.declared.act.Act.{Act}
 use Rattle.m3_model.specs.declared.act.Act.TheVariants as act
 use Rattle.m3_model.specs.declared.answer.Answer.{Answer}
 use Rattle.m3_model.specs.declared.answer.Answer.TheVariants as answer
-use Rattle.m3_model.specs.declared.placement.Instance.{Instance}
-use Rattle.m3_model.specs.declared.placement.Placement.{Placement}
 use Rattle.m3_model.specs.declared.point.Pick.TheVariants as pick
-use Rattle.m3_outside.specs.Causes.{Rose}
 use Rattle.m3_outside.specs.DiskState.{DiskState}
-use Rattle.session.specs.Slots.{slot_at}
 use Rattle.session.specs.declared.call.Call.{Call}
 use Rattle.m3_outside.specs.Depots.{Depot}
-use Rattle.m3_cluster.specs.First.{HasReturned, slots_of}
-use Rattle.m3_cluster.specs.Nodes.{IsFated, IsDelivered, IsStopped, IsRestarted, IsBootstrapped}
-use Rattle.m3_cluster.specs.Steps.{IsFirst, IsNamed, IsMoved, IsWritten, IsFetched}
+use Rattle.cluster_disks.specs.First.{HasReturned, IsFirst}
+use Rattle.cluster_nodes.specs.Nodes.{IsFated, IsDelivered, IsStopped, IsRestarted, IsBootstrapped}
+use Rattle.cluster_state.specs.Steps.{IsNamed, IsMoved, IsWritten, IsFetched}
 use Rattle.m3_cluster.specs.declared.cluster.Cluster.{Cluster}
-use Rattle.m3_cluster.specs.declared.members.Members.{Members}
-
--- a disk of one of the placement's slots couldn't be taken
-pub record IsUntaken {D : Type 0} (rf shards seed : ℕ) (nodes : List (List ℕ × List ℕ)) (name : List ℕ) (shard : ℕ) (old new : Depot D) : Type 0 where
-  pub place : Placement
-  pub first : IsFirstPlacement rf shards nodes place
-  pub node : ℕ
-  pub instance_ : Instance
-  pub named : slice_get place.instances node ≡ Some instance_
-  pub name_is : name ≡ instance_.name
-  pub of_slot : IsIn (slots_of place) (slot_at node shard)
-  pub rose : Rose old.faults new.faults
+use Rattle.cluster_state.specs.declared.members.Members.{Members}
+use Rattle.cluster_disks.specs.Plans.{IsUntaken}
 
 -- `init` makes a cluster on its nodes where none stands, and takes their disks; where it is refused all are given back
 abbrev pub IsMade : {D : Type 0} {G : Ghosts D} → (D → DiskState) → Depot D → Cluster D G → ℕ → ℕ → ℕ → List (List ℕ × List ℕ) → Answer → Depot D → Cluster D G → Type 0

@@ -1,12 +1,5 @@
-pub mod Chains
 pub mod Depots
-pub mod First
-pub mod Steps
-pub mod Nodes
 pub mod Acts
 pub mod Replicas
 pub mod Serves
-pub mod Lending
-pub mod Plans
-pub mod Boots
 pub mod Served

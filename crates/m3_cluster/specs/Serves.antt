@@ -41,12 +41,12 @@ use Rattle.replica_machine.specs.Machines.{MachineState}
 use Rattle.session.specs.Slots.{slot_at}
 use Rattle.session.specs.declared.slot.Slot.{Slot}
 use Rattle.m3_outside.specs.Depots.{Depot, TellAll}
-use Rattle.m3_cluster.specs.Depots.{count_at, place_of_slot}
-use Rattle.m3_cluster.specs.First.{slots_of}
+use Rattle.cluster_disks.specs.Depots.{count_at, place_of_slot}
+use Rattle.cluster_disks.specs.First.{slots_of}
 use Rattle.m3_cluster.specs.Replicas.{HasReplica, IsBare, IsShutFor, faults_at}
-use Rattle.m3_cluster.specs.Steps.{spaces_in}
+use Rattle.cluster_state.specs.Steps.{spaces_in}
 use Rattle.m3_cluster.specs.declared.cluster.Cluster.{Cluster}
-use Rattle.m3_cluster.specs.declared.members.Members.{Members}
+use Rattle.cluster_state.specs.declared.members.Members.{Members}
 
 -- ---- what a cluster says of itself
 

@@ -13,16 +13,19 @@ ghost use Rattle.m3_outside.specs.declared.slot.Slot.{Slot as Place};
 ghost use Rattle.session.specs.declared.slot.Slot.{Slot as AtSlot};
 ghost use Rattle.m3_cluster.specs.Acts.{Answers, IsMade, is_init};
 ghost use Rattle.m3_outside.specs.Depots.{Depot, TellAll};
-ghost use Rattle.m3_cluster.specs.Depots.{place_of_slot, OwnsDisks, count_at};
-ghost use Rattle.m3_cluster.specs.Lending.{depot_by, RisesBy};
+ghost use Rattle.cluster_disks.specs.Depots.{place_of_slot, count_at};
+ghost use Rattle.m3_cluster.specs.Depots.{OwnsDisks};
+ghost use Rattle.cluster_disks.specs.Lending.{depot_by, RisesBy};
 ghost use Rattle.m3_cluster.specs.Replicas.{IsBare};
 ghost use Rattle.m3_cluster.specs.Served.{IsServedBy};
 ghost use Rattle.m3_cluster.specs.Serves.{Serves, place_of, machine_at};
 
-use crate::calls::Range;
-use crate::first::first_members;
-use crate::lending::give_all;
-use crate::members::Members;
+use cluster_disks::first::first_members;
+use cluster_disks::lending::give_all;
+use cluster_nodes::boots::{bootstrap, restart};
+use cluster_nodes::nodes::{deliver, set_fates, stop};
+use cluster_state::calls::Range;
+use cluster_state::members::Members;
 use m3_model::act::{Act, Fate};
 use m3_model::answer::Answer;
 use m3_model::placement::Placement;
@@ -115,7 +118,7 @@ impl<D: Disk> Cluster<D> {
         let Some(members) = &mut self.members else {
             return Answer::Order;
         };
-        let answer = members.set_fates(alloc, list);
+        let answer = set_fates(members, alloc, list);
         if let Answer::Done = &answer {
             self.calls.restart();
         }
@@ -205,10 +208,10 @@ impl<D: Disk> Cluster<D> {
                 retention,
             }),
             Act::Now { now } => members.set_moment(now),
-            Act::Deliver => members.deliver(alloc),
-            Act::Stop { node } => members.stop(node),
-            Act::Restart { node, pick } => members.restart(node, pick),
-            Act::Bootstrap { node, shard } => members.bootstrap(alloc, node, shard),
+            Act::Deliver => deliver(members, alloc),
+            Act::Stop { node } => stop(members, node),
+            Act::Restart { node, pick } => restart(members, node, pick),
+            Act::Bootstrap { node, shard } => bootstrap(members, alloc, node, shard),
             _ => unreachable!(),
         }
     }

@@ -11,7 +11,7 @@ use Rattle.m3_outside.specs.Depots.{Depot}
 use Rattle.m3_outside.specs.declared.slot.Slot.{Slot as Place}
 use Rattle.session.specs.Slots.{MachineMap, slot_at}
 use Rattle.session.specs.declared.slot.Slot.{Slot}
-use Rattle.m3_cluster.specs.Depots.{count_at, place_of_slot, risen}
+use Rattle.cluster_disks.specs.Depots.{count_at, place_of_slot, risen}
 use Rattle.m3_cluster.specs.Replicas.{faults_at}
 use Rattle.m3_cluster.specs.Serves.{faults_of}
 use Rattle.m3_program.specs.Faults.{times_failed, times_faulted, times_untaken}

@@ -6,11 +6,12 @@ use Rattle.m3_outside.specs.declared.disk.Disk.{Ghosts}
 use Rattle.m3_outside.specs.declared.slot.Slot.{Slot}
 use Rattle.m3_outside.specs.Slots.{Held, Unused, Here, Out}
 use Rattle.m3_outside.specs.Depots.{Depot, TellAll}
-use Rattle.m3_cluster.specs.Depots.{OwnedBy, OwnsDisks}
+use Rattle.cluster_disks.specs.Depots.{OwnedBy}
+use Rattle.m3_cluster.specs.Depots.{OwnsDisks}
 use Rattle.m3_cluster.specs.Replicas.{IsBare}
 use Rattle.m3_cluster.specs.Serves.{Serves}
 use Rattle.m3_cluster.specs.declared.cluster.Cluster.{Cluster}
-use Rattle.m3_cluster.specs.declared.members.Members.{Members}
+use Rattle.cluster_state.specs.declared.members.Members.{Members}
 use Rattle.m3_cluster.proofs.ReplicaLemmas.{empty_bare}
 use Rattle.m3_program.specs.Faults.{IsUnwritten}
 use Rattle.m3_program.specs.Streams.{IsFresh}

@@ -19,14 +19,14 @@ use Rattle.m3_outside.specs.declared.disk.Disk.{Ghosts}
 use Rattle.m3_outside.specs.declared.slot.Slot.{Slot as Place}
 use Rattle.m3_outside.specs.Depots.{Depot}
 use Rattle.session.specs.Slots.{slot_at}
-use Rattle.m3_cluster.specs.Depots.{count_at, place_of_slot}
-use Rattle.m3_cluster.specs.First.{AreApart}
-use Rattle.m3_cluster.specs.Lending.{RisesBy}
+use Rattle.cluster_disks.specs.Depots.{count_at, place_of_slot}
+use Rattle.cluster_disks.specs.First.{AreApart}
+use Rattle.cluster_disks.specs.Lending.{RisesBy}
 use Rattle.m3_cluster.specs.Replicas.{faults_at}
 use Rattle.m3_cluster.specs.Serves.{Serves, IsEarlier, faults_of, life_of, machine_at}
-use Rattle.m3_cluster.specs.declared.members.Members.{Members}
+use Rattle.cluster_state.specs.declared.members.Members.{Members}
 use Rattle.m3_cluster.proofs.ReplicaFaults.{machine_is}
-use Rattle.m3_cluster.proofs.SlotLists.{in_or_out, slots_apart}
+use Rattle.cluster_disks.proofs.SlotLists.{in_or_out, slots_apart}
 use Rattle.m3_program.specs.Exchanges.{Exchange, turns_of}
 use Rattle.m3_program.specs.Faults.{Counts, IsOfRun, counts_of, one_for}
 use Rattle.m3_program.specs.Runs.{HasCauses, life_with, record_of}

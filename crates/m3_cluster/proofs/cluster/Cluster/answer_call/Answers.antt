@@ -5,7 +5,7 @@ use mir.Syntax.{w64}
 use mir.Val.{SFits}
 use Rattle.m3_model.specs.declared.point.Pick.TheVariants as pick
 use Rattle.m3_cluster.specs.Acts.{Answers}
-use Rattle.m3_cluster.specs.Steps.{IsWritten, IsFetched}
+use Rattle.cluster_state.specs.Steps.{IsWritten, IsFetched}
 use Rattle.m3_cluster.proofs.ActLemmas.{on_some, call_is, calls_are}
 use Rattle.m3_cluster.proofs.cluster.Cluster.answer_call.Goals as goal
 

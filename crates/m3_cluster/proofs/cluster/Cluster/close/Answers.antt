@@ -1,7 +1,7 @@
 use Rattle.std.proofs.Common.{subst}
-use Rattle.m3_cluster.specs.Depots.{OwnedBy}
-use Rattle.m3_cluster.specs.Lending.{depot_by, HasGivenBack}
-use Rattle.m3_cluster.proofs.GiveAll.{none_out}
+use Rattle.cluster_disks.specs.Depots.{OwnedBy}
+use Rattle.cluster_disks.specs.Lending.{depot_by, HasGivenBack}
+use Rattle.cluster_disks.proofs.GiveAll.{none_out}
 use Rattle.m3_cluster.proofs.cluster.Cluster.close.Goals as goal
 
 pub returns-in-Some-clause-none_out : goal.returns-in-Some-clause-none_out

@@ -5,7 +5,7 @@ use Rattle.transcripts.specs.Placements.{placement_after}
 use Rattle.transcripts.specs.Record.{inner_turns}
 use Rattle.m3_model.specs.declared.turn.Reply.TheVariants as reply
 use Rattle.m3_model.specs.declared.turn.Request.{Request}
-use Rattle.m3_cluster.specs.Lending.{depot_by}
+use Rattle.cluster_disks.specs.Lending.{depot_by}
 use Rattle.m3_cluster.specs.Serves.{Serves, place_of}
 use Rattle.m3_cluster.proofs.ServedLemmas.{act_owns, act_places, act_serves}
 use Rattle.m3_cluster.proofs.cluster.Cluster.serve.Goals as goal

@@ -1,0 +1,4 @@
+pub mod Depots
+pub mod First
+pub mod Lending
+pub mod Plans

@@ -1,0 +1,4 @@
+pub mod ChainLemmas
+pub mod NodeActs
+pub mod NodeLemmas
+pub mod RowLemmas
