@@ -1,0 +1,4 @@
+pub mod Decides
+pub mod Balances
+pub mod Untold
+mod TrailLemmas

@@ -1,0 +1,6 @@
+//! The list of a run's events, as one thread adds to it. It exists for proofs alone, and costs neither time nor memory in proportion.
+#![tactic(auto)]
+
+pub mod apart;
+mod past;
+pub mod trail;
