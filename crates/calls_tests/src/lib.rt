@@ -1,11 +1,9 @@
-//! Tests of client calls, and of the lists of events that are legal.
+//! Tests of the lists of events that are legal.
 #![tactic(auto)]
 
 #[cfg(test)]
 mod lists;
 #[cfg(test)]
 mod scenes;
-#[cfg(test)]
-mod sessions;
 #[cfg(test)]
 mod stories;

@@ -16,10 +16,6 @@ mod levels;
 #[cfg(test)]
 mod matches;
 #[cfg(test)]
-mod placements;
-#[cfg(test)]
-mod plans;
-#[cfg(test)]
 mod replicas;
 #[cfg(test)]
 mod tags;

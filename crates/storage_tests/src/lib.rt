@@ -1,8 +1,6 @@
-//! Tests over several crates below the session: a replica's machine and a log meet each stop of their disk.
+//! Tests over several crates below the session: a replica's machine meets each stop of its disk.
 #![tactic(auto)]
 
-#[cfg(test)]
-mod logs;
 #[cfg(test)]
 mod machines;
 #[cfg(test)]

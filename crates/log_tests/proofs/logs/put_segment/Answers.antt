@@ -4,7 +4,7 @@ use Rattle.std.specs.FinMap.{get}
 use Rattle.m3_outside.specs.Files.{Files}
 use Rattle.m3_outside.proofs.Names.{get_here}
 use Rattle.commit_log.specs.Segment.{segment}
-use Rattle.storage_tests.proofs.logs.put_segment.Goals as goal
+use Rattle.log_tests.proofs.logs.put_segment.Goals as goal
 
 pub write_at-requires-clause-inside : goal.write_at-requires-clause-inside
 write_at-requires-clause-inside g c = λ h.

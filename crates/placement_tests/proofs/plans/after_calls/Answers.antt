@@ -2,7 +2,7 @@ use Rattle.std.proofs.Common.{◌≡◌, ◌≢◌, ◌≤◌, ℕ, List, [], �
 use Rattle.m3_model.specs.Ascends.{Ascends}
 use Rattle.m3_model.specs.Members.{IsIn}
 use Rattle.m3_model.specs.Limits.{IsInit, IsNamed}
-use Rattle.parts_tests.proofs.plans.after_calls.Goals as goal
+use Rattle.placement_tests.proofs.plans.after_calls.Goals as goal
 
 abbrev node : ℕ → ℕ → List ℕ × List ℕ
 node name group = (name ∷ [], group ∷ [])

@@ -3,7 +3,7 @@ use Rattle.std.specs.FinMap.{get}
 use Rattle.m3_outside.specs.declared.file_name.FileName.{FileName}
 use Rattle.m3_outside.specs.Files.{Files, IsInside}
 use Rattle.commit_log.specs.Segment.{segment}
-use Rattle.storage_tests.proofs.logs.first_segment.Goals as goal
+use Rattle.log_tests.proofs.logs.first_segment.Goals as goal
 
 -- a file that has bytes is there
 file_inside : (files : Files) (name : FileName) (size : ℕ) → size ≡ unwrap_or (option_map length (get files name)) 0 → (size ≡ 0 → ⊥) → IsInside name 0 size files

@@ -1,5 +1,5 @@
 use Rattle.placement_core.specs.Lawful.{IsLawful}
-use Rattle.parts_tests.proofs.plans.after_calls.Given as goal
+use Rattle.placement_tests.proofs.plans.after_calls.Given as goal
 
 abbrev pub invariant-loop-words : goal.invariant-loop-words
 invariant-loop-words l = IsLawful l.place

@@ -1,0 +1,5 @@
+//! Tests of client calls.
+#![tactic(auto)]
+
+#[cfg(test)]
+mod sessions;
