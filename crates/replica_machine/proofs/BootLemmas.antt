@@ -35,11 +35,13 @@ use Rattle.cluster_core.specs.declared.event.StepReply.{StepReply}
 use Rattle.cluster_core.specs.declared.event.StepReply.TheVariants as reply
 use Rattle.cluster_core.specs.declared.replica_state.ReplicaState.{ReplicaState}
 use Rattle.cluster_core.proofs.ReplicaLemmas.{some_there}
+use Rattle.replica_machine.specs.Bases.{CameFrom}
 use Rattle.replica_machine.specs.Machines.{MachineState, IsMachineOf, IsHeldBy, IsOwn, shut_machine, reason_of, left_by}
 use Rattle.replica_machine.specs.Steps.{IsStep, BringsTo}
 use Rattle.replica_machine.specs.Boots.{HoldsHigher, IsRefused, BeganFrom, BeganAgain}
 use Rattle.replica_machine.specs.declared.machine.Began.{Began}
 use Rattle.replica_machine.proofs.DiskLemmas.{each_step, brings_ok, brings_err}
+use Rattle.replica_machine.proofs.BaseLemmas.{came_nothing, came_tried}
 use Rattle.replica_machine.proofs.HeldByLemmas.{held_nothing, greater_is_max}
 use Rattle.replica_machine.proofs.ReasonLemmas.{own_reason}
 use Rattle.replica_machine.proofs.StepLemmas.{machine_of, settled_is, failed_is, stands_at, kept_machine, shut_follows}
@@ -50,64 +52,72 @@ empty_or [] = inl refl
 empty_or (x ∷ xs) = inr (λ e. cc)
 
 module _ {D : Type 0} (state : D → DiskState) (old : MachineState D) (t : ℕ) where
-  low_begun : (r : ReplicaState) → IsMachineOf state r old → old.begun ≤ t → (b : ℕ) → IsIn r.begun b → b ≤ t
+  low_begun : {base : Files → Type 0} → (r : ReplicaState) → IsMachineOf state base r old → old.begun ≤ t → (b : ℕ) → IsIn r.begun b → b ≤ t
   low_begun r h high b m = let le = each-from_All (λ one. one ≤ old.begun) r.begun h.begun.none_higher b m in omega (arith, le, high)
 
-  none_higher : (r : ReplicaState) → IsMachineOf state r old → old.begun ≤ t → NoneHigher r t
+  none_higher : {base : Files → Type 0} → (r : ReplicaState) → IsMachineOf state base r old → old.begun ≤ t → NoneHigher r t
   none_higher r h high = All-from_each (λ begun. begun ≤ t) r.begun (low_begun r h high)
 
-  all_begun : (r : ReplicaState) → IsMachineOf state r old → old.begun ≤ t → All (λ one. one ≤ t) (r.begun ++ t ∷ [])
+  all_begun : {base : Files → Type 0} → (r : ReplicaState) → IsMachineOf state base r old → old.begun ≤ t → All (λ one. one ≤ t) (r.begun ++ t ∷ [])
   all_begun r h high =
       All-from_each (λ one. one ≤ t) (r.begun ++ t ∷ []) (λ b m.
       ⊎_elim (λ (was : IsIn r.begun b). low_begun r h high b was) (λ (new : (t ≡ b) ⊎ ⊥). ⊎_elim (λ (same : t ≡ b). let le : b ≤ t = omega (arith, same) in le) (λ (none : ⊥). absurd none) new) (IsIn-append_cases r.begun (t ∷ []) b m))
 
-  not_closed : (r : ReplicaState) → IsMachineOf state r old → closed old.standing ≡ None → first_refusal r (call.Begin t) ≡ None
+  not_closed : {base : Files → Type 0} → (r : ReplicaState) → IsMachineOf state base r old → closed old.standing ≡ None → first_refusal r (call.Begin t) ≡ None
   not_closed r h up = ap closed (sym h.stands) ∙ up
 
-  all_below : (r : ReplicaState) → IsMachineOf state r old → old.begun ≤ t → (fence : ℕ) → t ≤ fence → All (λ one. one ≤ fence) (r.begun ++ t ∷ [])
+  all_below : {base : Files → Type 0} → (r : ReplicaState) → IsMachineOf state base r old → old.begun ≤ t → (fence : ℕ) → t ≤ fence → All (λ one. one ≤ fence) (r.begun ++ t ∷ [])
   all_below r h high fence le = All-from_each (λ one. one ≤ fence) (r.begun ++ t ∷ []) (λ b m. let low = each-from_All (λ one. one ≤ t) (r.begun ++ t ∷ []) (all_begun r h high) b m in omega (arith, low, le))
 
   -- ---- refused
 
   pub begin_down : old.standing ≡ standing.Down → IsStep state old (call.Begin t) (reply.Refused reason.Down) old
-  begin_down is_down = record { lawful = λ r h past n s given. ap closed (sym h.stands ∙ is_down); follows = λ r h. h; faults = counts_same _ _ (λ e. cc) }
+  begin_down is_down = record { lawful = λ made r h past n s given. ap closed (sym h.stands ∙ is_down); follows = λ made r h. h; opens = λ made r h told none. tt; tells = refl; faults = counts_same _ _ (λ e. cc) }
 
   pub begin_unowned : closed old.standing ≡ None → t < old.begun → IsStep state old (call.Begin t) (reply.Refused reason.NotOwned) old
   begin_unowned up lt = record {
-    lawful = λ r h past n s given.
+    lawful = λ made r h past n s given.
         (not_closed r h up, OnTrue_from (state old.disk).tells (MayBeHigher r t) (λ e. ⊎_elim (λ (zero_is : old.begun ≡ 0). absurd (omega (arith, lt, zero_is))) (λ (m : IsIn r.begun old.begun). inl (Any-from_IsIn (λ begun. t < begun) r.begun old.begun m lt)) h.begun.one_of));
-    follows = λ r h. h;
+    follows = λ made r h. h;
+    opens = λ made r h told none. tt;
+    tells = refl;
     faults = counts_same _ _ (λ e. cc);
   }
 
   module _ (d : D) (same : (state d).tells ≡ (state old.disk).tells) (F : Type 0) (counts : CountsFaults F (state old.disk).faults (state d).faults) where
     pub begin_memory : ((state old.disk).tells ≡ true → (c : Files) → (state d).images c → StepOf (Gains nothing) (state old.disk).images c) → IsStep state old (call.Begin t) (reply.Refused reason.Memory) (record old { disk = d })
-    begin_memory steps = record { lawful = λ r h past n s given. tt; follows = λ r h. kept_machine state r old d same steps h; faults = counts_for _ _ _ _ (λ e. absurd (cc)) counts }
+    begin_memory steps = record { lawful = λ made r h past n s given. tt; follows = λ made r h. kept_machine state (state made).images r old d same steps h; opens = λ made r h told none. tt; tells = same; faults = counts_for _ _ _ _ (λ e. absurd (cc)) counts }
 
     pub begin_fault : F → closed old.standing ≡ None → old.begun ≤ t → ((state old.disk).tells ≡ true → (c : Files) → (state d).images c → StepOf (MayGain (a_tenure t)) (state old.disk).images c)
         → IsStep state old (call.Begin t) (reply.Refused reason.Disk) (shut_machine standing.Down old d)
     begin_fault fault up high steps = record {
-      lawful = λ r h past n s given. record { uses = refl; taken = (not_closed r h up, OnTrue_from (state old.disk).tells (NoneHigher r t) (λ e. none_higher r h high)); clock = tt; there = tt };
-      follows = λ r h.
+      lawful = λ made r h past n s given. record { uses = refl; taken = (not_closed r h up, OnTrue_from (state old.disk).tells (NoneHigher r t) (λ e. none_higher r h high)); clock = tt; there = tt };
+      follows = λ made r h.
           let q : ReplicaState = record r { standing = standing.Down; doubt_fences = r.doubt_fences ++ t ∷ []; tried = r.tried ++ t ∷ [] } in
-          shut_follows state r q old standing.Down d (λ e. cc) refl refl refl refl h (λ b. each_step (state old.disk) (state d) (IsHeldBy r) (IsHeldBy q) same steps (λ x y may held. held_tried r t x y may held) (h.files b));
+          shut_follows state (state made).images r q old standing.Down d (λ e. cc) refl refl refl refl h (λ b. each_step (state old.disk) (state d) (IsHeldBy Held r) (IsHeldBy Held q) same steps (λ x y may held. held_tried r t x y may held) (h.files b))
+          (λ none. each_step (state old.disk) (state d) (CameFrom Held (state made).images r.tried) (CameFrom Held (state made).images (r.tried ++ t ∷ [])) same steps (λ x y may came. came_tried (state made).images r.tried t x y may came) (h.unbegun none));
+      opens = λ made r h told none. tt;
+      tells = same;
       faults = counts_for _ _ _ _ (λ e. fault) counts;
     }
 
     pub begin_damage : closed old.standing ≡ None → old.begun ≤ t → ((state old.disk).tells ≡ true → (c : Files) → (state d).images c → StepOf (Gains nothing) (state old.disk).images c) → (damage : Damage)
         → IsStep state old (call.Begin t) (reply.Refused (reason.Corrupt damage)) (shut_machine standing.Down old d)
     begin_damage up high steps damage = record {
-      lawful = λ r h past n s given. record { reads = refl; taken = (not_closed r h up, OnTrue_from (state old.disk).tells (NoneHigher r t) (λ e. none_higher r h high)); clock = tt };
-      follows = λ r h.
+      lawful = λ made r h past n s given. record { reads = refl; taken = (not_closed r h up, OnTrue_from (state old.disk).tells (NoneHigher r t) (λ e. none_higher r h high)); clock = tt };
+      follows = λ made r h.
           let q : ReplicaState = record r { standing = standing.Down } in
-          shut_follows state r q old standing.Down d (λ e. cc) refl refl refl refl h (λ b. each_step (state old.disk) (state d) (IsHeldBy r) (IsHeldBy q) same steps (λ x y gains held. held_nothing r q (stands_at r standing.Down) x y gains held) (h.files b));
+          shut_follows state (state made).images r q old standing.Down d (λ e. cc) refl refl refl refl h (λ b. each_step (state old.disk) (state d) (IsHeldBy Held r) (IsHeldBy Held q) same steps (λ x y gains held. held_nothing r q (stands_at r standing.Down) x y gains held) (h.files b))
+          (λ none. each_step (state old.disk) (state d) (CameFrom Held (state made).images r.tried) (CameFrom Held (state made).images r.tried) same steps (λ x y gains came. came_nothing (state made).images r.tried x y gains came) (h.unbegun none));
+      opens = λ made r h told none. tt;
+      tells = same;
       faults = counts_for _ _ _ _ (λ e. absurd (cc)) counts;
     }
 
     pub begin_higher : closed old.standing ≡ None → Told (state old.disk) (HoldsHigher t) → Told (state old.disk) (state old.disk).images → ((state old.disk).tells ≡ true → (c : Files) → (state d).images c → StepOf (Gains nothing) (state old.disk).images c)
         → IsStep state old (call.Begin t) (reply.Refused reason.NotOwned) (record old { disk = d })
     begin_higher up higher image steps = record {
-      lawful = λ r h past n s given. (
+      lawful = λ made r h past n s given. (
         not_closed r h up,
         OnTrue_from (state old.disk).tells (MayBeHigher r t) (λ told.
             ⊎_elim (λ (none : r.begun ≡ []). inr (inr none))
@@ -121,7 +131,9 @@ module _ {D : Type 0} (state : D → DiskState) (old : MachineState D) (t : ℕ)
             ⊎_elim (λ (m : IsIn r.begun was.tenure). inl (Any-from_IsIn (λ begun. t < begun) r.begun was.tenure m lt)) (λ (m : IsIn r.tried was.tenure × IsIn r.doubt_fences was.tenure). inr (inl (Any-from_IsIn (λ tried. t < tried) r.tried was.tenure m.0 lt))) was.known)
             (empty_or r.begun)),
       );
-      follows = λ r h. kept_machine state r old d same steps h;
+      follows = λ made r h. kept_machine state (state made).images r old d same steps h;
+      opens = λ made r h told none. tt;
+      tells = same;
       faults = counts_for _ _ _ _ (λ e. absurd (cc)) counts;
     }
 
@@ -130,14 +142,14 @@ module _ {D : Type 0} (state : D → DiskState) (old : MachineState D) (t : ℕ)
     module _ (high : old.begun ≤ t) (fence : ℕ) (steps : (state old.disk).tells ≡ true → (c : Files) → (state d).images c → StepOf (Gains (a_tenure t)) (state old.disk).images c) where
       module _ (boot : old.standing ≡ standing.Boot) (points : List Point) (tenure_found fence_found : ℕ) (low : tenure_found ≤ t) (fence_is : fence ≡ max fence_found t) (held : Told (state old.disk) (HeldOnce points tenure_found fence_found))
           (only : EachImage (state old.disk) (λ c. c ≡ (state old.disk).files)) (image : Told (state old.disk) (state old.disk).images) where
-        covered : (r : ReplicaState) → IsMachineOf state r old → (state old.disk).tells ≡ true → (p : Point) → IsIn r.sure p → ¬ IsGone r p → Covers points p
+        covered : {base : Files → Type 0} → (r : ReplicaState) → IsMachineOf state base r old → (state old.disk).tells ≡ true → (p : Point) → IsIn r.sure p → ¬ IsGone r p → Covers points p
         covered r h told p m stays =
             ⊎_elim (λ (none : r.begun ≡ []). absurd (subst (λ (l : List Point). IsIn l p) (h.empty none) m))
             (λ (some : r.begun ≢ []). loaded_covers r points tenure_found fence_found (state old.disk).files (held told) (h.files some told (state old.disk).files (image told)) p m stays) (empty_or r.begun)
 
         pub began_step : IsStep state old (call.Begin t) (reply.Began fence points) (record { standing = standing.Open; tenure = Some t; begun = t; fence = fence; content = content_of points; disk = d })
         began_step = record {
-          lawful = λ r h past n s given. record {
+          lawful = λ made r h past n s given. record {
             not_down = λ e. let clash : standing.Boot ≡ standing.Down = sym boot ∙ h.stands ∙ e in absurd (cc);
             fence_high = omega (arith, fence_is);
             given = given;
@@ -146,7 +158,7 @@ module _ {D : Type 0} (state : D → DiskState) (old : MachineState D) (t : ℕ)
                 subst (λ (s : Standing). IsBegan s r.begun r t fence points) (sym boot ∙ h.stands)
                 (λ some. loaded r points tenure_found fence_found (state old.disk).files (held told) (h.files some told (state old.disk).files (image told)) t fence low fence_is));
           };
-          follows = λ r h. record {
+          follows = λ made r h. record {
             stands = refl;
             begun = record { none_higher = all_begun r h high; one_of = inr (IsIn-push r.begun t) };
             below = all_below r h high fence (omega (arith, fence_is));
@@ -167,13 +179,19 @@ module _ {D : Type 0} (state : D → DiskState) (old : MachineState D) (t : ℕ)
                 let step = steps told c now in
                 held_began r t fence points tenure_found fence_found (state old.disk).files c (held told) low fence_is (low_begun r h high) (covered r h told)
                 (subst (λ (x : Files). Gains (a_tenure t) x c) (only told step.before step.was) step.stepped);
+            unbegun = λ none. absurd (some_there r.begun t none);
           };
+          opens = λ made r h told none.
+              let files = (state old.disk).files in
+              let found = held told in
+              record { files = files; came = h.unbegun none told files (image told); all = found.all; tenure_found = tenure_found; fence_found = fence_found; held = found.held; once = found.once; not_higher = low; fence_is = fence_is };
+          tells = same;
           faults = counts_for _ _ _ _ (λ e. absurd (cc)) counts;
         }
 
       pub began_again_step : old.standing ≡ standing.Open → fence ≡ max old.fence t → IsStep state old (call.Begin t) (reply.Began fence []) (record old { tenure = Some t; begun = t; fence = fence; disk = d })
       began_again_step is_open fence_is = record {
-        lawful = λ r h past n s given.
+        lawful = λ made r h past n s given.
             let all = h.open_ is_open in
             let same_fence = all.fence in
             let up : fence ≡ max t r.fence = omega (arith, fence_is, same_fence) in
@@ -184,7 +202,7 @@ module _ {D : Type 0} (state : D → DiskState) (old : MachineState D) (t : ℕ)
               none_higher = OnTrue_from (state old.disk).tells (NoneHigher r t) (λ e. none_higher r h high);
               began = OnTrue_from (state old.disk).tells (IsBegan r.standing r.begun r t fence []) (λ told. subst (λ (s : Standing). IsBegan s r.begun r t fence []) (sym is_open ∙ h.stands) (refl, up ∙ sym (greater_is_max t r.fence)));
             };
-        follows = λ r h.
+        follows = λ made r h.
             let all = h.open_ is_open in
             let same_fence = all.fence in
             let up : fence ≡ max r.fence t = omega (arith, fence_is, same_fence) in
@@ -207,8 +225,11 @@ module _ {D : Type 0} (state : D → DiskState) (old : MachineState D) (t : ℕ)
                       all = λ p m stays. shown.all p (⊎_elim (λ (was : IsIn r.sure p). was) (λ (none : ⊥). absurd none) (IsIn-append_cases r.sure [] p m)) stays;
                     };
               };
-              files = λ b. each_step (state old.disk) (state d) (IsHeldBy r) (IsHeldBy q) same steps (λ x y gains was. held_again r t fence all.sure all.sure_fences up (low_begun r h high) x y gains was) (h.files all.begun);
+              files = λ b. each_step (state old.disk) (state d) (IsHeldBy Held r) (IsHeldBy Held q) same steps (λ x y gains was. held_again r t fence all.sure all.sure_fences up (low_begun r h high) x y gains was) (h.files all.begun);
+              unbegun = λ none. absurd (some_there r.begun t none);
             };
+        opens = λ made r h told none. absurd ((h.open_ is_open).begun none);
+        tells = same;
         faults = counts_for _ _ _ _ (λ e. absurd (cc)) counts;
       }
 
@@ -243,8 +264,10 @@ module _ {D : Type 0} (state : D → DiskState) (old : MachineState D) (t : ℕ)
 pub step_after_stays : {D : Type 0} {F : Type 0} (state : D → DiskState) (old : MachineState D) (t : ℕ) (a : StepReply) (d : D) (new : MachineState D) → (state d).tells ≡ (state old.disk).tells → CountsFaults F (state old.disk).faults (state d).faults
     → ((state old.disk).tells ≡ true → (c : Files) → (state d).images c → StepOf (Gains nothing) (state old.disk).images c) → IsStep state (record old { disk = d }) (call.Begin t) a new → IsStep state old (call.Begin t) a new
 step_after_stays state old t a d new same counts steps step = record {
-  lawful = λ r h past n s given. subst (λ tells. LawfulStep tells past n s r (call.Begin t) a) same (step.lawful r (kept_machine state r old d same steps h) past n s given);
-  follows = λ r h. step.follows r (kept_machine state r old d same steps h);
+  lawful = λ made r h past n s given. subst (λ tells. LawfulStep tells past n s r (call.Begin t) a) same (step.lawful made r (kept_machine state (state made).images r old d same steps h) past n s given);
+  follows = λ made r h. step.follows made r (kept_machine state (state made).images r old d same steps h);
+  opens = λ made r h told none. step.opens made r (kept_machine state (state made).images r old d same steps h) (same ∙ told) none;
+  tells = step.tells ∙ same;
   faults = counts_both _ _ _ _ _ counts step.faults;
 }
 

@@ -11,9 +11,11 @@ use Rattle.m3_model.specs.Members.{IsIn}
 use Rattle.m3_model.proofs.MemberLemmas.{IsIn-append_left}
 use Rattle.m3_outside.specs.Causes.{CountsFaults}
 use Rattle.m3_outside.proofs.Moments.{same_becomes}
+use Rattle.m3_outside.specs.Files.{Files}
 use Rattle.m3_outside.specs.DiskState.{DiskState, Becomes}
 use Rattle.m3_outside.specs.declared.disk_err.DiskErr.{DiskErr}
 use Rattle.m3_outside.specs.declared.disk_err.DiskErr.TheVariants as refused
+use Rattle.shard_files.specs.Held.{Held}
 use Rattle.shard_files.specs.Gains.{a_fence, Brings}
 use Rattle.shard_store.specs.Stores.{StoreState}
 use Rattle.shard_store.proofs.LogStepLemmas.{counts_same}
@@ -78,7 +80,7 @@ owning standing.Open None version e = let wrong : Some reason.NotOwned ≡ None 
 owning standing.Open (Some tenure) version e = owning_by tenure version (nat_le tenure version) refl e
 
 module _ {D : Type 0} (state : D → DiskState) (old : MachineState D) (version : ℕ) where
-  alike : (r : ReplicaState) → IsMachineOf state r old → first_refusal r (call.Fence version) ≡ refusal old (call.Fence version)
+  alike : {base : Files → Type 0} → (r : ReplicaState) → IsMachineOf state base r old → first_refusal r (call.Fence version) ≡ refusal old (call.Fence version)
   alike r h = shut_alike state r old h (λ t f. unowned t version)
 
   -- refused before the store was called
@@ -95,8 +97,10 @@ module _ {D : Type 0} (state : D → DiskState) (old : MachineState D) (version 
         refused = refused_some ⊤ (refusal old (call.Fence version)) why first;
         disk = brings_none_to (a_fence version) why (state old.disk) (plain_no_fault why plain);
         step = record {
-          lawful = λ r h past n s given. plain_lawful _ past s r (call.Fence version) (λ e. e) why plain (alike r h ∙ first);
-          follows = λ r h. subst (λ (q : ReplicaState). IsMachineOf state q old) (left_plain r version why plain) h;
+          lawful = λ made r h past n s given. plain_lawful _ past s r (call.Fence version) (λ e. e) why plain (alike r h ∙ first);
+          follows = λ made r h. subst (λ (q : ReplicaState). IsMachineOf state (state made).images q old) (left_plain r version why plain) h;
+          opens = λ made r h told none. tt;
+          tells = refl;
           faults = counts_same _ _ (λ e. plain_no_fault why plain (reply_same e));
         };
       }
@@ -108,7 +112,7 @@ module _ {D : Type 0} (state : D → DiskState) (old : MachineState D) (version 
       reply_same e = cc
 
   module _ (first : option_or (shut old.standing) (unowned old.tenure version) ≡ None) (mid : MachineState D) where
-    is_owner : (r : ReplicaState) → IsMachineOf state r old → IsOwner r version
+    is_owner : {base : Files → Type 0} → (r : ReplicaState) → IsMachineOf state base r old → IsOwner r version
     is_owner r h =
         let own = owning old.standing old.tenure version first in
         let all = h.open_ own.open_ in
@@ -119,26 +123,33 @@ module _ {D : Type 0} (state : D → DiskState) (old : MachineState D) (version 
 
     fence_step : (said : Result ⊤ DiskErr) → FenceBy state old mid version said → IsStep state old (call.Fence version) (reply_by (λ _. reply.Done) (settled_answer said)) (settled said mid)
     fence_step (Ok u) by = record {
-      lawful = λ r h past n s given. is_owner r h;
-      follows = λ r h.
-          subst (λ (m : MachineState D). IsMachineOf state (after r (call.Fence version) reply.Done) m) (sym by.ok)
-          (fence_follows state r old mid.disk version (owning old.standing old.tenure version first).open_ by.disk.tells (λ t. by.disk.acknowledged t) h);
+      lawful = λ made r h past n s given. is_owner r h;
+      follows = λ made r h.
+          subst (λ (m : MachineState D). IsMachineOf state (state made).images (after r (call.Fence version) reply.Done) m) (sym by.ok)
+          (fence_follows state (state made).images r old mid.disk version (owning old.standing old.tenure version first).open_ by.disk.tells (λ t. by.disk.acknowledged t) h);
+      opens = λ made r h told none. tt;
+      tells = by.disk.tells;
       faults = answer_counts (Ok u) by;
     }
     fence_step (Err refused.Failed) by = record {
-      lawful = λ r h past n s given. record { uses = refl; taken = alike r h ∙ first; clock = tt; there = tt };
-      follows = λ r h.
+      lawful = λ made r h past n s given. record { uses = refl; taken = alike r h ∙ first; clock = tt; there = tt };
+      follows = λ made r h.
           let q : ReplicaState = record r { standing = standing.Down; doubt_fences = r.doubt_fences ++ version ∷ [] } in
           let all = h.open_ (owning old.standing old.tenure version first).open_ in
-          subst (λ (m : MachineState D). IsMachineOf state q m) (ap (λ (m : MachineState D). shut_machine standing.Down m mid.disk) (sym by.err))
-          (shut_follows state r q old standing.Down mid.disk (λ e. cc) refl refl refl refl h
-          (λ b. each_step (state old.disk) (state mid.disk) (IsHeldBy r) (IsHeldBy q) by.disk.tells (λ t. (by.disk.any_moment t).images)
-          (λ x y may held. held_fence_doubt r version all.sure_fences q refl refl refl (record { kept = λ o m. m; gained = λ o m. absurd m; gone = λ o stays. stays }) (λ t a. a) (λ t a. ⊎_elim (λ (m : IsIn r.begun t). inl m) (λ (m : IsIn r.tried t × IsIn r.doubt_fences t). inr (m.0, IsIn-append_left r.doubt_fences (version ∷ []) t m.1)) a) x y may held) (h.files b)));
+          subst (λ (m : MachineState D). IsMachineOf state (state made).images q m) (ap (λ (m : MachineState D). shut_machine standing.Down m mid.disk) (sym by.err))
+          (shut_follows state (state made).images r q old standing.Down mid.disk (λ e. cc) refl refl refl refl h
+          (λ b. each_step (state old.disk) (state mid.disk) (IsHeldBy Held r) (IsHeldBy Held q) by.disk.tells (λ t. (by.disk.any_moment t).images)
+          (λ x y may held. held_fence_doubt r version all.sure_fences q refl refl refl (record { kept = λ o m. m; gained = λ o m. absurd m; gone = λ o stays. stays }) (λ t a. a) (λ t a. ⊎_elim (λ (m : IsIn r.begun t). inl m) (λ (m : IsIn r.tried t × IsIn r.doubt_fences t). inr (m.0, IsIn-append_left r.doubt_fences (version ∷ []) t m.1)) a) x y may held) (h.files b))
+          (λ none. absurd (all.begun none)));
+      opens = λ made r h told none. tt;
+      tells = by.disk.tells;
       faults = answer_counts (Err refused.Failed) by;
     }
     fence_step (Err refused.Memory) by = record {
-      lawful = λ r h past n s given. tt;
-      follows = λ r h. subst (λ (m : MachineState D). IsMachineOf state r m) (sym by.err) (kept_machine state r old mid.disk by.disk.tells (λ t. by.disk.unchanged t refl) h);
+      lawful = λ made r h past n s given. tt;
+      follows = λ made r h. subst (λ (m : MachineState D). IsMachineOf state (state made).images r m) (sym by.err) (kept_machine state (state made).images r old mid.disk by.disk.tells (λ t. by.disk.unchanged t refl) h);
+      opens = λ made r h told none. tt;
+      tells = by.disk.tells;
       faults = answer_counts (Err refused.Memory) by;
     }
 

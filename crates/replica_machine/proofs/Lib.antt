@@ -1,3 +1,4 @@
+pub mod BaseLemmas
 pub mod RefusalLemmas
 pub mod LiveLemmas
 pub mod ReasonLemmas
@@ -14,3 +15,4 @@ pub mod PartLemmas
 pub mod NumberLemmas
 pub mod OpeningLemmas
 pub mod BootReasons
+pub mod BaseSteps

@@ -23,7 +23,7 @@ own_or_doubtful r n f (inl doubt) known = by (nat_le f n) refl
     by false e = let lt = leb-false f n e in let same : f ≡ max n f = omega (arith, lt) in subst (MayHaveOwnFence r) same known
 
 pub numbers_are_known : {D : Type 0} (state : D → DiskState) → NumbersAreKnown state
-numbers_are_known state r m is some tells c image =
+numbers_are_known state first r m is some tells c image =
     let h = is.files some tells c image in
     let tenure : IsIn r.doubt_fences h.tenure ⊎ (h.tenure ≤ r.fence) =
     ⊎_elim (λ (begun : IsIn r.begun h.tenure). inr (each-from_All (λ b. b ≤ r.fence) r.begun is.below h.tenure begun)) (λ (doubt : IsIn r.tried h.tenure × IsIn r.doubt_fences h.tenure). inl doubt.1) h.known in

@@ -1,22 +1,28 @@
--- What a machine's disk holds before its replica's first begin.
-use Rattle.std.proofs.Common.{◌≡◌, inl, inr, ⊎_elim, ℕ, ◌≤◌, max, List, [], ◌∷◌, ◌++◌, sym, subst, arith, Any}
-use Rattle.std.specs.Prelude.{◌⊎◌}
+-- What a machine's disk holds, and with what its replica first begins, by the disk over which the machine was made.
+use Rattle.std.proofs.Common.{◌≡◌, inl, inr, ⊎_elim, ℕ, ◌≤◌, max, List, [], ◌∷◌, ◌++◌, refl, sym, subst, arith, Any}
+use Rattle.std.specs.Prelude.{◌⊎◌, ◌≢◌}
 use Rattle.m3_model.specs.Members.{IsIn}
 use Rattle.m3_model.specs.declared.point.Point.{Point}
-use Rattle.m3_model.proofs.MemberLemmas.{IsIn-append_left, IsIn-push}
+use Rattle.m3_model.proofs.MemberLemmas.{IsIn-append_left, IsIn-append_right, IsIn-push}
 use Rattle.m3_outside.specs.Files.{Files}
-use Rattle.m3_outside.specs.DiskState.{DiskState, IsLawful}
+use Rattle.m3_outside.specs.DiskState.{DiskState}
 use Rattle.placement_core.proofs.ListLemmas.{Any-from_IsIn, IsIn-from_Any}
 use Rattle.shard_files.specs.Held.{Held}
-use Rattle.shard_files.specs.Gains.{nothing, a_tenure, Grows, Gains, MayGain}
-use Rattle.shard_files.proofs.HeldLemmas.{held_is_one}
 use Rattle.shard_files.specs.Once.{HaveSamePoints}
-use Rattle.replica_machine.specs.Openings.{IsUpTo, CameFrom, BeginsAsMade, StaysAsMade, FirstBeginIsAsMade}
-use Rattle.replica_machine.proofs.DiskLemmas.{each_step}
+use Rattle.shard_files.proofs.HeldLemmas.{held_is_one}
+use Rattle.cluster_core.specs.declared.replica_state.ReplicaState.{ReplicaState}
+use Rattle.replica_machine.specs.Bases.{CameFrom}
+use Rattle.replica_machine.specs.Machines.{MayHaveTenure}
+use Rattle.replica_machine.specs.Openings.{AllSound, IsUpTo, HoldAsMade, StaysAsMade, FirstBeginIsAsMade, HasTenureUpTo, TenuresAreKnown}
 
--- a list that grew by no points has the same
-same_grown : (before points all : List Point) → HaveSamePoints before all → Grows before nothing points → HaveSamePoints points all
-same_grown before points all same grows p = (λ m. (same p).0 (⊎_elim (λ (old : IsIn before p). old) (λ (none : ⊥). absurd none) (grows.nothing_else p m)), λ m. grows.stays p ((same p).1 m))
+-- a number raised to none, or to one of these
+up_to : (base n : ℕ) (tried : List ℕ) → (n ≡ 0) ⊎ IsIn tried n → IsUpTo base tried (max base n)
+up_to base n tried (inl none) = inl (omega (arith, none))
+up_to base n tried (inr m) =
+    ⊎_elim (λ (le : base ≤ n). let is : max base n ≤ n = omega (arith, le) in inr (Any-from_IsIn (λ t. max base n ≤ t) tried n m is)) (λ (ge : n ≤ base). let is : max base n ≤ base = omega (arith, ge) in inl is) (le_or base n)
+  where
+    le_or : (n t : ℕ) → (n ≤ t) ⊎ (t ≤ n)
+    le_or n t = grind arith
 
 up_more : (base : ℕ) (tried : List ℕ) (t n : ℕ) → IsUpTo base tried n → IsUpTo base (tried ++ t ∷ []) n
 up_more base tried t n (inl low) = inl low
@@ -30,88 +36,40 @@ up_max base tried t n up =
     le_or : (n t : ℕ) → (n ≤ t) ⊎ (t ≤ n)
     le_or n t = grind arith
 
-module _ (made : Files → Type 0) (tried : List ℕ) where
-  came_nothing : (x y : Files) → Gains nothing x y → CameFrom made tried x → CameFrom made tried y
-  came_nothing x y gains h =
-      let all = gains h.points h.tenure h.fence h.held in
-      let t : max h.tenure 0 ≡ h.tenure = omega arith in
-      let f : max h.fence 0 ≡ h.fence = omega arith in
-      record {
-        before = h.before;
-        was = h.was;
-        points_before = h.points_before;
-        tenure_before = h.tenure_before;
-        fence_before = h.fence_before;
-        held_before = h.held_before;
-        points = all.points;
-        tenure = h.tenure;
-        fence = h.fence;
-        held = subst (λ (n : ℕ). Held all.points n h.fence y) t (subst (λ (n : ℕ). Held all.points (max h.tenure 0) n y) f all.held);
-        same = same_grown h.points all.points h.points_before h.same all.grows;
-        tenure_up = h.tenure_up;
-        fence_up = h.fence_up;
-      }
+-- what came from sound files holds as they did
+pub came_as_made : (base : Files → Type 0) (tried : List ℕ) (c : Files) → AllSound base → CameFrom Held base tried c → HoldAsMade base tried c
+came_as_made base tried c sound came =
+    let s = sound came.before came.was in
+    let has = came.stepped s.points s.tenure s.fence s.held in
+    record {
+      before = came.before;
+      was = came.was;
+      points_before = s.points;
+      tenure_before = s.tenure;
+      fence_before = s.fence;
+      held_before = s.held;
+      points = has.points;
+      tenure = max s.tenure has.raised_to;
+      fence = max s.fence has.raised_to;
+      held = has.held;
+      same = has.same;
+      tenure_low = omega arith;
+      tenure_up = up_to s.tenure has.raised_to tried has.one_of;
+      fence_low = omega arith;
+      fence_up = up_to s.fence has.raised_to tried has.one_of;
+    }
 
-  came_tried : (t : ℕ) (x y : Files) → MayGain (a_tenure t) x y → CameFrom made tried x → CameFrom made (tried ++ t ∷ []) y
-  came_tried t x y may h =
-      let part = may h.points h.tenure h.fence h.held in
-      let ups : IsUpTo h.tenure_before (tried ++ t ∷ []) part.tenure_now × IsUpTo h.fence_before (tried ++ t ∷ []) part.fence_now =
-      ⊎_elim (λ (same : (part.tenure_now ≡ h.tenure) × (part.fence_now ≡ h.fence)).
-      (subst (IsUpTo h.tenure_before (tried ++ t ∷ [])) (sym same.0) (up_more h.tenure_before tried t h.tenure h.tenure_up), subst (IsUpTo h.fence_before (tried ++ t ∷ [])) (sym same.1) (up_more h.fence_before tried t h.fence h.fence_up)))
-      (λ (more : (part.tenure_now ≡ max h.tenure t) × (part.fence_now ≡ max h.fence t)).
-      (subst (IsUpTo h.tenure_before (tried ++ t ∷ [])) (sym more.0) (up_max h.tenure_before tried t h.tenure h.tenure_up), subst (IsUpTo h.fence_before (tried ++ t ∷ [])) (sym more.1) (up_max h.fence_before tried t h.fence h.fence_up)))
-      part.numbers in
-      record {
-        before = h.before;
-        was = h.was;
-        points_before = h.points_before;
-        tenure_before = h.tenure_before;
-        fence_before = h.fence_before;
-        held_before = h.held_before;
-        points = part.points;
-        tenure = part.tenure_now;
-        fence = part.fence_now;
-        held = part.held;
-        same = same_grown h.points part.points h.points_before h.same (record { nothing_else = part.grows.nothing_else; stays = part.grows.stays });
-        tenure_up = ups.0;
-        fence_up = ups.1;
-      }
-
-module _ {D : Type 0} (state : D → DiskState) (lawful : (d : D) → IsLawful (state d)) where
-  pub begins_as_made : BeginsAsMade state
-  begins_as_made first sound tells c image =
-      let s = sound tells c image in
-      record {
-        before = c;
-        was = image;
-        points_before = s.points;
-        tenure_before = s.tenure;
-        fence_before = s.fence;
-        held_before = s.held;
-        points = s.points;
-        tenure = s.tenure;
-        fence = s.fence;
-        held = s.held;
-        same = λ p. (λ m. m, λ m. m);
-        tenure_up = inl (omega arith);
-        fence_up = inl (omega arith);
-      }
-
+module _ {D : Type 0} (state : D → DiskState) where
   pub stays_as_made : StaysAsMade state
-  stays_as_made = record {
-    tried = λ first old new tried t same goes made.
-        each_step (state old) (state new) (CameFrom (state first).images tried) (CameFrom (state first).images (tried ++ t ∷ [])) same (λ tells. (goes tells).images) (λ x y may h. came_tried (state first).images tried t x y may h) made;
-    refused = λ first old new tried same steps made. each_step (state old) (state new) (CameFrom (state first).images tried) (CameFrom (state first).images tried) same steps (λ x y gains h. came_nothing (state first).images tried x y gains h) made;
-    restarted = λ first old new tried result restarts made. each_step (state old) (state new) (CameFrom (state first).images tried) (CameFrom (state first).images tried) restarts.proceeds.tells (λ tells. (restarts.proceeds.told tells).images)
-        (λ x y same h. subst (CameFrom (state first).images tried) (sym same) h) made;
-  }
+  stays_as_made first r m sound is none tells c image = came_as_made (state first).images r.tried c sound (is.unbegun none tells c image)
 
   pub first_begin_is_as_made : FirstBeginIsAsMade state
-  first_begin_is_as_made first tried t old new began tells made from =
-      let h = made tells (state old.disk).files ((lawful old.disk).read_is_image tells) in
-      let loaded = from.held tells in
-      let one = held_is_one h.points loaded.all h.tenure from.tenure_found h.fence from.fence_found (state old.disk).files h.held loaded.held in
+  first_begin_is_as_made first r tenure fence points old new sound tells is none step =
+      let opens = step.opens first r is tells none in
+      let h = came_as_made (state first).images r.tried opens.files sound opens.came in
+      let one = held_is_one h.points opens.all h.tenure opens.tenure_found h.fence opens.fence_found opens.files h.held opens.held in
       let same = subst (λ (ps : List Point). HaveSamePoints ps h.points_before) one.0 h.same in
+      let up : IsUpTo h.fence_before (r.tried ++ tenure ∷ []) (max opens.fence_found tenure) = up_max h.fence_before r.tried tenure opens.fence_found (subst (IsUpTo h.fence_before r.tried) one.2 h.fence_up) in
       record {
         before = h.before;
         was = h.was;
@@ -119,5 +77,34 @@ module _ {D : Type 0} (state : D → DiskState) (lawful : (d : D) → IsLawful (
         tenure_before = h.tenure_before;
         fence_before = h.fence_before;
         held_before = h.held_before;
-        once = record { ascending = loaded.once.ascending; same = λ p. (λ m. (same p).0 ((loaded.once.same p).0 m), λ m. (loaded.once.same p).1 ((same p).1 m)) };
+        once = record { ascending = opens.once.ascending; same = λ p. (λ m. (same p).0 ((opens.once.same p).0 m), λ m. (opens.once.same p).1 ((same p).1 m)) };
+        fence_up = subst (IsUpTo h.fence_before (r.tried ++ tenure ∷ [])) (sym opens.fence_is) up;
       }
+
+  empty_or : (xs : List ℕ) → (xs ≡ []) ⊎ (xs ≢ [])
+  empty_or [] = inl refl
+  empty_or (x ∷ xs) = inr (λ e. cc)
+
+  among : (r : ReplicaState) (t : ℕ) → MayHaveTenure r t → IsIn (r.begun ++ r.tried) t
+  among r t (inl begun) = IsIn-append_left r.begun r.tried t begun
+  among r t (inr doubt) = IsIn-append_right r.begun r.tried t doubt.0
+
+  pub tenures_are_known : TenuresAreKnown state
+  tenures_are_known first r m sound is tells c image =
+      ⊎_elim (λ (none : r.begun ≡ []).
+      let h = stays_as_made first r m sound is none tells c image in
+      let up : HasTenureUpTo (state first).images (r.begun ++ r.tried) c = record {
+        points = h.points;
+        tenure = h.tenure;
+        fence = h.fence;
+        held = h.held;
+        up = ⊎_elim (λ (low : h.tenure ≤ h.tenure_before). inr (h.before, h.points_before, h.tenure_before, h.fence_before, h.was, h.held_before, low))
+            (λ (any : Any (λ t. h.tenure ≤ t) r.tried).
+            let d = IsIn-from_Any (λ t. h.tenure ≤ t) r.tried any in inl (Any-from_IsIn (λ t. h.tenure ≤ t) (r.begun ++ r.tried) d.0 (IsIn-append_right r.begun r.tried d.0 d.1) d.2)) h.tenure_up;
+      } in
+      up)
+      (λ (some : r.begun ≢ []).
+      let h = is.files some tells c image in
+      let up : HasTenureUpTo (state first).images (r.begun ++ r.tried) c = record { points = h.points; tenure = h.tenure; fence = h.fence; held = h.held; up = inl (Any-from_IsIn (λ t. h.tenure ≤ t) (r.begun ++ r.tried) h.tenure (among r h.tenure h.known) (omega arith)) } in
+      up)
+      (empty_or r.begun)

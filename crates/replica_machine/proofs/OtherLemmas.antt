@@ -1,5 +1,5 @@
 -- Stops, restarts, reports and reads are steps of the core.
-use Rattle.std.proofs.Common.{◌≡◌, inl, inr, ℕ, List, refl, sym, ap, subst, ◌∙◌, true, Some, None, Result, Ok, Err, arith}
+use Rattle.std.proofs.Common.{◌≡◌, inl, inr, ℕ, List, [], refl, sym, ap, subst, ◌∙◌, true, Some, None, Result, Ok, Err, arith}
 use Rattle.std.specs.Prelude.{⊤, Option, slice_get, OnOk, IfErr, IsErrOf}
 use Rattle.std.proofs.lemmas.Bool.{OnTrue_from}
 use Rattle.m3_model.specs.Reads.{space_picked}
@@ -18,6 +18,7 @@ use Rattle.m3_outside.specs.DiskCalls.{Restarts}
 use Rattle.m3_outside.specs.declared.disk_err.DiskErr.{DiskErr}
 use Rattle.m3_outside.specs.declared.disk_err.DiskErr.TheVariants as refused
 use Rattle.m3_outside.proofs.Moments.{step_as}
+use Rattle.shard_files.specs.Held.{Held}
 use Rattle.shard_files.specs.Gains.{nothing, Gains}
 use Rattle.shard_store.specs.Stores.{StoreState, closed_over}
 use Rattle.shard_files.proofs.GainLemmas.{gains_nothing}
@@ -28,10 +29,12 @@ use Rattle.cluster_core.specs.Rows.{open_fence}
 use Rattle.cluster_core.specs.declared.event.StepCall.TheVariants as call
 use Rattle.cluster_core.specs.declared.event.StepReply.TheVariants as reply
 use Rattle.cluster_core.specs.declared.replica_state.ReplicaState.{ReplicaState}
+use Rattle.replica_machine.specs.Bases.{CameFrom}
 use Rattle.replica_machine.specs.Machines.{MachineState, IsStoreOf, IsMachineOf, IsHeldBy, IsLiveAnswer, IsOwn, first_machine, shut_machine, unserved, reason_of, left_by, settled_answer}
 use Rattle.replica_machine.specs.Steps.{reply_by, IsStep, RestartsTo}
 use Rattle.replica_machine.proofs.LiveLemmas.{live_found}
 use Rattle.replica_machine.proofs.DiskLemmas.{stays_nothing, each_step}
+use Rattle.replica_machine.proofs.BaseLemmas.{came_itself, came_nothing}
 use Rattle.replica_machine.proofs.HeldByLemmas.{held_nothing}
 use Rattle.replica_machine.proofs.StepLemmas.{machine_of, stands_at, kept_machine, shut_follows, serving, shown}
 
@@ -44,37 +47,43 @@ store_moved standing.Open store after is of = ap (λ (x : StoreState _). x.open_
 module _ {D : Type 0} (state : D → DiskState) (old : MachineState D) where
   pub stop_step : IsStep state old call.Stop reply.Done (shut_machine standing.Down old old.disk)
   stop_step = record {
-    lawful = λ r h past n s given. tt;
-    follows = λ r h.
+    lawful = λ made r h past n s given. tt;
+    follows = λ made r h.
         let q : ReplicaState = record r { standing = standing.Down } in
-        shut_follows state r q old standing.Down old.disk (λ e. cc) refl refl refl refl h (λ b tells c image. held_nothing r q (stands_at r standing.Down) c c (gains_nothing c) (h.files b tells c image));
+        shut_follows state (state made).images r q old standing.Down old.disk (λ e. cc) refl refl refl refl h (λ b tells c image. held_nothing r q (stands_at r standing.Down) c c (gains_nothing c) (h.files b tells c image)) h.unbegun;
+    opens = λ made r h told none. tt;
+    tells = refl;
     faults = counts_same _ _ (λ e. cc);
   }
 
-  report_fence : (r : ReplicaState) → IsMachineOf state r old → (s : Standing) → old.standing ≡ s → open_fence s old.fence ≡ open_fence s r.fence
+  report_fence : {base : Files → Type 0} → (r : ReplicaState) → IsMachineOf state base r old → (s : Standing) → old.standing ≡ s → open_fence s old.fence ≡ open_fence s r.fence
   report_fence r h standing.Down e = refl
   report_fence r h standing.Boot e = refl
   report_fence r h standing.Open e = (h.open_ e).fence
 
   pub report_step : (report : Report) → report.standing ≡ old.standing → report.fence ≡ open_fence old.standing old.fence → IsStep state old call.Report (reply.Told report) old
   report_step report stands fence = record {
-    lawful = λ r h past n s given. record {
+    lawful = λ made r h past n s given. record {
       standing = stands ∙ h.stands;
       fence = fence ∙ report_fence r h old.standing refl ∙ ap (λ (s : Standing). open_fence s r.fence) h.stands;
     };
-    follows = λ r h. h;
+    follows = λ made r h. h;
+    opens = λ made r h told none. tt;
+    tells = refl;
     faults = counts_same _ _ (λ e. cc);
   }
 
   pub read_found : (client number version from to : ℕ) (rules : Rules) (pick : Pick) (space : Space) (series : List Series) → slice_get rules.spaces (space_picked pick) ≡ Some space → unserved old version ≡ None
       → IsLiveAnswer old.content rules pick from to series → IsStep state old (call.Read client number rules version pick from to) (reply.Found series) old
   read_found client number version from to rules pick space series at up answer = record {
-    lawful = λ r h past n s given. (serving state r old version h up, given, OnTrue_from (state old.disk).tells _ (λ tells. live_found r old.content rules pick from to space series at (shown state r old version h up tells) answer));
-    follows = λ r h. h;
+    lawful = λ made r h past n s given. (serving state (state made).images r old version h up, given, OnTrue_from (state old.disk).tells _ (λ tells. live_found r old.content rules pick from to space series at (shown state (state made).images r old version h up tells) answer));
+    follows = λ made r h. h;
+    opens = λ made r h told none. tt;
+    tells = refl;
     faults = counts_same _ _ (λ e. cc);
   }
 
-pub first_follows : {D : Type 0} (state : D → DiskState) (disk : D) → IsMachineOf state fresh (first_machine disk)
+pub first_follows : {D : Type 0} (state : D → DiskState) (disk : D) → IsMachineOf state (state disk).images fresh (first_machine disk)
 first_follows state disk = record {
   stands = refl;
   begun = record { none_higher = λ k d lt. absurd (omega (arith, lt)); one_of = inl refl };
@@ -82,6 +91,7 @@ first_follows state disk = record {
   empty = λ e. refl;
   open_ = λ e. cc;
   files = λ b. absurd (b refl);
+  unbegun = λ none tells c image. came_itself (state disk).images [] c image;
 }
 
 -- ---- restarts
@@ -131,15 +141,20 @@ module _ {D : Type 0} (state : D → DiskState) (old : MachineState D) (d : D) w
     err = tt;
     restarts = restarts_as (Ok u) (state old.disk) (state d) restarts;
     step = record {
-      lawful = λ r h past n s given. tt;
-      follows = λ r h.
+      lawful = λ made r h past n s given. tt;
+      follows = λ made r h.
           let q : ReplicaState = record r { standing = standing.Boot } in
-          shut_follows state r q old standing.Boot d (λ e. cc) refl refl refl refl h
+          shut_follows state (state made).images r q old standing.Boot d (λ e. cc) refl refl refl refl h
           (λ b tells c image.
           let told : (state old.disk).tells ≡ true = sym restarts.proceeds.tells ∙ tells in
           let files = (state d).files in
           let held = held_nothing r q (stands_at r standing.Boot) files files (gains_nothing files) (h.files b told files (restarts.image told)) in
-          subst (IsHeldBy q) (sym (restarts.only told c image)) held);
+          subst (IsHeldBy Held q) (sym (restarts.only told c image)) held)
+          (λ none tells c image.
+          let told : (state old.disk).tells ≡ true = sym restarts.proceeds.tells ∙ tells in
+          subst (CameFrom Held (state made).images r.tried) (sym (restarts.only told c image)) (h.unbegun none told (state d).files (restarts.image told)));
+      opens = λ made r h told none. tt;
+      tells = restarts.proceeds.tells;
       faults = counts_for _ _ _ _ (λ e. cc) restarts.proceeds.faults;
     };
   }
@@ -161,11 +176,14 @@ module _ {D : Type 0} (state : D → DiskState) (old : MachineState D) (d : D) w
     err = inr refl;
     restarts = restarts_as (Err refused.Failed) (state old.disk) (state d) restarts;
     step = record {
-      lawful = λ r h past n s given. record { uses = refl; taken = refl; clock = tt; there = tt };
-      follows = λ r h.
+      lawful = λ made r h past n s given. record { uses = refl; taken = refl; clock = tt; there = tt };
+      follows = λ made r h.
           let q : ReplicaState = record r { standing = standing.Down } in
-          shut_follows state r q old standing.Down d (λ e. cc) refl refl refl refl h
-          (λ b. each_step (state old.disk) (state d) (IsHeldBy r) (IsHeldBy q) restarts.proceeds.tells (steps refused.Failed restarts) (λ x y gains held. held_nothing r q (stands_at r standing.Down) x y gains held) (h.files b));
+          shut_follows state (state made).images r q old standing.Down d (λ e. cc) refl refl refl refl h
+          (λ b. each_step (state old.disk) (state d) (IsHeldBy Held r) (IsHeldBy Held q) restarts.proceeds.tells (steps refused.Failed restarts) (λ x y gains held. held_nothing r q (stands_at r standing.Down) x y gains held) (h.files b))
+          (λ none. each_step (state old.disk) (state d) (CameFrom Held (state made).images r.tried) (CameFrom Held (state made).images r.tried) restarts.proceeds.tells (steps refused.Failed restarts) (λ x y gains came. came_nothing (state made).images r.tried x y gains came) (h.unbegun none));
+      opens = λ made r h told none. tt;
+      tells = restarts.proceeds.tells;
       faults = counts_for _ _ _ _ (λ e. refl) restarts.proceeds.faults;
     };
   }
@@ -179,8 +197,10 @@ module _ {D : Type 0} (state : D → DiskState) (old : MachineState D) (d : D) w
     err = inl refl;
     restarts = restarts_as (Err refused.Memory) (state old.disk) (state d) restarts;
     step = record {
-      lawful = λ r h past n s given. tt;
-      follows = λ r h. kept_machine state r old d restarts.proceeds.tells (steps refused.Memory restarts) h;
+      lawful = λ made r h past n s given. tt;
+      follows = λ made r h. kept_machine state (state made).images r old d restarts.proceeds.tells (steps refused.Memory restarts) h;
+      opens = λ made r h told none. tt;
+      tells = restarts.proceeds.tells;
       faults = counts_for _ _ _ _ (λ e. cc) restarts.proceeds.faults;
     };
   }

@@ -12,9 +12,11 @@ use Rattle.m3_model.specs.declared.replica.Standing.{Standing}
 use Rattle.m3_model.specs.declared.replica.Standing.TheVariants as standing
 use Rattle.m3_model.specs.declared.rules.Rules.{Rules}
 use Rattle.m3_outside.specs.Causes.{CountsFaults}
+use Rattle.m3_outside.specs.Files.{Files}
 use Rattle.m3_outside.specs.DiskState.{DiskState, Becomes}
 use Rattle.m3_outside.specs.declared.disk_err.DiskErr.{DiskErr}
 use Rattle.m3_outside.specs.declared.disk_err.DiskErr.TheVariants as refused
+use Rattle.shard_files.specs.Held.{Held}
 use Rattle.shard_files.specs.Gains.{a_point, Brings}
 use Rattle.shard_store.specs.Stores.{StoreState}
 use Rattle.shard_store.proofs.LogStepLemmas.{counts_same}
@@ -64,7 +66,7 @@ left_plain r client number version rules p reason.Memory plain = absurd plain
 left_plain r client number version rules p (reason.Corrupt damage) plain = absurd plain
 
 module _ {D : Type 0} (state : D → DiskState) (old : MachineState D) (version : ℕ) (rules : Rules) (p : Point) where
-  alike : (r : ReplicaState) (client number : ℕ) → IsMachineOf state r old → first_refusal r (call.Put client number rules version p) ≡ refusal old (call.Put client number rules version p)
+  alike : {base : Files → Type 0} → (r : ReplicaState) (client number : ℕ) → IsMachineOf state base r old → first_refusal r (call.Put client number rules version p) ≡ refusal old (call.Put client number rules version p)
   alike r client number h = shut_alike state r old h (λ t f. option_or (unowned t version) (option_or (outdated f version) (outside rules p)))
 
   -- refused before the store was called
@@ -82,8 +84,10 @@ module _ {D : Type 0} (state : D → DiskState) (old : MachineState D) (version 
         refused = λ client number. refused_some ⊤ (refusal old (call.Put client number rules version p)) why first;
         disk = brings_none_to (a_point p) why (state old.disk) (plain_no_fault why plain);
         step = λ client number. record {
-          lawful = λ r h past n s given. plain_lawful _ past s r (call.Put client number rules version p) (λ e. e) why plain (alike r client number h ∙ first);
-          follows = λ r h. subst (λ (q : ReplicaState). IsMachineOf state q old) (left_plain r client number version rules p why plain) h;
+          lawful = λ made r h past n s given. plain_lawful _ past s r (call.Put client number rules version p) (λ e. e) why plain (alike r client number h ∙ first);
+          follows = λ made r h. subst (λ (q : ReplicaState). IsMachineOf state (state made).images q old) (left_plain r client number version rules p why plain) h;
+          opens = λ made r h told none. tt;
+          tells = refl;
           faults = counts_same _ _ (λ e. plain_no_fault why plain (reply_same e));
         };
       }
@@ -103,25 +107,32 @@ module _ {D : Type 0} (state : D → DiskState) (old : MachineState D) (version 
 
     put_step : (said : Result ⊤ DiskErr) (client number : ℕ) → PutBy state old mid p said → IsStep state old (call.Put client number rules version p) (reply_by (λ _. reply.Done) (settled_answer said)) (settled said mid)
     put_step (Ok u) client number by = record {
-      lawful = λ r h past n s given. record { serving = serving state r old version h served; in_window = in_window; sent = given.1; clock = given.0 };
-      follows = λ r h.
-          subst (λ (m : MachineState D). IsMachineOf state (record r { sure = r.sure ++ p ∷ [] }) m) (sym by.ok)
-          (put_follows state r old mid.disk p (up old.standing old.tenure old.fence version served).open_ by.disk.tells (λ t. by.disk.acknowledged t) h);
+      lawful = λ made r h past n s given. record { serving = serving state (state made).images r old version h served; in_window = in_window; sent = given.1; clock = given.0 };
+      follows = λ made r h.
+          subst (λ (m : MachineState D). IsMachineOf state (state made).images (record r { sure = r.sure ++ p ∷ [] }) m) (sym by.ok)
+          (put_follows state (state made).images r old mid.disk p (up old.standing old.tenure old.fence version served).open_ by.disk.tells (λ t. by.disk.acknowledged t) h);
+      opens = λ made r h told none. tt;
+      tells = by.disk.tells;
       faults = answer_counts (Ok u) by;
     }
     put_step (Err refused.Failed) client number by = record {
-      lawful = λ r h past n s given. record { uses = refl; taken = alike r client number h ∙ none_first; clock = tt; there = given.1 };
-      follows = λ r h.
+      lawful = λ made r h past n s given. record { uses = refl; taken = alike r client number h ∙ none_first; clock = tt; there = given.1 };
+      follows = λ made r h.
           let q : ReplicaState = record r { standing = standing.Down; doubt = r.doubt ++ p ∷ [] } in
-          subst (λ (m : MachineState D). IsMachineOf state q m) (ap (λ (m : MachineState D). shut_machine standing.Down m mid.disk) (sym by.fault))
-          (shut_follows state r q old standing.Down mid.disk (λ e. cc) refl refl refl refl h
-          (λ b. each_step (state old.disk) (state mid.disk) (IsHeldBy r) (IsHeldBy q) by.disk.tells (λ t. (by.disk.any_moment t).images)
-          (λ x y may held. held_doubt r q p refl refl refl (record { begun = λ t all. all; known = λ t is. is; fence = λ t f is. is }) x y may held) (h.files b)));
+          subst (λ (m : MachineState D). IsMachineOf state (state made).images q m) (ap (λ (m : MachineState D). shut_machine standing.Down m mid.disk) (sym by.fault))
+          (shut_follows state (state made).images r q old standing.Down mid.disk (λ e. cc) refl refl refl refl h
+          (λ b. each_step (state old.disk) (state mid.disk) (IsHeldBy Held r) (IsHeldBy Held q) by.disk.tells (λ t. (by.disk.any_moment t).images)
+          (λ x y may held. held_doubt r q p refl refl refl (record { begun = λ t all. all; known = λ t is. is; fence = λ t f is. is }) x y may held) (h.files b))
+          (λ none. absurd ((h.open_ (up old.standing old.tenure old.fence version served).open_).begun none)));
+      opens = λ made r h told none. tt;
+      tells = by.disk.tells;
       faults = answer_counts (Err refused.Failed) by;
     }
     put_step (Err refused.Memory) client number by = record {
-      lawful = λ r h past n s given. tt;
-      follows = λ r h. subst (λ (m : MachineState D). IsMachineOf state r m) (sym (by.memory refl)) (kept_machine state r old mid.disk by.disk.tells (λ t. by.disk.unchanged t refl) h);
+      lawful = λ made r h past n s given. tt;
+      follows = λ made r h. subst (λ (m : MachineState D). IsMachineOf state (state made).images r m) (sym (by.memory refl)) (kept_machine state (state made).images r old mid.disk by.disk.tells (λ t. by.disk.unchanged t refl) h);
+      opens = λ made r h told none. tt;
+      tells = by.disk.tells;
       faults = answer_counts (Err refused.Memory) by;
     }
 

@@ -9,6 +9,7 @@ use Rattle.m3_model.specs.declared.replica.Standing.{Standing}
 use Rattle.m3_model.specs.declared.replica.Standing.TheVariants as standing
 use Rattle.m3_model.specs.declared.rules.Rules.{Rules}
 use Rattle.m3_model.specs.declared.rules.Space.{Space}
+use Rattle.m3_outside.specs.Files.{Files}
 use Rattle.m3_outside.specs.DiskState.{DiskState}
 use Rattle.m3_outside.specs.declared.disk_err.DiskErr.{DiskErr}
 use Rattle.m3_outside.specs.declared.disk_err.DiskErr.TheVariants as refused
@@ -106,7 +107,7 @@ plain_lawful tells past s r c unowned (reason.Corrupt damage) p e = absurd p
 
 -- ---- the machine's and the replica's
 
-module _ {D : Type 0} (state : D → DiskState) (r : ReplicaState) (m : MachineState D) (h : IsMachineOf state r m) where
+module _ {D : Type 0} (state : D → DiskState) (r : ReplicaState) {base : Files → Type 0} (m : MachineState D) (h : IsMachineOf state base r m) where
   pub shut_alike : (F : Option ℕ → ℕ → Option Reason) → option_or (shut r.standing) (F r.tenure r.fence) ≡ option_or (shut m.standing) (F m.tenure m.fence)
   shut_alike F = by m.standing refl
     where

@@ -11,6 +11,7 @@ use Rattle.m3_model.proofs.MemberLemmas.{IsIn-append_left, IsIn-append_cases, Is
 use Rattle.m3_outside.specs.Files.{Files}
 use Rattle.m3_outside.specs.DiskState.{DiskState, EachImage, StepOf}
 use Rattle.placement_core.proofs.ListLemmas.{All-from_each, each-from_All}
+use Rattle.shard_files.specs.Held.{Held}
 use Rattle.shard_files.specs.Gains.{nothing, a_point, a_fence, Gains}
 use Rattle.cluster_core.specs.Replicas.{Shows, greater}
 use Rattle.cluster_core.specs.Rows.{IsServing}
@@ -18,8 +19,10 @@ use Rattle.cluster_core.specs.declared.replica_state.ReplicaState.{ReplicaState}
 use Rattle.m3_outside.specs.declared.disk_err.DiskErr.{DiskErr}
 use Rattle.m3_outside.specs.declared.disk_err.DiskErr.TheVariants as refused
 use Rattle.shard_store.specs.Stores.{StoreState, closed_over}
+use Rattle.replica_machine.specs.Bases.{CameFrom}
 use Rattle.replica_machine.specs.Machines.{MachineState, IsStoreOf, IsMachineOf, IsHeldBy, IsGreatest, shut_machine, settled, unserved}
 use Rattle.replica_machine.proofs.DiskLemmas.{each_step}
+use Rattle.replica_machine.proofs.BaseLemmas.{came_nothing}
 use Rattle.replica_machine.proofs.HeldByLemmas.{StandsElse, held_nothing, held_point, held_fence, greater_is_max}
 use Rattle.replica_machine.proofs.RefusalLemmas.{IsUp, up}
 
@@ -44,35 +47,37 @@ stands_same r = record { sure = refl; moves = record { kept = λ p m. m; gained 
 pub stands_at : (r : ReplicaState) (s : Standing) → StandsElse r (record r { standing = s })
 stands_at r s = record { sure = refl; moves = record { kept = λ p m. m; gained = λ p m. absurd m; gone = λ p stays. stays }; numbers = record { begun = λ t all. all; known = λ t is. is; fence = λ t f is. is } }
 
-module _ {D : Type 0} (state : D → DiskState) where
+module _ {D : Type 0} (state : D → DiskState) (base : Files → Type 0) where
   -- a machine whose disk is as it was
   pub kept_machine : (r : ReplicaState) (old : MachineState D) (d : D) → (state d).tells ≡ (state old.disk).tells → ((state old.disk).tells ≡ true → (c : Files) → (state d).images c → StepOf (Gains nothing) (state old.disk).images c)
-      → IsMachineOf state r old → IsMachineOf state r (record old { disk = d })
+      → IsMachineOf state base r old → IsMachineOf state base r (record old { disk = d })
   kept_machine r old d same steps h = record {
     stands = h.stands;
     begun = h.begun;
     below = h.below;
     empty = h.empty;
     open_ = λ o. let a = h.open_ o in record { begun = a.begun; tenure = a.tenure; fence = a.fence; sure = a.sure; sure_fences = a.sure_fences; shows = λ t. a.shows (sym same ∙ t) };
-    files = λ b. each_step (state old.disk) (state d) (IsHeldBy r) (IsHeldBy r) same steps (λ x y gains held. held_nothing r r (stands_same r) x y gains held) (h.files b);
+    files = λ b. each_step (state old.disk) (state d) (IsHeldBy Held r) (IsHeldBy Held r) same steps (λ x y gains held. held_nothing r r (stands_same r) x y gains held) (h.files b);
+    unbegun = λ none. each_step (state old.disk) (state d) (CameFrom Held base r.tried) (CameFrom Held base r.tried) same steps (λ x y gains came. came_nothing base r.tried x y gains came) (h.unbegun none);
   }
 
   -- a machine that isn't open any more
-  pub shut_follows : (r q : ReplicaState) (old : MachineState D) (s : Standing) (d : D) → s ≢ standing.Open → q.standing ≡ s → q.begun ≡ r.begun → q.fence ≡ r.fence → q.sure ≡ r.sure → IsMachineOf state r old → (r.begun ≢ [] → EachImage (state d) (IsHeldBy q))
-      → IsMachineOf state q (shut_machine s old d)
-  shut_follows r q old s d not stands begun fence sure h files = record {
+  pub shut_follows : (r q : ReplicaState) (old : MachineState D) (s : Standing) (d : D) → s ≢ standing.Open → q.standing ≡ s → q.begun ≡ r.begun → q.fence ≡ r.fence → q.sure ≡ r.sure → IsMachineOf state base r old → (r.begun ≢ [] → EachImage (state d) (IsHeldBy Held q))
+      → (r.begun ≡ [] → EachImage (state d) (CameFrom Held base q.tried)) → IsMachineOf state base q (shut_machine s old d)
+  shut_follows r q old s d not stands begun fence sure h files unbegun = record {
     stands = sym stands;
     begun = subst (IsGreatest old.begun) (sym begun) h.begun;
     below = subst (λ (l : List ℕ). All (λ b. b ≤ q.fence) l) (sym begun) (subst (λ (f : ℕ). All (λ b. b ≤ f) r.begun) (sym fence) h.below);
     empty = λ e. sure ∙ h.empty (sym begun ∙ e);
     open_ = λ o. absurd (not o);
     files = λ b. files (λ e. b (begun ∙ e));
+    unbegun = λ none. unbegun (sym begun ∙ none);
   }
 
   -- with a point that is in the log
   pub put_follows : (r : ReplicaState) (old : MachineState D) (d : D) (p : Point) → old.standing ≡ standing.Open → (state d).tells ≡ (state old.disk).tells
-      → ((state old.disk).tells ≡ true → (c : Files) → (state d).images c → StepOf (Gains (a_point p)) (state old.disk).images c) → IsMachineOf state r old
-      → IsMachineOf state (record r { sure = r.sure ++ p ∷ [] }) (record old { disk = d; content = raised old.content p })
+      → ((state old.disk).tells ≡ true → (c : Files) → (state d).images c → StepOf (Gains (a_point p)) (state old.disk).images c) → IsMachineOf state base r old
+      → IsMachineOf state base (record r { sure = r.sure ++ p ∷ [] }) (record old { disk = d; content = raised old.content p })
   put_follows r old d p is_open same steps h =
       let a = h.open_ is_open in
       record {
@@ -81,13 +86,14 @@ module _ {D : Type 0} (state : D → DiskState) where
         below = h.below;
         empty = λ e. absurd (a.begun e);
         open_ = λ o. record { begun = a.begun; tenure = a.tenure; fence = a.fence; sure = a.sure; sure_fences = a.sure_fences; shows = λ t. shows_raised r old.content p (a.shows (sym same ∙ t)) };
-        files = λ b. each_step (state old.disk) (state d) (IsHeldBy r) (IsHeldBy (record r { sure = r.sure ++ p ∷ [] })) same steps (λ x y gains held. held_point r p x y gains held) (h.files b);
+        files = λ b. each_step (state old.disk) (state d) (IsHeldBy Held r) (IsHeldBy Held (record r { sure = r.sure ++ p ∷ [] })) same steps (λ x y gains held. held_point r p x y gains held) (h.files b);
+        unbegun = λ none. absurd (a.begun none);
       }
 
   -- with a fence that is in the log
   pub fence_follows : (r : ReplicaState) (old : MachineState D) (d : D) (version : ℕ) → old.standing ≡ standing.Open → (state d).tells ≡ (state old.disk).tells
-      → ((state old.disk).tells ≡ true → (c : Files) → (state d).images c → StepOf (Gains (a_fence version)) (state old.disk).images c) → IsMachineOf state r old
-      → IsMachineOf state (record r { fence = greater r.fence version }) (record old { disk = d; fence = max old.fence version })
+      → ((state old.disk).tells ≡ true → (c : Files) → (state d).images c → StepOf (Gains (a_fence version)) (state old.disk).images c) → IsMachineOf state base r old
+      → IsMachineOf state base (record r { fence = greater r.fence version }) (record old { disk = d; fence = max old.fence version })
   fence_follows r old d version is_open same steps h =
       let a = h.open_ is_open in
       record {
@@ -103,11 +109,12 @@ module _ {D : Type 0} (state : D → DiskState) where
           sure_fences = a.sure_fences;
           shows = λ t. let shown = a.shows (sym same ∙ t) in record { sure = shown.sure; all = shown.all };
         };
-        files = λ b. each_step (state old.disk) (state d) (IsHeldBy r) (IsHeldBy (record r { fence = greater r.fence version })) same steps (λ x y gains held. held_fence r version a.sure_fences x y gains held) (h.files b);
+        files = λ b. each_step (state old.disk) (state d) (IsHeldBy Held r) (IsHeldBy Held (record r { fence = greater r.fence version })) same steps (λ x y gains held. held_fence r version a.sure_fences x y gains held) (h.files b);
+        unbegun = λ none. absurd (a.begun none);
       }
 
   -- where nothing stands against a version the replica serves it
-  pub serving : (r : ReplicaState) (m : MachineState D) (version : ℕ) → IsMachineOf state r m → unserved m version ≡ None → IsServing r version
+  pub serving : (r : ReplicaState) (m : MachineState D) (version : ℕ) → IsMachineOf state base r m → unserved m version ≡ None → IsServing r version
   serving r m version h e =
       let is_up : IsUp m.standing m.tenure m.fence version = up m.standing m.tenure m.fence version e in
       let all = h.open_ is_up.open_ in
@@ -116,7 +123,7 @@ module _ {D : Type 0} (state : D → DiskState) where
         fence_low = subst (λ f. f ≤ version) all.fence is_up.fence_low;
       }
 
-  pub shown : (r : ReplicaState) (m : MachineState D) (version : ℕ) → IsMachineOf state r m → unserved m version ≡ None → (state m.disk).tells ≡ true → Shows r m.content
+  pub shown : (r : ReplicaState) (m : MachineState D) (version : ℕ) → IsMachineOf state base r m → unserved m version ≡ None → (state m.disk).tells ≡ true → Shows r m.content
   shown r m version h e tells = (h.open_ (up m.standing m.tenure m.fence version e).open_).shows tells
 
 -- the store of an open machine is open

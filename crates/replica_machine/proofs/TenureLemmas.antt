@@ -51,7 +51,7 @@ up_fenced r t u f (inr any) =
 up_higher : (begun : List ℕ) (t u : ℕ) → All (λ b. b ≤ u) begun → All (λ b. b ≤ max u t) begun
 up_higher begun t u all = All-from_each (λ b. b ≤ max u t) begun (λ b m. let le = each-from_All (λ b. b ≤ u) begun all b m in omega (arith, le))
 
-pub held_tried : (r : ReplicaState) (t : ℕ) (x y : Files) → MayGain (a_tenure t) x y → IsHeldBy r x → IsHeldBy (record r { standing = standing.Down; doubt_fences = r.doubt_fences ++ t ∷ []; tried = r.tried ++ t ∷ [] }) y
+pub held_tried : (r : ReplicaState) (t : ℕ) (x y : Files) → MayGain (a_tenure t) x y → IsHeldBy Held r x → IsHeldBy Held (record r { standing = standing.Down; doubt_fences = r.doubt_fences ++ t ∷ []; tried = r.tried ++ t ∷ [] }) y
 held_tried r t x y may h =
     let q = tried r t in
     let part = may h.points h.tenure h.fence h.held in
@@ -69,7 +69,7 @@ held_tried r t x y may h =
 -- from files of which all is loaded
 pub held_began : (r : ReplicaState) (t fence : ℕ) (points : List Point) (tenure_found fence_found : ℕ) (x y : Files) → HeldOnce points tenure_found fence_found x → tenure_found ≤ t → fence ≡ max fence_found t → ((b : ℕ) → IsIn r.begun b → b ≤ t)
     → ((p : Point) → IsIn r.sure p → ¬ IsGone r p → Covers points p) → Gains (a_tenure t) x y
-    → IsHeldBy (record r { standing = standing.Open; tenure = Some t; fence = fence; sure = r.sure ++ points; doubt = []; doubt_fences = []; begun = r.begun ++ t ∷ [] }) y
+    → IsHeldBy Held (record r { standing = standing.Open; tenure = Some t; fence = fence; sure = r.sure ++ points; doubt = []; doubt_fences = []; begun = r.begun ++ t ∷ [] }) y
 held_began r t fence points tenure_found fence_found x y loaded low fence_is none_higher there gains =
     let all = gains loaded.all tenure_found fence_found loaded.held in
     let tenure_is : t ≡ max tenure_found t = omega (arith, low) in
@@ -88,8 +88,8 @@ held_began r t fence points tenure_found fence_found x y loaded low fence_is non
     }
 
 -- of an open replica, of which no fence is in doubt
-pub held_again : (r : ReplicaState) (t fence : ℕ) → r.doubt ≡ [] → r.doubt_fences ≡ [] → fence ≡ max r.fence t → ((b : ℕ) → IsIn r.begun b → b ≤ t) → (x y : Files) → Gains (a_tenure t) x y → IsHeldBy r x
-    → IsHeldBy (record r { standing = standing.Open; tenure = Some t; fence = fence; sure = r.sure ++ []; doubt = []; doubt_fences = []; begun = r.begun ++ t ∷ [] }) y
+pub held_again : (r : ReplicaState) (t fence : ℕ) → r.doubt ≡ [] → r.doubt_fences ≡ [] → fence ≡ max r.fence t → ((b : ℕ) → IsIn r.begun b → b ≤ t) → (x y : Files) → Gains (a_tenure t) x y → IsHeldBy Held r x
+    → IsHeldBy Held (record r { standing = standing.Open; tenure = Some t; fence = fence; sure = r.sure ++ []; doubt = []; doubt_fences = []; begun = r.begun ++ t ∷ [] }) y
 held_again r t fence no_doubt none fence_is none_higher x y gains h =
     let q : ReplicaState = record r { standing = standing.Open; tenure = Some t; fence = fence; sure = r.sure ++ []; doubt = []; doubt_fences = []; begun = r.begun ++ t ∷ [] } in
     let all = gains h.points h.tenure h.fence h.held in
@@ -112,7 +112,7 @@ held_again r t fence no_doubt none fence_is none_higher x y gains h =
 -- ---- what the core says of a Began
 
 -- the points of files that the replica may begin with
-module _ (r : ReplicaState) (points : List Point) (tenure_found fence_found : ℕ) (files : Files) (held : HeldOnce points tenure_found fence_found files) (h : IsHeldBy r files) where
+module _ (r : ReplicaState) (points : List Point) (tenure_found fence_found : ℕ) (files : Files) (held : HeldOnce points tenure_found fence_found files) (h : IsHeldBy Held r files) where
   -- what the replica may begin with is what was loaded
   same_points : HaveSamePoints points h.points
   same_points p =

@@ -1,3 +1,4 @@
+pub mod Bases
 pub mod Machines
 pub mod Steps
 pub mod Damages

@@ -26,4 +26,4 @@ pub record HasKnownNumbers (r : ReplicaState) (files : Files) : Type 0 where
 
 -- so is each image of a machine's disk, once its replica began
 abbrev pub NumbersAreKnown : {D : Type 0} → (D → DiskState) → Type 0
-NumbersAreKnown {D} state = (r : ReplicaState) (m : MachineState D) → IsMachineOf state r m → r.begun ≢ [] → EachImage (state m.disk) (HasKnownNumbers r)
+NumbersAreKnown {D} state = (first : D) (r : ReplicaState) (m : MachineState D) → IsMachineOf state (state first).images r m → r.begun ≢ [] → EachImage (state m.disk) (HasKnownNumbers r)

@@ -1,26 +1,37 @@
--- What a machine's disk holds before its replica's first begin.
-use Rattle.std.specs.Prelude.{◌≡◌, ◌⊎◌, ⊤, ℕ, ◌≤◌, true, List, [], ◌∷◌, ◌++◌, Result}
+-- What a machine's disk holds, and with what its replica first begins, by the disk over which the machine was made. Each image of that disk is sound.
+use Rattle.std.specs.Prelude.{◌≡◌, ◌⊎◌, ℕ, ◌≤◌, true, List, [], ◌∷◌, ◌++◌}
 use Rattle.std.specs.List.{Any}
+use Rattle.m3_model.specs.Members.{IsIn}
 use Rattle.m3_model.specs.declared.point.Point.{Point}
-use Rattle.m3_model.specs.declared.reason.Reason.{Reason}
 use Rattle.m3_outside.specs.Files.{Files}
-use Rattle.m3_outside.specs.DiskState.{DiskState, EachImage, StepOf, Elapses}
+use Rattle.m3_outside.specs.DiskState.{DiskState, EachImage}
 use Rattle.shard_files.specs.Held.{Held, IsSound}
-use Rattle.shard_files.specs.Gains.{nothing, a_tenure, Gains, MayGain}
 use Rattle.shard_files.specs.Once.{HaveSamePoints, IsEachOnce}
-use Rattle.replica_machine.specs.Boots.{BeganFrom}
-use Rattle.replica_machine.specs.Machines.{MachineState}
-use Rattle.replica_machine.specs.Steps.{RestartsTo}
-use Rattle.replica_machine.specs.declared.machine.Began.{Began}
+use Rattle.cluster_core.specs.Replicas.{after}
+use Rattle.cluster_core.specs.Rows.{LawfulStep}
+use Rattle.cluster_core.specs.declared.event.Event.{Event}
+use Rattle.cluster_core.specs.declared.event.StepCall.{StepCall}
+use Rattle.cluster_core.specs.declared.event.StepCall.TheVariants as call
+use Rattle.cluster_core.specs.declared.event.StepReply.{StepReply}
+use Rattle.cluster_core.specs.declared.event.StepReply.TheVariants as reply
+use Rattle.cluster_core.specs.declared.replica_state.ReplicaState.{ReplicaState}
+use Rattle.replica_machine.specs.Bases.{HasOpening}
+use Rattle.replica_machine.specs.Machines.{MachineState, IsMachineOf}
+use Rattle.replica_machine.specs.Steps.{IsGiven, IsStep}
+
+-- each of these files is sound
+abbrev pub AllSound : (Files → Type 0) → Type 0
+AllSound base = (c : Files) → base c → IsSound c
 
 -- the number isn't above this one, or above one of these
 abbrev pub IsUpTo : ℕ → List ℕ → ℕ → Type 0
 IsUpTo base tried n = (n ≤ base) ⊎ Any (λ t. n ≤ t) tried
 
--- Files that hold the points of one of these files. Their tenure and their fence aren't above its own and the tenures with which a replica was to begin.
-pub record CameFrom (made : Files → Type 0) (tried : List ℕ) (files : Files) : Type 0 where
+-- Files that hold the points of one of these files and no others. Their tenure and their fence aren't above its own and the tenures with which a replica
+-- was to begin, and not below its own.
+pub record HoldAsMade (base : Files → Type 0) (tried : List ℕ) (files : Files) : Type 0 where
   pub before : Files
-  pub was : made before
+  pub was : base before
   pub points_before : List Point
   pub tenure_before : ℕ
   pub fence_before : ℕ
@@ -30,35 +41,49 @@ pub record CameFrom (made : Files → Type 0) (tried : List ℕ) (files : Files)
   pub fence : ℕ
   pub held : Held points tenure fence files
   pub same : HaveSamePoints points points_before
+  pub tenure_low : tenure_before ≤ tenure
   pub tenure_up : IsUpTo tenure_before tried tenure
+  pub fence_low : fence_before ≤ fence
   pub fence_up : IsUpTo fence_before tried fence
 
--- Each stop leaves files that hold what one of the images of a first disk held, where no begin was done since and these tenures were tried.
-abbrev pub IsAsMade : {D : Type 0} → (D → DiskState) → D → List ℕ → D → Type 0
-IsAsMade state first tried now = EachImage (state now) (CameFrom (state first).images tried)
+-- until a machine's replica began, each stop leaves such files
+abbrev pub StaysAsMade : {D : Type 0} → (D → DiskState) → Type 0
+StaysAsMade {D} state =
+    (first : D) (r : ReplicaState) (m : MachineState D) → AllSound (state first).images → IsMachineOf state (state first).images r m → r.begun ≡ [] → EachImage (state m.disk) (HoldAsMade (state first).images r.tried)
 
--- so it is of the first disk itself, where each image is sound
-abbrev pub BeginsAsMade : {D : Type 0} → (D → DiskState) → Type 0
-BeginsAsMade {D} state = (first : D) → EachImage (state first) IsSound → IsAsMade state first [] first
-
--- It stays so where a begin was tried, of which a stop leaves part (as `BringsTo.any_moment` says), where a call brought nothing (as
--- `BringsTo.unchanged` says of one that was refused for another reason than the disk), and where the process stopped.
-pub record StaysAsMade {D : Type 0} (state : D → DiskState) : Type 0 where
-  pub tried : (first old new : D) (tried : List ℕ) (t : ℕ) → (state new).tells ≡ (state old).tells → ((state old).tells ≡ true → Elapses (MayGain (a_tenure t)) (state old) (state new)) → IsAsMade state first tried old
-      → IsAsMade state first (tried ++ t ∷ []) new
-  pub refused : (first old new : D) (tried : List ℕ) → (state new).tells ≡ (state old).tells → ((state old).tells ≡ true → (c : Files) → (state new).images c → StepOf (Gains nothing) (state old).images c) → IsAsMade state first tried old → IsAsMade state first tried new
-  pub restarted : (first old new : D) (tried : List ℕ) (result : Result ⊤ Reason) → RestartsTo result (state old) (state new) → IsAsMade state first tried old → IsAsMade state first tried new
-
--- one of these files holds these points, here each once and in order
-pub record AreOfOne (made : Files → Type 0) (points : List Point) : Type 0 where
+-- One of these files holds these points, here each once and in order. The fence isn't above its own and the tenures with which the replica was to begin.
+pub record BeginsAsMade (base : Files → Type 0) (tried : List ℕ) (fence : ℕ) (points : List Point) : Type 0 where
   pub before : Files
-  pub was : made before
+  pub was : base before
   pub points_before : List Point
   pub tenure_before : ℕ
   pub fence_before : ℕ
   pub held_before : Held points_before tenure_before fence_before before
   pub once : IsEachOnce points_before points
+  pub fence_up : IsUpTo fence_before tried fence
 
--- the first begin that is done has the points of an image of the first disk
+-- so does a replica that begins and never began
 abbrev pub FirstBeginIsAsMade : {D : Type 0} → (D → DiskState) → Type 0
-FirstBeginIsAsMade {D} state = (first : D) (tried : List ℕ) (t : ℕ) (old new : MachineState D) (began : Began) → (state old.disk).tells ≡ true → IsAsMade state first tried old.disk → BeganFrom state t old new began → AreOfOne (state first).images began.points
+FirstBeginIsAsMade {D} state =
+    (first : D) (r : ReplicaState) (tenure fence : ℕ) (points : List Point) (old new : MachineState D) → AllSound (state first).images → (state old.disk).tells ≡ true → IsMachineOf state (state first).images r old → r.begun ≡ []
+    → IsStep state old (call.Begin tenure) (reply.Began fence points) new → BeginsAsMade (state first).images (r.tried ++ tenure ∷ []) fence points
+
+-- The files are sound. Their tenure is one of these, or not above that of one of these files.
+pub record HasTenureUpTo (base : Files → Type 0) (tenures : List ℕ) (files : Files) : Type 0 where
+  pub points : List Point
+  pub tenure : ℕ
+  pub fence : ℕ
+  pub held : Held points tenure fence files
+  pub up : Any (λ t. tenure ≤ t) tenures ⊎ ((before : Files) × (points_before : List Point) × (tenure_before : ℕ) × (fence_before : ℕ) × base before × Held points_before tenure_before fence_before before × (tenure ≤ tenure_before))
+
+-- each stop leaves files with a tenure that isn't above that of an image of the disk over which the machine was made and those with which its replica began
+-- or was to begin
+abbrev pub TenuresAreKnown : {D : Type 0} → (D → DiskState) → Type 0
+TenuresAreKnown {D} state =
+    (first : D) (r : ReplicaState) (m : MachineState D) → AllSound (state first).images → IsMachineOf state (state first).images r m → EachImage (state m.disk) (HasTenureUpTo (state first).images (r.begun ++ r.tried))
+
+-- What a step says of a machine by the disk over which it was made holds by whatever files these are: here by a list of them.
+pub record StepsOverFiles {D : Type 0} (state : D → DiskState) : Type 0 where
+  pub lawful : (all : List Files) (r : ReplicaState) (old new : MachineState D) (c : StepCall) (a : StepReply) → IsStep state old c a new → IsMachineOf state (IsIn all) r old → (past : List Event) (n s : ℕ) → IsGiven past n s c → LawfulStep (state old.disk).tells past n s r c a
+  pub follows : (all : List Files) (r : ReplicaState) (old new : MachineState D) (c : StepCall) (a : StepReply) → IsStep state old c a new → IsMachineOf state (IsIn all) r old → IsMachineOf state (IsIn all) (after r c a) new
+  pub opens : (all : List Files) (r : ReplicaState) (old new : MachineState D) (c : StepCall) (a : StepReply) → IsStep state old c a new → IsMachineOf state (IsIn all) r old → (state old.disk).tells ≡ true → r.begun ≡ [] → HasOpening Held (IsIn all) r.tried c a

@@ -1,6 +1,6 @@
 //! Laws over the definitions of machines.
 ghost use Rattle.replica_machine.specs.MachineLaws.{NumbersAreKnown};
-ghost use Rattle.replica_machine.specs.Openings.{BeginsAsMade, StaysAsMade, FirstBeginIsAsMade};
+ghost use Rattle.replica_machine.specs.Openings.{StaysAsMade, FirstBeginIsAsMade, TenuresAreKnown, StepsOverFiles};
 
 use m3_outside::disk::Disk;
 
@@ -10,18 +10,26 @@ pub fn numbers_are_known<D: Disk>()
     ensures { NumbersAreKnown D.state }
 {}
 
-/// The disk with which a machine is made is as it was made, where each image is sound.
-pub fn begins_as_made<D: Disk>()
-    ensures { BeginsAsMade D.state }
-{}
-
-/// Until a begin is done each stop leaves files that hold the points of an image of the disk with which the machine was made. Their
-/// tenure and their fence aren't above those of that image and the tenures that were tried.
+/// Until a machine's replica began each stop leaves files that hold the points of an image of the disk over which the machine was
+/// made, and no others. Their tenure and their fence aren't above those of that image and the tenures that were tried, and not
+/// below those of that image.
 pub fn stays_as_made<D: Disk>()
     ensures { StaysAsMade D.state }
 {}
 
-/// The first begin that is done has exactly the points of an image of the disk with which the machine was made, each once.
+/// A replica that begins and never began has exactly the points of an image of the disk over which its machine was made, each once.
+/// Its fence isn't above that image's and the tenures that were tried.
 pub fn first_begin_is_as_made<D: Disk>()
     ensures { FirstBeginIsAsMade D.state }
+{}
+
+/// Each stop leaves files of which the tenure isn't above that of an image of the disk over which the machine was made and those
+/// with which its replica began or was to begin.
+pub fn tenures_are_known<D: Disk>()
+    ensures { TenuresAreKnown D.state }
+{}
+
+/// What a step says of a machine by the disk over which it was made, it says by any list of files.
+pub fn steps_over_files<D: Disk>()
+    ensures { StepsOverFiles D.state }
 {}

@@ -119,7 +119,7 @@ impl<D: Disk> Machine<D> {
     /// A machine at Boot over this disk, without tenure. Takes no memory.
     pub fn new(alloc: Global, disk: D) -> Machine<D>
         ensures first { result ≡ first_machine disk }
-        ensures fresh { IsMachineOf D.state fresh result }
+        ensures fresh { IsMachineOf D.state (D.state disk).images fresh result }
     {
         Machine {
             alloc,

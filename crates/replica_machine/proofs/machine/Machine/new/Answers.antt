@@ -10,4 +10,4 @@ pub returns-clause-first : goal.returns-clause-first
 returns-clause-first g c = ap (machine_of Boot None 0) c.new.ensures
 
 pub returns-clause-fresh : goal.returns-clause-fresh
-returns-clause-fresh g c = subst (λ store. IsMachineOf g.D.Disk.state fresh (machine_of Boot None 0 store)) (sym c.new.ensures) (first_follows g.D.Disk.state c.args.disk)
+returns-clause-fresh g c = subst (λ store. IsMachineOf g.D.Disk.state (g.D.Disk.state c.args.disk).images fresh (machine_of Boot None 0 store)) (sym c.new.ensures) (first_follows g.D.Disk.state c.args.disk)
