@@ -15,4 +15,5 @@ pub mod PartLemmas
 pub mod NumberLemmas
 pub mod OpeningLemmas
 pub mod BootReasons
+pub mod RearrangedLemmas
 pub mod BaseSteps

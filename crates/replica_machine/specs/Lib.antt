@@ -5,3 +5,4 @@ pub mod Damages
 pub mod Boots
 pub mod MachineLaws
 pub mod Openings
+pub mod Rearranged

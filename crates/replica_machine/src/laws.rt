@@ -1,6 +1,7 @@
 //! Laws over the definitions of machines.
 ghost use Rattle.replica_machine.specs.MachineLaws.{NumbersAreKnown};
 ghost use Rattle.replica_machine.specs.Openings.{StaysAsMade, FirstBeginIsAsMade, TenuresAreKnown, StepsOverFiles};
+ghost use Rattle.replica_machine.specs.Rearranged.{KeptReplica, TickedReplica, KeptMachine, TickedMachine};
 
 use m3_outside::disk::Disk;
 
@@ -32,4 +33,24 @@ pub fn tenures_are_known<D: Disk>()
 /// What a step says of a machine by the disk over which it was made, it says by any list of files.
 pub fn steps_over_files<D: Disk>()
     ensures { StepsOverFiles D.state }
+{}
+
+/// Files that a replica may begin with are still such where a flush or a snapshot keeps the content that shows it.
+pub fn kept_replica()
+    ensures { KeptReplica }
+{}
+
+/// So they are where a tick keeps of it what hasn't expired, also one that the disk or damage stopped.
+pub fn ticked_replica()
+    ensures { TickedReplica }
+{}
+
+/// An open machine whose content a flush or a snapshot keeps on its disk is still its replica's, and so it is once closed.
+pub fn kept_machine<D: Disk>()
+    ensures { KeptMachine D.state }
+{}
+
+/// So is one of which a tick keeps what hasn't expired.
+pub fn ticked_machine<D: Disk>()
+    ensures { TickedMachine D.state }
 {}

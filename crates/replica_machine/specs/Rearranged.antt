@@ -1,0 +1,67 @@
+-- A replica over whose disk a call went that brings no point: a flush, a snapshot or a tick.
+use Rattle.std.specs.Prelude.{◌≡◌, ⊤, ℕ, true}
+use Rattle.m3_model.specs.Answers.{HasPoint}
+use Rattle.m3_model.specs.Contents.{Contents}
+use Rattle.m3_model.specs.Rules.{HasExpired}
+use Rattle.m3_model.specs.declared.point.Point.{Point}
+use Rattle.m3_model.specs.declared.reason.Damage.{Damage}
+use Rattle.m3_model.specs.declared.reason.Reason.TheVariants as reason
+use Rattle.m3_model.specs.declared.replica.Standing.{Standing}
+use Rattle.m3_model.specs.declared.replica.Standing.TheVariants as standing
+use Rattle.m3_model.specs.declared.rules.Rules.{Rules}
+use Rattle.m3_outside.specs.Files.{Files}
+use Rattle.m3_outside.specs.DiskState.{DiskState, StepOf}
+use Rattle.shard_files.specs.FilesHold.{HoldWhole}
+use Rattle.shard_files.specs.Keeps.{Keeps}
+use Rattle.cluster_core.specs.Replicas.{Shows, after, down}
+use Rattle.cluster_core.specs.declared.event.StepCall.TheVariants as call
+use Rattle.cluster_core.specs.declared.event.StepReply.{StepReply}
+use Rattle.cluster_core.specs.declared.event.StepReply.TheVariants as reply
+use Rattle.cluster_core.specs.declared.replica_state.ReplicaState.{ReplicaState}
+use Rattle.replica_machine.specs.Machines.{MachineState, IsHeldBy, IsMachineBy, shut_machine}
+
+-- what a tick leaves of a content: points of it, and of these all that haven't expired by the rules
+pub record IsTickedTo (rules : Rules) (content kept : Contents) : Type 0 where
+  pub nothing_else : (p : Point) → HasPoint kept p → HasPoint content p
+  pub live : (p : Point) → HasPoint content p → ¬ HasExpired rules p → HasPoint kept p
+
+-- what a tick answers that was done, or that the disk or damage stopped
+abbrev pub IsTick : StepReply → Type 0
+IsTick (reply.Count n) = ⊤
+IsTick (reply.Refused reason.Disk) = ⊤
+IsTick (reply.Refused (reason.Corrupt damage)) = ⊤
+IsTick _ = ⊥
+
+-- ---- files
+
+-- files that the replica may begin with are still such where a content that shows it is kept, however it stands then
+abbrev pub KeptReplica : Type 0
+KeptReplica = (r : ReplicaState) (s : Standing) (content : Contents) (x y : Files) → Shows r content → Keeps content x y → IsHeldBy HoldWhole r x → IsHeldBy HoldWhole (record r { standing = s }) y
+
+-- so they are where a tick by these rules keeps of it what hasn't expired, for what the tick leaves of the replica
+abbrev pub TickedReplica : Type 0
+TickedReplica = (r : ReplicaState) (rules : Rules) (a : StepReply) (content kept : Contents) (x y : Files) → IsTick a → Shows r content → IsTickedTo rules content kept → Keeps kept x y → IsHeldBy HoldWhole r x → IsHeldBy HoldWhole (after r (call.Tick rules) a) y
+
+-- ---- machines
+
+-- each image of the disk now is one from before, of which this content is kept
+pub record KeepsImages (kept : Contents) (old new : DiskState) : Type 0 where
+  pub tells : new.tells ≡ old.tells
+  pub images : old.tells ≡ true → (c : Files) → new.images c → StepOf (Keeps kept) old.images c
+
+-- an open machine, whose content is kept on its disk, is still its replica's, as it was or closed
+pub record KeptMachine {D : Type 0} (state : D → DiskState) : Type 0 where
+  pub open_ : (first : D) (r : ReplicaState) (m : MachineState D) (d : D) → m.standing ≡ standing.Open → KeepsImages m.content (state m.disk) (state d) → IsMachineBy HoldWhole state (state first).images r m
+      → IsMachineBy HoldWhole state (state first).images r (record m { disk = d })
+  pub closed : (first : D) (r : ReplicaState) (m : MachineState D) (d : D) → m.standing ≡ standing.Open → KeepsImages m.content (state m.disk) (state d) → IsMachineBy HoldWhole state (state first).images r m
+      → IsMachineBy HoldWhole state (state first).images (down r) (shut_machine standing.Down m d)
+
+-- so is one of which a tick keeps what hasn't expired, for what the tick leaves of the replica: with that content where it was done, and closed where it
+-- wasn't
+pub record TickedMachine {D : Type 0} (state : D → DiskState) : Type 0 where
+  pub done : (first : D) (r : ReplicaState) (m : MachineState D) (d : D) (rules : Rules) (n : ℕ) (kept : Contents) → m.standing ≡ standing.Open → IsTickedTo rules m.content kept → KeepsImages kept (state m.disk) (state d)
+      → IsMachineBy HoldWhole state (state first).images r m → IsMachineBy HoldWhole state (state first).images (after r (call.Tick rules) (reply.Count n)) (record m { content = kept; disk = d })
+  pub failed : (first : D) (r : ReplicaState) (m : MachineState D) (d : D) (rules : Rules) (kept : Contents) → m.standing ≡ standing.Open → IsTickedTo rules m.content kept → KeepsImages kept (state m.disk) (state d)
+      → IsMachineBy HoldWhole state (state first).images r m → IsMachineBy HoldWhole state (state first).images (after r (call.Tick rules) (reply.Refused reason.Disk)) (shut_machine standing.Down m d)
+  pub damaged : (first : D) (r : ReplicaState) (m : MachineState D) (d : D) (rules : Rules) (damage : Damage) (kept : Contents) → m.standing ≡ standing.Open → IsTickedTo rules m.content kept → KeepsImages kept (state m.disk) (state d)
+      → IsMachineBy HoldWhole state (state first).images r m → IsMachineBy HoldWhole state (state first).images (after r (call.Tick rules) (reply.Refused (reason.Corrupt damage))) (shut_machine standing.Down m d)
