@@ -95,7 +95,7 @@ unknown_outcome state Sent Sure disk y (reply.Refused reason.Disk) has step = in
 unknown_outcome state Sent Sure disk y (reply.Refused (reason.Corrupt damage)) has step =
     inr (inl (standing_next state false Sent Sure (first_boot (reply.Refused (reason.Corrupt damage)) ∷ []) (first_machine disk) y (y, step, refl) has, inr (refl, refl)))
 unknown_outcome state Sent Sure disk y (reply.Refused why) has step = inr (inr (standing_next state false Sent Sure (first_boot (reply.Refused why) ∷ []) (first_machine disk) y (y, step, refl) has, refl))
-unknown_outcome state Sent Sure disk y r has step = absurd (step.lawful has.r has.is_machine (giving 1) 0 0 (gives 1))
+unknown_outcome state Sent Sure disk y r has step = absurd (step.lawful has.first has.r has.is_machine (giving 1) 0 0 (gives 1))
 
 -- a machine over a bare disk opens, or its disk fails
 first_outcome : {D : Type 0} (state : D → DiskState) → TellAll state → ((d : D) → IsLawful (state d)) → (Sent Sure : Point → Type 0) (disk : D) (y : MachineState D) (r : StepReply) → HasReplica state true Sent Sure (first_machine disk)
@@ -116,7 +116,7 @@ first_outcome state tell lawful Sent Sure disk y (reply.Refused why) has step no
         | inr down ↦ (let bad : standing.Boot ≡ standing.Down = down.1 in absurd (cc))
       ]
     ]
-first_outcome state tell lawful Sent Sure disk y r has step no_want sound = absurd (lawful_for state tell (first_machine disk) has.r (call.Begin 1) r y step has.is_machine (giving 1) 0 0 (gives 1))
+first_outcome state tell lawful Sent Sure disk y r has step no_want sound = absurd (lawful_for state tell has.first (first_machine disk) has.r (call.Begin 1) r y step has.is_machine (giving 1) 0 0 (gives 1))
 
 -- ---- a cluster that was made
 

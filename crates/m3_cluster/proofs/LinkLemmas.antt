@@ -166,7 +166,7 @@ one_put state tells Sent Later Sure (call.Put client number rules version p) (re
     inr (standing_next state tells Sent Sure (record { call = call.Put client number rules version p; reply = reply.Refused reason.Disk } ∷ []) x y (y, step, refl) has, refl)
 one_put state tells Sent Later Sure (call.Put client number rules version p) (reply.Refused (reason.Corrupt damage)) x y put step has =
     let past : List Event = event.Clock rules ∷ event.Send version 0 p ∷ [] in
-    let may = step.lawful has.r has.is_machine past 0 0 (Any-from_IsIn (IsClock rules) past (event.Clock rules) (inl refl) refl, Any-from_IsIn (IsSend version 0 p) past (event.Send version 0 p) (inr (inl refl)) refl) in
+    let may = step.lawful has.first has.r has.is_machine past 0 0 (Any-from_IsIn (IsClock rules) past (event.Clock rules) (inl refl) refl, Any-from_IsIn (IsSend version 0 p) past (event.Send version 0 p) (inr (inl refl)) refl) in
     let reads : false ≡ true = may.reads in
     absurd (cc)
 one_put state tells Sent Later Sure (call.Put client number rules version p) r x y put step has =

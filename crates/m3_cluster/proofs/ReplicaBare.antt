@@ -16,6 +16,7 @@ use Rattle.cluster_core.specs.Replicas.{IsGone, fresh}
 use Rattle.cluster_core.specs.declared.event.StepReply.{StepReply}
 use Rattle.cluster_core.specs.declared.replica_state.ReplicaState.{ReplicaState}
 use Rattle.replica_machine.specs.Machines.{MachineState, MayHaveTenure, IsHeldBy, IsMachineOf, first_machine}
+use Rattle.replica_machine.proofs.OtherLemmas.{first_follows}
 use Rattle.session.specs.Changes.{Step}
 use Rattle.session.specs.declared.slot.Slot.{Slot}
 use Rattle.m3_outside.specs.Depots.{Depot, TellAll}
@@ -45,7 +46,7 @@ first_fence tenure fence order low =
     ⊎_elim (λ (lt : tenure < fence). inr (Any-from_IsIn (λ doubtful. fence ≡ max doubtful (max tenure 0)) (1 ∷ []) 1 (inl refl) (omega (arith, lt, low))))
     (λ (ge : fence ≤ tenure). inl (omega (arith, ge, order))) (cases_lt tenure fence)
 
-bare_held : (c : Files) → HasNoPoints c → IsHeldBy bare c
+bare_held : (c : Files) → HasNoPoints c → IsHeldBy FilesHold bare c
 bare_held c none = record {
   points = [];
   tenure = none.tenure;
@@ -58,7 +59,7 @@ bare_held c none = record {
   fence_is = first_fence none.tenure none.fence none.order none.first;
 }
 
-bare_machine : {D : Type 0} (state : D → DiskState) (disk : D) → EachImage (state disk) HasNoPoints → IsMachineOf state bare (first_machine disk)
+bare_machine : {D : Type 0} (state : D → DiskState) (disk : D) → EachImage (state disk) HasNoPoints → IsMachineOf state (state disk).images bare (first_machine disk)
 bare_machine state disk none = record {
   stands = refl;
   begun = record { none_higher = All-cons (λ one. one ≤ 0) 0 [] (omega arith) (All-nil (λ one. one ≤ 0)); one_of = inl refl };
@@ -66,6 +67,7 @@ bare_machine state disk none = record {
   empty = λ e. absurd (cc);
   open_ = λ e. absurd (cc);
   files = λ begun tells c image. bare_held c (none tells c image);
+  unbegun = λ e. absurd (cc);
 }
 
 bare_ours : (Sent : Point → Type 0) → IsOurs Sent bare
@@ -81,21 +83,10 @@ bare_ours Sent = record {
   doubt_sent = λ p m. absurd m;
 }
 
--- a machine that wasn't booted yet, over any disk, is a replica of which nothing is known
-fresh_machine : {D : Type 0} (state : D → DiskState) (disk : D) → IsMachineOf state fresh (first_machine disk)
-fresh_machine state disk = record {
-  stands = refl;
-  begun = record { none_higher = All-nil (λ one. one ≤ 0); one_of = inl refl };
-  below = All-nil (λ one. one ≤ 0);
-  empty = λ e. refl;
-  open_ = λ e. absurd (cc);
-  files = λ begun. absurd (begun refl);
-}
-
 -- a machine that wasn't booted yet, whose disk is bare where the disks tell
 pub bare_replica : {D : Type 0} (state : D → DiskState) (tells : Bool) (disk : D) (Sent : Point → Type 0) → (tells ≡ true → EachImage (state disk) HasNoPoints) → HasReplica state tells Sent (λ p. ⊥) (first_machine disk)
-bare_replica state true disk Sent none = record { r = bare; is_machine = bare_machine state disk (none refl); owns = λ e. absurd (cc); ours = λ e. bare_ours Sent; sure = λ e p m. absurd m }
-bare_replica state false disk Sent none = record { r = fresh; is_machine = fresh_machine state disk; owns = λ e. absurd (cc); ours = λ e. absurd (cc); sure = λ e p m. absurd m }
+bare_replica state true disk Sent none = record { r = bare; first = disk; is_machine = bare_machine state disk (none refl); owns = λ e. absurd (cc); ours = λ e. bare_ours Sent; sure = λ e p m. absurd m }
+bare_replica state false disk Sent none = record { r = fresh; first = disk; is_machine = first_follows state disk; owns = λ e. absurd (cc); ours = λ e. absurd (cc); sure = λ e p m. absurd m }
 
 boots_asked : (Sent : Point → Type 0) (answers : List StepReply) → All (λ (step : Step). IsAsked Sent step.call) (map first_boot answers)
 boots_asked Sent answers = All-map (λ (step : Step). IsAsked Sent step.call) first_boot answers (All-from_each (λ (answered : StepReply). IsAsked Sent (first_boot answered).call) answers (λ answered m. refl))
@@ -127,7 +118,7 @@ low_fence r tenure fence low own fences is =
     (omega (arith, same), omega (arith, same, low, own, doubt_low)))
     is
 
-none_held : (r : ReplicaState) (c : Files) → IsOurs (λ p. ⊥) r → IsHeldBy r c → HasNoPoints c
+none_held : (r : ReplicaState) (c : Files) → IsOurs (λ p. ⊥) r → IsHeldBy FilesHold r c → HasNoPoints c
 none_held r c ours held =
     let none : held.points ≡ [] = no_elements held.points (λ p m. ⊎_elim (ours.sure_sent p) (ours.doubt_sent p) (each-from_All (λ q. IsIn r.sure q ⊎ IsIn r.doubt q) held.points held.source p m)) in
     let low = low_known r held.tenure ours.tenures ours.tried held.known in

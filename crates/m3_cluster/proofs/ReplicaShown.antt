@@ -86,5 +86,5 @@ may_refuse Sent r why ours h = inr (inr (closed_for r.standing why h))
 pub begin_refused : {D : Type 0} (state : D → DiskState) (tells : Bool) → tells ≡ true → TellAll state → (Sent Sure : Point → Type 0) (x y : MachineState D) (why : _) → TakesSteps state (record { call = call.Begin 1; reply = reply.Refused why } ∷ []) x y → HasReplica state tells Sent Sure x
     → ((why ≡ reason.Memory) ⊎ (why ≡ reason.Disk)) ⊎ (((damage : _) × (why ≡ reason.Corrupt damage)) ⊎ ((why ≡ reason.Down) × (x.standing ≡ standing.Down)))
 begin_refused state tells e tell Sent Sure x y why taken has =
-    let row = lawful_for state tell x has.r (call.Begin 1) (reply.Refused why) taken.0 taken.1 has.is_machine (giving 1) 0 0 (gives 1) in
+    let row = lawful_for state tell has.first x has.r (call.Begin 1) (reply.Refused why) taken.0 taken.1 has.is_machine (giving 1) 0 0 (gives 1) in
     subst (λ (st : Standing). MayRefuseBegin st why) (sym has.is_machine.stands) (may_refuse Sent has.r why (has.ours e) row)

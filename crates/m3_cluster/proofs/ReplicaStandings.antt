@@ -48,13 +48,13 @@ after_stands r _ (reply.Refused (reason.Corrupt damage)) = refl
 after_stands r _ _ = refl
 
 -- the machine of any replica stands so
-pub stands_after : {D : Type 0} (state : D → DiskState) (r : ReplicaState) (steps : List Step) (x y : MachineState D) → TakesSteps state steps x y → IsMachineOf state r x → y.standing ≡ standing_after steps x.standing
-stands_after state r [] x y same is = ap (λ (m : MachineState _). m.standing) same
-stands_after state r (step ∷ steps) x y taken is =
+pub stands_after : {D : Type 0} (state : D → DiskState) (first : D) (r : ReplicaState) (steps : List Step) (x y : MachineState D) → TakesSteps state steps x y → IsMachineOf state (state first).images r x → y.standing ≡ standing_after steps x.standing
+stands_after state first r [] x y same is = ap (λ (m : MachineState _). m.standing) same
+stands_after state first r (step ∷ steps) x y taken is =
     let mid = taken.0 in
-    let next = (taken.1).follows r is in
+    let next = (taken.1).follows first r is in
     let once : mid.standing ≡ standing_by step.call step.reply x.standing = next.stands ∙ after_stands r step.call step.reply ∙ ap (standing_by step.call step.reply) (sym is.stands) in
-    stands_after state (after r step.call step.reply) steps mid y taken.2 next ∙ ap (standing_after steps) once
+    stands_after state first (after r step.call step.reply) steps mid y taken.2 next ∙ ap (standing_after steps) once
 
 pub standing_next : {D : Type 0} (state : D → DiskState) (tells : Bool) (Sent Sure : Point → Type 0) (steps : List Step) (x y : MachineState D) → TakesSteps state steps x y → HasReplica state tells Sent Sure x → y.standing ≡ standing_after steps x.standing
-standing_next state tells Sent Sure steps x y taken has = stands_after state has.r steps x y taken has.is_machine
+standing_next state tells Sent Sure steps x y taken has = stands_after state has.first has.r steps x y taken has.is_machine

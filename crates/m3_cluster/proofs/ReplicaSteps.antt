@@ -110,7 +110,7 @@ ours_less Sent Later r later ours = record {
 
 -- the same replica, of which less is said
 pub replica_less : {D : Type 0} (state : D → DiskState) (tells : Bool) (Sent Later Sure Less : Point → Type 0) → ((p : Point) → Sent p → Later p) → ((p : Point) → Less p → Sure p) → (x : MachineState D) → HasReplica state tells Sent Sure x → HasReplica state tells Later Less x
-replica_less state tells Sent Later Sure Less later less x has = record { r = has.r; is_machine = has.is_machine; owns = has.owns; ours = λ e. ours_less Sent Later has.r later (has.ours e); sure = λ e p l. has.sure e p (less p l) }
+replica_less state tells Sent Later Sure Less later less x has = record { r = has.r; first = has.first; is_machine = has.is_machine; owns = has.owns; ours = λ e. ours_less Sent Later has.r later (has.ours e); sure = λ e p l. has.sure e p (less p l) }
 
 -- ---- one step
 
@@ -244,16 +244,17 @@ done_sure r step p one =
     ⊎_elim (λ (is : step ≡ record { call = call.Put one.client one.number one.rules one.version p; reply = reply.Done }).
     put_sure r step.call step.reply one.client one.number one.version one.rules p (ap (λ (z : Step). z.call) is) (ap (λ (z : Step). z.reply) is)) (λ (none : ⊥). absurd none) one.done
 
-pub lawful_for : {D : Type 0} (state : D → DiskState) → TellAll state → (x : MachineState D) (r : ReplicaState) (c : StepCall) (a : StepReply) (y : MachineState D) → IsStep state x c a y → IsMachineOf state r x → IsLawfulFor r c a
-lawful_for state tell x r c a y step is past n s given = subst (λ (b : Bool). LawfulStep b past n s r c a) (tell x.disk) (step.lawful r is past n s given)
+pub lawful_for : {D : Type 0} (state : D → DiskState) → TellAll state → (first : D) (x : MachineState D) (r : ReplicaState) (c : StepCall) (a : StepReply) (y : MachineState D) → IsStep state x c a y → IsMachineOf state (state first).images r x → IsLawfulFor r c a
+lawful_for state tell first x r c a y step is past n s given = subst (λ (b : Bool). LawfulStep b past n s r c a) (tell x.disk) (step.lawful first r is past n s given)
 
 replica_step : {D : Type 0} (state : D → DiskState) (tells : Bool) → (tells ≡ true → TellAll state) → (Sent Later Sure : Point → Type 0) → ((p : Point) → Sent p → Later p) → (step : Step) → IsAsked Later step.call → (x y : MachineState D) → IsStep state x step.call step.reply y
     → HasReplica state tells Sent Sure x → HasReplica state tells Later (λ p. Sure p ⊎ IsDone (step ∷ []) p) y
 replica_step state tells tell Sent Later Sure later step asked x y is has = record {
   r = after has.r step.call step.reply;
-  is_machine = is.follows has.r has.is_machine;
+  first = has.first;
+  is_machine = is.follows has.first has.r has.is_machine;
   owns = owns_after Later has.r has.owns step.call step.reply asked;
-  ours = λ e. ours_after Sent Later later has.r (has.ours e) step.call step.reply asked (lawful_for state (tell e) x has.r step.call step.reply y is has.is_machine);
+  ours = λ e. ours_after Sent Later later has.r (has.ours e) step.call step.reply asked (lawful_for state (tell e) has.first x has.r step.call step.reply y is has.is_machine);
   sure = λ e p either. ⊎_elim (λ (old : Sure p). after_sure has.r step.call step.reply p (has.sure e p old)) (λ (new : IsDone (step ∷ []) p). done_sure has.r step p new) either;
 }
 
