@@ -64,10 +64,10 @@ impl AllSeries {
         ensures stands { OnOk result (IsSome (slot_at self.new (key_at series.now t))) }
         ensures valued { IfOk result (λ valued. valued ≡ is_some (value_of self.old (key_at series.now t))) }
     {
-        if self.map.contains_key(series) {
-            return self.hold_in(series, t);
+        match self.hold_in(series, t) {
+            Some(held) => held,
+            None => self.hold_new(alloc, series.copy(alloc)?, t),
         }
-        self.hold_new(alloc, series.copy(alloc)?, t)
     }
 
     // The same, of a series that isn't there.
@@ -83,16 +83,16 @@ impl AllSeries {
         Ok(false)
     }
 
-    // The same, of a series that is there.
-    fn hold_in(&mut self, series: &SeriesKey, t: u64) -> Result<bool, Memory>
-        requires { IsSome (finite.get self.old series.now) }
+    // The same, of a series that is there. None where it isn't.
+    fn hold_in(&mut self, series: &SeriesKey, t: u64) -> Option<Result<bool, Memory>>
         ensures kept { (k : Key) → value_of self.new k ≡ value_of self.old k }
-        ensures stands { OnOk result (IsSome (slot_at self.new (key_at series.now t))) }
-        ensures valued { IfOk result (λ valued. valued ≡ is_some (value_of self.old (key_at series.now t))) }
+        ensures stands { IfSome result (λ held. OnOk held (IsSome (slot_at self.new (key_at series.now t)))) }
+        ensures valued { IfSome result (λ held. IfOk held (λ valued. valued ≡ is_some (value_of self.old (key_at series.now t)))) }
+        ensures absent { result ≡ None → finite.get self.new series.now ≡ None }
     {
         match self.map.get_mut(series) {
-            Some(buffer) => buffer.hold(t),
-            None => Err(Memory),
+            Some(buffer) => Some(buffer.hold(t)),
+            None => None,
         }
     }
 

@@ -66,17 +66,13 @@ impl Buffer {
         ensures err { OnErr result (self.new ≡ record { points = self.old.points; room = None }) }
     {
         self.release();
-        let key = Key {
-            ns: p.ns,
-            id: p.id.copy(self.alloc)?,
-            t: p.t,
-        };
         let series = SeriesKey {
             ns: p.ns,
             id: p.id.copy(self.alloc)?,
         };
         let stands = self.all.hold(self.alloc, &series, p.t)?;
-        self.room = Some(key);
+        let SeriesKey { ns, id } = series;
+        self.room = Some(Key { ns, id, t: p.t });
         Ok(stands)
     }
 

@@ -1,14 +1,10 @@
-use Rattle.std.proofs.Common.{ap, sym, ◌∙◌}
-use Rattle.std.specs.Prelude.{is_some}
-use Rattle.std.specs.FinMap as finite
-use Rattle.std.specs.FinMap.{from_sorted}
-use Rattle.block_buffer.specs.SeriesKeys.{series_cmp}
-use Rattle.block_buffer.proofs.MapLemmas.{get_of}
-use Rattle.block_buffer.proofs.SlotLemmas.{none_of}
+use Rattle.std.proofs.Common.{◌≡◌, ap, subst, ◌∙◌}
+use Rattle.std.specs.Prelude.{IfOk, Option, ℤ, is_some}
+use Rattle.block_buffer.specs.SeriesKeys.{key_at}
+use Rattle.block_buffer.specs.Points.{value_of}
 use Rattle.block_buffer.proofs.all_series.AllSeries.hold.Goals as goal
 
-pub hold_in-requires : goal.hold_in-requires
-hold_in-requires c = rw (← c.self.view_is) (ap is_some (get_of series_cmp c.self.inside.map.entries c.args.series.now c.self.invariant) ∙ sym c.if-contains_key.ensures)
-
-pub hold_new-requires : goal.hold_new-requires
-hold_new-requires c = rw (← c.self.view_is) (ap (λ k. finite.get (from_sorted {R = series_cmp} c.self.inside.map.entries) k) c.in_ok-copy.ensures ∙ get_of series_cmp c.self.inside.map.entries c.args.series.now c.self.invariant ∙ none_of _ c.if-contains_key.ensures)
+pub returns-in_ok-copy-in-None-clause-valued : goal.returns-in_ok-copy-in-None-clause-valued
+returns-in_ok-copy-in-None-clause-valued c =
+    subst (λ (o : Option ℤ). IfOk c.hold_new.result (λ valued. valued ≡ is_some o))
+    (ap (λ s. value_of c.hold_in.new.self (key_at s c.args.t)) c.in_ok-copy-in-None.ensures ∙ c.hold_in.ensures.kept (key_at c.args.series.now c.args.t)) c.hold_new.ensures.valued

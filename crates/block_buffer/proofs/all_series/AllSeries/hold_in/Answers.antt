@@ -4,6 +4,7 @@ use Rattle.std.specs.FinMap.{from_sorted}
 use Rattle.block_buffer.specs.SeriesKeys.{series_cmp, key_at}
 use Rattle.block_buffer.specs.Slots.{value_at, settled}
 use Rattle.block_buffer.specs.Points.{AllSlots, slot_at, value_of}
+use Rattle.block_buffer.proofs.MapLemmas.{get_of}
 use Rattle.block_buffer.proofs.SeriesLemmas.{Wrote, wrote, kept_of, slot-insert, slot_of-found}
 use Rattle.block_buffer.proofs.all_series.AllSeries.hold_in.Goals as goal
 use Rattle.block_buffer.proofs.all_series.AllSeries.hold_in.Goals.{in-Some, in-None}
@@ -44,4 +45,10 @@ returns-clause-valued c = elim c.match-get_mut.branch [
       sym (ap settled (slot_of-found (from_sorted {R = series_cmp} c.self.inside.map.entries) c.args.series.now w.in-Some.buffer.now c.args.t done.found)) in
       rw (w.result-is, ← c.self.view_is) (subst (λ (o : Option ℤ). IfOk w.hold.result (λ valued. valued ≡ is_some o)) at w.hold.ensures.valued)
   | in-None w ↦ rw w.result-is tt
+]
+
+pub returns-clause-absent : goal.returns-clause-absent
+returns-clause-absent c = elim c.match-get_mut.branch [
+  | in-Some w ↦ rw w.result-is (λ none. cc)
+  | in-None w ↦ rw (w.self-inside-is, c.get_mut.follows.holds-at-none) (λ none. get_of series_cmp c.self.inside.map.entries c.args.series.now c.self.invariant ∙ sym w.in-None.ensures.value)
 ]

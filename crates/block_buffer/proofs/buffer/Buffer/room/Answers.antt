@@ -24,6 +24,6 @@ returns-clause-ok c =
 pub returns-clause-stands : goal.returns-clause-stands
 returns-clause-stands c =
     let was : held (points_of c.self.inside.all) c.self.inside.room ≡ held c.args.self.now.points None = c.self.view_is ∙ c.release.ensures in
-    let key : Key = record { ns = c.args.p.now.ns; id = c.in_ok-copy-2.field-0; t = c.args.p.now.t } in
+    let key : Key = record { ns = c.args.p.now.ns; id = c.in_ok-copy.field-0; t = c.args.p.now.t } in
     c.in_ok-stands.ensures.valued ∙ ap is_some (sym (get-points c.self.inside.all key) ∙ ap (λ (h : Held). finite.get h.points key) was
-    ∙ ap (λ id. finite.get c.args.self.now.points (record { ns = c.args.p.now.ns; id = id; t = c.args.p.now.t })) c.in_ok-copy-2.ensures)
+    ∙ ap (λ id. finite.get c.args.self.now.points (record { ns = c.args.p.now.ns; id = id; t = c.args.p.now.t })) c.in_ok-copy.ensures)
