@@ -1,18 +1,21 @@
--- Files that are those of one volume or of one snapshot alone.
-use Rattle.std.proofs.Common.{◌≡◌, inl, ⊎_elim, ℕ, ◌≤◌, List, [], ◌∷◌, ◌++◌, refl, sym, ap, subst, ◌∙◌, arith, append-nil, true, Some, None}
+-- Files that are those of one volume, of one snapshot or of a log alone.
+use Rattle.std.proofs.Common.{◌≡◌, inl, ⊎_elim, ℕ, ◌≤◌, max, List, [], ◌∷◌, ◌++◌, refl, sym, ap, ap₂, subst, ◌∙◌, arith, append-nil, true, Option, Some, None}
 use Rattle.std.specs.FinMap.{get}
 use Rattle.m3_model.specs.Members.{IsIn}
+use Rattle.m3_model.specs.declared.point.Point.{Point}
 use Rattle.m3_outside.specs.declared.file_name.FileName.{FileName}
 use Rattle.m3_outside.specs.Files.{Files, IsAbsent}
 use Rattle.m3_outside.proofs.Names.{name_is}
 use Rattle.commit_log.specs.Contents.{numbers, PartsHold}
 use Rattle.commit_log.specs.Segment.{segment}
 use Rattle.commit_log.proofs.Numbers.{in_there}
+use Rattle.wire_bytes.specs.Snapshots.{Snapshot}
 use Rattle.wire_bytes.specs.Volumes.{VolumeHead, Checkpoint, points_of_rows}
-use Rattle.shard_files.specs.Held.{HoldsEntries}
-use Rattle.shard_files.specs.Parts.{is_open, counted, part_of, KnownVolume, AreKnown, is_volume_checkpoint, counted_volumes, snapshot_data, snapshot_checkpoint, is_snapshot_checkpoint, counted_snapshots, IsNewest}
+use Rattle.shard_files.specs.FilesHold.{HoldWhole, volume_points, points_in_newest, tenure_in_newest, fence_in_newest}
+use Rattle.shard_files.specs.Held.{HoldsEntries, Held, points_of, tenure_of, fence_of}
+use Rattle.shard_files.specs.Parts.{is_open, counted, part_of, KnownVolume, AreKnown, is_volume_checkpoint, counted_volumes, snapshot_data, snapshot_checkpoint, is_snapshot_checkpoint, counted_snapshots, IsNewest, NewestIs}
 use Rattle.shard_files.specs.Steps.{IsPartOf}
-use Rattle.shard_files.specs.FileLaws.{VolumeIsHeld, SnapshotIsHeld}
+use Rattle.shard_files.specs.FileLaws.{VolumeIsHeld, SnapshotIsHeld, AreOfLog, LogIsHeld}
 use Rattle.shard_files.proofs.CountedLemmas.{same_names, counted_asked, counted_open, counted_ascend, is_counted}
 use Rattle.shard_files.proofs.PartLemmas.{kind_low, kind_high, volume_kind, snapshot_named}
 use Rattle.shard_files.proofs.VolumeSteps.{checkpoint_kind}
@@ -84,3 +87,57 @@ snapshot_is_held s files h gone =
       };
       snapshots = λ q m. ⊎_elim (λ (e : own ≡ q). record { snapshot = s; named = sym e; holds = h }) (λ (none : ⊥). absurd none) (subst (λ l. IsIn l q) names m);
     }
+
+-- ---- of a log
+
+zero_max : (n : ℕ) → max 0 n ≡ n
+zero_max n = omega arith
+
+no_last : {X : Type 0} (xs : List X) (x : X) → [] ≡ xs ++ x ∷ [] → ⊥
+no_last [] x e = cc
+no_last (y ∷ xs) x e = cc
+
+none_known : (files : Files) (known : List KnownVolume) → AreKnown files [] known → known ≡ []
+none_known files [] h = refl
+none_known files (k ∷ known) h = absurd h
+
+module _ (files : Files) (alone : AreOfLog files) where
+  no_volumes : counted_volumes files ≡ []
+  no_volumes = none_counted is_volume_checkpoint files (λ q asked. alone q (let seven = volume_kind q asked in omega (arith, seven)))
+
+  no_snapshots : counted_snapshots files ≡ []
+  no_snapshots = none_counted is_snapshot_checkpoint files (λ q asked. alone q (let nine = ap (λ (n : FileName). n.kind) (snapshot_named q asked) in omega (arith, nine)))
+
+  no_newest : (newest : Option Snapshot) → NewestIs newest files → newest ≡ None
+  no_newest None h = refl
+  no_newest (Some s) h = absurd (no_last h.older (snapshot_checkpoint s.number) (sym no_snapshots ∙ h.last))
+
+  whole : (points : List Point) (tenure fence : ℕ) → Held points tenure fence files → HoldWhole points tenure fence files
+  whole points tenure fence h = record {
+    held = record {
+      parts = record { volumes = []; newest = None; entries = h.entries };
+      holds = record { volumes = subst (λ l. AreKnown files l []) (sym no_volumes) tt; newest = no_snapshots; log = h.holds };
+      points_are = h.amount.points_are;
+      tenure_is = h.amount.tenure_is ∙ sym (zero_max (tenure_of h.entries));
+      fence_is = h.amount.fence_is ∙ sym (zero_max (fence_of h.entries));
+    };
+    snapshots = λ q m. absurd (subst (λ l. IsIn l q) no_snapshots m);
+  }
+
+  by_log : (points : List Point) (tenure fence : ℕ) → HoldWhole points tenure fence files → Held points tenure fence files
+  by_log points tenure fence w =
+      let entries = w.held.parts.entries in
+      let volumes = none_known files w.held.parts.volumes (subst (λ l. AreKnown files l w.held.parts.volumes) no_volumes w.held.holds.volumes) in
+      let newest = no_newest w.held.parts.newest w.held.holds.newest in
+      record {
+        entries = entries;
+        holds = w.held.holds.log;
+        amount = record {
+          points_are = w.held.points_are ∙ ap₂ (λ (known : List KnownVolume) (s : Option Snapshot). volume_points known ++ (points_in_newest s ++ points_of entries)) volumes newest;
+          tenure_is = w.held.tenure_is ∙ (ap (λ (s : Option Snapshot). max (tenure_in_newest s) (tenure_of entries)) newest ∙ zero_max (tenure_of entries));
+          fence_is = w.held.fence_is ∙ (ap (λ (s : Option Snapshot). max (fence_in_newest s) (fence_of entries)) newest ∙ zero_max (fence_of entries));
+        };
+      }
+
+pub log_is_held : LogIsHeld
+log_is_held points tenure fence files alone = (whole files alone points tenure fence, by_log files alone points tenure fence)

@@ -1,5 +1,5 @@
 -- What files hold is one thing, and a matter of few files.
-use Rattle.std.specs.Prelude.{◌≡◌, ◌≤◌, max, ℕ, true, List, Option}
+use Rattle.std.specs.Prelude.{◌≡◌, ◌≤◌, ◌↔◌, max, ℕ, true, List, Option}
 use Rattle.std.specs.FinMap.{get}
 use Rattle.m3_model.specs.declared.point.Point.{Point}
 use Rattle.m3_model.specs.declared.point.Series.{Series}
@@ -11,7 +11,7 @@ use Rattle.wire_bytes.specs.Snapshots.{Snapshot}
 use Rattle.wire_bytes.specs.Volumes.{VolumeHead, points_of_rows}
 use Rattle.shard_files.specs.declared.entries.LogEntry.{LogEntry}
 use Rattle.shard_files.specs.Entries.{IsEntry}
-use Rattle.shard_files.specs.Held.{HoldsEntries}
+use Rattle.shard_files.specs.Held.{HoldsEntries, Held}
 use Rattle.shard_files.specs.Gains.{nothing, GainsBy, MayGainBy}
 use Rattle.shard_files.specs.LogSteps.{gain_in}
 use Rattle.shard_files.specs.Parts.{VolumeHolds, KnownVolume, VolumesAre, SnapshotHolds, NewestIs, AreWhole, counted_volumes, counted_snapshots, is_volume_checkpoint, is_snapshot_checkpoint}
@@ -61,3 +61,11 @@ VolumeIsHeld = (v : VolumeHead) (rows : List Series) (files : Files) → VolumeH
 -- files that are those of one snapshot alone hold what it has; its tenure is a fence too
 abbrev pub SnapshotIsHeld : Type 0
 SnapshotIsHeld = (s : Snapshot) (files : Files) → SnapshotHolds s files → ((name : FileName) → ¬ IsOfSnapshot s.number name → IsAbsent name files) → HoldWhole s.points s.tenure (max s.fence s.tenure) files
+
+-- files of a log alone: none is of a volume or of a snapshot
+abbrev pub AreOfLog : Files → Type 0
+AreOfLog files = (name : FileName) → 1 ≤ name.kind → IsAbsent name files
+
+-- they hold whole just what the log holds
+abbrev pub LogIsHeld : Type 0
+LogIsHeld = (points : List Point) (tenure fence : ℕ) (files : Files) → AreOfLog files → Held points tenure fence files ↔ HoldWhole points tenure fence files

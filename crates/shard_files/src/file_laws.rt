@@ -2,7 +2,7 @@
 ghost use Rattle.std.specs.Prelude.{[]};
 ghost use Rattle.std.specs.FinMap.{empty};
 ghost use Rattle.shard_files.specs.FilesHold.{HoldWhole};
-ghost use Rattle.shard_files.specs.FileLaws.{FilesHoldOne, FilesHoldOrdered, VolumeIsHeld, SnapshotIsHeld, CountedByCheckpoints, EachByItsFiles, AppendKeepsOthers, AppendBrings};
+ghost use Rattle.shard_files.specs.FileLaws.{FilesHoldOne, FilesHoldOrdered, VolumeIsHeld, SnapshotIsHeld, LogIsHeld, CountedByCheckpoints, EachByItsFiles, AppendKeepsOthers, AppendBrings};
 ghost use Rattle.shard_files.specs.Damage.{DamagedHoldNothing, DamageIsOne, ToldDigestsDiffer};
 ghost use Rattle.shard_files.specs.Keeps.{KeepsThen, StopKeeps};
 ghost use Rattle.shard_files.specs.Loading.{LogDamageIsFirst};
@@ -33,6 +33,11 @@ pub fn volume_is_held()
 /// Files that are those of one snapshot alone hold its points, its tenure and its fence.
 pub fn snapshot_is_held()
     ensures { SnapshotIsHeld }
+{}
+
+/// Files of a log alone hold, by volumes, snapshots and log, just what they hold by the log.
+pub fn log_is_held()
+    ensures { LogIsHeld }
 {}
 
 /// Which volumes and which snapshots count is a matter of the checkpoints alone.
