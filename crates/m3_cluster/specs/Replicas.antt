@@ -56,7 +56,7 @@ pub record IsOurs (Sent : Point → Type 0) (r : ReplicaState) : Type 0 where
 -- The machine is a replica's, which owns its shard where it is open. Where the disks tell what they hold, it is such a replica, of which these points are sure.
 pub record HasReplica {D : Type 0} (state : D → DiskState) (tells : Bool) (Sent Sure : Point → Type 0) (m : MachineState D) : Type 0 where
   pub r : ReplicaState
-  pub first : D  -- over which it was made
+  pub first : D  -- as if made over this one
   pub is_machine : IsMachineOf state (state first).images r m
   pub owns : r.standing ≡ standing.Open → r.tenure ≡ Some 1
   pub ours : tells ≡ true → IsOurs Sent r
