@@ -1,17 +1,15 @@
 -- Points, each once and in their order.
-use Rattle.std.proofs.Common.{◌≡◌, ⊎_elim, ℕ, List, refl, sym, ap, subst, ◌∙◌}
+use Rattle.std.proofs.Common.{◌≡◌, List, sym, ap, subst, ◌∙◌}
 use Rattle.std.specs.Cmp.{IsTotalOrder, int_cmp_total}
 use Rattle.std.specs.Ordering.{ordering_reverse}
-use Rattle.std.specs.declared.cmp.Ordering.{Ordering}
 use Rattle.std.specs.declared.cmp.Ordering.TheVariants.{Less, Greater}
 use Rattle.std.proofs.lemmas.Cmp.{then_total, on_total}
-use Rattle.m3_model.specs.Contents.{key_of, content_of}
+use Rattle.m3_model.specs.Contents.{key_of}
 use Rattle.m3_model.specs.Keys.{key_cmp_total}
 use Rattle.m3_model.specs.Members.{IsIn}
 use Rattle.m3_model.specs.declared.point.Point.{Point}
-use Rattle.m3_outside.specs.Files.{Files}
 use Rattle.commit_log.proofs.Numbers.{ascending_is_one}
-use Rattle.shard_files.specs.Once.{point_cmp, IsBefore, HaveSamePoints, IsEachOnce, HeldOnce, OnceIsOne, OnceHasContent, HeldOnceIsOne}
+use Rattle.shard_files.specs.Once.{point_cmp, IsBefore, OnceIsOne, OnceHasContent, HeldOnceIsOne}
 use Rattle.shard_files.proofs.ContentLemmas.{same_content}
 use Rattle.shard_files.proofs.GainLemmas.{covers_itself}
 use Rattle.shard_files.proofs.HeldLemmas.{held_is_one}
