@@ -10,7 +10,7 @@ use Rattle.m3_outside.specs.Causes.{CountsFaults}
 use Rattle.m3_outside.specs.Files.{Files, Stays}
 use Rattle.m3_outside.specs.DiskState.{DiskState, Told, StepOf, Elapses}
 use Rattle.m3_outside.proofs.Moments.{step_as}
-use Rattle.shard_files.specs.Held.{Held, IsSound}
+use Rattle.shard_files.specs.Held.{IsSound}
 use Rattle.shard_files.specs.Once.{HeldOnce}
 use Rattle.shard_files.specs.Loading.{MayBeUnsound}
 use Rattle.shard_files.specs.Gains.{nothing, a_tenure, Gains, MayGain}

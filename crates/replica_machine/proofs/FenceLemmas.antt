@@ -25,7 +25,7 @@ use Rattle.cluster_core.specs.Rows.{IsOwner}
 use Rattle.cluster_core.specs.declared.event.StepCall.TheVariants as call
 use Rattle.cluster_core.specs.declared.event.StepReply.TheVariants as reply
 use Rattle.cluster_core.specs.declared.replica_state.ReplicaState.{ReplicaState}
-use Rattle.replica_machine.specs.Machines.{MachineState, IsStoreOf, IsMachineOf, IsHeldBy, IsRefusedFor, refusal, shut_machine, settled, settled_answer}
+use Rattle.replica_machine.specs.Machines.{MachineState, IsMachineOf, IsHeldBy, IsRefusedFor, refusal, shut_machine, settled, settled_answer}
 use Rattle.replica_machine.specs.Steps.{reply_by, IsStep, BringsTo}
 use Rattle.replica_machine.proofs.ReasonLemmas.{IsPlain, plain_lawful, plain_no_fault, fence_plain, shut_alike, refused_none, refused_some}
 use Rattle.replica_machine.proofs.DiskLemmas.{each_step, reply_counts, brings_settled, brings_none_to}

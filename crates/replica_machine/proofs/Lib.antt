@@ -15,5 +15,6 @@ pub mod PartLemmas
 pub mod NumberLemmas
 pub mod OpeningLemmas
 pub mod BootReasons
+pub mod RefusedFiles
 pub mod RearrangedLemmas
 pub mod BaseSteps

@@ -1,5 +1,5 @@
 -- Tenure and fence of files that a replica may begin with.
-use Rattle.std.proofs.Common.{◌≡◌, ◌≢◌, inl, inr, ⊎_elim, ℕ, ◌≤◌, max, [], sym, subst, arith, Bool, true, false, refl, All, Any}
+use Rattle.std.proofs.Common.{◌≡◌, inl, inr, ⊎_elim, ℕ, ◌≤◌, max, sym, subst, arith, Bool, true, false, refl, Any}
 use Rattle.std.specs.Prelude.{◌⊎◌, nat_le}
 use Rattle.std.proofs.lemmas.Bool.{leb-true, leb-false}
 use Rattle.m3_model.specs.Members.{IsIn}

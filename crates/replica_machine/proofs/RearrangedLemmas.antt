@@ -1,5 +1,5 @@
 -- A replica over whose disk a call went that brings no point is still its machine's.
-use Rattle.std.proofs.Common.{◌≡◌, ◌≤◌, ℕ, true, List, [], ◌∷◌, ◌++◌, refl, sym, subst, ◌∙◌, All, Any}
+use Rattle.std.proofs.Common.{◌≡◌, ◌≤◌, max, ℕ, true, List, [], ◌∷◌, ◌++◌, refl, sym, subst, ◌∙◌, All, Any}
 use Rattle.std.specs.Prelude.{◌⊎◌, ◌≢◌}
 use Rattle.m3_model.specs.Contents.{Contents, Holds, point_at}
 use Rattle.m3_model.specs.Members.{IsIn}
@@ -14,33 +14,44 @@ use Rattle.m3_model.proofs.MemberLemmas.{IsIn-append_left, IsIn-push}
 use Rattle.m3_outside.specs.Files.{Files}
 use Rattle.m3_outside.specs.DiskState.{DiskState, EachImage}
 use Rattle.placement_core.proofs.ListLemmas.{All-from_each, each-from_All, Any-from_IsIn, IsIn-from_Any}
+use Rattle.shard_files.specs.FileLaws.{AreOfLog}
 use Rattle.shard_files.specs.FilesHold.{HoldWhole}
+use Rattle.shard_files.specs.Held.{Held}
 use Rattle.shard_files.specs.Keeps.{Keeps}
+use Rattle.shard_files.proofs.AloneLemmas.{log_is_held}
 use Rattle.cluster_core.specs.Replicas.{Shows, IsGone, down}
 use Rattle.cluster_core.specs.declared.event.StepReply.TheVariants as reply
 use Rattle.cluster_core.specs.declared.replica_state.ReplicaState.{ReplicaState}
+use Rattle.replica_machine.specs.Bases.{CameFrom}
 use Rattle.replica_machine.specs.Machines.{MachineState, IsHeldBy, IsMachineBy, IsGreatest, shut_machine}
-use Rattle.replica_machine.specs.Rearranged.{IsTickedTo, KeptReplica, TickedReplica, KeepsImages, KeptMachine, TickedMachine}
+use Rattle.replica_machine.specs.Rearranged.{IsTickedTo, KeptReplica, TickedReplica, KeepsImages, KeptMachine, TickedMachine, MachineOverLog}
 use Rattle.replica_machine.proofs.DiskLemmas.{each_step}
 
 -- where the content has a value at the key, its point covers this one
 covers_by : (content : Contents) (points : List Point) (p : Point) (h : Holds content p) → IsIn points (record p { v = h.value }) → Covers points p
 covers_by content points p h there = record { value = h.value; at_least = h.at_least; stands = there }
 
-pub kept_replica : KeptReplica
-kept_replica r s content x y shows keeps h =
+-- The replica, however it stands and whatever ticks it had. Files that it may begin with are such files of this one too where a content is kept that has its
+-- sure points which aren't gone.
+kept_by : (r : ReplicaState) (s : Standing) (ticks : List Rules) (kept : Contents) (x y : Files) → (let q = record r { standing = s; ticks = ticks } in (p : Point) → IsIn r.sure p → ¬ IsGone q p → Holds kept p) → Keeps kept x y → IsHeldBy HoldWhole r x
+    → IsHeldBy HoldWhole (record r { standing = s; ticks = ticks }) y
+kept_by r s ticks kept x y there keeps h =
     let k = keeps h.points h.tenure h.fence h.held in
+    let q : ReplicaState = record r { standing = s; ticks = ticks } in
     record {
       points = k.points;
       tenure = h.tenure;
       fence = h.fence;
       held = k.whole;
       source = All-from_each (λ p. IsIn r.sure p ⊎ IsIn r.doubt p) k.points (λ p m. each-from_All (λ p. IsIn r.sure p ⊎ IsIn r.doubt p) h.points h.source p (k.sheds.nothing_else p m));
-      all_there = All-from_each (λ p. ¬ IsGone r p → Covers k.points p) r.sure (λ p m stays. let there = shows.all p m stays in covers_by content k.points p there (k.sheds.whole (record p { v = there.value }) there.stands));
+      all_there = All-from_each (λ p. ¬ IsGone q p → Covers k.points p) r.sure (λ p m stays. let has = there p m stays in covers_by kept k.points p has (k.sheds.whole (record p { v = has.value }) has.stands));
       none_higher = h.none_higher;
       known = h.known;
       fence_is = h.fence_is;
     }
+
+pub kept_replica : KeptReplica
+kept_replica r s content x y shows keeps h = kept_by r s r.ticks content x y shows.all keeps h
 
 -- ---- ticks
 
@@ -70,19 +81,7 @@ module _ (r : ReplicaState) (s : Standing) (rules : Rules) (content kept : Conte
   ticked_shows = record { sure = λ k v e. shows.sure k v (to.nothing_else (point_at k v) e); all = still_there }
 
   ticked_held : (x y : Files) → Keeps kept x y → IsHeldBy HoldWhole r x → IsHeldBy HoldWhole (ticked r s rules) y
-  ticked_held x y keeps h =
-      let k = keeps h.points h.tenure h.fence h.held in
-      record {
-        points = k.points;
-        tenure = h.tenure;
-        fence = h.fence;
-        held = k.whole;
-        source = All-from_each (λ p. IsIn r.sure p ⊎ IsIn r.doubt p) k.points (λ p m. each-from_All (λ p. IsIn r.sure p ⊎ IsIn r.doubt p) h.points h.source p (k.sheds.nothing_else p m));
-        all_there = All-from_each (λ p. ¬ IsGone (ticked r s rules) p → Covers k.points p) r.sure (λ p m stays. let there = still_there p m stays in covers_by kept k.points p there (k.sheds.whole (record p { v = there.value }) there.stands));
-        none_higher = h.none_higher;
-        known = h.known;
-        fence_is = h.fence_is;
-      }
+  ticked_held x y keeps h = kept_by r s (r.ticks ++ rules ∷ []) kept x y still_there keeps h
 
 pub ticked_replica : TickedReplica
 ticked_replica r rules (reply.Count n) content kept x y is shows to keeps h = ticked_held r r.standing rules content kept shows to x y keeps h
@@ -159,3 +158,44 @@ module _ {D : Type 0} (state : D → DiskState) where
     failed = λ first r m d rules kept is_open to keeps h. closed_tick first r m d rules kept is_open to keeps h;
     damaged = λ first r m d rules damage kept is_open to keeps h. closed_tick first r m d rules kept is_open to keeps h;
   }
+
+-- ---- over a log alone
+
+held_whole : (r : ReplicaState) (c : Files) → AreOfLog c → IsHeldBy Held r c → IsHeldBy HoldWhole r c
+held_whole r c alone h = record {
+  points = h.points;
+  tenure = h.tenure;
+  fence = h.fence;
+  held = (log_is_held h.points h.tenure h.fence c alone).0 h.held;
+  source = h.source;
+  all_there = h.all_there;
+  none_higher = h.none_higher;
+  known = h.known;
+  fence_is = h.fence_is;
+}
+
+came_whole : (base : Files → Type 0) (tried : List ℕ) (c : Files) → ((x : Files) → base x → AreOfLog x) → AreOfLog c → CameFrom Held base tried c → CameFrom HoldWhole base tried c
+came_whole base tried c alone own came = record {
+  before = came.before;
+  was = came.was;
+  stepped = λ before tenure fence held.
+      let one = came.stepped before tenure fence ((log_is_held before tenure fence came.before (alone came.before came.was)).1 held) in
+      record {
+        points = one.points;
+        raised_to = one.raised_to;
+        one_of = one.one_of;
+        held = (log_is_held one.points (max tenure one.raised_to) (max fence one.raised_to) c own).0 one.held;
+        same = one.same;
+      };
+}
+
+pub machine_over_log : {D : Type 0} (state : D → DiskState) → MachineOverLog state
+machine_over_log state first r m alone own h = record {
+  stands = h.stands;
+  begun = h.begun;
+  below = h.below;
+  empty = h.empty;
+  open_ = h.open_;
+  files = λ begun tells c image. held_whole r c (own tells c image) (h.files begun tells c image);
+  unbegun = λ none tells c image. came_whole (state first).images r.tried c alone (own tells c image) (h.unbegun none tells c image);
+}

@@ -10,7 +10,8 @@ use Rattle.m3_model.specs.declared.replica.Standing.{Standing}
 use Rattle.m3_model.specs.declared.replica.Standing.TheVariants as standing
 use Rattle.m3_model.specs.declared.rules.Rules.{Rules}
 use Rattle.m3_outside.specs.Files.{Files}
-use Rattle.m3_outside.specs.DiskState.{DiskState, StepOf}
+use Rattle.m3_outside.specs.DiskState.{DiskState, StepOf, EachImage}
+use Rattle.shard_files.specs.FileLaws.{AreOfLog}
 use Rattle.shard_files.specs.FilesHold.{HoldWhole}
 use Rattle.shard_files.specs.Keeps.{Keeps}
 use Rattle.cluster_core.specs.Replicas.{Shows, after, down}
@@ -18,7 +19,7 @@ use Rattle.cluster_core.specs.declared.event.StepCall.TheVariants as call
 use Rattle.cluster_core.specs.declared.event.StepReply.{StepReply}
 use Rattle.cluster_core.specs.declared.event.StepReply.TheVariants as reply
 use Rattle.cluster_core.specs.declared.replica_state.ReplicaState.{ReplicaState}
-use Rattle.replica_machine.specs.Machines.{MachineState, IsHeldBy, IsMachineBy, shut_machine}
+use Rattle.replica_machine.specs.Machines.{MachineState, IsHeldBy, IsMachineBy, IsMachineOf, shut_machine}
 
 -- what a tick leaves of a content: points of it, and of these all that haven't expired by the rules
 pub record IsTickedTo (rules : Rules) (content kept : Contents) : Type 0 where
@@ -65,3 +66,8 @@ pub record TickedMachine {D : Type 0} (state : D → DiskState) : Type 0 where
       → IsMachineBy HoldWhole state (state first).images r m → IsMachineBy HoldWhole state (state first).images (after r (call.Tick rules) (reply.Refused reason.Disk)) (shut_machine standing.Down m d)
   pub damaged : (first : D) (r : ReplicaState) (m : MachineState D) (d : D) (rules : Rules) (damage : Damage) (kept : Contents) → m.standing ≡ standing.Open → IsTickedTo rules m.content kept → KeepsImages kept (state m.disk) (state d)
       → IsMachineBy HoldWhole state (state first).images r m → IsMachineBy HoldWhole state (state first).images (after r (call.Tick rules) (reply.Refused (reason.Corrupt damage))) (shut_machine standing.Down m d)
+
+-- a machine by the log is one by volumes, snapshots and log where the files over which it was made are of a log alone, and each stop leaves such files
+abbrev pub MachineOverLog : {D : Type 0} → (D → DiskState) → Type 0
+MachineOverLog {D} state =
+    (first : D) (r : ReplicaState) (m : MachineState D) → ((c : Files) → (state first).images c → AreOfLog c) → EachImage (state m.disk) AreOfLog → IsMachineOf state (state first).images r m → IsMachineBy HoldWhole state (state first).images r m

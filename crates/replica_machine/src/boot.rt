@@ -2,7 +2,7 @@ ghost use Rattle.std.specs.Prelude.{◌≡◌, ◌≢◌, ◌⊎◌, ◌<◌, �
 ghost use Rattle.m3_model.specs.Contents.{content_of};
 ghost use Rattle.m3_model.specs.declared.reason.Reason.TheVariants as reason;
 ghost use Rattle.m3_model.specs.declared.replica.Standing.TheVariants.{Down as IsDown, Boot as IsBoot, Open as IsOpen};
-ghost use Rattle.m3_outside.specs.DiskState.{DiskState, Told, EachImage};
+ghost use Rattle.m3_outside.specs.DiskState.{DiskState, Told, EachImage, Becomes};
 ghost use Rattle.commit_log.specs.LogEnd.{NoneFrom};
 ghost use Rattle.m3_model.specs.declared.reason.Damage.{Damage};
 ghost use Rattle.shard_files.specs.Held.{IsSound};
@@ -33,8 +33,9 @@ impl<D: Disk> Machine<D> {
     ///
     /// # Errors
     ///
-    /// `Down`. `NotOwned`, exactly where a higher tenure was begun, or the files were read and hold one. Want of memory. Each
-    /// of these leaves the machine as it was. `Disk`, by a fault, and `Corrupt`, where a file is damaged: it names the file and
+    /// `Down`. `NotOwned`, exactly where a higher tenure was begun, or the files were read and hold one: no segment is begun
+    /// then. Want of memory, after which a segment may have been begun. Each of these leaves the machine as it was, and where
+    /// the files weren't read its disk too. `Disk`, by a fault, and `Corrupt`, where a file is damaged: it names the file and
     /// the first place in it at which no log goes on. Then the machine is closed.
     pub fn boot(&mut self, tenure: u64) -> Result<Began, Reason>
         ensures began { self.old.standing ≡ IsBoot → IfOk result (BeganFrom D.state tenure self.old self.new) }
@@ -42,6 +43,8 @@ impl<D: Disk> Machine<D> {
         ensures down { IsErrOf result reason.Down ↔ (self.old.standing ≡ IsDown) }
         ensures unowned { IsErrOf result reason.NotOwned → MayBeUnowned D.state tenure self.old }
         ensures unowned_always { self.old.standing ≢ IsDown → tenure < self.old.begun → IsErrOf result reason.NotOwned }
+        ensures unowned_files { (D.state self.old.disk).tells ≡ true → IsErrOf result reason.NotOwned → Becomes (λ files. files) (D.state self.old.disk) (D.state self.new.disk) }
+        ensures plain { (self.old.standing ≡ IsDown) ⊎ (tenure < self.old.begun) → self.new ≡ self.old }
         ensures sound { (damage : Damage) → IsErrOf result (reason.Corrupt damage) → Told (D.state self.old.disk) (λ files. ¬ IsSound files) }
         ensures damage { (damage : Damage) → IsErrOf result (reason.Corrupt damage) → Told (D.state self.old.disk) (IsDamageOf damage) }
         ensures form { (damage : Damage) → IsErrOf result (reason.Corrupt damage) → IsFormDamage damage }
@@ -69,6 +72,7 @@ impl<D: Disk> Machine<D> {
         ensures began { IfOk result (BeganFrom D.state tenure self.old self.new) }
         ensures not_down { ¬ (IsErrOf result reason.Down) }
         ensures unowned { IsErrOf result reason.NotOwned → Told (D.state self.old.disk) (HoldsHigher tenure) }
+        ensures unowned_files { (D.state self.old.disk).tells ≡ true → IsErrOf result reason.NotOwned → Becomes (λ files. files) (D.state self.old.disk) (D.state self.new.disk) }
         ensures damage { (damage : Damage) → IsErrOf result (reason.Corrupt damage) → Told (D.state self.old.disk) (IsDamageOf damage) }
         ensures form { (damage : Damage) → IsErrOf result (reason.Corrupt damage) → IsFormDamage damage }
         ensures reasons { IfErr result IsBootReason }

@@ -1,7 +1,7 @@
 //! Laws over the definitions of machines.
 ghost use Rattle.replica_machine.specs.MachineLaws.{NumbersAreKnown};
 ghost use Rattle.replica_machine.specs.Openings.{StaysAsMade, FirstBeginIsAsMade, TenuresAreKnown, StepsOverFiles};
-ghost use Rattle.replica_machine.specs.Rearranged.{KeptReplica, TickedReplica, KeptMachine, TickedMachine};
+ghost use Rattle.replica_machine.specs.Rearranged.{KeptReplica, TickedReplica, KeptMachine, TickedMachine, MachineOverLog};
 
 use m3_outside::disk::Disk;
 
@@ -53,4 +53,10 @@ pub fn kept_machine<D: Disk>()
 /// So is one of which a tick keeps what hasn't expired.
 pub fn ticked_machine<D: Disk>()
     ensures { TickedMachine D.state }
+{}
+
+/// A machine that is its replica's by the log is so by volumes, snapshots and log, where no stop leaves a file of a volume or of a
+/// snapshot and none was there when it was made.
+pub fn machine_over_log<D: Disk>()
+    ensures { MachineOverLog D.state }
 {}

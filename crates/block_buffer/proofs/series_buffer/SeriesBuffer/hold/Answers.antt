@@ -5,7 +5,7 @@ use Rattle.std.specs.Prelude.{is_some, true}
 use Rattle.std.specs.BTreeMap.{get_by}
 use Rattle.block_buffer.specs.Slots.{settled}
 use Rattle.block_buffer.proofs.MapLemmas.{sorted_of, get_of}
-use Rattle.block_buffer.proofs.SlotLemmas.{value_of, slot_set, same_there, none_of}
+use Rattle.block_buffer.proofs.SlotLemmas.{value_of, slot_set, same_there}
 use Rattle.block_buffer.proofs.series_buffer.SeriesBuffer.hold.Goals as goal
 
 pub returns-in-Some-clause-stands : goal.returns-in-Some-clause-stands

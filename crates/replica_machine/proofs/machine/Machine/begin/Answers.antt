@@ -3,6 +3,7 @@ use Rattle.replica_machine.proofs.OtherLemmas.{store_moved}
 use Rattle.replica_machine.proofs.BeginLemmas.{BeginDone}
 use Rattle.replica_machine.proofs.PartLemmas.{store_closed, not_loaded_of, higher_of, opened_of}
 use Rattle.replica_machine.proofs.BootReasons.{own_reasons, unread_reason}
+use Rattle.replica_machine.proofs.RefusedFiles.{read_only, owned, unread_owned}
 use Rattle.replica_machine.proofs.machine.Machine.begin.Given.{Over}
 use Rattle.replica_machine.proofs.machine.Machine.begin.Goals as goal
 
@@ -148,3 +149,12 @@ returns-in-Err-clause-reasons g c = unread_reason c.in-Err.why c.not_loaded.resu
 
 pub returns-clause-reasons : goal.returns-clause-reasons
 returns-clause-reasons g c = own_reasons c.open.result c.open.ensures.own
+
+pub returns-in-Err-clause-unowned_files : goal.returns-in-Err-clause-unowned_files
+returns-in-Err-clause-unowned_files g c tells refused = absurd (unread_owned c.in-Err.why c.not_loaded.result c.not_loaded.ensures.why refused)
+
+pub returns-clause-unowned_files : goal.returns-clause-unowned_files
+returns-clause-unowned_files g c tells refused = absurd (owned c.open.result c.open.ensures.own refused)
+
+pub returns-then-tenure-loaded-clause-unowned_files : goal.returns-then-tenure-loaded-clause-unowned_files
+returns-then-tenure-loaded-clause-unowned_files g c = rw (← c.self.view_is) (λ tells refused. read_only _ _ (c.in-Ok.ensures.any_moment tells) (c.in-Ok.ensures.files tells))

@@ -1,8 +1,9 @@
-use Rattle.std.proofs.Common.{◌≡◌, ◌≢◌, ◌<◌, ◌≤◌, ℕ, ap, ◌∙◌, sym, subst, refl, rules}
+use Rattle.std.proofs.Common.{◌≡◌, ◌≢◌, ◌<◌, ◌≤◌, ⊎_elim, ℕ, ap, ◌∙◌, sym, subst, refl, arith, rules}
 use Rattle.m3_model.specs.declared.replica.Standing.{Standing}
 use Rattle.m3_model.specs.declared.replica.Standing.TheVariants as standing
 use Rattle.replica_machine.proofs.BeginLemmas.{boot_down, boot_unowned, boot_from, boot_again}
 use Rattle.replica_machine.proofs.BootReasons.{own_reasons}
+use Rattle.replica_machine.proofs.RefusedFiles.{untouched, owned}
 use Rattle.replica_machine.proofs.machine.Machine.boot.Goals as goal
 
 -- neither closed nor at Boot
@@ -303,3 +304,25 @@ returns-in_default-standing-clause-step g c =
 
 pub returns-in_default-standing-clause-reasons : goal.returns-in_default-standing-clause-reasons
 returns-in_default-standing-clause-reasons g c = own_reasons c.begin_again.result c.begin_again.ensures.own
+
+pub returns-then-tenure-self-clause-unowned_files : goal.returns-then-tenure-self-clause-unowned_files
+returns-then-tenure-self-clause-unowned_files g c = rw (← c.self.view_is) (λ tells refused. untouched _)
+
+pub returns-in-Boot-clause-unowned_files : goal.returns-in-Boot-clause-unowned_files
+returns-in-Boot-clause-unowned_files g c = c.begin.ensures.unowned_files
+
+pub returns-in_default-standing-clause-unowned_files : goal.returns-in_default-standing-clause-unowned_files
+returns-in_default-standing-clause-unowned_files g c tells refused = absurd (owned c.begin_again.result c.begin_again.ensures.own refused)
+
+pub returns-in-Boot-clause-plain : goal.returns-in-Boot-clause-plain
+returns-in-Boot-clause-plain g c either =
+    let is : c.self.inside.standing ≡ standing.Boot = search rules in
+    let stands : c.args.self.now.standing ≡ standing.Boot = sym (ap (λ m. m.standing) c.self.view_is) ∙ is in
+    let high : c.args.self.now.begun ≤ c.args.tenure = subst (λ (n : ℕ). n ≤ c.args.tenure) (ap (λ m. m.begun) c.self.view_is) c.if-tenure-self.false in
+    absurd (⊎_elim (λ (down : c.args.self.now.standing ≡ standing.Down). let e : standing.Boot ≡ standing.Down = sym stands ∙ down in cc) (λ (low : c.args.tenure < c.args.self.now.begun). omega (arith, high, low)) either)
+
+pub returns-in_default-standing-clause-plain : goal.returns-in_default-standing-clause-plain
+returns-in_default-standing-clause-plain g c either =
+    let not : c.self.inside.standing ≢ standing.Down = search rules in
+    let high : c.args.self.now.begun ≤ c.args.tenure = subst (λ (n : ℕ). n ≤ c.args.tenure) (ap (λ m. m.begun) c.self.view_is) c.if-tenure-self.false in
+    absurd (⊎_elim (λ (down : c.args.self.now.standing ≡ standing.Down). not (ap (λ m. m.standing) c.self.view_is ∙ down)) (λ (low : c.args.tenure < c.args.self.now.begun). omega (arith, high, low)) either)
