@@ -1,6 +1,5 @@
 -- A machine is its replica's by whichever files it was made over: what a step says of disks it says of these.
 use Rattle.std.proofs.Common.{◌≡◌, inl, inr, ⊎_elim, ℕ, max, true, List, [], ◌∷◌, sym, subst, ◌∙◌, arith}
-use Rattle.std.specs.Prelude.{◌⊎◌}
 use Rattle.m3_model.specs.Members.{IsIn}
 use Rattle.m3_model.specs.declared.reason.Reason.TheVariants as reason
 use Rattle.m3_model.proofs.MemberLemmas.{IsIn-append_left}
