@@ -13,3 +13,4 @@ pub mod Theorem
 pub mod ShownLemmas
 pub mod ExtendLemmas
 pub mod OwnLemmas
+pub mod UntoldLemmas

@@ -64,7 +64,7 @@ place_cases was (event.Step n s c a) = inl refl
 step_at : (old new : Placement) (done : List (ℕ × ℕ)) (s : ℕ) (a b : Shard) → IsStep old new done → At old.shards s a → At new.shards s b → IsShardStep (suc old.version) a b (done_at s done)
 step_at old new done s a b step ha hb = subst (λ v. IsShardStep v a b (done_at s done)) step.version (step.each s a b ha hb)
 
-module _ (events : List Event) (legal : Legal true events) (first : Placement) (done0 : List (ℕ × ℕ)) (there0 : At events 0 (event.Place first done0)) where
+module _ {tells : Bool} (events : List Event) (legal : Legal tells events) (first : Placement) (done0 : List (ℕ × ℕ)) (there0 : At events 0 (event.Place first done0)) where
   first_last : last_place (take 1 events) ≡ Some first
   first_last = fold_suc place_after None events 0 (event.Place first done0) there0
 

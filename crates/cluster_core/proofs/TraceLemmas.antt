@@ -41,8 +41,8 @@ step_cases n s r (event.Ack send nodes) = inl refl
 step_cases n s r (event.FetchStart version shard rules pick from to) = inl refl
 step_cases n s r (event.FetchDone start nodes series) = inl refl
 
-module _ (events : List Event) (legal : Legal true events) where
-  pub lawful_step : (i n s : ℕ) (c : StepCall) (a : StepReply) → At events i (event.Step n s c a) → LawfulStep true (take i events) n s (replica n s (take i events)) c a
+module _ {tells : Bool} (events : List Event) (legal : Legal tells events) where
+  pub lawful_step : (i n s : ℕ) (c : StepCall) (a : StepReply) → At events i (event.Step n s c a) → LawfulStep tells (take i events) n s (replica n s (take i events)) c a
   lawful_step zero n s c a h = absurd (legal zero (event.Step n s c a) h)
   lawful_step (suc zero) n s c a h = absurd (legal 1 (event.Step n s c a) h)
   lawful_step (suc (suc i)) n s c a h = (legal (suc (suc i)) (event.Step n s c a) h).1
@@ -84,21 +84,34 @@ module _ (events : List Event) (legal : Legal true events) where
   open_begun n s j high =
       each_step n s (λ r. r.standing ≡ standing.Open → r.begun ≢ []) 0 (λ k c a le there was. after_open (replica n s (take k events)) c a was) (λ e. cc) j (omega arith) high
 
+  pub lawful_fetched : (i start : ℕ) (nodes : List ℕ) (series : List Series) → At events i (event.FetchDone start nodes series) → FetchAt (take i events) start nodes series
+  lawful_fetched zero start nodes series h = absurd (legal zero (event.FetchDone start nodes series) h)
+  lawful_fetched (suc zero) start nodes series h = absurd (legal 1 (event.FetchDone start nodes series) h)
+  lawful_fetched (suc (suc i)) start nodes series h = fetch_at (take (suc (suc i)) events) start nodes series (legal (suc (suc i)) (event.FetchDone start nodes series) h)
+
+  pub lawful_start : (i version s : ℕ) (rules : Rules) (pick : Pick) (from to : ℕ) → At events i (event.FetchStart version s rules pick from to) → HasShard (take i events) version s × HasClock (take i events) rules
+  lawful_start zero version s rules pick from to h = absurd (legal zero (event.FetchStart version s rules pick from to) h)
+  lawful_start (suc zero) version s rules pick from to h = absurd (legal 1 (event.FetchStart version s rules pick from to) h)
+  lawful_start (suc (suc i)) version s rules pick from to h = legal (suc (suc i)) (event.FetchStart version s rules pick from to) h
+
+-- where the disks tell, what fences and ticks keep
+
+module _ (events : List Event) (legal : Legal true events) where
   unbegun : (n s j : ℕ) → j ≤ length events → (replica n s (take j events)).begun ≡ [] → (replica n s (take j events)).fence ≡ 0
   unbegun n s j high =
       along events (λ k. (replica n s (take k events)).begun ≡ [] → (replica n s (take k events)).fence ≡ 0) 0 (λ e. refl)
       (λ k e le there was.
       elim (step_cases n s (replica n s (take k events)) e) as (λ _. (replica n s (take (suc k) events)).begun ≡ [] → (replica n s (take (suc k) events)).fence ≡ 0) [
-        | inl same ↦ subst (λ (r : ReplicaState). r.begun ≡ [] → r.fence ≡ 0) (sym (replica_suc n s k e there ∙ same)) was
-        | inr own ↦ subst (λ (r : ReplicaState). r.begun ≡ [] → r.fence ≡ 0) (sym (replica_suc n s k e there ∙ own.3))
-            (after_unbegun (take k events) n s (replica n s (take k events)) own.0 own.1 (lawful_step k n s own.0 own.1 (there ∙ ap Some own.2)) (open_begun n s k (omega (arith, at_within events k e there))) was)
+        | inl same ↦ subst (λ (r : ReplicaState). r.begun ≡ [] → r.fence ≡ 0) (sym (replica_suc events legal n s k e there ∙ same)) was
+        | inr own ↦ subst (λ (r : ReplicaState). r.begun ≡ [] → r.fence ≡ 0) (sym (replica_suc events legal n s k e there ∙ own.3))
+            (after_unbegun (take k events) n s (replica n s (take k events)) own.0 own.1 (lawful_step events legal k n s own.0 own.1 (there ∙ ap Some own.2)) (open_begun events legal n s k (omega (arith, at_within events k e there))) was)
       ])
       j (omega arith) high
 
   pub fence_grows : (n s i j f : ℕ) → i ≤ j → j ≤ length events → f ≤ (replica n s (take i events)).fence → f ≤ (replica n s (take j events)).fence
   fence_grows n s i j f low high h =
-      each_step n s (λ r. f ≤ r.fence) i
-      (λ k c a le there was. omega (arith, was, after_fence (take k events) n s (replica n s (take k events)) c a (unbegun n s k (omega (arith, at_within events k (event.Step n s c a) there))) (lawful_step k n s c a there)))
+      each_step events legal n s (λ r. f ≤ r.fence) i
+      (λ k c a le there was. omega (arith, was, after_fence (take k events) n s (replica n s (take k events)) c a (unbegun n s k (omega (arith, at_within events k (event.Step n s c a) there))) (lawful_step events legal k n s c a there)))
       h j low high
 
   pub ticks_from : (n s j : ℕ) (x : Rules) → j ≤ length events → IsIn (replica n s (take j events)).ticks x → (k : ℕ) × (k < j) × At events k (event.Clock x)
@@ -106,8 +119,8 @@ module _ (events : List Event) (legal : Legal true events) where
       along events (λ k. IsIn (replica n s (take k events)).ticks x → (m : ℕ) × (m < k) × At events m (event.Clock x)) 0 (λ h. absurd h)
       (λ k e le there was h.
       elim (step_cases n s (replica n s (take k events)) e) as (λ _. (m : ℕ) × (m < suc k) × At events m (event.Clock x)) [
-        | inl same ↦ let w = was (subst (λ r. IsIn r.ticks x) (replica_suc n s k e there ∙ same) h) in (w.0, omega (arith, w.1), w.2)
-        | inr own ↦ elim (after_ticks (take k events) n s (replica n s (take k events)) own.0 own.1 x (lawful_step k n s own.0 own.1 (there ∙ ap Some own.2)) (subst (λ r. IsIn r.ticks x) (replica_suc n s k e there ∙ own.3) h)) as (λ _. (m : ℕ) × (m < suc k) × At events m (event.Clock x)) [
+        | inl same ↦ let w = was (subst (λ r. IsIn r.ticks x) (replica_suc events legal n s k e there ∙ same) h) in (w.0, omega (arith, w.1), w.2)
+        | inr own ↦ elim (after_ticks (take k events) n s (replica n s (take k events)) own.0 own.1 x (lawful_step events legal k n s own.0 own.1 (there ∙ ap Some own.2)) (subst (λ r. IsIn r.ticks x) (replica_suc events legal n s k e there ∙ own.3) h)) as (λ _. (m : ℕ) × (m < suc k) × At events m (event.Clock x)) [
           | inl m ↦ let w = was m in (w.0, omega (arith, w.1), w.2)
           | inr clock ↦ let f = clock_at (take k events) x clock in let w = at_take events f.0 k (event.Clock x) f.1 in (f.0, omega (arith, w.1), w.0)
         ]
@@ -120,13 +133,3 @@ module _ (events : List Event) (legal : Legal true events) where
       let tick = any_at (λ rules. HasExpired rules p) (replica n s (take j events)).ticks gone in
       let t = ticks_from n s j tick.1 high (at_in (replica n s (take j events)).ticks tick.0 tick.1 tick.2) in
       live t.0 tick.1 (omega (arith, t.1)) t.2 tick.3
-
-  pub lawful_fetched : (i start : ℕ) (nodes : List ℕ) (series : List Series) → At events i (event.FetchDone start nodes series) → FetchAt (take i events) start nodes series
-  lawful_fetched zero start nodes series h = absurd (legal zero (event.FetchDone start nodes series) h)
-  lawful_fetched (suc zero) start nodes series h = absurd (legal 1 (event.FetchDone start nodes series) h)
-  lawful_fetched (suc (suc i)) start nodes series h = fetch_at (take (suc (suc i)) events) start nodes series (legal (suc (suc i)) (event.FetchDone start nodes series) h)
-
-  pub lawful_start : (i version s : ℕ) (rules : Rules) (pick : Pick) (from to : ℕ) → At events i (event.FetchStart version s rules pick from to) → HasShard (take i events) version s × HasClock (take i events) rules
-  lawful_start zero version s rules pick from to h = absurd (legal zero (event.FetchStart version s rules pick from to) h)
-  lawful_start (suc zero) version s rules pick from to h = absurd (legal 1 (event.FetchStart version s rules pick from to) h)
-  lawful_start (suc (suc i)) version s rules pick from to h = legal (suc (suc i)) (event.FetchStart version s rules pick from to) h

@@ -1,5 +1,5 @@
 -- Which lists of events are legal: each event is lawful after those before it.
-use Rattle.std.specs.Prelude.{◌≡◌, ◌≤◌, ℕ, zero, suc, ⊤, List, [], ◌∷◌, take, drop, Some, Bool}
+use Rattle.std.specs.Prelude.{◌≡◌, ◌≤◌, ℕ, zero, suc, ⊤, List, [], ◌∷◌, take, drop, Some, Bool, true}
 use Rattle.std.specs.List.{All, Any}
 use Rattle.m3_model.specs.Reads.{space_picked}
 use Rattle.m3_model.specs.declared.placement.Assignment.{Assignment}
@@ -104,3 +104,7 @@ LawfulAt tells (suc (suc i)) past e = Lawful tells past e
 -- each event is lawful after those before it; where disks don't tell, but for what rests on their contents
 abbrev pub Legal : Bool → List Event → Type 0
 Legal tells events = (i : ℕ) (e : Event) → At events i e → LawfulAt tells i (take i events) e
+
+-- A list that is legal where the disks tell is legal over any disks.
+abbrev pub LegalOverAny : Type 0
+LegalOverAny = (tells : Bool) (events : List Event) → Legal true events → Legal tells events

@@ -1,7 +1,7 @@
 //! What is so of each legal list.
 ghost use Rattle.std.specs.Prelude.{true};
 ghost use Rattle.cluster_core.specs.Core.{KeepsPoints};
-ghost use Rattle.cluster_core.specs.Legal.{Legal};
+ghost use Rattle.cluster_core.specs.Legal.{Legal, LegalOverAny};
 ghost use Rattle.cluster_core.specs.Makers.{StaysLawful, FollowsFromItsSeat, AddsWhatIsLawful};
 ghost use Rattle.cluster_core.specs.Shown.{FoundShows, PageShows};
 
@@ -27,4 +27,9 @@ pub fn others_leave_lawful()
 pub fn contents_show()
     ensures found { FoundShows }
     ensures page { PageShows }
+{}
+
+/// A list that is legal over disks that tell what they hold is legal over any.
+pub fn legal_over_any()
+    ensures { LegalOverAny }
 {}

@@ -1,5 +1,5 @@
 -- Who is named by an acknowledgement counts.
-use Rattle.std.proofs.Common.{◌≡◌, ℕ, suc, ◌<◌, List, [], take, length, sym, ◌∙◌, subst, inl, inr, arith, true}
+use Rattle.std.proofs.Common.{◌≡◌, ℕ, suc, ◌<◌, List, [], take, length, sym, ◌∙◌, subst, inl, inr, arith, true, Bool}
 use Rattle.std.specs.Prelude.{Option}
 use Rattle.std.proofs.lemmas.Bool.{cases_lt}
 use Rattle.m3_model.specs.Members.{IsIn}
@@ -28,7 +28,7 @@ use Rattle.told_by.proofs.OpeningLemmas.{first_event, place_fine}
 same_send : (v s w t : ℕ) (p q : Point) → event.Send v s p ≡ event.Send w t q → (v ≡ w) × (s ≡ t)
 same_send v s w t p q e = let a : v ≡ w = cc in let b : s ≡ t = cc in (a, b)
 
-same_shard : (events : List Event) (legal : Legal true events) (first : Placement) (there : At events 0 (event.Place first [])) (s i j : ℕ) (p q : Placement) (ds es : List (ℕ × ℕ)) (x y : Shard)
+same_shard : {tells : Bool} → (events : List Event) (legal : Legal tells events) (first : Placement) (there : At events 0 (event.Place first [])) (s i j : ℕ) (p q : Placement) (ds es : List (ℕ × ℕ)) (x y : Shard)
     → At events i (event.Place p ds) → At events j (event.Place q es) → p.version ≡ q.version → At p.shards s x → At q.shards s y → x ≡ y
 same_shard events legal first there s i j p q ds es x y hp hq version hx hy =
     let bi = at_within events i (event.Place p ds) hp in
@@ -41,7 +41,7 @@ same_shard events legal first there s i j p q ds es x y hp hq version hx hy =
     ]
 
 -- the counted nodes of a Place of the version are those of the placement that the write used
-counted_in : (events : List Event) (legal : Legal true events) (place : Placement) (at : ℕ) (done : List (ℕ × ℕ)) → At events at (event.Place place done) → (s version : ℕ) → version ≡ place.version → (before : ℕ) (nodes : List ℕ)
+counted_in : {tells : Bool} → (events : List Event) (legal : Legal tells events) (place : Placement) (at : ℕ) (done : List (ℕ × ℕ)) → At events at (event.Place place done) → (s version : ℕ) → version ≡ place.version → (before : ℕ) (nodes : List ℕ)
     → CountedAt (take before events) version s nodes → (node : ℕ) → IsIn nodes node → IsCounted place s node
 counted_in events legal place at done there s version is before nodes c node m =
     let other = at_take events c.place before (event.Place c.placement c.done) c.there in
@@ -57,7 +57,7 @@ record AckedAs (place : Placement) (s : ℕ) (nodes : List ℕ) : Type 0 where
   distinct : IsDistinct nodes
   counted : (node : ℕ) → IsIn nodes node → IsCounted place s node
 
-acked_as : (start : Option MetaState) (events : List Event) → Legal true events → (p : TurnPlace) (ack send version s : ℕ) (point : Point) (nodes : List ℕ) → At events ack (event.Ack send nodes) → At events send (event.Send version s point)
+acked_as : {tells : Bool} → (start : Option MetaState) (events : List Event) → Legal tells events → (p : TurnPlace) (ack send version s : ℕ) (point : Point) (nodes : List ℕ) → At events ack (event.Ack send nodes) → At events send (event.Send version s point)
     → (own : IsSendOf start events p version s point) → AckedAs own.place s nodes
 acked_as start events legal p ack send version s point nodes acked there own =
     let law = lawful_ack events legal ack send nodes acked in
@@ -69,7 +69,7 @@ acked_as start events legal p ack send version s point nodes acked there own =
           (counted_in events legal own.place (own.uses).place_at (own.uses).done (own.uses).there law.s law.version (same.0 ∙ own.version_is) ack nodes (counted_at (take ack events) law.version law.s nodes law.counted) node m);
     }
 
-pub acks_counted : (start : Option MetaState) (turns : List Turn) (events : List Event) → Legal true events → ToldBy start turns events → (p : TurnPlace) → IsTurnPlace turns p → (nodes : List ℕ) → p.turn.answer ≡ answer.Acks nodes → AreCounted start p nodes
+pub acks_counted : {tells : Bool} → (start : Option MetaState) (turns : List Turn) (events : List Event) → Legal tells events → ToldBy start turns events → (p : TurnPlace) → IsTurnPlace turns p → (nodes : List ℕ) → p.turn.answer ≡ answer.Acks nodes → AreCounted start p nodes
 acks_counted start turns events legal told p in_run nodes answered =
     let ack = (told.tells).writes.acked p in_run nodes answered in
     let send = ack.sent in

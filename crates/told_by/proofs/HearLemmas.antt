@@ -108,7 +108,7 @@ module _ (start : Option MetaState) (past : List Event) (Old New : ℕ → Event
   late_on m s (Some (reason.Corrupt damage)) h = (h.0, step_on (IsLatePut start p m) m.node s (reply.Refused (reason.Corrupt damage)) h.1)
   late_on m s (Some why) h = (h.0, h.1, happens_on (event.Step m.node s h.0 (reply.Refused why)) h.2)
 
-  outcomes_on : (messages : List LateMessage) (outcomes : List (ℕ × ℕ × Option Reason)) → HearsOutcomes start Old p messages outcomes → HearsOutcomes start New p messages outcomes
+  pub outcomes_on : (messages : List LateMessage) (outcomes : List (ℕ × ℕ × Option Reason)) → HearsOutcomes start Old p messages outcomes → HearsOutcomes start New p messages outcomes
   outcomes_on [] [] h = h
   outcomes_on (m ∷ messages) (x ∷ outcomes) h =
       let one = h.0 in

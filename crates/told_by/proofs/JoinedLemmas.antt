@@ -60,12 +60,12 @@ no_turn rf version old next x z sound step hx joins hz node available =
     cc
 
 -- the Place of a version that isn't the opening's comes past the opening
-past_opening : (events : List Event) → Legal true events → (i : ℕ) (p : Placement) (done : List (ℕ × ℕ)) → At events i (event.Place p done) → 1 ≤ i → 2 ≤ i
+past_opening : {tells : Bool} → (events : List Event) → Legal tells events → (i : ℕ) (p : Placement) (done : List (ℕ × ℕ)) → At events i (event.Place p done) → 1 ≤ i → 2 ≤ i
 past_opening events legal zero p done h le = absurd (omega arith)
 past_opening events legal (suc zero) p done h le = absurd (legal 1 (event.Place p done) h)
 past_opening events legal (suc (suc i)) p done h le = omega arith
 
-next_place : (events : List Event) (legal : Legal true events) (i : ℕ) (p : Placement) (done : List (ℕ × ℕ)) → At events i (event.Place p done) → 1 ≤ i → IsNextPlace (take i events) p done
+next_place : {tells : Bool} → (events : List Event) (legal : Legal tells events) (i : ℕ) (p : Placement) (done : List (ℕ × ℕ)) → At events i (event.Place p done) → 1 ≤ i → IsNextPlace (take i events) p done
 next_place events legal zero p done h le = absurd (omega arith)
 next_place events legal (suc i) p done h le = lawful_place events legal i p done h
 
@@ -81,7 +81,7 @@ record StepFound (events : List Event) (first was : Placement) (s : ℕ) (shard 
   sound : IsShard first.rf was.version old
   step : IsShardStep (suc was.version) old after (done_at s done)
 
-step_found : (events : List Event) (legal : Legal true events) (first : Placement) (there : At events 0 (event.Place first [])) (was next : Placement) (k i : ℕ) (done_was done : List (ℕ × ℕ))
+step_found : {tells : Bool} → (events : List Event) (legal : Legal tells events) (first : Placement) (there : At events 0 (event.Place first [])) (was next : Placement) (k i : ℕ) (done_was done : List (ℕ × ℕ))
     → At events k (event.Place was done_was) → At events i (event.Place next done) → next.version ≡ suc was.version → (s : ℕ) (shard after : Shard) → At was.shards s shard → At next.shards s after → StepFound events first was s shard after i done
 step_found events legal first there was next k i done_was done hk hi follows s shard after shard_is after_is =
     let bound_was = at_within events k (event.Place was done_was) hk in
@@ -171,7 +171,7 @@ module _ (start : Option MetaState) (turns : List Turn) (events : List Event) (t
       by_done None e =
           absurd (no_turn first.rf was.version f.old t.after t.joining t.joined f.sound (subst (IsShardStep (suc was.version) f.old t.after) e f.step) (subst (λ (x : Shard). IsIn x t.joining) (sym f.same) t.joins) t.is_joining t.stands (t.to_node ∙ sym t.of_node) t.is_available)
 
-  pub turned : Legal true events → (was next : Placement) → IsIn (placements start (inner_turns turns)) was → IsIn (placements start (inner_turns turns)) next → (s y : ℕ) → (t : TurnsAvailable was next s y) → (p : TurnPlace) × IsTurnPlace turns p × PrintsMajority p was.rf s t.shard
+  pub turned : {tells : Bool} → Legal tells events → (was next : Placement) → IsIn (placements start (inner_turns turns)) was → IsIn (placements start (inner_turns turns)) next → (s y : ℕ) → (t : TurnsAvailable was next s y) → (p : TurnPlace) × IsTurnPlace turns p × PrintsMajority p was.rf s t.shard
   turned legal was next among_was among_next s y t =
       let k = placed was among_was in
       let i = placed next among_next in
@@ -179,5 +179,5 @@ module _ (start : Option MetaState) (turns : List Turn) (events : List Event) (t
       by_step was next s y t i.0 i.1 i.2 first.place (step_found events legal first.place first.there was next k.0 i.0 k.1 i.1 k.2 i.2 t.follows s t.shard t.after t.shard_is t.after_is)
 
 -- where a legal list tells of a run its life is joined
-pub told_joined : (life : Life) (events : List Event) → Legal true events → ToldBy life.present.start life.present.turns events → Joined life
+pub told_joined : {tells : Bool} → (life : Life) (events : List Event) → Legal tells events → ToldBy life.present.start life.present.turns events → Joined life
 told_joined life events legal told was next among_was among_next s y t = turned (life.present).start (life.present).turns events told legal was next among_was among_next s y t

@@ -188,7 +188,7 @@ place_last turns line p h = record { after = []; in_run = λ i. sym h.lines_are 
 pub line_below : (turns : List Turn) (p : TurnPlace) → IsTurnPlace turns p → length p.lines < length turns
 line_below turns p h = omega (arith, ap length h.in_run, length-append p.lines (p.line ∷ h.after))
 
-alone_stays : (turns : List Turn) (line : Turn) (p : TurnPlace) → IsAlone turns p → IsAlone (turns ++ line ∷ []) p
+pub alone_stays : (turns : List Turn) (line : Turn) (p : TurnPlace) → IsAlone turns p → IsAlone (turns ++ line ∷ []) p
 alone_stays turns line p h = (h.0, at_append turns (line ∷ []) (length p.lines) h.0 h.1, h.2)
 
 -- the `init` of a list is that of a longer one, in which its line and its stretch are the same
@@ -502,12 +502,28 @@ module _ (start : Option MetaState) (turns : List Turn) (events : List Event) (l
   unfolding line_told
   line_told_to p h = new_to p h
 
+  pub line_told_was_from : (p : TurnPlace) → IsTurnPlace turns p → (line_told.spans).from p ≡ (told.spans).from p
+  unfolding line_told
+  line_told_was_from p h = old_from p h
+
+  pub line_told_was_to : (p : TurnPlace) → IsTurnPlace turns p → (line_told.spans).to p ≡ (told.spans).to p
+  unfolding line_told
+  line_told_was_to p h = old_to p h
+
+  pub line_told_ends : (k : ℕ) → k ≤ length turns → line_told.ends k ≡ told.ends k
+  unfolding line_told
+  line_told_ends k le = old_ends k le
+
+  pub line_told_last : line_told.ends (suc (length turns)) ≡ length (events ++ more)
+  unfolding line_told
+  line_told_last = new_ends (suc (length turns)) (omega arith)
+
 -- ---- before the first line
 
 pub no_place : (p : TurnPlace) → IsTurnPlace [] p → ⊥
 no_place p h = not_empty p.lines p.line h.after h.in_run
 
-nothing_at : {X : Type 0} (i : ℕ) (x : X) → At [] i x → ⊥
+pub nothing_at : {X : Type 0} (i : ℕ) (x : X) → At [] i x → ⊥
 nothing_at i x h = cc
 
 nobody : TurnPlace

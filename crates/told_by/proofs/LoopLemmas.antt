@@ -1,7 +1,7 @@
 -- Fetches one after the other, and placements that are printed.
 use Rattle.told_by.proofs.LineLemmas.{take_all}
 use Rattle.told_by.proofs.PrintedLemmas.{greatest_so_far}
-use Rattle.std.proofs.Common.{◌≡◌, ℕ, suc, ◌≤◌, ◌+◌, List, [], ◌∷◌, ◌++◌, length, refl, sym, ap, ◌∙◌, subst, inl, inr, arith, append_assoc, length-append, true}
+use Rattle.std.proofs.Common.{◌≡◌, ℕ, suc, ◌≤◌, ◌+◌, List, [], ◌∷◌, ◌++◌, length, refl, sym, ap, ◌∙◌, subst, inl, inr, arith, append_assoc, length-append, true, Bool}
 use Rattle.std.specs.Prelude.{◌⊎◌, Option, Some}
 use Rattle.m3_model.specs.Members.{IsIn}
 use Rattle.transcripts.specs.Placements.{printed}
@@ -64,10 +64,10 @@ module _ (start : Option MetaState) (p : TurnPlace) (a : Asking) where
   )
 
 -- the last Place has the greatest version
-last_greatest : (events : List Event) → Legal true events → (i : ℕ) (p last : Placement) (done : List (ℕ × ℕ)) → At events i (event.Place p done) → last_place events ≡ Some last → p.version ≤ last.version
+last_greatest : {tells : Bool} → (events : List Event) → Legal tells events → (i : ℕ) (p last : Placement) (done : List (ℕ × ℕ)) → At events i (event.Place p done) → last_place events ≡ Some last → p.version ≤ last.version
 last_greatest events legal i p last done there is = greatest_so_far events legal i (length events) p last done there (at_within events i (event.Place p done) there) (omega arith) (ap last_place (take_all events) ∙ is)
 
-pub last_prints : (start : Option MetaState) (turns : List Turn) (events : List Event) (b : Answer) (more : List Event) → Legal true (events ++ more) → ToldBy start turns events
+pub last_prints : {tells : Bool} → (start : Option MetaState) (turns : List Turn) (events : List Event) (b : Answer) (more : List Event) → Legal tells (events ++ more) → ToldBy start turns events
     → ((place : Placement) → printed b ≡ Some place → last_place (events ++ more) ≡ Some place) → PrintsPlace turns (events ++ more) b
 last_prints start turns events b more legal told is_last = record {
   is_place = λ place is. let l = place_there (events ++ more) place (is_last place is) in record { place_at = l.0; done = l.1; there = l.2; in_time = at_within (events ++ more) l.0 (event.Place place l.1) l.2 };

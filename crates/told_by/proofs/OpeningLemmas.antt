@@ -38,11 +38,11 @@ first_by : (events : List Event) (e : Event) → At events 0 e → IsFirst e →
 first_by events (event.Place place done) there h = record { place = place; lawful = h.0; there = there ∙ ap (λ ds. Some (event.Place place ds)) h.1 }
 first_by events _ there h = absurd h
 
-pub first_event : (events : List Event) → Legal true events → (i : ℕ) (e : Event) → At events i e → FirstEvent events
+pub first_event : {tells : Bool} → (events : List Event) → Legal tells events → (i : ℕ) (e : Event) → At events i e → FirstEvent events
 first_event events legal i e h = let z = at_some events 0 (omega (arith, at_within events i e h)) in first_by events z.0 z.1 (legal 0 z.0 z.1)
 
 -- each Place has as many replicas and shards as the first
-pub place_fine : (events : List Event) → Legal true events → (first : Placement) → At events 0 (event.Place first []) → (i : ℕ) (p : Placement) (done : List (ℕ × ℕ)) → At events i (event.Place p done) → Fine first p
+pub place_fine : {tells : Bool} → (events : List Event) → Legal tells events → (first : Placement) → At events 0 (event.Place first []) → (i : ℕ) (p : Placement) (done : List (ℕ × ℕ)) → At events i (event.Place p done) → Fine first p
 place_fine events legal first there i p done h =
     let f = placed_at events legal first [] there (suc i) (omega arith) (omega (arith, at_within events i (event.Place p done) h)) in
     let last = fold_suc place_after None events i (event.Place p done) h in
@@ -117,7 +117,7 @@ prints_has rf (u ∷ ts) o t place may each m is =
       | inr r ↦ prints_has rf ts (later_placement (printed u.answer) o) t place (later_may rf (printed u.answer) o (each u (inl refl)) may) (λ v k. each v (inr k)) r is
     ]
 
-module _ (start : Option MetaState) (turns : List Turn) (events : List Event) (legal : Legal true events) (told : ToldBy start turns events) where
+module _ {tells : Bool} (start : Option MetaState) (turns : List Turn) (events : List Event) (legal : Legal tells events) (told : ToldBy start turns events) where
   -- no turn past the `init` that begins the list is one
   none_before : ((p : TurnPlace) → IsTurnPlace turns p → sets_seed p.turn.act p.turn.answer ≡ true → ⊥) → (p : TurnPlace) → IsTurnPlace turns p → (t : InnerTurn) → IsIn (inner_turns p.lines) t → sets_seed t.act t.answer ≡ false
   none_before none p at t h =

@@ -1,5 +1,5 @@
 -- The last Place before a line is the placement that stands there by what was printed.
-use Rattle.std.proofs.Common.{◌≡◌, ℕ, zero, suc, ◌<◌, ◌≤◌, ◌+◌, ◌-◌, List, [], ◌∷◌, take, length, refl, sym, ap, ◌∙◌, subst, inl, inr, arith, length-append, if◌then◌else◌, true}
+use Rattle.std.proofs.Common.{◌≡◌, ℕ, zero, suc, ◌<◌, ◌≤◌, ◌+◌, ◌-◌, List, [], ◌∷◌, take, length, refl, sym, ap, ◌∙◌, subst, inl, inr, arith, length-append, if◌then◌else◌, true, Bool}
 use Rattle.std.specs.Prelude.{◌⊎◌, Option, Some, None}
 use Rattle.std.proofs.lemmas.Bool.{cases_lt, le-ltb, lt-ltb}
 use Rattle.m3_model.specs.Members.{IsIn}
@@ -28,7 +28,7 @@ use Rattle.told_by.proofs.TurnLemmas.{IsIn-flat_map, at_cut, cut_at, flat_map-Is
 -- ---- versions of Places
 
 -- the last Place so far has the greatest version
-pub greatest_so_far : (events : List Event) → Legal true events → (i j : ℕ) (p last : Placement) (done : List (ℕ × ℕ)) → At events i (event.Place p done) → i < j → j ≤ length events → last_place (take j events) ≡ Some last → p.version ≤ last.version
+pub greatest_so_far : {tells : Bool} → (events : List Event) → Legal tells events → (i j : ℕ) (p last : Placement) (done : List (ℕ × ℕ)) → At events i (event.Place p done) → i < j → j ≤ length events → last_place (take j events) ≡ Some last → p.version ≤ last.version
 greatest_so_far events legal i j p last done there before high is =
     let first = first_event events legal i (event.Place p done) there in
     let limits = (first.lawful).limits in
@@ -40,7 +40,7 @@ greatest_so_far events legal i j p last done there before high is =
     at_grows events legal first.place [] first.there 0 (suc i) j p.version last.version shard.0 last_shard.0 (omega arith) (at_place events legal first.place [] first.there i 0 p done shard.0 there shard.1) (omega (arith, before)) high
     (record { place = last; last = is; version_is = refl; shard_is = last_shard.1 })
 
-places_ascend : (events : List Event) → Legal true events → (i j : ℕ) (p q : Placement) (dp dq : List (ℕ × ℕ)) → At events i (event.Place p dp) → At events j (event.Place q dq) → i < j → p.version < q.version
+places_ascend : {tells : Bool} → (events : List Event) → Legal tells events → (i j : ℕ) (p q : Placement) (dp dq : List (ℕ × ℕ)) → At events i (event.Place p dp) → At events j (event.Place q dq) → i < j → p.version < q.version
 places_ascend events legal i zero p q dp dq hp hq lt = absurd (omega (arith, lt))
 places_ascend events legal i (suc j) p q dp dq hp hq lt =
     let law = lawful_place events legal j q dq hq in
@@ -52,7 +52,7 @@ place_of : (p q : Placement) (ds es : List (ℕ × ℕ)) → event.Place p ds �
 place_of p q ds es e = cc
 
 -- of one version there is one Place
-pub one_place : (events : List Event) → Legal true events → (i j : ℕ) (p q : Placement) (dp dq : List (ℕ × ℕ)) → At events i (event.Place p dp) → At events j (event.Place q dq) → p.version ≡ q.version → p ≡ q
+pub one_place : {tells : Bool} → (events : List Event) → Legal tells events → (i j : ℕ) (p q : Placement) (dp dq : List (ℕ × ℕ)) → At events i (event.Place p dp) → At events j (event.Place q dq) → p.version ≡ q.version → p ≡ q
 one_place events legal i j p q dp dq hp hq same =
     elim (cases_lt i j) as (λ _. p ≡ q) [
       | inl lt ↦ absurd (omega (arith, places_ascend events legal i j p q dp dq hp hq lt, same))
@@ -107,7 +107,7 @@ after_new (u ∷ ts) base t q (inr m) is = after_new ts (later_placement (printe
 
 -- ---- lines
 
-module _ (start : Option MetaState) (turns : List Turn) (events : List Event) (legal : Legal true events) (told : ToldBy start turns events) where
+module _ (start : Option MetaState) (turns : List Turn) (events : List Event) (told : ToldBy start turns events) where
   -- later lines end later
   pub ends_up : (j d : ℕ) → j + d ≤ length turns → told.ends j ≤ told.ends (j + d)
   ends_up j zero high = let same : j + 0 ≡ j = omega arith in omega (arith, ap told.ends same)
@@ -121,6 +121,7 @@ module _ (start : Option MetaState) (turns : List Turn) (events : List Event) (l
   pub ends_within : (k : ℕ) → k ≤ length turns → told.ends k ≤ length events
   ends_within k high = omega (arith, ends_grow k (length turns) high (omega arith), (told.lines).last)
 
+module _ {tells : Bool} (start : Option MetaState) (turns : List Turn) (events : List Event) (legal : Legal tells events) (told : ToldBy start turns events) where
   -- a turn of the first lines, at its place
   record InFront (k : ℕ) (t : InnerTurn) : Type 0 where
     place : TurnPlace
@@ -149,7 +150,7 @@ module _ (start : Option MetaState) (turns : List Turn) (events : List Event) (l
         | inl lt ↦ lt
         | inr ge ↦
             let less : length q.lines < length turns = omega (arith, ap length at.in_run, length-append q.lines (q.line ∷ at.after)) in
-            absurd (omega (arith, ends_grow k (length q.lines) ge (omega (arith, less)), (told.lines).low q at, from, before))
+            absurd (omega (arith, ends_grow start turns events told k (length q.lines) ge (omega (arith, less)), (told.lines).low q at, from, before))
       ]
 
   abbrev after_lines : ℕ → Option Placement
@@ -165,7 +166,7 @@ module _ (start : Option MetaState) (turns : List Turn) (events : List Event) (l
             let h = (told.tells).placements.is_place q.place q.in_run p (ap (λ (u : InnerTurn). printed u.answer) q.turn_is ∙ t.2) in
             let early = q.early in
             let less : length (q.place).lines < length turns = omega (arith, early, high) in
-            (h.place_at, h.done, h.there, omega (arith, h.in_time, (told.lines).high q.place q.in_run, ends_grow (suc (length (q.place).lines)) k early high))
+            (h.place_at, h.done, h.there, omega (arith, h.in_time, (told.lines).high q.place q.in_run, ends_grow start turns events told (suc (length (q.place).lines)) k early high))
       ]
     where
       by_start : (o : Option MetaState) → start ≡ o → start_placement o ≡ Some p → (i : ℕ) × (done : List (ℕ × ℕ)) × At events i (event.Place p done) × (i < told.ends k)
@@ -173,7 +174,7 @@ module _ (start : Option MetaState) (turns : List Turn) (events : List Event) (l
       by_start (Some state) is base =
           let same : state.place ≡ p = some_same state.place p base in
           let two : opening_length start ≡ 2 = ap opening_length is in
-          (0, [], subst (λ x. At events 0 (event.Place x [])) same (told.opened state is).placed, omega (arith, (told.lines).first, two, ends_grow 0 k (omega arith) high))
+          (0, [], subst (λ x. At events 0 (event.Place x [])) same (told.opened state is).placed, omega (arith, (told.lines).first, two, ends_grow start turns events told 0 k (omega arith) high))
 
   -- a Place before a line was printed before it, or a later one was
   printed_before : (k : ℕ) → k ≤ length turns → (i : ℕ) (p : Placement) (done : List (ℕ × ℕ)) → At events i (event.Place p done) → i < told.ends k → StandsFrom p.version (after_lines k)
@@ -204,7 +205,7 @@ module _ (start : Option MetaState) (turns : List Turn) (events : List Event) (l
   stand_alike k high None (Some p) el eo =
       let i = placed_before k high p eo in
       let first = first_event events legal i.0 (event.Place p i.1) i.2 in
-      let h = placed_at events legal first.place [] first.there (told.ends k) (omega (arith, i.3)) (ends_within k high) in
+      let h = placed_at events legal first.place [] first.there (told.ends k) (omega (arith, i.3)) (ends_within start turns events told k high) in
       absurd (let bad : None ≡ Some h.0 = sym el ∙ h.1 in cc)
   stand_alike k high (Some q) None el eo =
       let l = place_there (take (told.ends k) events) q el in
@@ -217,9 +218,9 @@ module _ (start : Option MetaState) (turns : List Turn) (events : List Event) (l
       let at = at_take events l.0 (told.ends k) (event.Place q l.1) l.2 in
       let r = printed_before k high l.0 q l.1 at.0 at.1 in
       let same : r.0 ≡ p = some_same r.0 p (sym r.1 ∙ eo) in
-      let up = greatest_so_far events legal i.0 (told.ends k) p q i.1 i.2 i.3 (ends_within k high) el in
+      let up = greatest_so_far events legal i.0 (told.ends k) p q i.1 i.2 i.3 (ends_within start turns events told k high) el in
       let version : q.version ≡ p.version = omega (arith, up, r.2, ap (λ (x : Placement). x.version) same) in
       ap Some (one_place events legal l.0 i.0 q p l.1 i.1 at.0 i.2 version)
 
-pub placements_stand : PlacementsStand
+pub placements_stand : {tells : Bool} → PlacementsStand tells
 placements_stand start turns events legal told k high = stand_alike start turns events legal told k high (last_place (take (told.ends k) events)) (after_lines start turns events legal told k) refl refl

@@ -1,6 +1,6 @@
 -- What is so of all that is told.
 use Rattle.transcripts.specs.Record.{line_of}
-use Rattle.std.specs.Prelude.{List, [], ◌∷◌, ◌++◌, ◌≡◌, ◌⊎◌, ◌≤◌, ◌+◌, length, take, ℕ, Option, Some, None, true}
+use Rattle.std.specs.Prelude.{List, [], ◌∷◌, ◌++◌, ◌≡◌, ◌⊎◌, ◌≤◌, ◌+◌, length, take, ℕ, Option, Some, None, true, Bool}
 use Rattle.m3_model.specs.Members.{IsIn}
 use Rattle.transcripts.specs.Kept.{Kept}
 use Rattle.transcripts.specs.Placements.{placement_after, printed, start_placement}
@@ -55,19 +55,19 @@ abbrev pub LinesTell : (Option MetaState → List Turn → List Event → Act �
 LinesTell Kind = (start : Option MetaState) (turns : List Turn) (events : List Event) (a : Act) (b : Answer) (more : List Event) → Kind start turns events a b more → TellsLine start turns events (line_of a b) more
 
 -- Where a legal list tells of the present run's turns, the life is joined.
-abbrev pub IsJoinedWhereTold : Type 0
-IsJoinedWhereTold = (life : Life) (events : List Event) → Legal true events → ToldBy life.present.start life.present.turns events → Joined life
+abbrev pub IsJoinedWhereTold : Bool → Type 0
+IsJoinedWhereTold tells = (life : Life) (events : List Event) → Legal tells events → ToldBy life.present.start life.present.turns events → Joined life
 
 -- And each acknowledgement names nodes that count.
-abbrev pub AcksCountWhereTold : Type 0
-AcksCountWhereTold =
-    (start : Option MetaState) (turns : List Turn) (events : List Event) → Legal true events → ToldBy start turns events
+abbrev pub AcksCountWhereTold : Bool → Type 0
+AcksCountWhereTold tells =
+    (start : Option MetaState) (turns : List Turn) (events : List Event) → Legal tells events → ToldBy start turns events
     → (p : TurnPlace) → IsTurnPlace turns p → (nodes : List ℕ) → p.turn.answer ≡ answer.Acks nodes → AreCounted start p nodes
 
 -- In such a run the last Place before a line is the placement that stands there by what was printed.
-abbrev pub PlacementsStand : Type 0
-PlacementsStand =
-    (start : Option MetaState) (turns : List Turn) (events : List Event) → Legal true events → (told : ToldBy start turns events) → (k : ℕ) → k ≤ length turns
+abbrev pub PlacementsStand : Bool → Type 0
+PlacementsStand tells =
+    (start : Option MetaState) (turns : List Turn) (events : List Event) → Legal tells events → (told : ToldBy start turns events) → (k : ℕ) → k ≤ length turns
     → last_place (take (told.ends k) events) ≡ placement_after (start_placement start) (inner_turns (take k turns))
 
 -- A run that is told leaves what the next one is to find, also where its last request was taken and got no answer.
@@ -102,9 +102,9 @@ FetchesStay =
     → ((s : ℕ) → IsIn shards s → fetches s ≡ others s) → AreWhole start p a fetches place shards so_far → AreWhole start p a others place shards so_far
 
 -- A line that prints the last Place of a legal list prints none before one that was printed.
-abbrev pub LastPlacePrints : Type 0
-LastPlacePrints =
-    (start : Option MetaState) (turns : List Turn) (events : List Event) (b : Answer) (more : List Event) → Legal true (events ++ more) → ToldBy start turns events
+abbrev pub LastPlacePrints : Bool → Type 0
+LastPlacePrints tells =
+    (start : Option MetaState) (turns : List Turn) (events : List Event) (b : Answer) (more : List Event) → Legal tells (events ++ more) → ToldBy start turns events
     → ((place : Placement) → printed b ≡ Some place → last_place (events ++ more) ≡ Some place) → PrintsPlace turns (events ++ more) b
 
 -- A list whose calls are told one after the other is told.

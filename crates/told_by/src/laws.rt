@@ -1,4 +1,5 @@
 //! What is so of all that is told by a list of events.
+ghost use Rattle.std.specs.Prelude.{Bool};
 ghost use Rattle.told_by.specs.Laws.{IsKeptWhereTold, IsToldAfresh, IsToldAtFirst, IsToldLineByLine, EmptyDisksStand, IsJoinedWhereTold, AcksCountWhereTold, PlacementsStand, StandsAgain};
 
 /// Where a legal list of events tells of a run's turns, each answered read of the run holds what was acknowledged
@@ -10,13 +11,13 @@ pub fn told_is_kept()
 /// In such a run each node that turned available was joined by a bootstrap that prints a majority of the former
 /// replicas, and each acknowledgement names nodes that count.
 pub fn told_is_joined()
-    ensures joined { IsJoinedWhereTold }
-    ensures acks { AcksCountWhereTold }
+    ensures joined { (tells : Bool) → IsJoinedWhereTold tells }
+    ensures acks { (tells : Bool) → AcksCountWhereTold tells }
 {}
 
 /// In such a run the placement that stands before a line, by what was printed, is the last one of the list there.
 pub fn printed_placements_stand()
-    ensures { PlacementsStand }
+    ensures { (tells : Bool) → PlacementsStand tells }
 {}
 
 /// A run is told line by line: it begins with nothing told, or with the state that it found, and each line's events are

@@ -1,5 +1,5 @@
 -- Turns that are alone in their lines, and the placement that they meet.
-use Rattle.std.proofs.Common.{◌≡◌, ℕ, zero, suc, ◌<◌, ◌≤◌, ◌+◌, ◌-◌, List, [], ◌∷◌, ◌++◌, take, length, refl, sym, ap, ◌∙◌, subst, inl, inr, arith, true, append-nil}
+use Rattle.std.proofs.Common.{◌≡◌, ℕ, zero, suc, ◌<◌, ◌≤◌, ◌+◌, ◌-◌, List, [], ◌∷◌, ◌++◌, take, length, refl, sym, ap, ◌∙◌, subst, inl, inr, arith, true, append-nil, Bool}
 use Rattle.std.specs.Prelude.{Some, None, Option}
 use Rattle.std.proofs.lemmas.Bool.{cases_lt}
 use Rattle.m3_model.proofs.SplitLemmas.{not_empty}
@@ -88,7 +88,7 @@ pub take_none : {X : Type 0} (xs : List X) → take 0 xs ≡ []
 take_none [] = refl
 take_none (x ∷ xs) = refl
 
-module _ (start : Option MetaState) (turns : List Turn) (events : List Event) (legal : Legal true events) (told : ToldBy start turns events) where
+module _ {tells : Bool} (start : Option MetaState) (turns : List Turn) (events : List Event) (legal : Legal tells events) (told : ToldBy start turns events) where
   -- no Place stands in the line before the only turn of it
   pub no_place : (q : TurnPlace) → IsTurnPlace turns q → IsAlone turns q → 1 ≤ told.ends (length q.lines) → (i : ℕ) (place : Placement) (done : List (ℕ × ℕ)) → told.ends (length q.lines) ≤ i → i < (told.spans).from q → At events i (event.Place place done) → ⊥
   no_place q at only some zero place done low below there = omega (arith, low, some)
@@ -127,7 +127,7 @@ module _ (start : Option MetaState) (turns : List Turn) (events : List Event) (l
             let there = place_there (take ((told.spans).from q) events) place last in
             let before = at_take events there.0 ((told.spans).from q) (event.Place place there.1) there.2 in
             let e = at_some events 0 (omega (arith, at_within events there.0 (event.Place place there.1) before.0)) in
-            let b = (told.tells).init.begun (omega (arith, (told.lines).first, ends_grow start turns events legal told 0 (length q.lines) (omega arith) (omega (arith, less)), none)) e.0 e.1 in
+            let b = (told.tells).init.begun (omega (arith, (told.lines).first, ends_grow start turns events told 0 (length q.lines) (omega arith) (omega (arith, less)), none)) e.0 e.1 in
             let init = b.2 in
             let early : length (b.0).lines < length turns = line_below turns (b.0) (b.1) in
             let same = one_line start turns events legal told 0 (length (b.0).lines) (length q.lines) early less (omega (arith, (told.lines).low b.0 b.1, init.from_is)) (omega (arith, (told.lines).high b.0 b.1, init.to_above)) (omega (arith, none)) (omega (arith, before.1, (told.tells).order.not_back q at, (told.lines).high q at)) in

@@ -128,7 +128,7 @@ pub record HasBegun (events : List Event) (from to n s : ℕ) (stood : Placement
   pub there : At events place (event.Step n s (call.Begin tenure) answer)
 
 -- so a bootstrap that was answered ok, alone in its line, begins each slot that it covers and that is a member when the line begins
-pub covered_begun : (start : Option MetaState) (turns : List Turn) (events : List Event) → Legal true events → (told : ToldBy start turns events) → (q : TurnPlace) → IsTurnPlace turns q → IsAlone turns q
+pub covered_begun : {tells : Bool} → (start : Option MetaState) (turns : List Turn) (events : List Event) → Legal tells events → (told : ToldBy start turns events) → (q : TurnPlace) → IsTurnPlace turns q → IsAlone turns q
     → (n s : ℕ) (name : List ℕ) (stood : Placement) → placement_after (start_placement start) (inner_turns (take (length q.lines) turns)) ≡ Some stood → has_replica (Some stood) s n ≡ true
     → ((i : ℕ) (done : List (ℕ × ℕ)) → At events i (event.Place stood done) → OfNode stood n (λ own. own ≡ name))
     → (node : List ℕ) (asked : Option ℕ) (available : List (ℕ × List ℕ)) (place : Placement) (version : ℕ) → q.turn.act ≡ act.Bootstrap node asked → q.turn.answer ≡ answer.Available available place version → name ≡ node → is_covering s asked ≡ true
@@ -155,7 +155,7 @@ covered_begun start turns events legal told q at only n s name stood stands memb
 
 -- ---- the slot
 
-module _ (start : Option MetaState) (turns : List Turn) (events : List Event) (legal : Legal true events) (told : ToldBy start turns events) (alone : BootsAlone turns) (n s : ℕ) (name : List ℕ) (known : IsKnownSlot start turns events told n s name) where
+module _ {tells : Bool} (start : Option MetaState) (turns : List Turn) (events : List Event) (legal : Legal tells events) (told : ToldBy start turns events) (alone : BootsAlone turns) (n s : ℕ) (name : List ℕ) (known : IsKnownSlot start turns events told n s name) where
   abbrev x : Replica
   x = record { shard = s; node = n; name = name }
 
@@ -169,7 +169,7 @@ module _ (start : Option MetaState) (turns : List Turn) (events : List Event) (l
   by_reply i tenure (reply.Began fence points) how owned there now next = let bad : standing.Open ≡ standing.Boot = sym (stands_after i (call.Begin tenure) (reply.Began fence points) there) ∙ next in cc
   by_reply i tenure (reply.Refused reason.Down) how owned there now next =
       let r = replica n s (take i events) in
-      let down = first_down r (call.Begin tenure) (refused_law true (take i events) n s r (call.Begin tenure) reason.Down (lawful_step events legal i n s (call.Begin tenure) (reply.Refused reason.Down) there)) in
+      let down = first_down r (call.Begin tenure) (refused_law tells (take i events) n s r (call.Begin tenure) reason.Down (lawful_step events legal i n s (call.Begin tenure) (reply.Refused reason.Down) there)) in
       let bad : standing.Down ≡ standing.Boot = sym down ∙ now in
       cc
   by_reply i tenure (reply.Refused reason.NotOwned) how owned there now next = owned refl
@@ -328,14 +328,14 @@ module _ (start : Option MetaState) (turns : List Turn) (events : List Event) (l
       high = at_take events there.0 (told.ends (suc k)) (event.Place p.0 there.1) there.2
 
       bound : told.ends (suc k) ≤ length events
-      bound = ends_within start turns events legal told (suc k) less
+      bound = ends_within start turns events told (suc k) less
 
       -- no event stands before the line
       empty : told.ends k ≡ 0
       empty = elim (cases_lt 0 (told.ends k)) as (λ _. told.ends k ≡ 0) [
         | inl some ↦
             let first = first_event events legal there.0 (event.Place p.0 there.1) high.0 in
-            let h = placed_at events legal first.place [] first.there (told.ends k) some (ends_within start turns events legal told k (omega (arith, less))) in
+            let h = placed_at events legal first.place [] first.there (told.ends k) some (ends_within start turns events told k (omega (arith, less))) in
             absurd (let bad : None ≡ Some h.0 = sym (placements_stand start turns events legal told k (omega (arith, less)) ∙ none) ∙ h.1 in cc)
         | inr none_before ↦ omega arith
       ]
@@ -436,7 +436,7 @@ module _ (start : Option MetaState) (turns : List Turn) (events : List Event) (l
   boot_waits zero high now = at_first
   boot_waits (suc k) high now =
       let grows = (told.lines).ascends k (omega (arith, high)) in
-      let h = since k (told.ends (suc k)) grows (ends_within start turns events legal told (suc k) high) now in
+      let h = since k (told.ends (suc k)) grows (ends_within start turns events told (suc k) high) now in
       elim h.how as (λ _. Waits (suc k)) [
         | inl begins ↦
             let boots : (i : ℕ) → told.ends k ≤ i → i ≤ told.ends (suc k) → BootAt i = λ i low below. h.boots i (omega (arith, begins, low)) below in
@@ -484,8 +484,8 @@ pub boot_said : BootIsSaid
 boot_said start p place node shard name named waits =
     record { instance_ = named.instance_; stands = named.stands; holds = subst (λ own. waits_at (record { shard = shard; node = node; name = own }) start p ≡ true) (sym named.holds) waits }
 
-pub boot_cause : BootHasCause
-boot_cause start turns events legal told p at quiet n s name known c step =
+pub boot_cause : {tells : Bool} → BootHasCause tells
+boot_cause {tells} start turns events legal told p at quiet n s name known c step =
     let there = (step.1).2 in
     let r = replica n s (take step.0 events) in
-    cause_at start turns events legal told known.alone n s name known.slot p at quiet known.was step.0 (step.1).0 (step.1).1 (first_boot r c (refused_law true (take step.0 events) n s r c reason.Boot (lawful_step events legal step.0 n s c (reply.Refused reason.Boot) there)))
+    cause_at start turns events legal told known.alone n s name known.slot p at quiet known.was step.0 (step.1).0 (step.1).1 (first_boot r c (refused_law tells (take step.0 events) n s r c reason.Boot (lawful_step events legal step.0 n s c (reply.Refused reason.Boot) there)))

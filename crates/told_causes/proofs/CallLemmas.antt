@@ -50,7 +50,7 @@ use Rattle.transcripts.specs.Record.{TurnPlace, IsTurnPlace}
 use Rattle.transcripts.specs.Rules.{rules_at}
 use Rattle.told_by.specs.Hears.{HasServed, HearsAcks, HearsBy, IsHeard, IsOwnCall, IsServed}
 use Rattle.told_by.specs.Told.{ToldBy}
-use Rattle.told_causes.specs.Calls.{AcksAreSaid, IsExplained, IsSteadyNode, ReasonsAreSaid, ServedIsTaken, Within}
+use Rattle.told_causes.specs.Calls.{IsExplainedAt, AcksAreSaid, IsExplained, IsSteadyNode, ReasonsAreSaid, ServedIsTaken, Within}
 use Rattle.told_causes.specs.Faults.{fault_of, faults_told}
 use Rattle.told_causes.specs.Standing.{IsHaltAct}
 use Rattle.told_causes.specs.Boot.{IsKnownMember}
@@ -127,13 +127,13 @@ outside_future rules p (Some space) is e = by (nat_le (p.t + space.past) rules.n
     by false true high h = record { space = space; stands = is; too_new = leb-true (rules.now + space.future) p.t high }
     by false false high h = cc
 
-module _ (start : Option MetaState) (turns : List Turn) (events : List Event) (legal : Legal true events) (told : ToldBy start turns events) (p : TurnPlace) (in_run : IsTurnPlace turns p) where
+module _ {tells : Bool} (start : Option MetaState) (turns : List Turn) (events : List Event) (legal : Legal tells events) (told : ToldBy start turns events) (p : TurnPlace) (in_run : IsTurnPlace turns p) where
   abbrev faults : List Fault
   faults = faults_told told.ends events (length turns)
 
   -- a step refused for its moment is of a point outside its window
   refused_past : (version node shard i : ℕ) (c : StepCall) → IsOwnCall start p version c → At events i (event.Step node shard c (reply.Refused reason.Past)) → IsOutside IsPast (rules_at start p) p.turn.act
-  refused_past version node shard i c own there = by c own (refused_law true (take i events) node shard (replica node shard (take i events)) c reason.Past (lawful_step events legal i node shard c (reply.Refused reason.Past) there))
+  refused_past version node shard i c own there = by c own (refused_law tells (take i events) node shard (replica node shard (take i events)) c reason.Past (lawful_step events legal i node shard c (reply.Refused reason.Past) there))
     where
       by : (c : StepCall) → IsOwnCall start p version c → first_refusal (replica node shard (take i events)) c ≡ Some reason.Past → IsOutside IsPast (rules_at start p) p.turn.act
       by (call.Put client number rules at_version point) own e = record {
@@ -145,7 +145,7 @@ module _ (start : Option MetaState) (turns : List Turn) (events : List Event) (l
       by _ own e = absurd own
 
   refused_future : (version node shard i : ℕ) (c : StepCall) → IsOwnCall start p version c → At events i (event.Step node shard c (reply.Refused reason.Future)) → IsOutside IsFuture (rules_at start p) p.turn.act
-  refused_future version node shard i c own there = by c own (refused_law true (take i events) node shard (replica node shard (take i events)) c reason.Future (lawful_step events legal i node shard c (reply.Refused reason.Future) there))
+  refused_future version node shard i c own there = by c own (refused_law tells (take i events) node shard (replica node shard (take i events)) c reason.Future (lawful_step events legal i node shard c (reply.Refused reason.Future) there))
     where
       by : (c : StepCall) → IsOwnCall start p version c → first_refusal (replica node shard (take i events)) c ≡ Some reason.Future → IsOutside IsFuture (rules_at start p) p.turn.act
       by (call.Put client number rules at_version point) own e = record {
@@ -158,7 +158,7 @@ module _ (start : Option MetaState) (turns : List Turn) (events : List Event) (l
 
   -- a step that tells of a fault within the turn's stretch has it in the turn's line
   pub fault_here : (i : ℕ) (e : Event) (fault : Fault) → (told.spans).from p ≤ i → i < (told.spans).to p → At events i e → fault.line ≡ length p.lines → fault_of (length p.lines) e ≡ Some fault → IsIn faults fault
-  fault_here i e fault low high there line tells =
+  fault_here i e fault low high there line says =
       let less : length p.lines < length turns = omega (arith, ap length in_run.in_run, length-append p.lines (p.line ∷ in_run.after)) in
       let begins = (told.lines).low p in_run in
       let finishes = (told.lines).high p in_run in
@@ -169,7 +169,7 @@ module _ (start : Option MetaState) (turns : List Turn) (events : List Event) (l
         high = subst (λ m. i < told.ends (suc m)) (sym line) (omega (arith, finishes, high));
         e = e;
         there = there;
-        tells = subst (λ m. fault_of m e ≡ Some fault) (sym line) tells;
+        tells = subst (λ m. fault_of m e ≡ Some fault) (sym line) says;
       })
 
   calls_halt_nothing : (a : Act) → is_call a ≡ true → IsHaltAct a → ⊥
@@ -177,7 +177,7 @@ module _ (start : Option MetaState) (turns : List Turn) (events : List Event) (l
   calls_halt_nothing (act.Restart node pick) e h = cc
   calls_halt_nothing _ e h = h
 
-  reason_said : is_call p.turn.act ≡ true → (place : Placement) (shard node : ℕ) → (steady : IsSteadyNode start turns events told p place shard node) → (why : Reason) → IsExplained (IsKnownMember start turns events told p shard node steady.name) (MayFail true faults start p place shard node) why → IsHeard start (Within events told.spans p) p place shard node why → MayRefuse true faults start p place shard node why
+  reason_said : is_call p.turn.act ≡ true → (place : Placement) (shard node : ℕ) → (steady : IsSteadyNode start turns events told p place shard node) → (why : Reason) → IsExplainedAt tells start turns events told p place shard node steady.name why → IsHeard start (Within events told.spans p) p place shard node why → MayRefuse tells faults start p place shard node why
   reason_said calls place shard node steady reason.Cut known h = h
   reason_said calls place shard node steady reason.Memory known h = tt
   reason_said calls place shard node steady reason.Past known h = let s = (h.2).1 in refused_past place.version node shard (h.2).0 h.0 h.1 s.2
@@ -186,7 +186,7 @@ module _ (start : Option MetaState) (turns : List Turn) (events : List Event) (l
       down_said faults start p place node shard steady.name steady.named steady.there
       (down_cause start turns events legal told p in_run (calls_halt_nothing p.turn.act calls) node shard steady.name steady.everywhere h.0 h.2)
   reason_said calls place shard node steady reason.Boot known h =
-      λ tells. boot_said start p place node shard steady.name steady.named (boot_cause start turns events legal told p in_run (calls_halt_nothing p.turn.act calls) node shard steady.name known h.0 h.2)
+      λ is. boot_said start p place node shard steady.name steady.named (boot_cause start turns events legal told p in_run (calls_halt_nothing p.turn.act calls) node shard steady.name (known is) h.0 h.2)
   reason_said calls place shard node steady reason.Disk known h =
       let s = (h.2).1 in fault_here (h.2).0 (event.Step node shard h.0 (reply.Refused reason.Disk)) (record { line = length p.lines; node = node; shard = shard; kind = Failing }) s.0 s.1 s.2 refl refl
   reason_said calls place shard node steady (reason.Corrupt damage) known h =
@@ -211,17 +211,17 @@ module _ (start : Option MetaState) (turns : List Turn) (events : List Event) (l
       by_act point of_act window (act.Write ns id t v level version) is = record { point = point; of_act = ap (point_of (rules_at start p).spaces) (sym is) ∙ of_act; in_window = window }
       by_act point of_act window _ is = tt
 
-      by_call : (c : StepCall) (a : StepReply) → IsServed a → IsOwnCall start p place.version c → LawfulStep true (take (h.2.2).0 events) node shard (replica node shard (take (h.2.2).0 events)) c a → (x : Act) → p.turn.act ≡ x → MayServe (rules_at start p) x
+      by_call : (c : StepCall) (a : StepReply) → IsServed a → IsOwnCall start p place.version c → LawfulStep tells (take (h.2.2).0 events) node shard (replica node shard (take (h.2.2).0 events)) c a → (x : Act) → p.turn.act ≡ x → MayServe (rules_at start p) x
       by_call (call.Put client number rules version point) reply.Done served own law x is = by_act point (subst (λ (r : Rules). point_of r.spaces p.turn.act ≡ Some point) own.2 own.4) (subst (λ (r : Rules). InWindow r point) own.2 law.in_window) x is
       by_call (call.Put client number rules version point) (reply.Found series) served own law x is = absurd law
       by_call (call.Put client number rules version point) _ served own law x is = absurd served
       by_call (call.Read client number rules version pick from to) a served own law x is = not_write x (ap is_write (sym is) ∙ own.4)
       by_call _ a served own law x is = absurd own
 
-pub reasons_said : ReasonsAreSaid
+pub reasons_said : {tells : Bool} → ReasonsAreSaid tells
 reasons_said start turns events legal told p in_run calls place shard node steady why known h = reason_said start turns events legal told p in_run calls place shard node steady why known h
 
-pub taken_said : ServedIsTaken
+pub taken_said : {tells : Bool} → ServedIsTaken tells
 taken_said start turns events legal told p in_run place shard node h = served_taken start turns events legal told p in_run place shard node h
 
 -- the messages of a call reach a replica that did as it asks, where its node runs
@@ -233,7 +233,7 @@ served_reached start events spans p place shard node h up =
     ∙ ap (λ b. not b && not (is_stopped (inner_turns p.lines) (sent.instance_).name)) sent.holds
     ∙ ap (λ b. not b) (ap (is_stopped (inner_turns p.lines)) (sym same) ∙ up.holds)
 
-pub acks_said : AcksAreSaid
+pub acks_said : {tells : Bool} → AcksAreSaid tells
 acks_said start turns events legal told p in_run halts names ns id t v level version nodes acts answers =
     let h : HearsAcks start (Within events told.spans p) p nodes =
     subst (λ b. HearsBy start (take ((told.spans).from p) events) (Within events told.spans p) p p.turn.act b) answers ((told.tells).hears p in_run) in

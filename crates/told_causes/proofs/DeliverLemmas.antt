@@ -6,7 +6,7 @@ use Rattle.m3_model.specs.Rules.{InWindow, IsPast, IsFuture}
 use Rattle.told_by.specs.Hears.{HearsDelivered, HearsLate, HearsOutcomes, IsLatePut}
 use Rattle.told_causes.specs.Deliveries.{IsKnownDelivery, OutcomesAreSaid}
 use Rattle.told_causes.proofs.CallLemmas.{fault_here, outside_future, outside_past, put_outside}
-use Rattle.std.proofs.Common.{◌≡◌, ℕ, List, [], ◌∷◌, take, length, refl, ap, ◌∙◌, subst, true, false}
+use Rattle.std.proofs.Common.{◌≡◌, ℕ, List, [], ◌∷◌, take, length, refl, ap, ◌∙◌, subst, true, false, Bool}
 use Rattle.std.specs.Prelude.{Option, Some, None, slice_get}
 use Rattle.m3_model.specs.Rules.{InWindow, IsPast, IsFuture}
 use Rattle.m3_model.specs.declared.reason.Reason.{Reason}
@@ -40,7 +40,7 @@ use Rattle.told_causes.proofs.RunLemmas.{who_serves}
 use Rattle.told_causes.specs.Running.{Serves}
 use Rattle.transcripts.specs.Fates.{OfNode, is_stopped}
 
-module _ (start : Option MetaState) (turns : List Turn) (events : List Event) (told : ToldBy start turns events) (p : TurnPlace) (known : IsKnownDelivery start turns events told p) where
+module _ {tells : Bool} (start : Option MetaState) (turns : List Turn) (events : List Event) (told : ToldBy start turns events) (p : TurnPlace) (known : IsKnownDelivery tells start turns events told p) where
   abbrev faults : List Fault
   faults = faults_told told.ends events (length turns)
 
@@ -48,8 +48,8 @@ module _ (start : Option MetaState) (turns : List Turn) (events : List Event) (t
   state node shard i = replica node shard (take i events)
 
   -- what the refusal of a late put is
-  refused : (m : LateMessage) (shard i : ℕ) (c : StepCall) (why : Reason) → At events i (event.Step m.node shard c (reply.Refused why)) → MayRefuse true (take i events) shard (state m.node shard i) c why
-  refused m shard i c why there = refused_law true (take i events) m.node shard (state m.node shard i) c why (lawful_step events known.legal i m.node shard c (reply.Refused why) there)
+  refused : (m : LateMessage) (shard i : ℕ) (c : StepCall) (why : Reason) → At events i (event.Step m.node shard c (reply.Refused why)) → MayRefuse tells (take i events) shard (state m.node shard i) c why
+  refused m shard i c why there = refused_law tells (take i events) m.node shard (state m.node shard i) c why (lawful_step events known.legal i m.node shard c (reply.Refused why) there)
 
   late_past : (m : LateMessage) (shard i : ℕ) (c : StepCall) → IsLatePut start p m c → first_refusal (state m.node shard i) c ≡ Some reason.Past → IsPast (rules_at start p) m.point
   late_past m shard i (call.Put client number rules version point) own e =
@@ -61,7 +61,7 @@ module _ (start : Option MetaState) (turns : List Turn) (events : List Event) (t
       subst (IsFuture (rules_at start p)) own.4 (subst (λ (r : Rules). IsFuture r point) own.2 (outside_future rules point (slice_get rules.spaces point.ns) refl (put_outside (state m.node shard i) client number version rules point reason.Future tt e)))
   late_future m shard i _ own e = absurd own
 
-  late_taken : (m : LateMessage) (shard i : ℕ) (c : StepCall) → IsLatePut start p m c → LawfulStep true (take i events) m.node shard (state m.node shard i) c reply.Done → InWindow (rules_at start p) m.point
+  late_taken : (m : LateMessage) (shard i : ℕ) (c : StepCall) → IsLatePut start p m c → LawfulStep tells (take i events) m.node shard (state m.node shard i) c reply.Done → InWindow (rules_at start p) m.point
   late_taken m shard i (call.Put client number rules version point) own law = subst (InWindow (rules_at start p)) own.4 (subst (λ (r : Rules). InWindow r point) own.2 law.in_window)
   late_taken m shard i _ own law = absurd own
 
@@ -79,7 +79,7 @@ module _ (start : Option MetaState) (turns : List Turn) (events : List Event) (t
       let runs = who_serves start turns events known.legal told known.halts p known.in_run m.node shard named.0 named.2 h.0 reply.Done (late_serves m shard (h.2).0 h.0 h.1) h.2 in
       record { instance_ = (named.1).instance_; stands = (named.1).stands; holds = ap (is_stopped (inner_turns p.lines)) (named.1).holds ∙ runs }
 
-  came : (m : LateMessage) → IsLateMessage start p m → (shard : ℕ) → shard ≡ shard_of_message start m → (o : Option Reason) → HearsLate start (Within events told.spans p) p m shard o → MayComeOf true faults start p m shard o
+  came : (m : LateMessage) → IsLateMessage start p m → (shard : ℕ) → shard ≡ shard_of_message start m → (o : Option Reason) → HearsLate start (Within events told.spans p) p m shard o → MayComeOf tells faults start p m shard o
   came m late shard to None h = let s = (h.2).1 in (late_taken m shard (h.2).0 h.0 h.1 (lawful_step events known.legal (h.2).0 m.node shard h.0 reply.Done s.2), late_runs m late shard h)
   came m late shard to (Some reason.Memory) h = tt
   came m late shard to (Some reason.Past) h = let s = (h.2).1 in late_past m shard (h.2).0 h.0 h.1 (refused m shard (h.2).0 h.0 reason.Past s.2)
@@ -99,11 +99,11 @@ module _ (start : Option MetaState) (turns : List Turn) (events : List Event) (t
   came m late shard to (Some reason.Boot) h =
       let why = known.explained m late shard to reason.Boot h in
       let steady = why.0 in
-      λ tells. boot_said start p m.used m.node shard steady.name steady.named (boot_cause start turns events known.legal told p known.in_run halts_nothing m.node shard steady.name why.1 h.0 h.2)
+      λ is. boot_said start p m.used m.node shard steady.name steady.named (boot_cause start turns events known.legal told p known.in_run halts_nothing m.node shard steady.name (why.1 is) h.0 h.2)
   came m late shard to (Some reason.NotOwned) h = (known.explained m late shard to reason.NotOwned h).1
   came m late shard to (Some (reason.Stale fence)) h = (known.explained m late shard to (reason.Stale fence) h).1
 
-  each_said : (messages : List LateMessage) (outcomes : List (ℕ × ℕ × Option Reason)) → HearsOutcomes start (Within events told.spans p) p messages outcomes → AreOutcomes true faults start p messages outcomes
+  each_said : (messages : List LateMessage) (outcomes : List (ℕ × ℕ × Option Reason)) → HearsOutcomes start (Within events told.spans p) p messages outcomes → AreOutcomes tells faults start p messages outcomes
   each_said [] [] h = tt
   each_said (m ∷ messages) (x ∷ outcomes) h =
       let one = h.0 in
@@ -111,5 +111,5 @@ module _ (start : Option MetaState) (turns : List Turn) (events : List Event) (t
   each_said [] (x ∷ outcomes) h = absurd h
   each_said (m ∷ messages) [] h = absurd h
 
-pub outcomes_said : OutcomesAreSaid
+pub outcomes_said : {tells : Bool} → OutcomesAreSaid tells
 outcomes_said start turns events told p known outcomes h = record { in_order = h.in_order; each = each_said start turns events told p known h.messages outcomes h.each }

@@ -78,7 +78,7 @@ take_front : {X : Type 0} (xs : List X) (y : X) (zs : List X) → take (length x
 take_front [] y zs = refl
 take_front (x ∷ xs) y zs = ap (λ ys. x ∷ ys) (take_front xs y zs)
 
-module _ (start : Option MetaState) (turns : List Turn) (events : List Event) (legal : Legal true events) (told : ToldBy start turns events) (n s : ℕ) (name : List ℕ) (named : IsNamedBy events n name) where
+module _ {tells : Bool} (start : Option MetaState) (turns : List Turn) (events : List Event) (legal : Legal tells events) (told : ToldBy start turns events) (n s : ℕ) (name : List ℕ) (named : IsNamedBy events n name) where
   abbrev IsDownAt : ℕ → Type 0
   IsDownAt j = (replica n s (take j events)).standing ≡ standing.Down
 
@@ -218,13 +218,13 @@ module _ (start : Option MetaState) (turns : List Turn) (events : List Event) (l
   -- a replica that is down between two lines has its cause
   down_has_cause : (k : ℕ) → k ≤ length turns → IsDownAt (told.ends k) → HasCause k
   down_has_cause zero high down =
-      let c = called (told.ends 0) (ends_within start turns events legal told 0 high) down in
+      let c = called (told.ends 0) (ends_within start turns events told 0 high) down in
       absurd (omega (arith, late_step events legal c.0 n s c.1 c.2 c.4, c.3, (told.lines).first, opening_two start))
   down_has_cause (suc k) high down =
       let line = at_some turns k (omega (arith, high)) in
       let grows = (told.lines).ascends k (omega (arith, high)) in
       let whole : told.ends k + (told.ends (suc k) - told.ends k) ≡ told.ends (suc k) = omega (arith, grows) in
-      let h = subst (InLine k) whole (up_to k (omega (arith, high)) (ends_within start turns events legal told (suc k) high) (λ d. down_has_cause k (omega (arith, high)) d) (told.ends (suc k) - told.ends k) (omega (arith, whole)) (subst IsDownAt (sym whole) down)) in
+      let h = subst (InLine k) whole (up_to k (omega (arith, high)) (ends_within start turns events told (suc k) high) (λ d. down_has_cause k (omega (arith, high)) d) (told.ends (suc k) - told.ends k) (omega (arith, whole)) (subst IsDownAt (sym whole) down)) in
       elim h as (λ _. HasCause (suc k)) [
         | inl before ↦ by_restart k line.0 line.1 (list_any (is_restart name) (inner_turns (line.0 ∷ []))) refl before
         | inr new ↦ elim new as (λ _. HasCause (suc k)) [
@@ -267,7 +267,7 @@ module _ (start : Option MetaState) (turns : List Turn) (events : List Event) (l
       let finishes = (told.lines).high p in_run in
       let whole : told.ends k + (i - told.ends k) ≡ i = omega (arith, begins, low) in
       let front : take k turns ≡ p.lines = ap (take (length p.lines)) in_run.in_run ∙ take_front p.lines p.line in_run.after in
-      let h = subst (InLine k) whole (up_to k less (ends_within start turns events legal told (suc k) (omega (arith, less))) (λ d. down_has_cause k (omega (arith, less)) d) (i - told.ends k) (omega (arith, whole, high, finishes)) (subst IsDownAt (sym whole) down)) in
+      let h = subst (InLine k) whole (up_to k less (ends_within start turns events told (suc k) (omega (arith, less))) (λ d. down_has_cause k (omega (arith, less)) d) (i - told.ends k) (omega (arith, whole, high, finishes)) (subst IsDownAt (sym whole) down)) in
       elim h as (λ _. (is_stopped (inner_turns p.lines) name ≡ true) ⊎ IsClosedSince faults p n s name) [
         | inl before ↦ elim before.0 as (λ _. (is_stopped (inner_turns p.lines) name ≡ true) ⊎ IsClosedSince faults p n s name) [
           | inl stopped ↦ inl (ap (λ ls. is_stopped (inner_turns ls) name) (sym front) ∙ stopped)
@@ -301,10 +301,10 @@ module _ (start : Option MetaState) (turns : List Turn) (events : List Event) (l
       drop_whole [] = refl
       drop_whole (x ∷ xs) = drop_whole xs
 
-pub down_cause : DownHasCause
-down_cause start turns events legal told p in_run quiet n s name named c step =
+pub down_cause : {tells : Bool} → DownHasCause tells
+down_cause {tells} start turns events legal told p in_run quiet n s name named c step =
     let there = (step.1).2 in
-    cause_at start turns events legal told n s name named p in_run quiet step.0 (step.1).0 (step.1).1 (first_down (replica n s (take step.0 events)) c (refused_law true (take step.0 events) n s (replica n s (take step.0 events)) c reason.Down (lawful_step events legal step.0 n s c (reply.Refused reason.Down) there)))
+    cause_at start turns events legal told n s name named p in_run quiet step.0 (step.1).0 (step.1).1 (first_down (replica n s (take step.0 events)) c (refused_law tells (take step.0 events) n s (replica n s (take step.0 events)) c reason.Down (lawful_step events legal step.0 n s c (reply.Refused reason.Down) there)))
 
 pub down_said : DownIsSaid
 down_said listed start p place n s name named stays (inl stopped) = inl (record { instance_ = named.instance_; stands = named.stands; holds = subst (λ x. is_stopped (inner_turns p.lines) x ≡ true) (sym named.holds) stopped })

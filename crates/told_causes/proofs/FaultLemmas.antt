@@ -2,6 +2,7 @@
 use Rattle.std.proofs.Common.{◌≡◌, ℕ, zero, suc, ◌<◌, ◌≤◌, ◌+◌, ◌-◌, List, [], ◌∷◌, ◌++◌, take, drop, length, refl, sym, ap, ◌∙◌, subst, inl, inr, arith, Bool, true, false}
 use Rattle.std.specs.Prelude.{◌⊎◌, Option, Some, None, ◌&&◌, ◌||◌, if◌then◌else◌, nat_eq, is_some, count_by, cond}
 use Rattle.std.specs.List.{list_any}
+use Rattle.std.specs.Option.{option_map_or}
 use Rattle.std.proofs.lemmas.List.Sums.{sum_by-append}
 use Rattle.std.proofs.lemmas.Bool.{cases_eq, eq-eqb, eqb-true}
 use Rattle.m3_model.specs.Members.{IsIn}
@@ -12,7 +13,7 @@ use Rattle.cluster_core.specs.declared.event.StepReply.TheVariants as reply
 use Rattle.m3_model.specs.declared.reason.Reason.TheVariants as reason
 use Rattle.cluster_core.proofs.ListLemmas.{in_at, at_in, at_take, take_at, drop_at}
 use Rattle.transcripts.specs.Faults.{AreDifferent, Fault, FaultKind, Taking, Failing, Damaged}
-use Rattle.told_causes.specs.Faults.{FaultsAreDifferent, FaultsAreFew, FaultsAreSteps, IsToldOf, StepsAreFaults, fault_of, faults_told, is_refused, is_same_fault, is_same_kind, line_events, with_fault, with_line}
+use Rattle.told_causes.specs.Faults.{FaultsAreDifferent, FaultsAreFew, FaultsAreSteps, IsToldOf, StepsAreFaults, fault_of, at_first_line, faults_told, is_same_fault, is_same_kind, line_events, with_fault, with_line, tells_of}
 
 -- ---- equal faults
 
@@ -195,32 +196,31 @@ steps_faults ends events (suc k) fault h =
 
 -- ---- how many
 
-refused_by : (k : ℕ) (e : Event) → is_some (fault_of k e) ≡ is_refused e
-refused_by k (event.Step n s c (reply.Refused reason.Disk)) = refl
-refused_by k (event.Step n s c (reply.Refused (reason.Corrupt damage))) = refl
-refused_by k _ = refl
-
--- one more fault where the event tells of one, and else none
-with_few : (o : Option Fault) (faults : List Fault) (b : Bool) → is_some o ≡ b → length (with_fault o faults) ≤ cond b 1 0 + length faults
-with_few None faults true e = cc
-with_few None faults false e = omega arith
-with_few (Some f) faults false e = cc
-with_few (Some f) faults true e = by (list_any (is_same_fault f) faults)
-  where
-    by : (b : Bool) → length (if b then faults else f ∷ faults) ≤ 1 + length faults
-    by true = omega arith
-    by false = omega arith
-
 count_append : {X : Type 0} (p : X → Bool) (xs ys : List X) → count_by p (xs ++ ys) ≡ count_by p xs + count_by p ys
 count_append p xs ys = sum_by-append (λ x. cond (p x) 1 0) xs ys
 
-line_few : (k : ℕ) (events : List Event) (faults : List Fault) → length (with_line k events faults) ≤ count_by is_refused events + length faults
-line_few k [] faults = omega arith
-line_few k (e ∷ events) faults =
-    let rest = line_few k events (with_fault (fault_of k e) faults) in
-    let one = with_few (fault_of k e) faults (is_refused e) (refused_by k e) in
-    let whole = count_append is_refused (e ∷ []) events in
-    omega (arith, rest, one, whole)
+module _ (test : Fault → Bool) (blind : (fault : Fault) → test fault ≡ test (at_first_line fault)) where
+  tells_so : (k : ℕ) (e : Event) → option_map_or test (fault_of k e) false ≡ tells_of test e
+  tells_so k (event.Step n s c (reply.Refused reason.Disk)) = blind (record { line = k; node = n; shard = s; kind = Failing })
+  tells_so k (event.Step n s c (reply.Refused (reason.Corrupt damage))) = blind (record { line = k; node = n; shard = s; kind = Damaged })
+  tells_so k _ = refl
+
+  -- one more fault where the event tells of one, and else none
+  with_few : (o : Option Fault) (faults : List Fault) → count_by test (with_fault o faults) ≤ cond (option_map_or test o false) 1 0 + count_by test faults
+  with_few None faults = omega arith
+  with_few (Some f) faults = by (list_any (is_same_fault f) faults)
+    where
+      by : (b : Bool) → count_by test (if b then faults else f ∷ faults) ≤ cond (test f) 1 0 + count_by test faults
+      by true = omega arith
+      by false = omega (arith, count_append test (f ∷ []) faults)
+
+  line_few : (k : ℕ) (events : List Event) (faults : List Fault) → count_by test (with_line k events faults) ≤ count_by (tells_of test) events + count_by test faults
+  line_few k [] faults = omega arith
+  line_few k (e ∷ events) faults =
+      let rest = line_few k events (with_fault (fault_of k e) faults) in
+      let one = subst (λ b. count_by test (with_fault (fault_of k e) faults) ≤ cond b 1 0 + count_by test faults) (tells_so k e) (with_few (fault_of k e) faults) in
+      let whole = count_append (tells_of test) (e ∷ []) events in
+      omega (arith, rest, one, whole)
 
 take_on : {X : Type 0} (xs : List X) (n m : ℕ) → n ≤ m → take m xs ≡ take n xs ++ drop n (take m xs)
 take_on xs zero m le = refl
@@ -230,9 +230,9 @@ take_on (x ∷ xs) (suc n) zero le = absurd (omega arith)
 take_on (x ∷ xs) (suc n) (suc m) le = ap (λ ys. x ∷ ys) (take_on xs n m (omega arith))
 
 pub faults_few : FaultsAreFew
-faults_few ends events zero ascends = omega arith
-faults_few ends events (suc k) ascends =
-    let before = faults_few ends events k (λ j lt. ascends j (omega arith)) in
-    let line = line_few k (line_events ends events k) (faults_told ends events k) in
-    let split = ap (count_by is_refused) (take_on events (ends k) (ends (suc k)) (ascends k (omega arith))) ∙ count_append is_refused (take (ends k) events) (line_events ends events k) in
+faults_few test blind ends events zero ascends = omega arith
+faults_few test blind ends events (suc k) ascends =
+    let before = faults_few test blind ends events k (λ j lt. ascends j (omega arith)) in
+    let line = line_few test blind k (line_events ends events k) (faults_told ends events k) in
+    let split = ap (count_by (tells_of test)) (take_on events (ends k) (ends (suc k)) (ascends k (omega arith))) ∙ count_append (tells_of test) (take (ends k) events) (line_events ends events k) in
     omega (arith, before, line, split)

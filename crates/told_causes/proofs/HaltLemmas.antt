@@ -1,5 +1,5 @@
 -- What a list says of stops and restarts: each Stop leaves its node stopped at the end of its line, and an ok restart has a Restart of each slot.
-use Rattle.std.proofs.Common.{◌≡◌, ℕ, zero, suc, ◌<◌, ◌≤◌, List, [], ◌∷◌, ◌++◌, take, length, refl, sym, ap, ◌∙◌, subst, inl, inr, arith, true, cond, append-nil, length-append}
+use Rattle.std.proofs.Common.{◌≡◌, ℕ, zero, suc, ◌<◌, ◌≤◌, List, [], ◌∷◌, ◌++◌, take, length, refl, sym, ap, ◌∙◌, subst, inl, inr, arith, true, cond, append-nil, length-append, Bool}
 use Rattle.std.specs.Prelude.{Option, Some, None, nat_eq}
 use Rattle.std.specs.List.{list_any}
 use Rattle.std.specs.Cmp.Lexicographic.{pointwise}
@@ -38,7 +38,7 @@ take_cut [] y zs = refl
 take_cut (x ∷ xs) y zs = ap (λ ys. x ∷ ys) (take_cut xs y zs)
 
 -- a step doesn't open a legal list
-pub late_step : (events : List Event) → Legal true events → (i n s : ℕ) (c : StepCall) (a : StepReply) → At events i (event.Step n s c a) → 2 ≤ i
+pub late_step : {tells : Bool} → (events : List Event) → Legal tells events → (i n s : ℕ) (c : StepCall) (a : StepReply) → At events i (event.Step n s c a) → 2 ≤ i
 late_step events legal zero n s c a h = absurd (legal zero (event.Step n s c a) h)
 late_step events legal (suc zero) n s c a h = absurd (legal 1 (event.Step n s c a) h)
 late_step events legal (suc (suc i)) n s c a h = omega arith
@@ -58,9 +58,9 @@ last_name events i n name node named h =
     let own = named there.0 h.place there.1 (h.named).instance_ (at_take events there.0 i (event.Place h.place there.1) there.2).0 (h.named).stands in
     sym own ∙ (h.named).holds
 
-module _ (start : Option MetaState) (turns : List Turn) (events : List Event) (legal : Legal true events) (told : ToldBy start turns events) where
+module _ {tells : Bool} (start : Option MetaState) (turns : List Turn) (events : List Event) (legal : Legal tells events) (told : ToldBy start turns events) where
   not_before : (i j k : ℕ) → j < k → k < length turns → i < told.ends (suc j) → told.ends k ≤ i → ⊥
-  not_before i j k lt high end begin = omega (arith, ends_grow start turns events legal told (suc j) k lt (omega (arith, high)), end, begin)
+  not_before i j k lt high end begin = omega (arith, ends_grow start turns events told (suc j) k lt (omega (arith, high)), end, begin)
 
   -- a place stands in one line
   pub one_line : (i j k : ℕ) → j < length turns → k < length turns → told.ends j ≤ i → i < told.ends (suc j) → told.ends k ≤ i → i < told.ends (suc k) → j ≡ k

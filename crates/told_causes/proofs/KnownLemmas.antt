@@ -29,7 +29,7 @@ use Rattle.told_by.proofs.LineLemmas.{place_last}
 use Rattle.told_by.proofs.OneLemmas.{is_last}
 use Rattle.told_by.proofs.SampleLemmas.{each_at, sample_told}
 use Rattle.told_causes.specs.Boot.{IsKnownMember}
-use Rattle.told_causes.specs.Calls.{AllAreExplained, IsExplained, IsNamedOnce, IsSteadyNode, IsUsedBy, ServedAreNamed, Within}
+use Rattle.told_causes.specs.Calls.{IsExplainedAt, AllAreExplained, IsExplained, IsNamedOnce, IsSteadyNode, IsUsedBy, ServedAreNamed, Within}
 use Rattle.told_causes.specs.Faults.{fault_of, faults_told}
 use Rattle.told_causes.specs.Sample.{ReadIsKnown, lines_before}
 use Rattle.told_causes.specs.Standing.{HaltsAlone, IsHaltAct}
@@ -116,16 +116,16 @@ steady shard = record {
   there = λ fault among of_node of_shard early. let told_of = faults_steps sample_told.ends events (length turns) fault among in absurd (no_fault told_of.place fault.line told_of.e fault told_of.there told_of.tells);
 }
 
-explained_by : (shard : ℕ) (why : Reason) → IsHeard None (Within events sample_told.spans reading) reading place shard 0 why → IsExplained (IsKnownMember None turns events sample_told reading shard 0 name) (MayFail true faults None reading place shard 0) why
+explained_by : (shard : ℕ) (why : Reason) → IsHeard None (Within events sample_told.spans reading) reading place shard 0 why → IsExplainedAt true None turns events sample_told reading place shard 0 name why
 explained_by shard reason.Boot h = absurd (never_refused (h.2).0 0 shard h.0 reason.Boot ((h.2).1).2)
 explained_by shard reason.NotOwned h = absurd (never_refused (h.2).0 0 shard h.0 reason.NotOwned ((h.2).1).2)
 explained_by shard (reason.Stale fence) h = absurd (never_refused (h.2).0 0 shard h.0 (reason.Stale fence) ((h.2).1).2)
 explained_by shard _ h = tt
 
 abbrev Explained : Placement → ℕ → ℕ → Reason → Type 0
-Explained p shard n why = (known : IsSteadyNode None turns events sample_told reading p shard n) × IsExplained (IsKnownMember None turns events sample_told reading shard n known.name) (MayFail true faults None reading p shard n) why
+Explained p shard n why = (known : IsSteadyNode None turns events sample_told reading p shard n) × IsExplainedAt true None turns events sample_told reading p shard n known.name why
 
-all_explained : AllAreExplained None turns events sample_told reading
+all_explained : AllAreExplained true None turns events sample_told reading
 unfolding steady
 all_explained p used shard n why counted heard =
     let same = used_is p used in

@@ -34,11 +34,11 @@ use Rattle.told_causes.specs.Calls.{SilentIsSaid, Within}
 use Rattle.told_causes.specs.Faults.{faults_told}
 
 -- the messages of a known call reach a replica that did as it asks
-known_reached : (start : Option MetaState) (turns : List Turn) (events : List Event) (told : ToldBy start turns events) (p : TurnPlace) → IsKnownCall start turns events told p → (place : Placement) → IsUsedBy start p place → (shard node : ℕ) → HasServed start (Within events told.spans p) p place shard node → reaches p place node ≡ true
+known_reached : {tells : Bool} → (start : Option MetaState) (turns : List Turn) (events : List Event) (told : ToldBy start turns events) (p : TurnPlace) → IsKnownCall tells start turns events told p → (place : Placement) → IsUsedBy start p place → (shard node : ℕ) → HasServed start (Within events told.spans p) p place shard node → reaches p place node ≡ true
 known_reached start turns events told p known place used shard node h =
     served_reached start events told.spans p place shard node h (who_served start turns events known.legal told known.halts p known.in_run known.named place used shard node h)
 
-pub silent_said : SilentIsSaid
+pub silent_said : {tells : Bool} → SilentIsSaid tells
 silent_said start turns events told p known place used shard got reasons h = record {
   counted = h.counted;
   by_name = h.by_name;
@@ -50,12 +50,12 @@ silent_said start turns events told p known place used shard got reasons h = rec
 }
 
 -- as many counted nodes as did what the call asks are reached
-enough_reached : (start : Option MetaState) (turns : List Turn) (events : List Event) (told : ToldBy start turns events) (p : TurnPlace) → IsKnownCall start turns events told p → (place : Placement) → IsUsedBy start p place → (shard needed : ℕ) → HasEnough start (Within events told.spans p) p place shard needed → needed ≤ reached_of p place shard
+enough_reached : {tells : Bool} → (start : Option MetaState) (turns : List Turn) (events : List Event) (told : ToldBy start turns events) (p : TurnPlace) → IsKnownCall tells start turns events told p → (place : Placement) → IsUsedBy start p place → (shard needed : ℕ) → HasEnough start (Within events told.spans p) p place shard needed → needed ≤ reached_of p place shard
 enough_reached start turns events told p known place used shard needed h =
     let some = distinct_within h.nodes (filter (reaches p place) (counted_nodes place shard)) h.distinct (λ n m. filter-IsIn (reaches p place) (counted_nodes place shard) n (h.counted n m) (known_reached start turns events told p known place used shard n (h.served n m))) in
     omega (arith, h.enough, some, length-filter (reaches p place) (counted_nodes place shard))
 
-pub too_few_said : TooFewIsSaid
+pub too_few_said : {tells : Bool} → TooFewIsSaid tells
 too_few_said start turns events told p known got needed reasons shard answers =
     let h : HearsTooFew start (Within events told.spans p) p got needed reasons shard =
     subst (λ b. HearsBy start (take ((told.spans).from p) events) (Within events told.spans p) p p.turn.act b) answers ((told.tells).hears p known.in_run) in
@@ -75,9 +75,9 @@ too_few_said start turns events told p known got needed reasons shard answers =
     }
 
 -- the same for reads, whatever they read
-found_said : (start : Option MetaState) (turns : List Turn) (events : List Event) (told : ToldBy start turns events) (p : TurnPlace) → IsKnownCall start turns events told p
+found_said : {tells : Bool} → (start : Option MetaState) (turns : List Turn) (events : List Event) (told : ToldBy start turns events) (p : TurnPlace) → IsKnownCall tells start turns events told p
     → (id : Option (List ℕ)) (level : ReadLevel) (version : Option ℕ) (series : List Series) (short : Bool) → call_of p.turn.act ≡ Some (record { id = id; version = version; needed = needed_read level }) → (is_unstrict p.turn.act ≡ true → level ≡ read.Unstrict) → (level ≡ read.Unstrict → is_unstrict p.turn.act ≡ true)
-    → p.turn.answer ≡ answer.Found series short → IsFoundFor true (faults_told told.ends events (length turns)) start p id level version short
+    → p.turn.answer ≡ answer.Found series short → IsFoundFor tells (faults_told told.ends events (length turns)) start p id level version short
 found_said start turns events told p known id level version series short calls strict unstrict answers =
     let h : HearsFound start (Within events told.spans p) p short =
     subst (λ b. HearsBy start (take ((told.spans).from p) events) (Within events told.spans p) p p.turn.act b) answers ((told.tells).hears p known.in_run) in
@@ -96,7 +96,7 @@ found_said start turns events told p known id level version series short calls s
       not_short = λ e want shard asked. enough_reached start turns events told p known h.place used shard (majority (h.place).rf) (h.not_short e (unstrict want) shard (here shard asked));
     }
 
-pub fetch_said : FetchIsSaid
+pub fetch_said : {tells : Bool} → FetchIsSaid tells
 fetch_said start turns events told p known ns id from to level version series short acts answers =
     found_said start turns events told p known (Some id) level version series short (ap call_of acts) (λ e. by level (sym (ap is_unstrict acts) ∙ e)) (λ e. ap is_unstrict acts ∙ ap (λ l. is_unstrict (act.Fetch ns id from to l version)) e) answers
   where
@@ -106,7 +106,7 @@ fetch_said start turns events told p known ns id from to level version series sh
     by read.Majority e = cc
     by read.All e = cc
 
-pub match_said : MatchIsSaid
+pub match_said : {tells : Bool} → MatchIsSaid tells
 match_said start turns events told p known ns wanted from to level version series short acts answers =
     found_said start turns events told p known None level version series short (ap call_of acts) (λ e. by level (sym (ap is_unstrict acts) ∙ e)) (λ e. ap is_unstrict acts ∙ ap (λ l. is_unstrict (act.Match ns wanted from to l version)) e) answers
   where

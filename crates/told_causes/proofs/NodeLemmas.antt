@@ -1,5 +1,5 @@
 -- Why a restart and a bootstrap are refused for a disk or for damage.
-use Rattle.std.proofs.Common.{◌≡◌, ℕ, List, [], ◌++◌, take, length, refl, sym, ap, ◌∙◌, subst, append-nil, true}
+use Rattle.std.proofs.Common.{◌≡◌, ℕ, List, [], ◌++◌, take, length, refl, sym, ap, ◌∙◌, subst, append-nil, true, Bool}
 use Rattle.std.specs.Prelude.{Option, IsTrue}
 use Rattle.m3_model.specs.declared.act.Act.{Act}
 use Rattle.m3_model.specs.declared.act.Act.TheVariants as act
@@ -31,7 +31,7 @@ use Rattle.told_causes.specs.Nodes.{AreReached, NamesReplica, NodeAnswersAreSaid
 use Rattle.told_causes.proofs.AloneLemmas.{none_earlier, stands_alone}
 use Rattle.told_causes.proofs.CallLemmas.{fault_here}
 
-module _ (start : Option MetaState) (turns : List Turn) (events : List Event) (legal : Legal true events) (told : ToldBy start turns events) (p : TurnPlace) (at : IsTurnPlace turns p) (only : IsAlone turns p) where
+module _ {tells : Bool} (start : Option MetaState) (turns : List Turn) (events : List Event) (legal : Legal tells events) (told : ToldBy start turns events) (p : TurnPlace) (at : IsTurnPlace turns p) (only : IsAlone turns p) where
   abbrev faults : List Fault
   faults = faults_told told.ends events (length turns)
 
@@ -69,12 +69,12 @@ module _ (start : Option MetaState) (turns : List Turn) (events : List Event) (l
         fault_here start turns events legal told p at (step.2).0 (event.Step h.node shard step.0 (reply.Refused (reason.Corrupt harm))) (record { line = length p.lines; node = h.node; shard = shard; kind = Damaged }) i.0 i.1 i.2 refl refl,
       )
 
-  by_act : (shard : ℕ) (messages : List LateMessage) → (a : Act) (b : Answer) → HearsBy start (take ((told.spans).from p) events) (Within events told.spans p) p a b → NamesReplica a b shard → AreReached start (Within events told.spans p) p a shard → IsOwn true faults start messages p a b
+  by_act : (shard : ℕ) (messages : List LateMessage) → (a : Act) (b : Answer) → HearsBy start (take ((told.spans).from p) events) (Within events told.spans p) p a b → NamesReplica a b shard → AreReached start (Within events told.spans p) p a shard → IsOwn tells faults start messages p a b
   by_act shard messages (act.Restart node pick) (answer.Disk named s) h is reached =
       (h.0, subst (λ m. OnDisk faults start p (HadBefore start p s) m s) (sym h.0) (on_disk node s IsRestartCall AnySlot (HadBefore start p s) (λ n last _ step. subst (λ m. HadBefore start p m n) (sym is) (reached n (subst (λ m. HasStep (Within events told.spans p) IsRestartCall n m (reply.Refused reason.Disk)) is step))) h.1))
   by_act shard messages (act.Bootstrap node asked) (answer.Disk named s) h is reached = (h.0, h.1, subst (λ m. OnDisk faults start p (IsMemberBefore start p s) m s) (sym h.0) (on_disk node s IsJoinCall (IsMember s) (IsMemberBefore start p s) (λ n last reaches _. member node s n last reaches) h.2))
   by_act shard messages (act.Bootstrap node asked) (answer.Corrupt named s harm) h is reached = (h.0, h.1, subst (λ m. InFiles faults start p (IsMemberBefore start p s) m s) (sym h.0) (in_files node s IsJoinCall harm h.3), h.2)
   by_act shard messages _ _ h is reached = absurd is
 
-pub node_answers : NodeAnswersAreSaid
+pub node_answers : {tells : Bool} → NodeAnswersAreSaid tells
 node_answers start turns events legal told p at only shard is reached messages = by_act start turns events legal told p at only shard messages p.turn.act p.turn.answer ((told.tells).hears p at) is reached

@@ -79,10 +79,10 @@ open_by r (call.Begin tenure) a e = inl e
 open_by r _ _ e = inl e
 
 -- a replica that serves is open
-serves_open : (past : List Event) (n s : ℕ) (r : ReplicaState) (c : StepCall) (a : StepReply) → Serves c a → LawfulStep true past n s r c a → r.standing ≡ standing.Open
-serves_open past n s r (call.Put client number rules version point) reply.Done h law = ((law.serving).owner).open_
-serves_open past n s r (call.Read client number rules version pick from to) (reply.Found series) h law = ((law.0).owner).open_
-serves_open past n s r _ _ h law = absurd h
+serves_open : (tells : Bool) (past : List Event) (n s : ℕ) (r : ReplicaState) (c : StepCall) (a : StepReply) → Serves c a → LawfulStep tells past n s r c a → r.standing ≡ standing.Open
+serves_open tells past n s r (call.Put client number rules version point) reply.Done h law = ((law.serving).owner).open_
+serves_open tells past n s r (call.Read client number rules version pick from to) (reply.Found series) h law = ((law.0).owner).open_
+serves_open tells past n s r _ _ h law = absurd h
 
 -- ---- stops
 
@@ -118,7 +118,7 @@ stop_cases name (t ∷ ts) =
 
 -- ---- the slot
 
-module _ (start : Option MetaState) (turns : List Turn) (events : List Event) (legal : Legal true events) (told : ToldBy start turns events) (halts : HaltsAlone turns) (n s : ℕ) (name : List ℕ) (named : IsNamedBy events n name) where
+module _ {tells : Bool} (start : Option MetaState) (turns : List Turn) (events : List Event) (legal : Legal tells events) (told : ToldBy start turns events) (halts : HaltsAlone turns) (n s : ℕ) (name : List ℕ) (named : IsNamedBy events n name) where
   abbrev OpenAt : ℕ → Type 0
   OpenAt j = (replica n s (take j events)).standing ≡ standing.Open
 
@@ -209,7 +209,7 @@ module _ (start : Option MetaState) (turns : List Turn) (events : List Event) (l
   -- where the slot is open in a line, its node runs when the line begins
   runs_in : (k : ℕ) → k < length turns → (OpenAt (told.ends k) → stopped k ≡ false) → (j : ℕ) → told.ends k ≤ j → j ≤ told.ends (suc k) → OpenAt j → stopped k ≡ false
   runs_in k less was j low high now =
-      elim (since (told.ends k) j low (omega (arith, high, ends_within start turns events legal told (suc k) less)) now) as (λ _. stopped k ≡ false) [
+      elim (since (told.ends k) j low (omega (arith, high, ends_within start turns events told (suc k) less)) now) as (λ _. stopped k ≡ false) [
         | inl all ↦ was (all (told.ends k) (omega arith) low)
         | inr b ↦ let below = b.below in (begun_by k less (record { place = b.place; at_least = b.at_least; below = omega (arith, below, high); tenure = b.tenure; fence = b.fence; points = b.points; there = b.there })).runs
       ]
@@ -220,7 +220,7 @@ module _ (start : Option MetaState) (turns : List Turn) (events : List Event) (l
   -- an ok stop leaves it not open at the end of its line
   stop_clash : (k : ℕ) → k < length turns → (q : TurnPlace) → IsTurnPlace turns q → length q.lines ≡ k → IsStopOf name q.turn → OpenAt (told.ends (suc k)) → ⊥
   stop_clash k less q at line_is stop now =
-      elim (since (told.ends k) (told.ends (suc k)) ((told.lines).ascends k less) (ends_within start turns events legal told (suc k) less) now) as (λ _. ⊥) [
+      elim (since (told.ends k) (told.ends (suc k)) ((told.lines).ascends k less) (ends_within start turns events told (suc k) less) now) as (λ _. ⊥) [
         | inl all ↦ by_all all
         | inr b ↦
             let h = begun_by k less b in
@@ -230,7 +230,7 @@ module _ (start : Option MetaState) (turns : List Turn) (events : List Event) (l
     where
       by_all : ((i : ℕ) → told.ends k ≤ i → i ≤ told.ends (suc k) → OpenAt i) → ⊥
       by_all all =
-          let b = called (told.ends k) (ends_within start turns events legal told k (omega (arith, less))) (all (told.ends k) (omega arith) ((told.lines).ascends k less)) in
+          let b = called (told.ends k) (ends_within start turns events told k (omega (arith, less))) (all (told.ends k) (omega arith) ((told.lines).ascends k less)) in
           let from = (told.spans).from q in
           let begins : told.ends k ≤ from = omega (arith, (told.lines).low q at, ap told.ends line_is) in
           let finishes : (told.spans).to q ≤ told.ends (suc k) = omega (arith, (told.lines).high q at, ap (λ m. told.ends (suc m)) line_is) in
@@ -274,26 +274,26 @@ module _ (start : Option MetaState) (turns : List Turn) (events : List Event) (l
       ap (λ ls. is_stopped (inner_turns ls) name) (sym front)
       ∙ runs_in k less (λ open_. runs_at k (omega (arith, less)) open_) i (omega (arith, (told.lines).low p at, low)) (omega (arith, (told.lines).high p at, high)) now
 
-pub who_serves : WhoServesRuns
-who_serves start turns events legal told halts p at n s name named c a serves h =
+pub who_serves : {tells : Bool} → WhoServesRuns tells
+who_serves {tells} start turns events legal told halts p at n s name named c a serves h =
     let i = h.1 in
-    runs_there start turns events legal told halts n s name named p at h.0 i.0 i.1 (serves_open (take h.0 events) n s (replica n s (take h.0 events)) c a serves (lawful_step events legal h.0 n s c a i.2))
+    runs_there start turns events legal told halts n s name named p at h.0 i.0 i.1 (serves_open tells (take h.0 events) n s (replica n s (take h.0 events)) c a serves (lawful_step events legal h.0 n s c a i.2))
 
 -- what a call counts as served is a put that was done, or a read that was answered
-served_by : (start : Option MetaState) (p : TurnPlace) (version : ℕ) (past : List Event) (n s : ℕ) (r : ReplicaState) (c : StepCall) (a : StepReply) → IsServed a → IsOwnCall start p version c → LawfulStep true past n s r c a → Serves c a
-served_by start p version past n s r (call.Put client number rules at_version point) reply.Done served own law = tt
-served_by start p version past n s r (call.Put client number rules at_version point) (reply.Found series) served own law = absurd law
-served_by start p version past n s r (call.Read client number rules at_version pick from to) (reply.Found series) served own law = tt
-served_by start p version past n s r (call.Read client number rules at_version pick from to) reply.Done served own law = absurd law
-served_by start p version past n s r (call.Put client number rules at_version point) _ served own law = absurd served
-served_by start p version past n s r (call.Read client number rules at_version pick from to) _ served own law = absurd served
-served_by start p version past n s r _ a served own law = absurd own
+served_by : (tells : Bool) (start : Option MetaState) (p : TurnPlace) (version : ℕ) (past : List Event) (n s : ℕ) (r : ReplicaState) (c : StepCall) (a : StepReply) → IsServed a → IsOwnCall start p version c → LawfulStep tells past n s r c a → Serves c a
+served_by tells start p version past n s r (call.Put client number rules at_version point) reply.Done served own law = tt
+served_by tells start p version past n s r (call.Put client number rules at_version point) (reply.Found series) served own law = absurd law
+served_by tells start p version past n s r (call.Read client number rules at_version pick from to) (reply.Found series) served own law = tt
+served_by tells start p version past n s r (call.Read client number rules at_version pick from to) reply.Done served own law = absurd law
+served_by tells start p version past n s r (call.Put client number rules at_version point) _ served own law = absurd served
+served_by tells start p version past n s r (call.Read client number rules at_version pick from to) _ served own law = absurd served
+served_by tells start p version past n s r _ a served own law = absurd own
 
-pub who_served : WhoServedRuns
-who_served start turns events legal told halts p at names place used shard node h =
+pub who_served : {tells : Bool} → WhoServedRuns tells
+who_served {tells} start turns events legal told halts p at names place used shard node h =
     let named = names place used shard node h in
     let step = h.2 in
     let i = (step.2).1 in
-    let serves = served_by start p place.version (take (step.2).0 events) node shard (replica node shard (take (step.2).0 events)) step.0 h.0 h.1 step.1 (lawful_step events legal (step.2).0 node shard step.0 h.0 i.2) in
+    let serves = served_by tells start p place.version (take (step.2).0 events) node shard (replica node shard (take (step.2).0 events)) step.0 h.0 h.1 step.1 (lawful_step events legal (step.2).0 node shard step.0 h.0 i.2) in
     let runs = who_serves start turns events legal told halts p at node shard named.0 named.2 step.0 h.0 serves step.2 in
     record { instance_ = (named.1).instance_; stands = (named.1).stands; holds = ap (is_stopped (inner_turns p.lines)) (named.1).holds ∙ runs }

@@ -1,5 +1,5 @@
 -- Why a replica isn't begun: it waits for a bootstrap since the run opened, since it was assigned, or since its node was restarted.
-use Rattle.std.specs.Prelude.{◌≡◌, ◌⊎◌, ◌≤◌, ℕ, ⊤, List, length, take, Option, Some, true, IsTrue}
+use Rattle.std.specs.Prelude.{◌≡◌, ◌⊎◌, ◌≤◌, ℕ, ⊤, List, length, take, Option, Some, true, IsTrue, Bool}
 use Rattle.m3_model.specs.declared.act.Act.{Act}
 use Rattle.m3_model.specs.declared.act.Act.TheVariants as act
 use Rattle.m3_model.specs.declared.placement.Placement.{Placement}
@@ -63,9 +63,9 @@ pub record IsKnownMember (start : Option MetaState) (turns : List Turn) (events 
   pub was : WasMember start p shard node
 
 -- Where a step of a turn that stops and restarts nothing is refused as not begun, its replica waits for a bootstrap.
-abbrev pub BootHasCause : Type 0
-BootHasCause =
-    (start : Option MetaState) (turns : List Turn) (events : List Event) → Legal true events → (told : ToldBy start turns events) → (p : TurnPlace) → IsTurnPlace turns p → ¬ IsHaltAct p.turn.act
+abbrev pub BootHasCause : Bool → Type 0
+BootHasCause tells =
+    (start : Option MetaState) (turns : List Turn) (events : List Event) → Legal tells events → (told : ToldBy start turns events) → (p : TurnPlace) → IsTurnPlace turns p → ¬ IsHaltAct p.turn.act
     → (node shard : ℕ) (name : List ℕ) → IsKnownMember start turns events told p shard node name
     → (c : StepCall) → Happens (InStretch events (told.spans.from p) (told.spans.to p)) (event.Step node shard c (reply.Refused reason.Boot)) → waits_at (record { shard = shard; node = node; name = name }) start p ≡ true
 

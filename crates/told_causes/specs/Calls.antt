@@ -47,17 +47,22 @@ pub record IsSteadyNode (start : Option MetaState) (turns : List Turn) (events :
   pub everywhere : IsNamedBy events node name
   pub there : WasThere (faults_told told.ends events (length turns)) start p node shard
 
+-- so is a reason of a replica: what is known of a member is asked where the disks tell what they hold
+abbrev pub IsExplainedAt : (tells : Bool) (start : Option MetaState) (turns : List Turn) (events : List Event) → ToldBy start turns events → TurnPlace → Placement → (shard node : ℕ) (name : List ℕ) → Reason → Type 0
+IsExplainedAt tells start turns events told p place shard node name why =
+    IsExplained (tells ≡ true → IsKnownMember start turns events told p shard node name) (MayFail tells (faults_told told.ends events (length turns)) start p place shard node) why
+
 -- Each reason that a call names for a replica, of those that are explained here, has its cause.
-abbrev pub ReasonsAreSaid : Type 0
-ReasonsAreSaid =
-    (start : Option MetaState) (turns : List Turn) (events : List Event) → Legal true events → (told : ToldBy start turns events) → (p : TurnPlace) → IsTurnPlace turns p → IsTrue (is_call p.turn.act)
-    → (place : Placement) (shard node : ℕ) → (steady : IsSteadyNode start turns events told p place shard node) → (why : Reason) → IsExplained (IsKnownMember start turns events told p shard node steady.name) (MayFail true (faults_told told.ends events (length turns)) start p place shard node) why
-    → IsHeard start (Within events told.spans p) p place shard node why → MayRefuse true (faults_told told.ends events (length turns)) start p place shard node why
+abbrev pub ReasonsAreSaid : Bool → Type 0
+ReasonsAreSaid tells =
+    (start : Option MetaState) (turns : List Turn) (events : List Event) → Legal tells events → (told : ToldBy start turns events) → (p : TurnPlace) → IsTurnPlace turns p → IsTrue (is_call p.turn.act)
+    → (place : Placement) (shard node : ℕ) → (steady : IsSteadyNode start turns events told p place shard node) → (why : Reason) → IsExplainedAt tells start turns events told p place shard node steady.name why
+    → IsHeard start (Within events told.spans p) p place shard node why → MayRefuse tells (faults_told told.ends events (length turns)) start p place shard node why
 
 -- Where a replica did as a write asks, the write's point is one that is taken at this moment.
-abbrev pub ServedIsTaken : Type 0
-ServedIsTaken =
-    (start : Option MetaState) (turns : List Turn) (events : List Event) → Legal true events → (told : ToldBy start turns events) → (p : TurnPlace) → IsTurnPlace turns p
+abbrev pub ServedIsTaken : Bool → Type 0
+ServedIsTaken tells =
+    (start : Option MetaState) (turns : List Turn) (events : List Event) → Legal tells events → (told : ToldBy start turns events) → (p : TurnPlace) → IsTurnPlace turns p
     → (place : Placement) (shard node : ℕ) → HasServed start (Within events told.spans p) p place shard node → MayServe (rules_at start p) p.turn.act
 
 -- the node has one name, in this placement and in all others
@@ -75,48 +80,48 @@ abbrev pub ServedAreNamed : Option MetaState → List Event → Spans → TurnPl
 ServedAreNamed start events spans p = (place : Placement) → IsUsedBy start p place → (shard node : ℕ) → HasServed start (Within events spans p) p place shard node → IsNamedOnce events place node
 
 -- each reason that the turn hears of a counted replica is explained here
-abbrev pub AllAreExplained : (start : Option MetaState) (turns : List Turn) (events : List Event) → ToldBy start turns events → TurnPlace → Type 0
-AllAreExplained start turns events told p =
+abbrev pub AllAreExplained : (tells : Bool) (start : Option MetaState) (turns : List Turn) (events : List Event) → ToldBy start turns events → TurnPlace → Type 0
+AllAreExplained tells start turns events told p =
     (place : Placement) → IsUsedBy start p place → (shard node : ℕ) (why : Reason) → IsCounted place shard node → IsHeard start (Within events told.spans p) p place shard node why
-    → (steady : IsSteadyNode start turns events told p place shard node) × IsExplained (IsKnownMember start turns events told p shard node steady.name) (MayFail true (faults_told told.ends events (length turns)) start p place shard node) why
+    → (steady : IsSteadyNode start turns events told p place shard node) × IsExplainedAt tells start turns events told p place shard node steady.name why
 
 -- What is known of a call: it is one of a run that a legal list tells of, stops are alone in their lines, nodes have one name, and what it hears is explained.
-pub record IsKnownCall (start : Option MetaState) (turns : List Turn) (events : List Event) (told : ToldBy start turns events) (p : TurnPlace) : Type 0 where
-  pub legal : Legal true events
+pub record IsKnownCall (tells : Bool) (start : Option MetaState) (turns : List Turn) (events : List Event) (told : ToldBy start turns events) (p : TurnPlace) : Type 0 where
+  pub legal : Legal tells events
   pub in_run : IsTurnPlace turns p
   pub calls : IsTrue (is_call p.turn.act)
   pub halts : HaltsAlone turns
   pub named : ServedAreNamed start events told.spans p
-  pub explained : AllAreExplained start turns events told p
+  pub explained : AllAreExplained tells start turns events told p
 
 -- The counted replicas that a call names with their reasons are silent for these reasons.
-abbrev pub SilentIsSaid : Type 0
-SilentIsSaid =
-    (start : Option MetaState) (turns : List Turn) (events : List Event) (told : ToldBy start turns events) (p : TurnPlace) → IsKnownCall start turns events told p
+abbrev pub SilentIsSaid : Bool → Type 0
+SilentIsSaid tells =
+    (start : Option MetaState) (turns : List Turn) (events : List Event) (told : ToldBy start turns events) (p : TurnPlace) → IsKnownCall tells start turns events told p
     → (place : Placement) → IsUsedBy start p place → (shard got : ℕ) (reasons : List (ℕ × Reason)) → HearsShard start (Within events told.spans p) p place shard got reasons
-    → AreSilent true (faults_told told.ends events (length turns)) start p place shard reasons
+    → AreSilent tells (faults_told told.ends events (length turns)) start p place shard reasons
 
 -- A call that is refused for its level missed it.
-abbrev pub TooFewIsSaid : Type 0
-TooFewIsSaid =
-    (start : Option MetaState) (turns : List Turn) (events : List Event) (told : ToldBy start turns events) (p : TurnPlace) → IsKnownCall start turns events told p
-    → (got needed : ℕ) (reasons : List (ℕ × Reason)) (shard : ℕ) → p.turn.answer ≡ answer.Consistency got needed reasons shard → MissesLevel true (faults_told told.ends events (length turns)) start p got needed reasons shard
+abbrev pub TooFewIsSaid : Bool → Type 0
+TooFewIsSaid tells =
+    (start : Option MetaState) (turns : List Turn) (events : List Event) (told : ToldBy start turns events) (p : TurnPlace) → IsKnownCall tells start turns events told p
+    → (got needed : ℕ) (reasons : List (ℕ × Reason)) (shard : ℕ) → p.turn.answer ≡ answer.Consistency got needed reasons shard → MissesLevel tells (faults_told told.ends events (length turns)) start p got needed reasons shard
 
 -- A fetch and a match that are answered reached their level, and are short only where a majority is missing.
-abbrev pub FetchIsSaid : Type 0
-FetchIsSaid =
-    (start : Option MetaState) (turns : List Turn) (events : List Event) (told : ToldBy start turns events) (p : TurnPlace) → IsKnownCall start turns events told p
+abbrev pub FetchIsSaid : Bool → Type 0
+FetchIsSaid tells =
+    (start : Option MetaState) (turns : List Turn) (events : List Event) (told : ToldBy start turns events) (p : TurnPlace) → IsKnownCall tells start turns events told p
     → (ns id : List ℕ) (from to : ℕ) (level : ReadLevel) (version : Option ℕ) (series : List Series) (short : Bool) → p.turn.act ≡ act.Fetch ns id from to level version → p.turn.answer ≡ answer.Found series short
-    → IsFoundFor true (faults_told told.ends events (length turns)) start p (Some id) level version short
+    → IsFoundFor tells (faults_told told.ends events (length turns)) start p (Some id) level version short
 
-abbrev pub MatchIsSaid : Type 0
-MatchIsSaid =
-    (start : Option MetaState) (turns : List Turn) (events : List Event) (told : ToldBy start turns events) (p : TurnPlace) → IsKnownCall start turns events told p
+abbrev pub MatchIsSaid : Bool → Type 0
+MatchIsSaid tells =
+    (start : Option MetaState) (turns : List Turn) (events : List Event) (told : ToldBy start turns events) (p : TurnPlace) → IsKnownCall tells start turns events told p
     → (ns : List ℕ) (wanted : List Matcher) (from to : ℕ) (level : ReadLevel) (version : Option ℕ) (series : List Series) (short : Bool) → p.turn.act ≡ act.Match ns wanted from to level version → p.turn.answer ≡ answer.Found series short
-    → IsFoundFor true (faults_told told.ends events (length turns)) start p None level version short
+    → IsFoundFor tells (faults_told told.ends events (length turns)) start p None level version short
 
 -- An acknowledgement names counted nodes, each once, by name, and as many as the level needs; and the point lies within its window.
-abbrev pub AcksAreSaid : Type 0
-AcksAreSaid =
-    (start : Option MetaState) (turns : List Turn) (events : List Event) → Legal true events → (told : ToldBy start turns events) → (p : TurnPlace) → IsTurnPlace turns p → HaltsAlone turns → ServedAreNamed start events told.spans p
+abbrev pub AcksAreSaid : Bool → Type 0
+AcksAreSaid tells =
+    (start : Option MetaState) (turns : List Turn) (events : List Event) → Legal tells events → (told : ToldBy start turns events) → (p : TurnPlace) → IsTurnPlace turns p → HaltsAlone turns → ServedAreNamed start events told.spans p
     → (ns id : List ℕ) (t : ℕ) (v : ℤ) (level : WriteLevel) (version : Option ℕ) (nodes : List ℕ) → p.turn.act ≡ act.Write ns id t v level version → p.turn.answer ≡ answer.Acks nodes → IsAcked start p id level version nodes

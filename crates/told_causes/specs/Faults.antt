@@ -1,6 +1,7 @@
 -- The faults and damages that a list of events tells of: of each slot and line one of each kind for which a step was refused there.
 use Rattle.std.specs.Prelude.{◌≡◌, ◌≤◌, ◌<◌, ◌*◌, ℕ, zero, suc, List, [], ◌∷◌, length, take, drop, Option, Some, None, Bool, true, false, ◌&&◌, if◌then◌else◌, nat_eq, is_some, fold, count_by}
 use Rattle.std.specs.List.{list_any}
+use Rattle.std.specs.Option.{option_map_or}
 use Rattle.m3_model.specs.Members.{IsIn}
 use Rattle.m3_model.specs.declared.reason.Reason.TheVariants as reason
 use Rattle.cluster_core.specs.Lists.{At}
@@ -67,14 +68,19 @@ FaultsAreSteps = (ends : ℕ → ℕ) (events : List Event) (lines : ℕ) (fault
 abbrev pub StepsAreFaults : Type 0
 StepsAreFaults = (ends : ℕ → ℕ) (events : List Event) (lines : ℕ) (fault : Fault) → IsToldOf ends events lines fault → IsIn (faults_told ends events lines) fault
 
--- an event tells of a fault
-abbrev pub is_refused : Event → Bool
-is_refused e = is_some (fault_of 0 e)
+-- the fault, as one of a first line
+abbrev pub at_first_line : Fault → Fault
+at_first_line fault = record fault { line = 0 }
 
--- There are no more faults than events that tell of one.
+-- the event tells of a fault that passes the test
+abbrev pub tells_of : (Fault → Bool) → Event → Bool
+tells_of test e = option_map_or test (fault_of 0 e) false
+
+-- Of the faults that pass a test there are no more than events that tell of such a one, whatever the test asks beside their lines: their kind, or their slot.
 abbrev pub FaultsAreFew : Type 0
 FaultsAreFew =
-    (ends : ℕ → ℕ) (events : List Event) (lines : ℕ) → ((k : ℕ) → k < lines → ends k ≤ ends (suc k)) → length (faults_told ends events lines) ≤ count_by is_refused (take (ends lines) events)
+    (test : Fault → Bool) → ((fault : Fault) → test fault ≡ test (at_first_line fault)) → (ends : ℕ → ℕ) (events : List Event) (lines : ℕ) → ((k : ℕ) → k < lines → ends k ≤ ends (suc k))
+    → count_by test (faults_told ends events lines) ≤ count_by (tells_of test) (take (ends lines) events)
 
 -- A list in which a fault stands twice isn't one of different faults.
 abbrev pub FaultToldTwice : Type 0

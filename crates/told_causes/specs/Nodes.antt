@@ -1,5 +1,5 @@
 -- Why a restart and a bootstrap are refused: the disk of one of the node's replicas failed, or its files were found damaged.
-use Rattle.std.specs.Prelude.{◌≡◌, ℕ, ⊤, List, length, Option, true}
+use Rattle.std.specs.Prelude.{◌≡◌, ℕ, ⊤, List, length, Option, true, Bool}
 use Rattle.m3_model.specs.declared.act.Act.{Act}
 use Rattle.m3_model.specs.declared.act.Act.TheVariants as act
 use Rattle.m3_model.specs.declared.answer.Answer.{Answer}
@@ -32,8 +32,8 @@ AreReached start Here p (act.Restart name pick) shard = (node : ℕ) → HasStep
 AreReached start Here p _ shard = ⊤
 
 -- Where a turn that is alone in its line answers so of a slot that it reaches, a transcript says why.
-abbrev pub NodeAnswersAreSaid : Type 0
-NodeAnswersAreSaid =
-    (start : Option MetaState) (turns : List Turn) (events : List Event) → Legal true events → (told : ToldBy start turns events) → (p : TurnPlace) → IsTurnPlace turns p → IsAlone turns p
+abbrev pub NodeAnswersAreSaid : Bool → Type 0
+NodeAnswersAreSaid tells =
+    (start : Option MetaState) (turns : List Turn) (events : List Event) → Legal tells events → (told : ToldBy start turns events) → (p : TurnPlace) → IsTurnPlace turns p → IsAlone turns p
     → (shard : ℕ) → NamesReplica p.turn.act p.turn.answer shard → AreReached start (Within events told.spans p) p p.turn.act shard
-    → (messages : List LateMessage) → IsOwn true (faults_told told.ends events (length turns)) start messages p p.turn.act p.turn.answer
+    → (messages : List LateMessage) → IsOwn tells (faults_told told.ends events (length turns)) start messages p p.turn.act p.turn.answer

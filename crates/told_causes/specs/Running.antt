@@ -1,5 +1,5 @@
 -- Whose replicas do as they are asked: nodes that aren't stopped.
-use Rattle.std.specs.Prelude.{◌≡◌, ℕ, ⊤, List, Option, true, false}
+use Rattle.std.specs.Prelude.{◌≡◌, ℕ, ⊤, List, Option, true, false, Bool}
 use Rattle.m3_model.specs.declared.placement.Placement.{Placement}
 use Rattle.m3_model.specs.declared.rules.MetaState.{MetaState}
 use Rattle.m3_model.specs.declared.turn.Turn.{Turn}
@@ -24,13 +24,13 @@ Serves (call.Read client number rules version pick from to) (reply.Found series)
 Serves _ _ = ⊥
 
 -- Where a replica serves within a turn's stretch, its node isn't stopped at that turn.
-abbrev pub WhoServesRuns : Type 0
-WhoServesRuns =
-    (start : Option MetaState) (turns : List Turn) (events : List Event) → Legal true events → (told : ToldBy start turns events) → HaltsAlone turns → (p : TurnPlace) → IsTurnPlace turns p → (node shard : ℕ) (name : List ℕ) → IsNamedBy events node name
+abbrev pub WhoServesRuns : Bool → Type 0
+WhoServesRuns tells =
+    (start : Option MetaState) (turns : List Turn) (events : List Event) → Legal tells events → (told : ToldBy start turns events) → HaltsAlone turns → (p : TurnPlace) → IsTurnPlace turns p → (node shard : ℕ) (name : List ℕ) → IsNamedBy events node name
     → (c : StepCall) (a : StepReply) → Serves c a → Happens (InStretch events (told.spans.from p) (told.spans.to p)) (event.Step node shard c a) → is_stopped (inner_turns p.lines) name ≡ false
 
 -- So the nodes run whose replicas did as a call asks, where each has one name in all placements.
-abbrev pub WhoServedRuns : Type 0
-WhoServedRuns =
-    (start : Option MetaState) (turns : List Turn) (events : List Event) → Legal true events → (told : ToldBy start turns events) → HaltsAlone turns → (p : TurnPlace) → IsTurnPlace turns p → ServedAreNamed start events told.spans p
+abbrev pub WhoServedRuns : Bool → Type 0
+WhoServedRuns tells =
+    (start : Option MetaState) (turns : List Turn) (events : List Event) → Legal tells events → (told : ToldBy start turns events) → HaltsAlone turns → (p : TurnPlace) → IsTurnPlace turns p → ServedAreNamed start events told.spans p
     → (place : Placement) → IsUsedBy start p place → (shard node : ℕ) → HasServed start (Within events told.spans p) p place shard node → OfNode place node (λ name. is_stopped (inner_turns p.lines) name ≡ false)

@@ -49,4 +49,4 @@ lines_before = line_of begun placed ∷ line_of spaced answer.Done ∷ line_of w
 
 -- What is asked of a call can be met, too: by the read of the short run.
 abbrev pub ReadIsKnown : Type 0
-ReadIsKnown = (told : ToldBy None short_turns short_events) × IsKnownCall None short_turns short_events told (place_after lines_before fetched (answer.Found series false))
+ReadIsKnown = (told : ToldBy None short_turns short_events) × IsKnownCall true None short_turns short_events told (place_after lines_before fetched (answer.Found series false))

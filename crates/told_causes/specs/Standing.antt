@@ -1,5 +1,5 @@
 -- Why replicas are closed: a node is stopped, or a fault closed the replica and its node wasn't restarted since.
-use Rattle.std.specs.Prelude.{◌≡◌, ◌≤◌, ◌<◌, ◌⊎◌, ℕ, suc, ⊤, List, length, take, drop, Option, true, false, IsTrue}
+use Rattle.std.specs.Prelude.{◌≡◌, ◌≤◌, ◌<◌, ◌⊎◌, ℕ, suc, ⊤, List, length, take, drop, Option, true, false, IsTrue, Bool}
 use Rattle.std.specs.List.{list_any}
 use Rattle.m3_model.specs.Members.{IsIn}
 use Rattle.m3_model.specs.declared.act.Act.{Act}
@@ -43,9 +43,9 @@ pub record IsClosedSince (faults : List Fault) (p : TurnPlace) (node shard : ℕ
   pub not_restarted : list_any (is_restart name) (inner_turns (drop (suc fault.line) p.lines)) ≡ false
 
 -- Where a step of a turn that stops and restarts nothing is refused as closed, its node is stopped, or a fault closed the slot.
-abbrev pub DownHasCause : Type 0
-DownHasCause =
-    (start : Option MetaState) (turns : List Turn) (events : List Event) → Legal true events → (told : ToldBy start turns events) → (p : TurnPlace) → IsTurnPlace turns p → ¬ IsHaltAct p.turn.act
+abbrev pub DownHasCause : Bool → Type 0
+DownHasCause tells =
+    (start : Option MetaState) (turns : List Turn) (events : List Event) → Legal tells events → (told : ToldBy start turns events) → (p : TurnPlace) → IsTurnPlace turns p → ¬ IsHaltAct p.turn.act
     → (node shard : ℕ) (name : List ℕ) → IsNamedBy events node name → (c : StepCall) → Happens (InStretch events (told.spans.from p) (told.spans.to p)) (event.Step node shard c (reply.Refused reason.Down))
     → (is_stopped (inner_turns p.lines) name ≡ true) ⊎ IsClosedSince (faults_told told.ends events (length turns)) p node shard name
 

@@ -2,7 +2,7 @@
 ghost use Rattle.told_causes.specs.Faults.{FaultToldTwice, FaultsAreDifferent, FaultsAreSteps, StepsAreFaults, FaultsAreFew, RefusedTwice};
 
 /// The faults of a list are those of its refused steps: no two are alike, each is of a step that was refused in its
-/// line, each such step has its fault, and there are no more of them than such steps.
+/// line, each such step has its fault, and of one kind, of one slot or in all there are no more of them than such steps.
 pub fn faults_are_steps()
     ensures different { FaultsAreDifferent }
     ensures steps { FaultsAreSteps }

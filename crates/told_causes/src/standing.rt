@@ -1,4 +1,5 @@
 //! Why replicas are closed.
+ghost use Rattle.std.specs.Prelude.{Bool};
 ghost use Rattle.told_causes.specs.Boot.{BootHasCause, BootIsSaid};
 ghost use Rattle.told_causes.specs.Running.{WhoServedRuns, WhoServesRuns};
 ghost use Rattle.told_causes.specs.Sample.{BootIsHeard};
@@ -7,14 +8,14 @@ ghost use Rattle.told_causes.specs.Standing.{DownHasCause, DownIsSaid};
 /// A replica that refuses a call as closed is of a node that is stopped, or a fault of its own closed it and its node
 /// wasn't restarted since; and so a transcript says of it.
 pub fn down_has_cause()
-    ensures cause { DownHasCause }
+    ensures cause { (tells : Bool) → DownHasCause tells }
     ensures said { DownIsSaid }
 {}
 
 /// A replica that refuses a call as not begun waits for a bootstrap, as a transcript says, where each bootstrap is alone
 /// in its line: since the run opened, since it was assigned, or since its node was restarted.
 pub fn boot_has_cause()
-    ensures cause { BootHasCause }
+    ensures cause { (tells : Bool) → BootHasCause tells }
     ensures said { BootIsSaid }
 {}
 
@@ -26,6 +27,6 @@ pub fn not_begun_is_heard()
 /// A node whose replica serves isn't stopped, where stops and restarts are alone in their lines; so the nodes run whose
 /// replicas did as a call asks.
 pub fn who_serves_runs()
-    ensures serves { WhoServesRuns }
-    ensures served { WhoServedRuns }
+    ensures serves { (tells : Bool) → WhoServesRuns tells }
+    ensures served { (tells : Bool) → WhoServedRuns tells }
 {}

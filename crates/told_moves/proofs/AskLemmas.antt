@@ -1,5 +1,5 @@
 -- Who asked for a begin or a fence: an `init` or a bootstrap, over a placement that gives a node the shard with this tenure.
-use Rattle.std.proofs.Common.{◌≡◌, ℕ, zero, suc, ◌<◌, ◌≤◌, List, [], ◌∷◌, take, length, refl, sym, ap, ◌∙◌, subst, inl, inr, arith, true}
+use Rattle.std.proofs.Common.{◌≡◌, ℕ, zero, suc, ◌<◌, ◌≤◌, List, [], ◌∷◌, take, length, refl, sym, ap, ◌∙◌, subst, inl, inr, arith, true, Bool}
 use Rattle.std.specs.Prelude.{◌⊎◌, Option, Some, IsTrue}
 use Rattle.m3_model.specs.Members.{IsIn}
 use Rattle.m3_model.specs.declared.act.Act.{Act}
@@ -52,7 +52,7 @@ pub record IsBootOf (q : TurnPlace) (place : Placement) (node s : ℕ) : Type 0 
   pub covers : IsTrue (is_covering s only)
   pub named : OfNode place node (λ own. own ≡ name)
 
-module _ (start : Option MetaState) (turns : List Turn) (events : List Event) (legal : Legal true events) (told : ToldBy start turns events) where
+module _ {tells : Bool} (start : Option MetaState) (turns : List Turn) (events : List Event) (legal : Legal tells events) (told : ToldBy start turns events) where
   -- a turn asks there for a step of the slot
   record IsAsked (k n s : ℕ) (c : StepCall) : Type 0 where
     q : TurnPlace

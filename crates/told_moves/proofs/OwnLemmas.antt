@@ -1,5 +1,6 @@
 -- A put or a read that is refused as not owned: its node has no replica of the shard, or has it with a later tenure, or since a line that assigned it anew.
 use Rattle.std.proofs.Common.{◌≡◌, ℕ, zero, suc, ◌<◌, ◌≤◌, List, [], ◌∷◌, ◌++◌, take, length, refl, sym, ap, ◌∙◌, subst, inl, inr, arith, Bool, true, false, append-nil}
+use Rattle.std.specs.Bool.{OnTrue}
 use Rattle.std.specs.Prelude.{◌⊎◌, Option, Some, None, is_some, nat_eq, ◌&&◌}
 use Rattle.std.specs.Cmp.Lexicographic.{pointwise}
 use Rattle.std.proofs.lemmas.Bool.{cases_lt}
@@ -14,6 +15,7 @@ use Rattle.m3_model.specs.declared.replica.Standing.TheVariants as standing
 use Rattle.m3_model.specs.declared.rules.MetaState.{MetaState}
 use Rattle.m3_model.specs.declared.turn.Turn.{Turn}
 use Rattle.placement_core.proofs.ListLemmas.{IsIn-from_Any}
+use Rattle.cluster_core.specs.Rows.{MayBeHigher}
 use Rattle.cluster_core.specs.Earlier.{last_place}
 use Rattle.cluster_core.specs.Legal.{Legal}
 use Rattle.cluster_core.specs.Lists.{At}
@@ -70,7 +72,7 @@ none_begun x before next ts none =
           absurd (none t.0 t.1 (begun_is x stays t.0 (t.0).act (t.0).answer refl refl t.2))
     ]
 
-module _ (start : Option MetaState) (turns : List Turn) (events : List Event) (legal : Legal true events) (told : ToldBy start turns events) (order : IsInOrder start turns events told) where
+module _ {tells : Bool} (start : Option MetaState) (turns : List Turn) (events : List Event) (legal : Legal tells events) (told : ToldBy start turns events) (order : IsInOrder start turns events told) where
   -- ---- tenures
 
   -- a begin's tenure was given before
@@ -116,10 +118,10 @@ module _ (start : Option MetaState) (turns : List Turn) (events : List Event) (l
           | inr new ↦
               let there = place_there (take e events) was last in
               let first = first_event events legal there.0 (event.Place was there.1) (at_take events there.0 e (event.Place was there.1) there.2).0 in
-              let p = placed_at events legal first.place [] first.there (told.ends k) (omega (arith, lt)) (ends_within start turns events legal told k (omega (arith, high))) in
+              let p = placed_at events legal first.place [] first.there (told.ends k) (omega (arith, lt)) (ends_within start turns events told k (omega (arith, high))) in
               here p.0 (sym (placements_stand start turns events legal told k (omega (arith, high))) ∙ p.1) new
         ]
-        | inr ge ↦ elim (stands_from events legal (told.ends k) e ge (omega (arith, before, ends_within start turns events legal told (suc k) high)) was last) as (λ _. WasAssigned x e (suc k)) [
+        | inr ge ↦ elim (stands_from events legal (told.ends k) e ge (omega (arith, before, ends_within start turns events told (suc k) high)) was last) as (λ _. WasAssigned x e (suc k)) [
           | inl same ↦
               let is : placed k ≡ Some was = sym (placements_stand start turns events legal told k (omega (arith, high))) ∙ same in
               here was is (ap (is_member x) is ∙ gone)
@@ -137,31 +139,31 @@ module _ (start : Option MetaState) (turns : List Turn) (events : List Event) (l
   -- ---- bootstraps since
 
   -- no begin of a slot whose tenure ended, with a tenure that isn't below those that it began with, leaves it so
-  begin_clash : (n s m tenure : ℕ) (a : StepReply) → IsBegun a → At events m (event.Step n s (call.Begin tenure) a) → IsEnded (slot events legal n s m) → IsEnded (slot events legal n s (suc m)) → ((own : ℕ) → Tries (slot events legal n s m) own → own ≤ tenure) → ⊥
-  begin_clash n s m tenure (reply.Began fence points) begun there now next none =
+  begin_clash : tells ≡ true → (n s m tenure : ℕ) (a : StepReply) → IsBegun a → At events m (event.Step n s (call.Begin tenure) a) → IsEnded (slot events legal n s m) → IsEnded (slot events legal n s (suc m)) → ((own : ℕ) → Tries (slot events legal n s m) own → own ≤ tenure) → ⊥
+  begin_clash is n s m tenure (reply.Began fence points) begun there now next none =
       let bad : Some tenure ≡ None = sym (ap (λ (r : ReplicaState). r.tenure) (replica_own events legal n s m (call.Begin tenure) (reply.Began fence points) there)) ∙ next.none in
       cc
-  begin_clash n s m tenure (reply.Refused reason.Down) begun there now next none =
+  begin_clash is n s m tenure (reply.Refused reason.Down) begun there now next none =
       let r = slot events legal n s m in
-      let down = first_down r (call.Begin tenure) (refused_law true (take m events) n s r (call.Begin tenure) reason.Down (lawful_step events legal m n s (call.Begin tenure) (reply.Refused reason.Down) there)) in
+      let down = first_down r (call.Begin tenure) (refused_law tells (take m events) n s r (call.Begin tenure) reason.Down (lawful_step events legal m n s (call.Begin tenure) (reply.Refused reason.Down) there)) in
       let bad : standing.Down ≡ standing.Open = sym down ∙ now.open_ in
       cc
-  begin_clash n s m tenure (reply.Refused reason.NotOwned) begun there now next none =
+  begin_clash is n s m tenure (reply.Refused reason.NotOwned) begun there now next none =
       let r = slot events legal n s m in
-      let law = refused_law true (take m events) n s r (call.Begin tenure) reason.NotOwned (lawful_step events legal m n s (call.Begin tenure) (reply.Refused reason.NotOwned) there) in
-      elim law.1 as (λ _. ⊥) [
+      let law = refused_law tells (take m events) n s r (call.Begin tenure) reason.NotOwned (lawful_step events legal m n s (call.Begin tenure) (reply.Refused reason.NotOwned) there) in
+      elim (subst (λ (known : Bool). OnTrue known (MayBeHigher r tenure)) is law.1) as (λ _. ⊥) [
         | inl any ↦ let t = IsIn-from_Any (λ own. tenure < own) r.begun any in omega (arith, none t.0 (inl t.1), t.2)
         | inr other ↦ elim other as (λ _. ⊥) [
           | inl any ↦ let t = IsIn-from_Any (λ own. tenure < own) r.tried any in omega (arith, none t.0 (inr t.1), t.2)
           | inr empty ↦ open_begun events legal n s m (omega (arith, at_within events m (event.Step n s (call.Begin tenure) (reply.Refused reason.NotOwned)) there)) now.open_ empty
         ]
       ]
-  begin_clash n s m tenure _ begun there now next none = absurd begun
+  begin_clash is n s m tenure _ begun there now next none = absurd begun
 
   -- what a slot tried by a place of a line isn't above the tenure that it had when the line began
   pub tried_low : (k : ℕ) → k < length turns → (n s m tenure : ℕ) → told.ends k ≤ m → m < told.ends (suc k) → GivenAt events legal n s (told.ends k) tenure → (own : ℕ) → Tries (slot events legal n s m) own → own ≤ tenure
   tried_low k less n s m tenure low high g own tries =
-      let bound = ends_within start turns events legal told (suc k) less in
+      let bound = ends_within start turns events told (suc k) less in
       let b = tried_began events legal n s own m (omega (arith, high, bound)) tries in
       let below = b.below in
       let was = begin_given n s b.place own b.answer b.there in
@@ -175,9 +177,9 @@ module _ (start : Option MetaState) (turns : List Turn) (events : List Event) (l
     x = record { shard = s; node = n; name = name }
 
     -- a bootstrap after the end of the slot's tenure that covers it, a member, would have begun it
-    boot_clash : (i : ℕ) → i ≤ length events → (e : EndedAt events legal n s i) → (k : ℕ) → k < length turns → e.place < told.ends k → told.ends (suc k) ≤ i → (line : Turn) → At turns k line
+    boot_clash : tells ≡ true → (i : ℕ) → i ≤ length events → (e : EndedAt events legal n s i) → (k : ℕ) → k < length turns → e.place < told.ends k → told.ends (suc k) ≤ i → (line : Turn) → At turns k line
         → (t : InnerTurn) → IsIn (inner_turns (line ∷ [])) t → EndsWait x (is_member x (placed k) && is_member x (placed (suc k))) t → ⊥
-    boot_clash i bound e k less later finishes line there t m h =
+    boot_clash is i bound e k less later finishes line there t m h =
         let cut = cut_at turns k line there in
         let q = place_in turns cut.0 line cut.1 cut.2 t (subst (λ ts. IsIn ts t) (append-nil (joined (lists_of line))) m) in
         let line_is : length (q.0).lines ≡ k = ap length q.3 ∙ cut.3 in
@@ -196,38 +198,38 @@ module _ (start : Option MetaState) (turns : List Turn) (events : List Event) (l
         by_begun b last begins ends =
             let low = b.low in
             let high = b.high in
-            begin_clash n s b.place b.tenure b.answer b.begun b.there (e.since b.place (omega (arith, later, begins, low)) (omega (arith, high, ends, finishes))) (e.since (suc b.place) (omega (arith, later, begins, low)) (omega (arith, high, ends, finishes)))
+            begin_clash is n s b.place b.tenure b.answer b.begun b.there (e.since b.place (omega (arith, later, begins, low)) (omega (arith, high, ends, finishes))) (e.since (suc b.place) (omega (arith, later, begins, low)) (omega (arith, high, ends, finishes)))
             (tried_low k less n s b.place b.tenure (omega (arith, begins, low)) (omega (arith, high, ends)) (given_by events legal n s (told.ends k) b.tenure _ last b.given))
 
     -- so a member whose tenure ended is new since the line that assigned it
-    is_new : (p : TurnPlace) → IsTurnPlace turns p → (i : ℕ) → told.ends (length p.lines) ≤ i → i ≤ length events → (e : EndedAt events legal n s i) → WasAssigned x e.place (length p.lines) → IsNew true x start p
+    is_new : (p : TurnPlace) → IsTurnPlace turns p → (i : ℕ) → told.ends (length p.lines) ≤ i → i ≤ length events → (e : EndedAt events legal n s i) → WasAssigned x e.place (length p.lines) → IsNew tells x start p
     is_new p at i low bound e w = record {
       lines = w.line;
       earlier = w.early;
       assigned = let early = w.early in ap (λ o. is_assigned x o (placement_by start p.lines (suc w.line))) (same w.line (omega (arith, early))) ∙ ap (is_assigned x (placed w.line)) (same (suc w.line) early) ∙ w.assigned;
-      not_since = λ tells k line above there. by_line k line above there (at_within p.lines k line there);
-      not_beside = λ tells. none_begun x (placement_by start p.lines (length p.lines)) (placement_after (placement_by start p.lines (length p.lines)) (p.earlier ++ p.beside)) p.earlier (λ t m h. no_boot_earlier turns order.boots p at t m (subst IsBootAct (sym h.act_is) tt));
+      not_since = λ is k line above there. by_line is k line above there (at_within p.lines k line there);
+      not_beside = λ is. none_begun x (placement_by start p.lines (length p.lines)) (placement_after (placement_by start p.lines (length p.lines)) (p.earlier ++ p.beside)) p.earlier (λ t m h. no_boot_earlier turns order.boots p at t m (subst IsBootAct (sym h.act_is) tt));
     }
       where
         same : (j : ℕ) → j ≤ length p.lines → placement_by start p.lines j ≡ placed j
         same j le = ap (λ ls. placement_after (start_placement start) (inner_turns ls)) (sym (ap (take j) at.in_run ∙ take_front p.lines (p.line ∷ at.after) j le))
 
-        by_line : (k : ℕ) (line : Turn) → w.line < k → At p.lines k line → k < length p.lines → is_begun_in x (placement_by start p.lines k) (placement_by start p.lines (suc k)) (inner_turns (line ∷ [])) ≡ false
-        by_line k line above there early =
+        by_line : tells ≡ true → (k : ℕ) (line : Turn) → w.line < k → At p.lines k line → k < length p.lines → is_begun_in x (placement_by start p.lines k) (placement_by start p.lines (suc k)) (inner_turns (line ∷ [])) ≡ false
+        by_line is k line above there early =
             let less : k < length turns = omega (arith, early, line_below turns p at) in
             let later = w.later in
-            let begins : e.place < told.ends k = omega (arith, later, ends_grow start turns events legal told (suc w.line) k above (omega (arith, less))) in
-            let finishes : told.ends (suc k) ≤ i = omega (arith, ends_grow start turns events legal told (suc k) (length p.lines) early (omega (arith, line_below turns p at)), low) in
+            let begins : e.place < told.ends k = omega (arith, later, ends_grow start turns events told (suc w.line) k above (omega (arith, less))) in
+            let finishes : told.ends (suc k) ≤ i = omega (arith, ends_grow start turns events told (suc k) (length p.lines) early (omega (arith, line_below turns p at)), low) in
             let here : At turns k line = subst (λ ts. At ts k line) (sym at.in_run) (at_append p.lines (p.line ∷ at.after) k line there) in
             ap (λ o. is_begun_in x o (placement_by start p.lines (suc k)) (inner_turns (line ∷ []))) (same k (omega (arith, early)))
             ∙ ap (λ o. is_begun_in x (placed k) o (inner_turns (line ∷ []))) (same (suc k) early)
-            ∙ none_begun x (placed k) (placed (suc k)) (inner_turns (line ∷ [])) (λ t m h. boot_clash i bound e k less begins finishes line here t m h)
+            ∙ none_begun x (placed k) (placed (suc k)) (inner_turns (line ∷ [])) (λ t m h. boot_clash is i bound e k less begins finishes line here t m h)
 
     -- an open replica without a tenure is of a node that has none of the shard, or is new
     ended_unowned : (p : TurnPlace) → IsTurnPlace turns p → IsQuiet p → (version i : ℕ) → (told.spans).from p ≤ i → i < (told.spans).to p → (place : Placement) → last_place (take i events) ≡ Some place → placement_at start p ≡ Some place → EndedAt events legal n s i
-        → OwnsNot start p s n version ⊎ IsNew true x start p
+        → OwnsNot start p s n version ⊎ IsNew tells x start p
     ended_unowned p at quiet version i low high place last stands e =
-        elim (true_or_not (has_replica (Some place) s n)) as (λ _. OwnsNot start p s n version ⊎ IsNew true x start p) [
+        elim (true_or_not (has_replica (Some place) s n)) as (λ _. OwnsNot start p s n version ⊎ IsNew tells x start p) [
           | inr gone ↦ inl (record { place = place; may_stand = may_stand start turns events legal told order p at place stands; not_owned = inl gone })
           | inl member ↦ inr (is_new p at i (omega (arith, (told.lines).low p at, low)) (omega (arith, high, (told.tells).order.not_above p at)) e (by_member member))
         ]
@@ -253,19 +255,19 @@ module _ (start : Option MetaState) (turns : List Turn) (events : List Event) (l
                   cc
             ]
 
-  not_owned_at : (p : TurnPlace) → IsTurnPlace turns p → IsQuiet p → (used : Placement) (s n : ℕ) → IsRefusedAt start turns events told p used s n reason.NotOwned → RefusedIn start turns events told p n s used.version reason.NotOwned → IsUnowned true start p used s n
+  not_owned_at : (p : TurnPlace) → IsTurnPlace turns p → IsQuiet p → (used : Placement) (s n : ℕ) → IsRefusedAt start turns events told p used s n reason.NotOwned → RefusedIn start turns events told p n s used.version reason.NotOwned → IsUnowned tells start p used s n
   not_owned_at p at quiet used s n h r =
-      elim r.founds as (λ _. IsUnowned true start p used s n) [
+      elim r.founds as (λ _. IsUnowned tells start p used s n) [
         | inr t ↦ inl (above_owns_not p n s used.version t.0 r.at r.place r.bound r.last (may_stand start turns events legal told order p at r.place r.stands) t.1 t.2)
         | inl none ↦
             let e = ended_at events legal n s r.at r.bound (record { open_ = r.open_; none = none }) in
-            elim (ended_unowned n s h.name (name_everywhere events legal n used h.name h.placed h.named) p at quiet used.version r.at r.low r.high r.place r.last r.stands e) as (λ _. IsUnowned true start p used s n) [
+            elim (ended_unowned n s h.name (name_everywhere events legal n used h.name h.placed h.named) p at quiet used.version r.at r.low r.high r.place r.last r.stands e) as (λ _. IsUnowned tells start p used s n) [
               | inl not ↦ inl not
               | inr new ↦
                   let named = h.named in
-                  inr (record { instance_ = named.instance_; stands = named.stands; holds = subst (λ own. IsNew true (record { shard = s; node = n; name = own }) start p) (sym named.holds) new })
+                  inr (record { instance_ = named.instance_; stands = named.stands; holds = subst (λ own. IsNew tells (record { shard = s; node = n; name = own }) start p) (sym named.holds) new })
             ]
       ]
 
-pub not_owned_said : NotOwnedIsSaid
+pub not_owned_said : {tells : Bool} → NotOwnedIsSaid tells
 not_owned_said start turns events legal told order p at quiet used s n h = not_owned_at start turns events legal told order p at quiet used s n h (refused_in start turns events legal told order p at quiet used s n reason.NotOwned tt h)

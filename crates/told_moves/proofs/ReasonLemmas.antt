@@ -117,13 +117,13 @@ refused_move r (call.Read client number rules at_version pick from to) version w
 refused_move r _ version why same is e = absurd same
 
 -- such a reason of a put or a read is its first one
-first_is : (past : List Event) (s : ℕ) (r : ReplicaState) (c : StepCall) (version : ℕ) (why : Reason) → IsAtVersion version c → IsMoveReason why → MayRefuse true past s r c why → first_refusal r c ≡ Some why
-first_is past s r (call.Put client number rules at_version point) version reason.NotOwned same is h = h
-first_is past s r (call.Read client number rules at_version pick from to) version reason.NotOwned same is h = h
-first_is past s r c version (reason.Stale fence) same is h = h
-first_is past s r (call.Put client number rules at_version point) version _ same is h = absurd is
-first_is past s r (call.Read client number rules at_version pick from to) version _ same is h = absurd is
-first_is past s r _ version _ same is h = absurd same
+first_is : (tells : Bool) (past : List Event) (s : ℕ) (r : ReplicaState) (c : StepCall) (version : ℕ) (why : Reason) → IsAtVersion version c → IsMoveReason why → MayRefuse tells past s r c why → first_refusal r c ≡ Some why
+first_is tells past s r (call.Put client number rules at_version point) version reason.NotOwned same is h = h
+first_is tells past s r (call.Read client number rules at_version pick from to) version reason.NotOwned same is h = h
+first_is tells past s r c version (reason.Stale fence) same is h = h
+first_is tells past s r (call.Put client number rules at_version point) version _ same is h = absurd is
+first_is tells past s r (call.Read client number rules at_version pick from to) version _ same is h = absurd is
+first_is tells past s r _ version _ same is h = absurd same
 
 -- ---- the turn that is refused so
 
@@ -139,16 +139,16 @@ pub record RefusedIn (start : Option MetaState) (turns : List Turn) (events : Li
   pub open_ : (replica n s (take at events)).standing ≡ standing.Open
   pub founds : FoundsMove (replica n s (take at events)).tenure (replica n s (take at events)).fence version why
 
-pub refused_in : (start : Option MetaState) (turns : List Turn) (events : List Event) → Legal true events → (told : ToldBy start turns events) → IsInOrder start turns events told → (p : TurnPlace) → IsTurnPlace turns p → IsQuiet p
+pub refused_in : {tells : Bool} → (start : Option MetaState) (turns : List Turn) (events : List Event) → Legal tells events → (told : ToldBy start turns events) → IsInOrder start turns events told → (p : TurnPlace) → IsTurnPlace turns p → IsQuiet p
     → (used : Placement) (s n : ℕ) (why : Reason) → IsMoveReason why → IsRefusedAt start turns events told p used s n why → RefusedIn start turns events told p n s used.version why
-refused_in start turns events legal told order p at quiet used s n why is h =
+refused_in {tells} start turns events legal told order p at quiet used s n why is h =
     let i = (h.refused).0 in
     let low = ((h.refused).1).0 in
     let high = ((h.refused).1).1 in
     let there = ((h.refused).1).2 in
     let r = replica n s (take i events) in
-    let law = refused_law true (take i events) n s r h.asked why (lawful_step events legal i n s h.asked (reply.Refused why) there) in
-    let move = refused_move r h.asked used.version why h.at_version is (first_is (take i events) s r h.asked used.version why h.at_version is law) in
+    let law = refused_law tells (take i events) n s r h.asked why (lawful_step events legal i n s h.asked (reply.Refused why) there) in
+    let move = refused_move r h.asked used.version why h.at_version is (first_is tells (take i events) s r h.asked used.version why h.at_version is law) in
     let place = stands_at start turns events legal told order i n s h.asked (reply.Refused why) there in
     let line = stood start turns events legal told order p at quiet.prints_none i (omega (arith, (told.lines).low p at, low)) (omega (arith, (told.lines).high p at, high)) in
     record { at = i; low = low; high = high; bound = omega (arith, high, (told.tells).order.not_above p at); place = place.0; last = place.1; stands = sym line ∙ place.1; open_ = move.0; founds = move.1 }

@@ -1,5 +1,5 @@
 -- What each step leaves of a replica's tenure and fence, and what it began or was to begin with.
-use Rattle.std.proofs.Common.{◌≡◌, ℕ, suc, ◌<◌, ◌≤◌, List, [], ◌∷◌, ◌++◌, take, length, refl, sym, ap, ◌∙◌, subst, inl, inr, arith, true}
+use Rattle.std.proofs.Common.{◌≡◌, ℕ, suc, ◌<◌, ◌≤◌, List, [], ◌∷◌, ◌++◌, take, length, refl, sym, ap, ◌∙◌, subst, inl, inr, arith, true, Bool}
 use Rattle.std.specs.Prelude.{◌⊎◌, Some, None}
 use Rattle.std.proofs.lemmas.Bool.{cases_eq}
 use Rattle.m3_model.specs.declared.reason.Reason.{Reason}
@@ -98,7 +98,7 @@ tries_by r _ _ tenure h = inl h
 
 -- ---- the slot
 
-module _ (events : List Event) (legal : Legal true events) (n s : ℕ) where
+module _ {tells : Bool} (events : List Event) (legal : Legal tells events) (n s : ℕ) where
   abbrev pub slot : ℕ → ReplicaState
   slot j = replica n s (take j events)
 

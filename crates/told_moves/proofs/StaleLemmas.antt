@@ -59,7 +59,7 @@ module _ (start : Option MetaState) (turns : List Turn) (events : List Event) (l
   taken_in p at q at_q early k low high place last =
       let n = length q.lines in
       let less : n < length turns = line_below turns q at_q in
-      let bound = ends_within start turns events legal told (suc n) less in
+      let bound = ends_within start turns events told (suc n) less in
       let begins = (told.lines).low q at_q in
       let front : (m : ℕ) → m ≤ length p.lines → take m turns ≡ take m p.lines = λ m within. ap (take m) at.in_run ∙ take_front p.lines (p.line ∷ at.after) m within in
       let there : At turns n q.line = subst (λ ts. At ts n q.line) (sym at_q.in_run) (at_cut q.lines q.line at_q.after) in

@@ -1,5 +1,5 @@
 -- The placement that stands at a turn which prints none, and the placements that a transcript knows by then.
-use Rattle.std.proofs.Common.{◌≡◌, ℕ, zero, suc, ◌<◌, ◌≤◌, ◌+◌, ◌-◌, List, [], ◌∷◌, ◌++◌, take, length, refl, sym, ap, ◌∙◌, subst, inl, inr, arith, true, append-nil}
+use Rattle.std.proofs.Common.{◌≡◌, ℕ, zero, suc, ◌<◌, ◌≤◌, ◌+◌, ◌-◌, List, [], ◌∷◌, ◌++◌, take, length, refl, sym, ap, ◌∙◌, subst, inl, inr, arith, true, append-nil, Bool}
 use Rattle.std.specs.Prelude.{Some, None, Option}
 use Rattle.std.proofs.lemmas.Bool.{cases_lt}
 use Rattle.std.proofs.lemmas.List.Sums.{fold-append}
@@ -40,7 +40,7 @@ none_after (t ∷ ts) base none = ap (λ o. placement_after o ts) (later_none (p
 
 -- ---- the list
 
-module _ (start : Option MetaState) (turns : List Turn) (events : List Event) (legal : Legal true events) (told : ToldBy start turns events) (order : IsInOrder start turns events told) where
+module _ {tells : Bool} (start : Option MetaState) (turns : List Turn) (events : List Event) (legal : Legal tells events) (told : ToldBy start turns events) (order : IsInOrder start turns events told) where
   -- no Place stands in the line of a turn that prints nothing
   pub no_place : (p : TurnPlace) → IsTurnPlace turns p → printed p.turn.answer ≡ None → (i : ℕ) (place : Placement) (done : List (ℕ × ℕ)) → told.ends (length p.lines) ≤ i → i < told.ends (suc (length p.lines)) → At events i (event.Place place done) → ⊥
   no_place p at quiet i place done low high there = by i low high there
@@ -57,7 +57,7 @@ module _ (start : Option MetaState) (turns : List Turn) (events : List Event) (l
 
       by : (i : ℕ) → told.ends (length p.lines) ≤ i → i < told.ends (suc (length p.lines)) → At events i (event.Place place done) → ⊥
       by zero low high there =
-          let b = (told.tells).init.begun (omega (arith, (told.lines).first, ends_grow start turns events legal told 0 (length p.lines) (omega arith) (omega (arith, less)), low)) (event.Place place done) there in
+          let b = (told.tells).init.begun (omega (arith, (told.lines).first, ends_grow start turns events told 0 (length p.lines) (omega arith) (omega (arith, less)), low)) (event.Place place done) there in
           let init = b.2 in
           let same = one_line start turns events legal told 0 (length (b.0).lines) (length p.lines) (line_below turns b.0 b.1) less (omega (arith, (told.lines).low b.0 b.1, init.from_is)) (omega (arith, (told.lines).high b.0 b.1, init.to_above)) low high in
           clash b.0 b.1 same init.place (ap printed init.answered)
@@ -77,7 +77,7 @@ module _ (start : Option MetaState) (turns : List Turn) (events : List Event) (l
       let k = length p.lines in
       let less : k < length turns = line_below turns p at in
       let whole : told.ends k + (i - told.ends k) ≡ i = omega (arith, low) in
-      let bound = ends_within start turns events legal told (suc k) less in
+      let bound = ends_within start turns events told (suc k) less in
       ap (λ m. last_place (take m events)) (sym whole)
       ∙ quiet_places events (told.ends k) (i - told.ends k) (omega (arith, whole, high, bound)) (λ z place done above below there. no_place p at quiet z place done above (omega (arith, below, whole, high)) there)
       ∙ placements_stand start turns events legal told k (omega (arith, less))

@@ -1,5 +1,5 @@
 -- The tenures by which placements give a slot: they never fall, and each begin is by the one of the placement that stands.
-use Rattle.std.proofs.Common.{◌≡◌, ℕ, zero, suc, ◌<◌, ◌≤◌, List, [], ◌∷◌, take, map, length, refl, sym, ap, ◌∙◌, subst, inl, inr, arith, true}
+use Rattle.std.proofs.Common.{◌≡◌, ℕ, zero, suc, ◌<◌, ◌≤◌, List, [], ◌∷◌, take, map, length, refl, sym, ap, ◌∙◌, subst, inl, inr, arith, true, Bool}
 use Rattle.std.specs.Prelude.{◌⊎◌, Some, None, Option, slice_get, slice_index_or}
 use Rattle.std.proofs.lemmas.Bool.{cases_lt}
 use Rattle.m3_model.proofs.MemberLemmas.{IsIn-append_cases, IsIn-map, map-IsIn}
@@ -107,7 +107,7 @@ assigned_so place n s tenure a =
 
 -- ---- the list
 
-module _ (events : List Event) (legal : Legal true events) where
+module _ {tells : Bool} (events : List Event) (legal : Legal tells events) where
   -- after the first events the placement that stands gives the node the shard with this tenure
   pub record GivenAt (n s j tenure : ℕ) : Type 0 where
     pub version : ℕ
@@ -247,7 +247,7 @@ module _ (events : List Event) (legal : Legal true events) where
 
 -- ---- a list in order
 
-module _ (start : Option MetaState) (turns : List Turn) (events : List Event) (legal : Legal true events) (told : ToldBy start turns events) (order : IsInOrder start turns events told) where
+module _ {tells : Bool} (start : Option MetaState) (turns : List Turn) (events : List Event) (legal : Legal tells events) (told : ToldBy start turns events) (order : IsInOrder start turns events told) where
   -- a placement stands at each step
   pub stands_at : (i n s : ℕ) (c : StepCall) (a : StepReply) → At events i (event.Step n s c a) → (place : Placement) × (last_place (take i events) ≡ Some place)
   stands_at i n s c a there =
@@ -265,7 +265,7 @@ module _ (start : Option MetaState) (turns : List Turn) (events : List Event) (l
       ]
     where
       bound : told.ends (suc k) ≤ length events
-      bound = ends_within start turns events legal told (suc k) less
+      bound = ends_within start turns events told (suc k) less
 
       some : 1 ≤ told.ends k
       some = let there = place_there (take (told.ends k) events) (g.is).place (g.is).last in omega (arith, (at_take events there.0 (told.ends k) (event.Place (g.is).place there.1) there.2).1)

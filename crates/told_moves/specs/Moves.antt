@@ -1,5 +1,5 @@
 -- Why a replica's node doesn't own its shard, and why a replica is fenced: moves of the shard.
-use Rattle.std.specs.Prelude.{◌≡◌, ℕ, List, Option, None, true}
+use Rattle.std.specs.Prelude.{◌≡◌, ℕ, List, Option, None, true, Bool}
 use Rattle.m3_model.specs.declared.placement.Placement.{Placement}
 use Rattle.m3_model.specs.declared.reason.Reason.{Reason}
 use Rattle.m3_model.specs.declared.reason.Reason.TheVariants as reason
@@ -48,10 +48,10 @@ pub record IsRefusedAt (start : Option MetaState) (turns : List Turn) (events : 
   pub refused : Happens (InStretch events (told.spans.from p) (told.spans.to p)) (event.Step node shard asked (reply.Refused why))
 
 -- Where a put or a read is refused as not owned, the node has no replica of the shard any more, or not yet, or has it since a later version.
-abbrev pub NotOwnedIsSaid : Type 0
-NotOwnedIsSaid =
-    (start : Option MetaState) (turns : List Turn) (events : List Event) → Legal true events → (told : ToldBy start turns events) → IsInOrder start turns events told
-    → (p : TurnPlace) → IsTurnPlace turns p → IsQuiet p → (used : Placement) (shard node : ℕ) → IsRefusedAt start turns events told p used shard node reason.NotOwned → IsUnowned true start p used shard node
+abbrev pub NotOwnedIsSaid : Bool → Type 0
+NotOwnedIsSaid tells =
+    (start : Option MetaState) (turns : List Turn) (events : List Event) → Legal tells events → (told : ToldBy start turns events) → IsInOrder start turns events told
+    → (p : TurnPlace) → IsTurnPlace turns p → IsQuiet p → (used : Placement) (shard node : ℕ) → IsRefusedAt start turns events told p used shard node reason.NotOwned → IsUnowned tells start p used shard node
 
 -- Where it is refused for a fence, a move of the shard fenced the replica above the version.
 abbrev pub StaleIsSaid : Type 0

@@ -1,10 +1,11 @@
 //! Why a node doesn't own a shard, and why a replica is fenced.
+ghost use Rattle.std.specs.Prelude.{Bool};
 ghost use Rattle.told_moves.specs.Moves.{NotOwnedIsSaid, StaleIsSaid};
 
 /// A put or a read that is refused as not owned is of a node that has no replica of the shard any more, or not yet, or
 /// has it since a later version than that of the placement which the call uses; and so a transcript says of it.
 pub fn not_owned_is_said()
-    ensures { NotOwnedIsSaid }
+    ensures { (tells : Bool) → NotOwnedIsSaid tells }
 {}
 
 /// A put or a read that is refused for a fence is so for a move of the shard whose bootstrap was asked, or for a fence

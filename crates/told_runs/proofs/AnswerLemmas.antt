@@ -45,17 +45,17 @@ use Rattle.told_causes.proofs.HaltLemmas.{take_cut}
 use Rattle.told_causes.proofs.LevelLemmas.{fetch_said, match_said, too_few_said}
 use Rattle.told_causes.proofs.NodeLemmas.{node_answers}
 use Rattle.told_moves.specs.Order.{IsInOrder}
-use Rattle.told_runs.specs.Answers.{AreAnswered, IsAnswered, IsDecidedBy, IsOfKind, messages_by, messages_told}
+use Rattle.told_runs.specs.Answers.{AreAnswered, Delivers, HearsOf, IsAnswered, IsDecidedBy, IsOfKind}
 use Rattle.told_runs.specs.Bounds.{IsBounded}
 use Rattle.told_runs.proofs.BoundLemmas.{full_by_many}
 use Rattle.told_runs.proofs.MemberLemmas.{had_before}
 
 -- What is known of the calls and the deliveries of a run.
-pub record AreKnown (start : Option MetaState) (turns : List Turn) (events : List Event) (told : ToldBy start turns events) : Type 0 where
-  pub calls : (p : TurnPlace) → IsTurnPlace turns p → IsTrue (is_call p.turn.act) → printed p.turn.answer ≡ None → IsKnownCall start turns events told p
-  pub deliveries : (p : TurnPlace) → IsTurnPlace turns p → p.turn.act ≡ act.Deliver → printed p.turn.answer ≡ None → IsKnownDelivery start turns events told p
+pub record AreKnown (tells : Bool) (start : Option MetaState) (turns : List Turn) (events : List Event) (told : ToldBy start turns events) : Type 0 where
+  pub calls : (p : TurnPlace) → IsTurnPlace turns p → IsTrue (is_call p.turn.act) → printed p.turn.answer ≡ None → IsKnownCall tells start turns events told p
+  pub deliveries : (p : TurnPlace) → IsTurnPlace turns p → p.turn.act ≡ act.Deliver → printed p.turn.answer ≡ None → IsKnownDelivery tells start turns events told p
 
-module _ (taking : List Fault) (start : Option MetaState) (turns : List Turn) (events : List Event) (legal : Legal true events) (told : ToldBy start turns events) (order : IsInOrder start turns events told) (halts : HaltsAlone turns) (known : AreKnown start turns events told) where
+module _ {tells : Bool} (taking : List Fault) (start : Option MetaState) (turns : List Turn) (events : List Event) (legal : Legal tells events) (told : ToldBy start turns events) (order : IsInOrder start turns events told) (halts : HaltsAlone turns) (known : AreKnown tells start turns events told) where
   abbrev told_faults : List Fault
   told_faults = faults_told told.ends events (length turns)
 
@@ -78,59 +78,59 @@ module _ (taking : List Fault) (start : Option MetaState) (turns : List Turn) (e
   restart_reached p at quiet shard _ = tt
 
   -- a restart or a bootstrap that was refused for a disk or for files
-  of_node : (p : TurnPlace) → IsTurnPlace turns p → IsAlone turns p → (a : Act) (b : Answer) → p.turn.act ≡ a → p.turn.answer ≡ b → printed b ≡ None → (shard : ℕ) → NamesReplica a b shard → (messages : List LateMessage) → IsOwn true all_faults start messages p a b
+  of_node : (p : TurnPlace) → IsTurnPlace turns p → IsAlone turns p → (a : Act) (b : Answer) → p.turn.act ≡ a → p.turn.answer ≡ b → printed b ≡ None → (shard : ℕ) → NamesReplica a b shard → (messages : List LateMessage) → IsOwn tells all_faults start messages p a b
   of_node p at only a b acts answers quiet shard names messages =
       let names_it : NamesReplica p.turn.act p.turn.answer shard = subst (λ x. NamesReplica x p.turn.answer shard) (sym acts) (subst (λ y. NamesReplica a y shard) (sym answers) names) in
       let own = node_answers start turns events legal told p at only shard names_it (restart_reached p at (ap printed answers ∙ quiet) shard p.turn.act) messages in
-      own_more true told_faults all_faults told_among start messages p a b (subst (λ x. IsOwn true told_faults start messages p x b) acts (subst (λ y. IsOwn true told_faults start messages p p.turn.act y) answers own))
+      own_more tells told_faults all_faults told_among start messages p a b (subst (λ x. IsOwn tells told_faults start messages p x b) acts (subst (λ y. IsOwn tells told_faults start messages p p.turn.act y) answers own))
 
-  call_known : (p : TurnPlace) → IsTurnPlace turns p → (a : Act) (b : Answer) → p.turn.act ≡ a → p.turn.answer ≡ b → IsTrue (is_call a) → printed b ≡ None → IsKnownCall start turns events told p
+  call_known : (p : TurnPlace) → IsTurnPlace turns p → (a : Act) (b : Answer) → p.turn.act ≡ a → p.turn.answer ≡ b → IsTrue (is_call a) → printed b ≡ None → IsKnownCall tells start turns events told p
   call_known p at a b acts answers calls quiet = known.calls p at (subst (λ x. IsTrue (is_call x)) (sym acts) calls) (ap printed answers ∙ quiet)
 
   -- a call that was refused for its level
-  of_level : (p : TurnPlace) → IsTurnPlace turns p → (a : Act) → p.turn.act ≡ a → IsTrue (is_call a) → (got needed : ℕ) (reasons : List (ℕ × Reason)) (shard : ℕ) → p.turn.answer ≡ answer.Consistency got needed reasons shard → MissesLevel true told_faults start p got needed reasons shard
+  of_level : (p : TurnPlace) → IsTurnPlace turns p → (a : Act) → p.turn.act ≡ a → IsTrue (is_call a) → (got needed : ℕ) (reasons : List (ℕ × Reason)) (shard : ℕ) → p.turn.answer ≡ answer.Consistency got needed reasons shard → MissesLevel tells told_faults start p got needed reasons shard
   of_level p at a acts calls got needed reasons shard answers = too_few_said start turns events told p (call_known p at a (answer.Consistency got needed reasons shard) acts answers calls refl) got needed reasons shard answers
 
   -- the answer is the act's own
-  own_by : (p : TurnPlace) → IsTurnPlace turns p → (a : Act) (b : Answer) → p.turn.act ≡ a → p.turn.answer ≡ b → (h : HearsBy start (take ((told.spans).from p) events) (Within events told.spans p) p a b) → IsOfKind taking start p a b
-      → IsOwn true all_faults start (messages_by start (take ((told.spans).from p) events) (Within events told.spans p) p a b h) p a b
-  own_by p at (act.Init rf shards seed nodes) (answer.Placed place version) acts answers h kind = kind
-  own_by p at (act.Init rf shards seed nodes) (answer.Disk name shard) acts answers h kind = own_more true taking all_faults taking_among start [] p (act.Init rf shards seed nodes) (answer.Disk name shard) kind
-  own_by p at (act.Namespace name block past future retention) answer.Done acts answers h kind = tt
-  own_by p at (act.Now now) answer.Done acts answers h kind = tt
-  own_by p at (act.Fates list) answer.Done acts answers h kind = tt
-  own_by p at act.Deliver (answer.Outcomes outcomes) acts answers h kind =
-      own_more true told_faults all_faults told_among start h.messages p act.Deliver (answer.Outcomes outcomes) (outcomes_said start turns events told p (known.deliveries p at acts (ap printed answers)) outcomes h)
-  own_by p at (act.Stop node) answer.Done acts answers h kind = tt
-  own_by p at (act.Restart node pick) answer.Done acts answers h kind = tt
-  own_by p at (act.Restart node pick) (answer.Disk name shard) acts answers h kind = of_node p at (halts p at (subst IsHaltAct (sym acts) tt)) (act.Restart node pick) (answer.Disk name shard) acts answers refl shard refl []
-  own_by p at (act.Bootstrap node asked) (answer.Available available place version) acts answers h kind = kind
-  own_by p at (act.Bootstrap node asked) (answer.Disk name shard) acts answers h kind = of_node p at (order.boots p at (subst IsBootAct (sym acts) tt)) (act.Bootstrap node asked) (answer.Disk name shard) acts answers refl shard refl []
-  own_by p at (act.Bootstrap node asked) (answer.Corrupt name shard damage) acts answers h kind = of_node p at (order.boots p at (subst IsBootAct (sym acts) tt)) (act.Bootstrap node asked) (answer.Corrupt name shard damage) acts answers refl shard refl []
-  own_by p at (act.Write ns id t v level version) (answer.Acks nodes) acts answers h kind =
+  own_by : (p : TurnPlace) → IsTurnPlace turns p → (a : Act) (b : Answer) → p.turn.act ≡ a → p.turn.answer ≡ b → (messages : List LateMessage) → HearsOf start (Within events told.spans p) p messages b → IsOfKind taking start p a b
+      → IsOwn tells all_faults start messages p a b
+  own_by p at (act.Init rf shards seed nodes) (answer.Placed place version) acts answers messages h kind = kind
+  own_by p at (act.Init rf shards seed nodes) (answer.Disk name shard) acts answers messages h kind = own_more tells taking all_faults taking_among start messages p (act.Init rf shards seed nodes) (answer.Disk name shard) kind
+  own_by p at (act.Namespace name block past future retention) answer.Done acts answers messages h kind = tt
+  own_by p at (act.Now now) answer.Done acts answers messages h kind = tt
+  own_by p at (act.Fates list) answer.Done acts answers messages h kind = tt
+  own_by p at act.Deliver (answer.Outcomes outcomes) acts answers messages h kind =
+      own_more tells told_faults all_faults told_among start messages p act.Deliver (answer.Outcomes outcomes) (outcomes_said start turns events told p (known.deliveries p at acts (ap printed answers)) outcomes (record { messages = messages; in_order = h.0; each = h.1 }))
+  own_by p at (act.Stop node) answer.Done acts answers messages h kind = tt
+  own_by p at (act.Restart node pick) answer.Done acts answers messages h kind = tt
+  own_by p at (act.Restart node pick) (answer.Disk name shard) acts answers messages h kind = of_node p at (halts p at (subst IsHaltAct (sym acts) tt)) (act.Restart node pick) (answer.Disk name shard) acts answers refl shard refl messages
+  own_by p at (act.Bootstrap node asked) (answer.Available available place version) acts answers messages h kind = kind
+  own_by p at (act.Bootstrap node asked) (answer.Disk name shard) acts answers messages h kind = of_node p at (order.boots p at (subst IsBootAct (sym acts) tt)) (act.Bootstrap node asked) (answer.Disk name shard) acts answers refl shard refl messages
+  own_by p at (act.Bootstrap node asked) (answer.Corrupt name shard damage) acts answers messages h kind = of_node p at (order.boots p at (subst IsBootAct (sym acts) tt)) (act.Bootstrap node asked) (answer.Corrupt name shard damage) acts answers refl shard refl messages
+  own_by p at (act.Write ns id t v level version) (answer.Acks nodes) acts answers messages h kind =
       acks_said start turns events legal told p at halts (call_known p at (act.Write ns id t v level version) (answer.Acks nodes) acts answers refl refl).named ns id t v level version nodes acts answers
-  own_by p at (act.Write ns id t v level version) (answer.Consistency got needed reasons shard) acts answers h kind =
-      own_more true told_faults all_faults told_among start [] p (act.Write ns id t v level version) (answer.Consistency got needed reasons shard) (of_level p at (act.Write ns id t v level version) acts refl got needed reasons shard answers)
-  own_by p at (act.Fetch ns id from to level version) (answer.Found series short) acts answers h kind =
+  own_by p at (act.Write ns id t v level version) (answer.Consistency got needed reasons shard) acts answers messages h kind =
+      own_more tells told_faults all_faults told_among start messages p (act.Write ns id t v level version) (answer.Consistency got needed reasons shard) (of_level p at (act.Write ns id t v level version) acts refl got needed reasons shard answers)
+  own_by p at (act.Fetch ns id from to level version) (answer.Found series short) acts answers messages h kind =
       let call = call_known p at (act.Fetch ns id from to level version) (answer.Found series short) acts answers refl refl in
-      own_more true told_faults all_faults told_among start [] p (act.Fetch ns id from to level version) (answer.Found series short) (fetch_said start turns events told p call ns id from to level version series short acts answers)
-  own_by p at (act.Fetch ns id from to level version) (answer.Consistency got needed reasons shard) acts answers h kind =
-      own_more true told_faults all_faults told_among start [] p (act.Fetch ns id from to level version) (answer.Consistency got needed reasons shard) (of_level p at (act.Fetch ns id from to level version) acts refl got needed reasons shard answers)
-  own_by p at (act.Match ns wanted from to level version) (answer.Found series short) acts answers h kind =
+      own_more tells told_faults all_faults told_among start messages p (act.Fetch ns id from to level version) (answer.Found series short) (fetch_said start turns events told p call ns id from to level version series short acts answers)
+  own_by p at (act.Fetch ns id from to level version) (answer.Consistency got needed reasons shard) acts answers messages h kind =
+      own_more tells told_faults all_faults told_among start messages p (act.Fetch ns id from to level version) (answer.Consistency got needed reasons shard) (of_level p at (act.Fetch ns id from to level version) acts refl got needed reasons shard answers)
+  own_by p at (act.Match ns wanted from to level version) (answer.Found series short) acts answers messages h kind =
       let call = call_known p at (act.Match ns wanted from to level version) (answer.Found series short) acts answers refl refl in
-      own_more true told_faults all_faults told_among start [] p (act.Match ns wanted from to level version) (answer.Found series short) (match_said start turns events told p call ns wanted from to level version series short acts answers)
-  own_by p at (act.Match ns wanted from to level version) (answer.Consistency got needed reasons shard) acts answers h kind =
-      own_more true told_faults all_faults told_among start [] p (act.Match ns wanted from to level version) (answer.Consistency got needed reasons shard) (of_level p at (act.Match ns wanted from to level version) acts refl got needed reasons shard answers)
-  own_by p at _ _ acts answers h kind = absurd kind
+      own_more tells told_faults all_faults told_among start messages p (act.Match ns wanted from to level version) (answer.Found series short) (match_said start turns events told p call ns wanted from to level version series short acts answers)
+  own_by p at (act.Match ns wanted from to level version) (answer.Consistency got needed reasons shard) acts answers messages h kind =
+      own_more tells told_faults all_faults told_among start messages p (act.Match ns wanted from to level version) (answer.Consistency got needed reasons shard) (of_level p at (act.Match ns wanted from to level version) acts refl got needed reasons shard answers)
+  own_by p at _ _ acts answers messages h kind = absurd kind
 
-  due_by : (p : TurnPlace) (at : IsTurnPlace turns p) (o : Option Answer) → IsDecidedBy taking start p o → IsDueBy true all_faults start (messages_told start turns events told p at) p o
-  due_by p at (Some refusal) h = h
-  due_by p at None h = own_by p at p.turn.act p.turn.answer refl refl ((told.tells).hears p at) h
+  due_by : (p : TurnPlace) → IsTurnPlace turns p → (messages : List LateMessage) → Delivers start events told.spans p messages → (o : Option Answer) → IsDecidedBy taking start p o → IsDueBy tells all_faults start messages p o
+  due_by p at messages heard (Some refusal) h = h
+  due_by p at messages heard None h = own_by p at p.turn.act p.turn.answer refl refl messages heard h
 
   module _ (past : List Record) (bounded : IsBounded past turns told.ends) where
-    caused_at : (p : TurnPlace) (at : IsTurnPlace turns p) → IsAnswered taking start ((told.spans).to p) p → CausedAt true all_faults past start (messages_told start turns events told p at) p
-    caused_at p at (inl memory) = inl memory
-    caused_at p at (inr (inl full)) =
+    caused_at : (p : TurnPlace) → IsTurnPlace turns p → (messages : List LateMessage) → Delivers start events told.spans p messages → IsAnswered taking start ((told.spans).to p) p → CausedAt tells all_faults past start messages p
+    caused_at p at messages heard (inl memory) = inl memory
+    caused_at p at messages heard (inr (inl full)) =
         let less : length p.lines < length turns = line_below turns p at in
         let lines : take (suc (length p.lines)) turns ≡ p.lines ++ p.line ∷ [] = ap (take (suc (length p.lines))) at.in_run ∙ take_cut p.lines p.line at.after in
         inr (inl (full.0, full_by_many past turns told.ends bounded first p lines less ((told.spans).to p) ((told.lines).high p at) full.1))
@@ -141,13 +141,13 @@ module _ (taking : List Fault) (start : Option MetaState) (turns : List Turn) (e
 
         first : told.ends 0 ≤ 2
         first = omega (arith, (told.lines).first, first_low start)
-    caused_at p at (inr (inr decided)) = inr (inr (decided.0, decided.1, due_by p at (refusal_after start p decided.0) decided.2))
+    caused_at p at messages heard (inr (inr decided)) = inr (inr (decided.0, decided.1, due_by p at messages heard (refusal_after start p decided.0) decided.2))
 
-    pub caused : (unanswered : Option Request) → AreAnswered taking start turns events told → Caused true (record { past = past; present = record { start = start; turns = turns; unanswered = unanswered } }) all_faults
-    caused unanswered answers = record {
+    pub caused : (unanswered : Option Request) (delivered : TurnPlace → List LateMessage) → AreAnswered taking delivered start turns events told → Caused tells (record { past = past; present = record { start = start; turns = turns; unanswered = unanswered } }) all_faults
+    caused unanswered delivered answers = record {
       different = different_both taking told_faults answers.different (faults_different told.ends events (length turns)) (λ f m n. taken_and_told f (answers.untaken f m) n);
-      delivered = answers.delivered;
-      each = λ p at. subst (λ ms. CausedAt true all_faults past start ms p) (answers.messages p at) (caused_at p at (answers.each p at));
+      delivered = delivered;
+      each = λ p at. caused_at p at (delivered p) (answers.delivers p at) (answers.each p at);
       once = answers.once;
       whole = answers.whole;
     }

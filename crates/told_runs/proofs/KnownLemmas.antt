@@ -1,5 +1,5 @@
 -- What is known of each call of a run and of each delivery: nodes have one name, slots had a replica, and moves explain their reasons.
-use Rattle.std.proofs.Common.{◌≡◌, ◌≤◌, ◌<◌, ℕ, suc, true, List, [], ◌∷◌, ◌++◌, take, length, refl, sym, ap, ◌∙◌, subst, inl, inr, arith, append_assoc}
+use Rattle.std.proofs.Common.{◌≡◌, ◌≤◌, ◌<◌, ℕ, suc, true, List, [], ◌∷◌, ◌++◌, take, length, refl, sym, ap, ◌∙◌, subst, inl, inr, arith, append_assoc, Bool}
 use Rattle.std.specs.Prelude.{◌⊎◌, Some, None, Option, IsTrue, slice_get}
 use Rattle.m3_model.specs.Calls.{is_call}
 use Rattle.m3_model.specs.Members.{IsIn}
@@ -30,7 +30,7 @@ use Rattle.told_by.specs.Hears.{HasServed, HearsLate, IsHeard, IsLatePut, IsName
 use Rattle.told_by.specs.Told.{ToldBy}
 use Rattle.told_by.proofs.LineLemmas.{line_below, take_front}
 use Rattle.told_causes.specs.Boot.{IsBootAct, IsKnownMember, IsKnownSlot, OwnsWhereBegun, WasMember}
-use Rattle.told_causes.specs.Calls.{AllAreExplained, IsExplained, IsKnownCall, IsNamedOnce, IsSteadyNode, IsUsedBy, ServedAreNamed, Within}
+use Rattle.told_causes.specs.Calls.{IsExplainedAt, AllAreExplained, IsExplained, IsKnownCall, IsNamedOnce, IsSteadyNode, IsUsedBy, ServedAreNamed, Within}
 use Rattle.told_causes.specs.Deliveries.{IsKnownDelivery}
 use Rattle.told_causes.specs.Faults.{faults_told}
 use Rattle.told_causes.specs.Standing.{HaltsAlone}
@@ -42,8 +42,8 @@ use Rattle.told_runs.proofs.AnswerLemmas.{AreKnown}
 use Rattle.told_runs.proofs.MemberLemmas.{counted_member, was_there}
 use Rattle.told_runs.proofs.UsedLemmas.{IsKnownPlace, used_known}
 
-module _ (start : Option MetaState) (turns : List Turn) (events : List Event) (legal : Legal true events) (told : ToldBy start turns events) (order : IsInOrder start turns events told) (halts : HaltsAlone turns) (opens : OpensWithin start events)
-    (owns : (node shard : ℕ) → OwnsWhereBegun start turns events told node shard) (not_owned : NotOwnedIsSaid) (stale : StaleIsSaid) where
+module _ {tells : Bool} (start : Option MetaState) (turns : List Turn) (events : List Event) (legal : Legal tells events) (told : ToldBy start turns events) (order : IsInOrder start turns events told) (halts : HaltsAlone turns) (opens : tells ≡ true → OpensWithin start events)
+    (owns : tells ≡ true → (node shard : ℕ) → OwnsWhereBegun start turns events told node shard) (not_owned : NotOwnedIsSaid tells) (stale : StaleIsSaid) where
   abbrev faults : List Fault
   faults = faults_told told.ends events (length turns)
 
@@ -89,13 +89,13 @@ module _ (start : Option MetaState) (turns : List Turn) (events : List Event) (l
           member = ap (λ o. has_replica o shard node) (ap (λ ls. placement_after (start_placement start) (inner_turns ls)) (sym front) ∙ k.stood) ∙ slot.member;
         }
 
-    known_member : (place : Placement) (shard node : ℕ) (slot : IsSlotAt place shard node) → (name : List ℕ) → IsNamedBy events node name → IsKnownMember start turns events told p shard node name
-    known_member place shard node slot name everywhere = record {
+    known_member : tells ≡ true → (place : Placement) (shard node : ℕ) (slot : IsSlotAt place shard node) → (name : List ℕ) → IsNamedBy events node name → IsKnownMember start turns events told p shard node name
+    known_member is place shard node slot name everywhere = record {
       alone = order.boots;
       slot = record {
         everywhere = everywhere;
         has_name = λ i other done there member. member_named start turns events legal told order i node shard other done name there everywhere member;
-        owned = owns node shard;
+        owned = owns is node shard;
       };
       was = was_member place shard node slot;
     }
@@ -106,9 +106,9 @@ module _ (start : Option MetaState) (turns : List Turn) (events : List Event) (l
 
     -- what moves of the shard explain
     by_moves : (place : Placement) (shard node : ℕ) → IsSlotAt place shard node → IsSteadyNode start turns events told p place shard node → (c : StepCall) → IsAtVersion place.version c → (why : Reason)
-        → (i : ℕ) × Within events told.spans p i (event.Step node shard c (reply.Refused why)) → IsExplained Unit (MayFail true faults start p place shard node) why
+        → (i : ℕ) × Within events told.spans p i (event.Step node shard c (reply.Refused why)) → IsExplained Unit (MayFail tells faults start p place shard node) why
     by_moves place shard node slot steady c version reason.NotOwned step = not_owned start turns events legal told order p at quiet place shard node (refused_at place shard node slot steady c version reason.NotOwned step)
-    by_moves place shard node slot steady c version (reason.Stale fence) step = λ tells. stale start turns events legal told order opens p at quiet place shard node fence (refused_at place shard node slot steady c version (reason.Stale fence) step)
+    by_moves place shard node slot steady c version (reason.Stale fence) step = λ is. stale start turns events (subst (λ (known : Bool). Legal known events) is legal) told order (opens is) p at quiet place shard node fence (refused_at place shard node slot steady c version (reason.Stale fence) step)
     by_moves place shard node slot steady c version _ step = tt
 
     own_version : (version : ℕ) (c : StepCall) → IsOwnCall start p version c → IsAtVersion version c
@@ -122,16 +122,16 @@ module _ (start : Option MetaState) (turns : List Turn) (events : List Event) (l
 
     -- why a replica of a known slot refused a call
     call_explained : (place : Placement) (shard node : ℕ) (slot : IsSlotAt place shard node) (steady : IsSteadyNode start turns events told p place shard node) (why : Reason) → IsHeard start (Within events told.spans p) p place shard node why
-        → IsExplained (IsKnownMember start turns events told p shard node steady.name) (MayFail true faults start p place shard node) why
-    call_explained place shard node slot steady reason.Boot h = known_member place shard node slot steady.name steady.everywhere
+        → IsExplainedAt tells start turns events told p place shard node steady.name why
+    call_explained place shard node slot steady reason.Boot h = λ is. known_member is place shard node slot steady.name steady.everywhere
     call_explained place shard node slot steady reason.NotOwned h = by_moves place shard node slot steady h.0 (own_version place.version h.0 h.1) reason.NotOwned h.2
     call_explained place shard node slot steady (reason.Stale fence) h = by_moves place shard node slot steady h.0 (own_version place.version h.0 h.1) (reason.Stale fence) h.2
     call_explained place shard node slot steady _ h = tt
 
     -- and a late message
     late_explained : (m : LateMessage) (shard : ℕ) (slot : IsSlotAt m.used shard m.node) (steady : IsSteadyNode start turns events told p m.used shard m.node) (why : Reason) → HearsLate start (Within events told.spans p) p m shard (Some why)
-        → IsExplained (IsKnownMember start turns events told p shard m.node steady.name) (MayFail true faults start p m.used shard m.node) why
-    late_explained m shard slot steady reason.Boot h = known_member m.used shard m.node slot steady.name steady.everywhere
+        → IsExplainedAt tells start turns events told p m.used shard m.node steady.name why
+    late_explained m shard slot steady reason.Boot h = λ is. known_member is m.used shard m.node slot steady.name steady.everywhere
     late_explained m shard slot steady reason.NotOwned h = by_moves m.used shard m.node slot steady h.0 (late_version m h.0 h.1) reason.NotOwned h.2
     late_explained m shard slot steady (reason.Stale fence) h = by_moves m.used shard m.node slot steady h.0 (late_version m h.0 h.1) (reason.Stale fence) h.2
     late_explained m shard slot steady _ h = tt
@@ -140,7 +140,7 @@ module _ (start : Option MetaState) (turns : List Turn) (events : List Event) (l
     used_slot : (place : Placement) → IsUsedBy start p place → (shard node : ℕ) → IsCounted place shard node → IsSlotAt place shard node
     used_slot place used shard node counted = record { known = used_known start turns events legal told order p at quiet.prints_none (used.call).version place used.may_use; member = counted_member place shard node counted }
 
-    pub call_known : IsTrue (is_call p.turn.act) → IsKnownCall start turns events told p
+    pub call_known : IsTrue (is_call p.turn.act) → IsKnownCall tells start turns events told p
     call_known calls = record {
       legal = legal;
       in_run = at;
@@ -197,7 +197,7 @@ module _ (start : Option MetaState) (turns : List Turn) (events : List Event) (l
           call_is (act.Match ns wanted from to level version) c e = refl
           call_is _ c e = cc
 
-      pub delivery_known : p.turn.act ≡ act.Deliver → IsKnownDelivery start turns events told p
+      pub delivery_known : p.turn.act ≡ act.Deliver → IsKnownDelivery tells start turns events told p
       delivery_known delivers = record {
         legal = legal;
         in_run = at;
@@ -225,7 +225,7 @@ module _ (start : Option MetaState) (turns : List Turn) (events : List Event) (l
   deliver_quiet : (p : TurnPlace) → p.turn.act ≡ act.Deliver → printed p.turn.answer ≡ None → IsQuiet p
   deliver_quiet p delivers prints = record { begins_none = λ h. subst IsBootAct delivers h; prints_none = prints }
 
-  pub are_known : ((q : TurnPlace) → IsTurnPlace turns q → IsTrue (is_call q.turn.act) → printed q.turn.answer ≡ None) → AreKnown start turns events told
+  pub are_known : ((q : TurnPlace) → IsTurnPlace turns q → IsTrue (is_call q.turn.act) → printed q.turn.answer ≡ None) → AreKnown tells start turns events told
   are_known silent = record {
     calls = λ p at calls prints. call_known p at (calls_quiet p calls prints) calls;
     deliveries = λ p at delivers prints. delivery_known p at (deliver_quiet p delivers prints) silent delivers;

@@ -7,3 +7,4 @@ pub mod SilentLemmas
 pub mod OwnsLemmas
 pub mod CausedLemmas
 pub mod SampleLemmas
+pub mod LineLemmas

@@ -134,7 +134,7 @@ taken_open r (call.Tick rules) kind e = shut_none r.standing e
 taken_open r (call.Flush rules) kind e = shut_none r.standing e
 taken_open r call.Snapshot kind e = shut_none r.standing e
 
-module _ (start : Option MetaState) (turns : List Turn) (events : List Event) (legal : Legal true events) (told : ToldBy start turns events) (order : IsInOrder start turns events told) where
+module _ {tells : Bool} (start : Option MetaState) (turns : List Turn) (events : List Event) (legal : Legal tells events) (told : ToldBy start turns events) (order : IsInOrder start turns events told) where
   -- a replica that is begun is of a slot with a replica
   begin_member : (i n s tenure : ℕ) (a : StepReply) → At events i (event.Step n s (call.Begin tenure) a) → HasMember events i n s
   begin_member i n s tenure a there =
@@ -207,7 +207,7 @@ module _ (start : Option MetaState) (turns : List Turn) (events : List Event) (l
   reads_use (call.Begin tenure) e = refl
   reads_use _ e = refl
 
-  taken_free : (r : ReplicaState) (c : StepCall) → IsForOpen c → IsTaken true r c → first_refusal r c ≡ None
+  taken_free : (r : ReplicaState) (c : StepCall) → IsForOpen c → IsTaken tells r c → first_refusal r c ≡ None
   taken_free r (call.Begin tenure) kind h = absurd kind
   taken_free r (call.Put client number rules version point) kind h = h
   taken_free r _ kind h = h
@@ -215,13 +215,13 @@ module _ (start : Option MetaState) (turns : List Turn) (events : List Event) (l
   disk_member : (i n s : ℕ) (c : StepCall) → At events i (event.Step n s c (reply.Refused reason.Disk)) → HasMember events i n s
   disk_member i n s c there =
       let r = replica n s (take i events) in
-      let law = refused_law true (take i events) n s r c reason.Disk (lawful_step events legal i n s c (reply.Refused reason.Disk) there) in
+      let law = refused_law tells (take i events) n s r c reason.Disk (lawful_step events legal i n s c (reply.Refused reason.Disk) there) in
       failed_member i n s c (reply.Refused reason.Disk) there (λ kind. taken_open r c kind (taken_free r c kind law.taken)) (by_use c law.uses)
 
   damage_member : (i n s : ℕ) (c : StepCall) (harm : Harm) → At events i (event.Step n s c (reply.Refused (reason.Corrupt harm))) → HasMember events i n s
   damage_member i n s c harm there =
       let r = replica n s (take i events) in
-      let law = refused_law true (take i events) n s r c (reason.Corrupt harm) (lawful_step events legal i n s c (reply.Refused (reason.Corrupt harm)) there) in
+      let law = refused_law tells (take i events) n s r c (reason.Corrupt harm) (lawful_step events legal i n s c (reply.Refused (reason.Corrupt harm)) there) in
       failed_member i n s c (reply.Refused (reason.Corrupt harm)) there (λ kind. taken_open r c kind (taken_free r c kind law.taken)) (by_use c (reads_use c law.reads))
 
   fault_member : (i line : ℕ) (e : Event) (fault : Fault) → At events i e → fault_of line e ≡ Some fault → HasMember events i fault.node fault.shard

@@ -73,7 +73,7 @@ module _ (start : Option MetaState) (turns : List Turn) (events : List Event) (l
       let same : init.place ≡ place = some_same init.place place (ap printed (sym init.answered) ∙ prints) in
       let low : told.ends k ≤ 0 = omega (arith, (told.lines).low q at, init.from_is) in
       let high : i < told.ends (suc k) = omega (arith, here.1, (told.lines).high q at) in
-      let bound = ends_within start turns events legal told (suc k) less in
+      let bound = ends_within start turns events told (suc k) less in
       let last = order.one k 0 init.place [] less low (omega (arith, high)) init.placed in
       owned_begin n s i tenure here.2 (λ own tries.
       let b = tried_began events legal n s own i (omega (arith, high, bound)) tries in

@@ -1,5 +1,5 @@
 -- The short run is served so.
-use Rattle.std.proofs.Common.{◌≡◌, ◌≢◌, ◌≤◌, ◌<◌, ◌+◌, ◌*◌, ◌-◌, ℕ, zero, suc, true, false, List, [], ◌∷◌, ◌++◌, take, length, refl, sym, ap, ◌∙◌, subst, inl, inr, arith}
+use Rattle.std.proofs.Common.{◌≡◌, ◌≢◌, ◌≤◌, ◌<◌, ◌+◌, ◌*◌, ◌-◌, ℕ, zero, suc, true, false, List, [], ◌∷◌, ◌++◌, take, length, refl, sym, ap, ◌∙◌, subst, inl, inr, arith, Bool}
 use Rattle.std.specs.Prelude.{Some, None, slice_get}
 use Rattle.std.proofs.Common.{append-nil}
 use Rattle.std.specs.Ordering.{is_gt}
@@ -29,6 +29,7 @@ use Rattle.transcripts.specs.Caused.{IsRefusedWhole, acts_in}
 use Rattle.transcripts.specs.Record.{TurnPlace, IsAfter, IsTurnPlace, IsLastTurnPlace, inner_turns, line_of}
 use Rattle.transcripts.proofs.PlaceLemmas.{at_push}
 use Rattle.cluster_core.proofs.ListLemmas.{at_in, at_within, some_same}
+use Rattle.cluster_core.proofs.UntoldLemmas.{legal_untold}
 use Rattle.told_by.specs.Lines.{place_after}
 use Rattle.told_by.specs.Sample.{begun, events, fetched, name, place, placed, series, spaced, turns, written}
 use Rattle.told_by.proofs.LegalSampleLemmas.{lawful_place, sample_legal}
@@ -40,7 +41,7 @@ use Rattle.told_by.proofs.TurnLemmas.{in_cut}
 use Rattle.told_causes.proofs.AloneLemmas.{quiet_places}
 use Rattle.told_causes.proofs.KnownLemmas.{never_refused, one_place}
 use Rattle.told_moves.specs.Order.{IsInOrder, OpensWithin}
-use Rattle.told_runs.specs.Answers.{AreAnswered, IsAnswered, messages_told}
+use Rattle.told_runs.specs.Answers.{AreAnswered, Delivers, IsAnswered}
 use Rattle.told_runs.specs.Bounds.{IsBounded, writes_taken}
 use Rattle.told_runs.specs.Sample.{ShortIsServed}
 
@@ -88,7 +89,7 @@ order = record {
   inits = each_turn _ (λ h p e. refl) (λ h. absurd h) (λ h. absurd h) (λ h. absurd h);
   lawful = λ i other done there. subst IsLawful (one_place i other done there) lawful_place;
   one = λ k i other done less low high there.
-      stands (sample_told.ends (suc k)) (omega (arith, high)) (ends_within None turns events sample_legal sample_told (suc k) less) ∙ ap Some (one_place i other done there);
+      stands (sample_told.ends (suc k)) (omega (arith, high)) (ends_within None turns events sample_told (suc k) less) ∙ ap Some (one_place i other done there);
   ends = λ i n s a there stood last. absurd (no_end i n s a there);
 }
   where
@@ -140,15 +141,14 @@ no_order before line after e = by (subst (λ ls. IsIn ls line) (sym e) (in_cut b
     by (inr (inr (inr (inl is)))) = subst (λ (l : Turn). IsRefusedWhole None before l.request l.reply) is tt
     by (inr (inr (inr (inr none)))) = absurd none
 
-answered : AreAnswered [] None turns events sample_told
+answered : AreAnswered [] (λ p. []) None turns events sample_told
 answered = record {
   each = each_turn (λ q. IsAnswered [] None ((sample_told.spans).to q) q)
       (inr (inr ([], alone, (initial, refl))))
       (inr (inr (inner_turns one_line, alone, tt)))
       (inr (inr (inner_turns two_lines, alone, tt)))
       (inr (inr (inner_turns three_lines, alone, tt)));
-  delivered = λ q. [];
-  messages = λ p at. each_turn (λ q. (there : IsTurnPlace turns q) → messages_told None turns events sample_told q there ≡ []) (λ there. refl) (λ there. refl) (λ there. refl) (λ there. refl) p at at;
+  delivers = each_turn (λ q. Delivers None events sample_told.spans q []) tt tt tt tt;
   once = λ p q at there a b m n same. absurd m;
   whole = no_order;
   untaken = λ f m. absurd m;
@@ -161,7 +161,7 @@ answered = record {
 bounded : IsBounded [] turns sample_told.ends
 bounded k line at =
     let high = at_within turns k line at in
-    let most : sample_told.ends (suc k) ≤ length events = ends_within None turns events sample_legal sample_told (suc k) high in
+    let most : sample_told.ends (suc k) ≤ length events = ends_within None turns events sample_told (suc k) high in
     let one : length (acts_in (line ∷ [])) ≡ 1 = by (at_in turns k line at) in
     let writes = writes_taken [] (take (suc k) turns) in
     let some : (MOST_REQUEST_EVENTS * 1) * 1 ≤ (MOST_REQUEST_EVENTS * 1) * (writes + 1) = mul-le-mul_left (MOST_REQUEST_EVENTS * 1) (one_more writes) in
@@ -178,5 +178,5 @@ bounded k line at =
     by (inr (inr (inr (inl is)))) = ap (λ l. length (acts_in (l ∷ []))) (sym is)
     by (inr (inr (inr (inr none)))) = absurd none
 
-pub short_served : ShortIsServed
-short_served = (sample_legal, sample_told, record { order = order; halts = each_turn _ (λ h. absurd h) (λ h. absurd h) (λ h. absurd h) (λ h. absurd h); opens = opens; owned = λ i n s tenure there. absurd (never_refused i n s (call.Begin tenure) reason.NotOwned there); answers = answered; bound = bounded })
+pub short_served : (tells : Bool) → ShortIsServed tells
+short_served tells = (legal_untold tells events sample_legal, sample_told, record { order = order; halts = each_turn _ (λ h. absurd h) (λ h. absurd h) (λ h. absurd h) (λ h. absurd h); opens = λ is. opens; owned = λ is i n s tenure there. absurd (never_refused i n s (call.Begin tenure) reason.NotOwned there); answers = answered; bound = bounded })

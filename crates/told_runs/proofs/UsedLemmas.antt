@@ -1,5 +1,5 @@
 -- The placement that a call uses: where it stands in the list, and after which lines it stood.
-use Rattle.std.proofs.Common.{◌≡◌, ℕ, zero, suc, ◌<◌, ◌≤◌, ◌+◌, List, [], ◌∷◌, ◌++◌, take, length, refl, sym, ap, ◌∙◌, subst, inl, inr, arith, true}
+use Rattle.std.proofs.Common.{◌≡◌, ℕ, zero, suc, ◌<◌, ◌≤◌, ◌+◌, List, [], ◌∷◌, ◌++◌, take, length, refl, sym, ap, ◌∙◌, subst, inl, inr, arith, true, Bool}
 use Rattle.std.specs.Prelude.{◌⊎◌, Some, None, Option}
 use Rattle.std.proofs.lemmas.Bool.{cases_lt}
 use Rattle.m3_model.proofs.MemberLemmas.{IsIn-append_cases, IsIn-append_left, IsIn-append_right, IsIn-filter_map}
@@ -68,7 +68,7 @@ pub record IsKnownPlace (start : Option MetaState) (turns : List Turn) (events :
   pub there : At events place_at (event.Place place done)
   pub before : place_at < told.ends lines
 
-module _ (start : Option MetaState) (turns : List Turn) (events : List Event) (legal : Legal true events) (told : ToldBy start turns events) (order : IsInOrder start turns events told) where
+module _ {tells : Bool} (start : Option MetaState) (turns : List Turn) (events : List Event) (legal : Legal tells events) (told : ToldBy start turns events) (order : IsInOrder start turns events told) where
   -- the line of a place in the list, or the opening
   line_of_place : (k z : ℕ) → k ≤ length turns → z < told.ends k → (z < told.ends 0) ⊎ ((j : ℕ) × (j < k) × (told.ends j ≤ z) × (z < told.ends (suc j)))
   line_of_place zero z high before = inl before
@@ -133,7 +133,7 @@ module _ (start : Option MetaState) (turns : List Turn) (events : List Event) (l
         let h = (told.tells).placements.is_place q.place q.in_run place (ap (λ (u : InnerTurn). printed u.answer) q.turn_is ∙ prints) in
         let less : length p.lines < length turns = line_below turns p at in
         listed_known p (omega (arith, less)) h.place_at place h.done h.there
-        (omega (arith, h.in_time, (told.lines).high q.place q.in_run, ends_grow start turns events legal told (suc (length (q.place).lines)) (length p.lines) (omega (arith, q.earlier)) (omega (arith, less))))
+        (omega (arith, h.in_time, (told.lines).high q.place q.in_run, ends_grow start turns events told (suc (length (q.place).lines)) (length p.lines) (omega (arith, q.earlier)) (omega (arith, less))))
 
     -- no turn of its own line prints one
     none_beside : (t : InnerTurn) (place : Placement) → IsIn (p.earlier ++ p.beside) t → printed t.answer ≡ Some place → ⊥

@@ -1,6 +1,7 @@
 -- What a cluster's own look-ups decide of its answers, beside what its events tell: refusals that are due, answers of the act's own kind, the first placement,
 -- and which disks couldn't be taken.
 use Rattle.std.specs.Prelude.{◌≡◌, ◌⊎◌, ◌≤◌, ℕ, ⊤, List, [], ◌∷◌, ◌++◌, length, take, Option, Some, None}
+use Rattle.m3_model.specs.Ascends.{Ascends}
 use Rattle.m3_model.specs.Members.{IsIn}
 use Rattle.m3_model.specs.declared.act.Act.{Act}
 use Rattle.m3_model.specs.declared.act.Act.TheVariants as act
@@ -12,10 +13,11 @@ use Rattle.m3_model.specs.declared.turn.Turn.{Turn}
 use Rattle.placement_plan.specs.First.{IsInitial}
 use Rattle.cluster_core.specs.declared.event.Event.{Event}
 use Rattle.transcripts.specs.Caused.{IsBootstrapped, IsRefusedWhole, IsUnmade, refusal_after}
-use Rattle.transcripts.specs.Deliveries.{LateMessage, IsSameMessage, IsSamePlace}
+use Rattle.transcripts.specs.Deliveries.{LateMessage, IsLateBefore, IsSameMessage, IsSamePlace}
 use Rattle.transcripts.specs.Faults.{AreDifferent, Fault, Taking}
 use Rattle.transcripts.specs.Record.{InnerTurn, Record, TurnPlace, IsAfter, IsTurnPlace}
-use Rattle.told_by.specs.Hears.{HearsBy, InStretch}
+use Rattle.told_by.specs.Hears.{HearsOutcomes, InStretch}
+use Rattle.told_by.specs.Spans.{Spans}
 use Rattle.told_by.specs.Told.{ToldBy}
 
 -- an answer of the act's own kind, with what no event says of it
@@ -53,20 +55,20 @@ IsDecided taking start p = (turns : List InnerTurn) × IsAfter p turns × IsDeci
 abbrev pub IsAnswered : List Fault → Option MetaState → ℕ → TurnPlace → Type 0
 IsAnswered taking start end p = (p.turn.answer ≡ answer.Memory) ⊎ (((p.turn.answer ≡ answer.Full) × (MOST_EVENTS ≤ end)) ⊎ IsDecided taking start p)
 
--- the late messages that a turn delivers, by what it hears
-abbrev pub messages_by : (start : Option MetaState) (past : List Event) (Here : ℕ → Event → Type 0) (p : TurnPlace) (a : Act) (b : Answer) → HearsBy start past Here p a b → List LateMessage
-messages_by start past Here p a (answer.Outcomes outcomes) h = h.messages
-messages_by start past Here p a _ h = []
+-- where the answer has outcomes, they are heard of these late messages, in the order in which they were made late
+abbrev pub HearsOf : Option MetaState → (ℕ → Event → Type 0) → TurnPlace → List LateMessage → Answer → Type 0
+HearsOf start Here p messages (answer.Outcomes outcomes) = Ascends IsLateBefore messages × HearsOutcomes start Here p messages outcomes
+HearsOf start Here p messages _ = ⊤
 
-abbrev pub messages_told : (start : Option MetaState) (turns : List Turn) (events : List Event) → ToldBy start turns events → (p : TurnPlace) → IsTurnPlace turns p → List LateMessage
-messages_told start turns events told p at = messages_by start (take (told.spans.from p) events) (InStretch events (told.spans.from p) (told.spans.to p)) p p.turn.act p.turn.answer (told.tells.hears p at)
+-- the turn heard so within its stretch
+abbrev pub Delivers : Option MetaState → List Event → Spans → TurnPlace → List LateMessage → Type 0
+Delivers start events spans p messages = HearsOf start (InStretch events (spans.from p) (spans.to p)) p messages p.turn.answer
 
--- Each answer of the run is so; no message is delivered twice; a `par` line is refused as a whole only where no placement stands; and these disks couldn't
--- be taken, no two of them alike.
-pub record AreAnswered (taking : List Fault) (start : Option MetaState) (turns : List Turn) (events : List Event) (told : ToldBy start turns events) : Type 0 where
+-- Each answer of the run is so, where its turns deliver these late messages; no message is delivered twice; a `par` line is refused as a whole only where no
+-- placement stands; and these disks couldn't be taken, no two of them alike.
+pub record AreAnswered (taking : List Fault) (delivered : TurnPlace → List LateMessage) (start : Option MetaState) (turns : List Turn) (events : List Event) (told : ToldBy start turns events) : Type 0 where
   pub each : (p : TurnPlace) → IsTurnPlace turns p → IsAnswered taking start (told.spans.to p) p
-  pub delivered : TurnPlace → List LateMessage  -- which late messages a turn delivers
-  pub messages : (p : TurnPlace) (at : IsTurnPlace turns p) → messages_told start turns events told p at ≡ delivered p
+  pub delivers : (p : TurnPlace) → IsTurnPlace turns p → Delivers start events told.spans p (delivered p)
   pub once : (p q : TurnPlace) → IsTurnPlace turns p → IsTurnPlace turns q → (a b : LateMessage) → IsIn (delivered p) a → IsIn (delivered q) b → IsSameMessage a b → IsSamePlace p q
   pub whole : (before : List Turn) (line : Turn) (after : List Turn) → turns ≡ before ++ line ∷ after → IsRefusedWhole start before line.request line.reply
   pub untaken : (fault : Fault) → IsIn taking fault → fault.kind ≡ Taking

@@ -1,5 +1,5 @@
 -- Where a legal list tells of a run, each of its answers is what it is for a cause.
-use Rattle.std.specs.Prelude.{◌≢◌, ◌++◌, ℕ, List, [], length, take, true}
+use Rattle.std.specs.Prelude.{◌≡◌, ◌≢◌, ◌++◌, ℕ, List, [], length, take, true, Bool}
 use Rattle.m3_model.specs.declared.reason.Reason.TheVariants as reason
 use Rattle.cluster_core.specs.Legal.{Legal}
 use Rattle.cluster_core.specs.Lists.{At}
@@ -10,7 +10,8 @@ use Rattle.cluster_core.specs.declared.event.StepCall.TheVariants as call
 use Rattle.cluster_core.specs.declared.event.StepReply.TheVariants as reply
 use Rattle.transcripts.specs.Caused.{Caused}
 use Rattle.transcripts.specs.Faults.{Fault}
-use Rattle.transcripts.specs.Record.{Life}
+use Rattle.transcripts.specs.Deliveries.{LateMessage}
+use Rattle.transcripts.specs.Record.{Life, TurnPlace}
 use Rattle.told_by.specs.Told.{ToldBy}
 use Rattle.told_causes.specs.Faults.{faults_told}
 use Rattle.told_causes.specs.Standing.{HaltsAlone}
@@ -22,18 +23,19 @@ use Rattle.told_runs.specs.Bounds.{IsBounded}
 abbrev pub OwnsFiles : List Event → Type 0
 OwnsFiles events = (i node shard tenure : ℕ) → At events i (event.Step node shard (call.Begin tenure) (reply.Refused reason.NotOwned)) → (replica node shard (take i events)).begun ≢ []
 
--- What is known of a run beside that a legal list tells of it: its lines were served in order, stops and restarts alone in theirs; its files hold no more than
--- earlier runs left; its answers; and how many events a line adds at most.
-pub record IsServed (taking : List Fault) (life : Life) (events : List Event) (told : ToldBy life.present.start life.present.turns events) : Type 0 where
+-- What is known of a run beside that a legal list tells of it: its lines were served in order, stops and restarts alone in theirs; where the disks tell what they hold, its files hold
+-- no more than earlier runs left; its answers; and how many events a line adds at most.
+pub record IsServed (tells : Bool) (taking : List Fault) (delivered : TurnPlace → List LateMessage) (life : Life) (events : List Event) (told : ToldBy life.present.start life.present.turns events) : Type 0 where
   pub order : IsInOrder life.present.start life.present.turns events told
   pub halts : HaltsAlone life.present.turns
-  pub opens : OpensWithin life.present.start events
-  pub owned : OwnsFiles events
-  pub answers : AreAnswered taking life.present.start life.present.turns events told
+  pub opens : tells ≡ true → OpensWithin life.present.start events
+  pub owned : tells ≡ true → OwnsFiles events
+  pub answers : AreAnswered taking delivered life.present.start life.present.turns events told
   pub bound : IsBounded life.past life.present.turns told.ends
 
--- The life's present run is caused by the faults of disks that couldn't be taken, and those that its steps tell.
-abbrev pub IsCausedWhereTold : Type 0
-IsCausedWhereTold =
-    (life : Life) (events : List Event) → Legal true events → (told : ToldBy life.present.start life.present.turns events) → (taking : List Fault) → IsServed taking life events told
-    → Caused true life (taking ++ faults_told told.ends events (length life.present.turns))
+-- The life's present run is caused, as far as the disks tell, by the faults of disks that couldn't be taken, and those that its steps tell.
+abbrev pub IsCausedWhereTold : Bool → Type 0
+IsCausedWhereTold tells =
+    (life : Life) (events : List Event) → Legal tells events → (told : ToldBy life.present.start life.present.turns events) → (taking : List Fault) (delivered : TurnPlace → List LateMessage)
+    → IsServed tells taking delivered life events told
+    → Caused tells life (taking ++ faults_told told.ends events (length life.present.turns))

@@ -1,15 +1,16 @@
 //! Why each answer of a run is what it is.
+ghost use Rattle.std.specs.Prelude.{Bool};
 ghost use Rattle.told_runs.specs.Laws.{IsCausedWhereTold};
 ghost use Rattle.told_runs.specs.Sample.{ShortIsServed};
 
-/// Where a legal list of events tells of a life's present run, its lines were served in order, and its disks held no more
-/// than earlier runs left, each answer of the run is caused: by the faults of disks that couldn't be taken, and those that
-/// the steps of replicas tell.
+/// Where a list of events that is legal as far as the disks tell tells of a life's present run, and its lines were served in
+/// order, each answer of the run is caused: by the faults of disks that couldn't be taken, and those that the steps of
+/// replicas tell. Where the disks tell what they hold, they are to hold no more than earlier runs left, and more is said.
 pub fn told_is_caused()
-    ensures { IsCausedWhereTold }
+    ensures { (tells : Bool) → IsCausedWhereTold tells }
 {}
 
-/// What that asks of a run can be met: by a run of one node that writes and reads.
+/// What that asks of a run can be met, over disks that tell and over others: by a run of one node that writes and reads.
 pub fn short_is_served()
-    ensures { ShortIsServed }
+    ensures { (tells : Bool) → ShortIsServed tells }
 {}

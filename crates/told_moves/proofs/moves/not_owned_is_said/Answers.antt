@@ -2,4 +2,4 @@ use Rattle.told_moves.proofs.OwnLemmas.{not_owned_said}
 use Rattle.told_moves.proofs.moves.not_owned_is_said.Goals as goal
 
 pub returns : goal.returns
-returns c = not_owned_said
+returns c = λ tells. not_owned_said

@@ -1,0 +1,303 @@
+-- What is known of a run that is told goes on by one line.
+use Rattle.std.proofs.Common.{◌≡◌, ◌≤◌, ◌<◌, ◌+◌, ◌*◌, ℕ, suc, List, [], ◌∷◌, ◌++◌, take, length, refl, sym, ap, ◌∙◌, subst, inl, inr, arith, Bool, true, false, length-append}
+use Rattle.std.specs.Prelude.{◌≢◌, ◌⊎◌, Option, Some, None, if◌then◌else◌}
+use Rattle.std.proofs.lemmas.Bool.{cases_lt, le-ltb, lt-ltb}
+use Rattle.m3_model.proofs.MemberLemmas.{IsIn-append_cases, IsIn-append_left, IsIn-append_right}
+use Rattle.m3_model.proofs.SplitLemmas.{not_empty, split_push}
+use Rattle.m3_model.specs.Members.{IsIn}
+use Rattle.m3_model.specs.declared.act.Act.{Act}
+use Rattle.m3_model.specs.declared.act.Act.TheVariants as act
+use Rattle.m3_model.specs.declared.answer.Answer.{Answer}
+use Rattle.m3_model.specs.declared.answer.Answer.TheVariants as answer
+use Rattle.m3_model.specs.declared.limits.TheConstants.{MOST_REQUEST_EVENTS}
+use Rattle.m3_model.specs.declared.placement.Placement.{Placement}
+use Rattle.m3_model.specs.declared.reason.Reason.TheVariants as reason
+use Rattle.m3_model.specs.declared.rules.MetaState.{MetaState}
+use Rattle.m3_model.specs.declared.turn.Request.{Request}
+use Rattle.m3_model.specs.declared.turn.Turn.{Turn}
+use Rattle.placement_core.specs.Lawful.{IsLawful}
+use Rattle.cluster_core.specs.Earlier.{last_place}
+use Rattle.cluster_core.specs.Lists.{At}
+use Rattle.cluster_core.specs.Replicas.{replica}
+use Rattle.cluster_core.specs.declared.event.Event.{Event}
+use Rattle.cluster_core.specs.declared.event.Event.TheVariants as event
+use Rattle.cluster_core.specs.declared.event.StepCall.{StepCall}
+use Rattle.cluster_core.specs.declared.event.StepCall.TheVariants as call
+use Rattle.cluster_core.specs.declared.event.StepReply.{StepReply}
+use Rattle.cluster_core.specs.declared.event.StepReply.TheVariants as reply
+use Rattle.cluster_core.proofs.ListLemmas.{at_append, at_same, at_within}
+use Rattle.transcripts.specs.Caused.{IsRefusedWhole, acts_in}
+use Rattle.transcripts.specs.Deliveries.{IsSameMessage, IsSamePlace, LateMessage}
+use Rattle.transcripts.specs.Faults.{Fault, Taking}
+use Rattle.transcripts.specs.Moves.{IsLeftFence}
+use Rattle.transcripts.specs.Placements.{has_replica, printed}
+use Rattle.transcripts.specs.Record.{Record, TurnPlace, IsLastTurnPlace, IsTurnPlace, lists_of}
+use Rattle.transcripts.proofs.MoreFaults.{AreAmong, different_both}
+use Rattle.transcripts.proofs.PlaceLemmas.{at_push}
+use Rattle.told_by.specs.Hears.{InStretch}
+use Rattle.told_by.specs.Openings.{sets_seed}
+use Rattle.told_by.specs.Spans.{IsAlone}
+use Rattle.told_by.specs.Told.{TellsLine, ToldBy}
+use Rattle.told_by.proofs.HearLemmas.{outcomes_on}
+use Rattle.told_by.proofs.LineLemmas.{alone_stays, at_front, line_below, line_told, line_told_ends, line_told_from, line_told_last, line_told_to, line_told_was_from, line_told_was_to, no_place, nothing_at, take_all, take_front, told_at_first, told_found}
+use Rattle.told_by.proofs.PrintedLemmas.{ends_within}
+use Rattle.told_by.proofs.SampleLemmas.{each_at}
+use Rattle.told_by.proofs.TurnLemmas.{at_cut}
+use Rattle.told_causes.specs.Boot.{IsBootAct}
+use Rattle.told_causes.specs.Standing.{HaltsAlone, IsHaltAct}
+use Rattle.told_moves.specs.Order.{IsInOrder, OpensWithin}
+use Rattle.told_runs.specs.Answers.{AreAnswered, Delivers, HearsOf, IsAnswered, IsDecidedBy, IsOfKind}
+use Rattle.told_runs.specs.Bounds.{IsBounded, writes_taken}
+use Rattle.told_runs.specs.Laws.{IsServed, OwnsFiles}
+use Rattle.told_runs.specs.Lines.{Adds, IsServedAfresh, IsServedAtFirst, IsServedLineByLine, ServesLine, WantsLine, delivered_on, life_of}
+
+-- ---- answers
+
+-- an answer is decided so also where more disks couldn't be taken
+kind_more : (taking more : List Fault) → AreAmong taking more → (start : Option MetaState) (p : TurnPlace) (a : Act) (b : Answer) → IsOfKind taking start p a b → IsOfKind more start p a b
+kind_more taking more among start p (act.Init rf shards seed nodes) (answer.Disk name shard) h = (h.0, h.1, h.2, among _ h.3)
+kind_more taking more among start p _ _ h = h
+
+decided_more : (taking more : List Fault) → AreAmong taking more → (start : Option MetaState) (p : TurnPlace) (o : Option Answer) → IsDecidedBy taking start p o → IsDecidedBy more start p o
+decided_more taking more among start p (Some refusal) h = h
+decided_more taking more among start p None h = kind_more taking more among start p p.turn.act p.turn.answer h
+
+answered_more : (taking more : List Fault) → AreAmong taking more → (start : Option MetaState) (end : ℕ) (p : TurnPlace) → IsAnswered taking start end p → IsAnswered more start end p
+answered_more taking more among start end p (inl memory) = inl memory
+answered_more taking more among start end p (inr (inl full)) = inr (inl full)
+answered_more taking more among start end p (inr (inr decided)) = inr (inr (decided.0, decided.1, decided_more taking more among start p _ decided.2))
+
+-- what is heard of late messages is heard where more happens
+heard_on : (start : Option MetaState) (Old New : ℕ → Event → Type 0) → ((i : ℕ) (e : Event) → Old i e → New i e) → (p : TurnPlace) (messages : List LateMessage) (b : Answer) → HearsOf start Old p messages b → HearsOf start New p messages b
+heard_on start Old New on p messages (answer.Outcomes outcomes) h = (h.0, outcomes_on start [] Old New on p messages outcomes h.1)
+heard_on start Old New on p messages _ h = h
+
+same_back : (a b : LateMessage) → IsSameMessage a b → IsSameMessage b a
+same_back a b same = let place = same.0 in ((sym place.0, sym place.1, sym place.2), sym same.1)
+
+-- ---- the line
+
+module _ {tells : Bool} (past : List Record) (start : Option MetaState) (turns : List Turn) (unanswered next : Option Request) (events : List Event) (line : Turn) (more : List Event) (untaken taking : List Fault) (now was : TurnPlace → List LateMessage)
+    (told : ToldBy start turns events) (served : IsServed tells taking was (life_of past start turns unanswered) events told) (adds : TellsLine start turns events line more) (serves : ServesLine tells untaken taking now was past start turns events line more adds) where
+  abbrev long : List Turn
+  long = turns ++ line ∷ []
+
+  abbrev all : List Event
+  all = events ++ more
+
+  abbrev after : ToldBy start long all
+  after = line_told start turns events line more told adds
+
+  -- a place of the old lines, or of the new one
+  which : (p : TurnPlace) → IsTurnPlace long p → IsTurnPlace turns p ⊎ IsLastTurnPlace turns line p
+  which p h = at_push (λ q. IsTurnPlace turns q ⊎ IsLastTurnPlace turns line q) turns line (λ q k. inl k) (λ q k. inr k) p h
+
+  -- an event of the old list, or one that the line adds
+  event_cases : (i : ℕ) (e : Event) → At all i e → ((i < length events) × At events i e) ⊎ Adds events more i e
+  event_cases i e there = elim (cases_lt i (length events)) as (λ _. ((i < length events) × At events i e) ⊎ Adds events more i e) [ inl lt ↦ inl (lt, at_front events more i e there lt) | inr ge ↦ inr (ge, there) ]
+
+  front : (i : ℕ) → i ≤ length events → take i all ≡ take i events
+  front i le = take_front events more i le
+
+  here_alone : (q : TurnPlace) → IsLastTurnPlace turns line q → lists_of line ≡ (q.turn ∷ []) ∷ [] → IsAlone long q
+  here_alone q k only = (line, subst (λ ls. At long (length ls) line) (sym k.lines_are) (at_cut turns line []), only)
+
+  alone_so : (Wants : TurnPlace → Type 0) → ((q : TurnPlace) → Wants q → WantsLine q) → ((q : TurnPlace) → IsTurnPlace turns q → Wants q → IsAlone turns q) → (q : TurnPlace) → IsTurnPlace long q → Wants q → IsAlone long q
+  alone_so Wants wants old q at h = elim (which q at) as (λ _. IsAlone long q) [ inl k ↦ alone_stays turns line q (old q k h) | inr k ↦ here_alone q k ((serves.order).alone q k (wants q h)) ]
+
+  ends_were : (k : ℕ) → k ≤ length turns → after.ends k ≡ told.ends k
+  ends_were k le = line_told_ends start turns events line more told adds k le
+
+  ends_now : (k : ℕ) → k ≡ length turns → after.ends (suc k) ≡ length all
+  ends_now k is = ap (λ m. after.ends (suc m)) is ∙ line_told_last start turns events line more told adds
+
+  one_place : (k i : ℕ) (place : Placement) (done : List (ℕ × ℕ)) → k < length long → after.ends k ≤ i → i < after.ends (suc k) → At all i (event.Place place done) → last_place (take (after.ends (suc k)) all) ≡ Some place
+  one_place k i place done less low high there =
+      elim (cases_lt k (length turns)) as (λ _. last_place (take (after.ends (suc k)) all) ≡ Some place) [
+        | inl old ↦
+            let ends_so = ends_were (suc k) old in
+            let bound = ends_within start turns events told (suc k) old in
+            let there_too = at_front events more i (event.Place place done) there (omega (arith, high, ends_so, bound)) in
+            ap (λ n. last_place (take n all)) ends_so
+            ∙ ap last_place (front (told.ends (suc k)) bound)
+            ∙ (served.order).one k i place done old (omega (arith, low, ends_were k (omega (arith, old)))) (omega (arith, high, ends_so)) there_too
+        | inr ge ↦
+            let is : k ≡ length turns = omega (arith, ge, less, length-append turns (line ∷ [])) in
+            let begins : length events ≤ i = omega (arith, low, ap after.ends is, ends_were (length turns) (omega arith), (told.lines).last) in
+            ap (λ n. last_place (take n all)) (ends_now k is) ∙ ap last_place (take_all all) ∙ (serves.order).one i place done (begins, there)
+      ]
+
+  order_on : IsInOrder start long all after
+  order_on = record {
+    boots = alone_so (λ q. IsBootAct q.turn.act) (λ q h. inl h) (served.order).boots;
+    prints = λ q at place prints. alone_so (λ x. (printed_ : Placement) × (printed x.turn.answer ≡ Some printed_)) (λ x h. inr (inr h)) (λ x k h. (served.order).prints x k h.0 h.1) q at (place, prints);
+    inits = λ q at is place prints. elim (which q at) as (λ _. sets_seed q.turn.act q.turn.answer ≡ true) [ inl k ↦ (served.order).inits q k is place prints | inr k ↦ (serves.order).inits q k is place prints ];
+    lawful = λ i place done there. elim (event_cases i (event.Place place done) there) as (λ _. IsLawful place) [ inl old ↦ (served.order).lawful i place done old.1 | inr new ↦ (serves.order).lawful i place done new ];
+    one = one_place;
+    ends = λ i n s a there place last. elim (event_cases i (event.Step n s call.End a) there) as (λ _. has_replica (Some place) s n ≡ false) [
+      | inl old ↦ (served.order).ends i n s a old.1 place (ap last_place (sym (front i (omega (arith, old.0)))) ∙ last)
+      | inr new ↦ (serves.order).ends i n s a new place last
+    ];
+  }
+
+  halts_on : HaltsAlone long
+  halts_on = alone_so (λ q. IsHaltAct q.turn.act) (λ q h. inr (inl h)) served.halts
+
+  opens_on : tells ≡ true → OpensWithin start all
+  opens_on is = record {
+    fenced = λ i n s tenure fence points there none. elim (event_cases i (event.Step n s (call.Begin tenure) (reply.Began fence points)) there) as (λ _. (fence ≡ tenure) ⊎ IsLeftFence start fence) [
+      | inl old ↦ (served.opens is).fenced i n s tenure fence points old.1 (ap (λ es. (replica n s es).begun) (sym (front i (omega (arith, old.0)))) ∙ none)
+      | inr new ↦ (serves.opens is).fenced i n s tenure fence points new none
+    ];
+  }
+
+  owned_on : tells ≡ true → OwnsFiles all
+  owned_on is i n s tenure there =
+      elim (event_cases i (event.Step n s (call.Begin tenure) (reply.Refused reason.NotOwned)) there) as (λ _. (replica n s (take i all)).begun ≢ []) [
+        | inl old ↦ λ none. (served.owned is) i n s tenure old.1 (ap (λ es. (replica n s es).begun) (sym (front i (omega (arith, old.0)))) ∙ none)
+        | inr new ↦ (serves.opens is).owned i n s tenure new
+      ]
+
+  -- ---- its answers
+
+  abbrev delivered : TurnPlace → List LateMessage
+  delivered = delivered_on turns was now
+
+  as_was : (p : TurnPlace) → IsTurnPlace turns p → delivered p ≡ was p
+  as_was p k = ap (λ b. if b then was p else now p) (lt-ltb (length p.lines) (length turns) (line_below turns p k))
+
+  as_now : (p : TurnPlace) → IsLastTurnPlace turns line p → delivered p ≡ now p
+  as_now p k = ap (λ b. if b then was p else now p) (le-ltb (length p.lines) (length turns) (omega (arith, ap length k.lines_are)))
+
+  answered_on : (p : TurnPlace) → IsTurnPlace long p → IsAnswered (untaken ++ taking) start ((after.spans).to p) p
+  answered_on p at =
+      elim (which p at) as (λ _. IsAnswered (untaken ++ taking) start ((after.spans).to p) p) [
+        | inl k ↦ answered_more taking (untaken ++ taking) (λ f m. IsIn-append_right untaken taking f m) start ((after.spans).to p) p (subst (λ n. IsAnswered taking start n p) (sym (line_told_was_to start turns events line more told adds p k)) ((served.answers).each p k))
+        | inr k ↦ answered_more untaken (untaken ++ taking) (λ f m. IsIn-append_left untaken taking f m) start ((after.spans).to p) p (subst (λ n. IsAnswered untaken start n p) (sym (line_told_to start turns events line more told adds p k)) ((serves.answers).each p k))
+      ]
+
+  moved : (p : TurnPlace) (messages : List LateMessage) {from to from_now to_now : ℕ} → from_now ≡ from → to_now ≡ to → HearsOf start (InStretch all from to) p messages p.turn.answer → HearsOf start (InStretch all from_now to_now) p messages p.turn.answer
+  moved p messages {from} {to} {from_now} {to_now} e f h =
+      subst (λ n. HearsOf start (InStretch all from_now n) p messages p.turn.answer) (sym f) (subst (λ n. HearsOf start (InStretch all n to) p messages p.turn.answer) (sym e) h)
+
+  delivers_on : (p : TurnPlace) → IsTurnPlace long p → Delivers start all after.spans p (delivered p)
+  delivers_on p at =
+      elim (which p at) as (λ _. Delivers start all after.spans p (delivered p)) [
+        | inl k ↦ subst (Delivers start all after.spans p) (sym (as_was p k)) (moved p (was p) (line_told_was_from start turns events line more told adds p k) (line_told_was_to start turns events line more told adds p k)
+            (heard_on start (InStretch events ((told.spans).from p) ((told.spans).to p)) (InStretch all ((told.spans).from p) ((told.spans).to p)) (λ i e s. (s.0, s.1, at_append events more i e s.2)) p (was p) p.turn.answer ((served.answers).delivers p k)))
+        | inr k ↦ subst (Delivers start all after.spans p) (sym (as_now p k)) (moved p (now p) (line_told_from start turns events line more told adds p k) (line_told_to start turns events line more told adds p k) ((serves.answers).delivers p k))
+      ]
+
+  once_on : (p q : TurnPlace) → IsTurnPlace long p → IsTurnPlace long q → (a b : LateMessage) → IsIn (delivered p) a → IsIn (delivered q) b → IsSameMessage a b → IsSamePlace p q
+  once_on p q hp hq a b m n same =
+      elim (which p hp) as (λ _. IsSamePlace p q) [
+        | inl op ↦
+            let was_p = subst (λ ms. IsIn ms a) (as_was p op) m in
+            elim (which q hq) as (λ _. IsSamePlace p q) [
+              | inl oq ↦ (served.answers).once p q op oq a b was_p (subst (λ ms. IsIn ms b) (as_was q oq) n) same
+              | inr nq ↦ absurd ((serves.answers).not_again q p nq op b a (subst (λ ms. IsIn ms b) (as_now q nq) n) was_p (same_back a b same))
+            ]
+        | inr np ↦
+            let now_p = subst (λ ms. IsIn ms a) (as_now p np) m in
+            elim (which q hq) as (λ _. IsSamePlace p q) [
+              | inl oq ↦ absurd ((serves.answers).not_again p q np oq a b now_p (subst (λ ms. IsIn ms b) (as_was q oq) n) same)
+              | inr nq ↦ (serves.answers).once p q np nq a b now_p (subst (λ ms. IsIn ms b) (as_now q nq) n) same
+            ]
+      ]
+
+  whole_on : (before : List Turn) (other : Turn) (behind : List Turn) → long ≡ before ++ other ∷ behind → IsRefusedWhole start before other.request other.reply
+  whole_on before other behind e =
+      elim (split_push turns line before other behind e) as (λ _. IsRefusedWhole start before other.request other.reply) [
+        | inl here ↦ subst (λ ls. IsRefusedWhole start ls other.request other.reply) (sym here.0) (subst (λ (l : Turn). IsRefusedWhole start turns l.request l.reply) (sym here.1) (serves.answers).whole)
+        | inr there ↦ (served.answers).whole before other there.0 there.1
+      ]
+
+  answers_on : AreAnswered (untaken ++ taking) delivered start long all after
+  answers_on = record {
+    each = answered_on;
+    delivers = delivers_on;
+    once = once_on;
+    whole = whole_on;
+    untaken = λ f m. elim (IsIn-append_cases untaken taking f m) as (λ _. f.kind ≡ Taking) [ inl new ↦ ((serves.answers).untaken_are f new).0 | inr old ↦ (served.answers).untaken f old ];
+    different = different_both untaken taking (serves.answers).different (served.answers).different (λ f new old. ((serves.answers).untaken_are f new).1 old);
+  }
+
+  -- ---- how many events
+
+  abbrev room : Turn → List Turn → ℕ
+  room other lines = (MOST_REQUEST_EVENTS * length (acts_in (other ∷ []))) * (writes_taken past lines + 1)
+
+  bound_on : IsBounded past long after.ends
+  bound_on k other there =
+      elim (cases_lt k (length turns)) as (λ _. after.ends (suc k) ≤ after.ends k + room other (take (suc k) long)) [
+        | inl old ↦
+            subst (λ ls. after.ends (suc k) ≤ after.ends k + room other ls) (sym (take_front turns (line ∷ []) (suc k) old))
+            (subst (λ n. after.ends (suc k) ≤ n + room other (take (suc k) turns)) (sym (ends_were k (omega (arith, old))))
+            (subst (λ n. n ≤ told.ends k + room other (take (suc k) turns)) (sym (ends_were (suc k) old)) (served.bound k other (at_front turns (line ∷ []) k other there old))))
+        | inr ge ↦
+            let is : k ≡ length turns = omega (arith, ge, at_within long k other there, length-append turns (line ∷ [])) in
+            let same : other ≡ line = at_same long (length turns) other line (subst (λ m. At long m other) is there) (at_cut turns line []) in
+            let full : take (suc k) long ≡ long = ap (λ m. take m long) (let last : suc k ≡ length long = omega (arith, is, length-append turns (line ∷ [])) in last) ∙ take_all long in
+            let begins : after.ends k ≡ length events = ap after.ends is ∙ ends_were (length turns) (omega arith) ∙ (told.lines).last in
+            subst (λ ls. after.ends (suc k) ≤ after.ends k + room other ls) (sym full)
+            (subst (λ n. n ≤ after.ends k + room other long) (sym (ends_now k is))
+            (subst (λ n. length all ≤ n + room other long) (sym begins) (subst (λ l. length all ≤ length events + room l long) (sym same) serves.bound)))
+      ]
+
+  served_on : IsServed tells (untaken ++ taking) delivered (life_of past start long next) all after
+  served_on = record { order = order_on; halts = halts_on; opens = opens_on; owned = owned_on; answers = answers_on; bound = bound_on }
+
+pub served_line : {tells : Bool} → IsServedLineByLine tells
+served_line past start turns unanswered next events line more untaken taking now was h adds serves =
+    (line_told start turns events line more h.0 adds, served_on past start turns unanswered next events line more untaken taking now was h.0 h.1 adds serves)
+
+-- ---- before the first line
+
+pub served_first : {tells : Bool} → IsServedAtFirst tells
+served_first past unanswered = (
+  told_at_first,
+  record {
+    order = record {
+      boots = λ q at. absurd (no_place q at);
+      prints = λ q at. absurd (no_place q at);
+      inits = λ q at. absurd (no_place q at);
+      lawful = λ i place done there. absurd (nothing_at i (event.Place place done) there);
+      one = λ k i place done less. absurd (omega (arith, less));
+      ends = λ i n s a there. absurd (nothing_at i (event.Step n s call.End a) there);
+    };
+    halts = λ q at. absurd (no_place q at);
+    opens = λ is. record { fenced = λ i n s tenure fence points there. absurd (nothing_at i (event.Step n s (call.Begin tenure) (reply.Began fence points)) there) };
+    owned = λ is i n s tenure there. absurd (nothing_at i (event.Step n s (call.Begin tenure) (reply.Refused reason.NotOwned)) there);
+    answers = nothing;
+    bound = λ k other there. absurd (nothing_at k other there);
+  },
+)
+  where
+    nothing : AreAnswered [] (λ p. []) None [] [] told_at_first
+    nothing = record { each = λ p at. absurd (no_place p at); delivers = λ p at. absurd (no_place p at); once = λ p q at. absurd (no_place p at); whole = λ before other behind e. absurd (not_empty before other behind e); untaken = λ f m. absurd m; different = tt }
+
+pub served_afresh : {tells : Bool} → IsServedAfresh tells
+served_afresh past state unanswered lawful = (
+  told_found state,
+  record {
+    order = record {
+      boots = λ q at. absurd (no_place q at);
+      prints = λ q at. absurd (no_place q at);
+      inits = λ q at. absurd (no_place q at);
+      lawful = λ i place done there. each_at (λ k x. x ≡ event.Place place done → IsLawful place) 0 opening ((λ e. let same : state.place ≡ place = cc in subst IsLawful same lawful), ((λ e. cc), tt)) i (event.Place place done) there refl;
+      one = λ k i place done less. absurd (omega (arith, less));
+      ends = λ i n s a there. absurd (no_step i n s call.End a there);
+    };
+    halts = λ q at. absurd (no_place q at);
+    opens = λ is. record { fenced = λ i n s tenure fence points there. absurd (no_step i n s (call.Begin tenure) (reply.Began fence points) there) };
+    owned = λ is i n s tenure there. absurd (no_step i n s (call.Begin tenure) (reply.Refused reason.NotOwned) there);
+    answers = record { each = λ p at. absurd (no_place p at); delivers = λ p at. absurd (no_place p at); once = λ p q at. absurd (no_place p at); whole = λ before other behind e. absurd (not_empty before other behind e); untaken = λ f m. absurd m; different = tt };
+    bound = λ k other there. absurd (nothing_at k other there);
+  },
+)
+  where
+    opening : List Event
+    opening = event.Place state.place [] ∷ event.Clock state.rules ∷ []
+
+    no_step : (i n s : ℕ) (c : StepCall) (a : StepReply) → At opening i (event.Step n s c a) → ⊥
+    no_step i n s c a there = each_at (λ k x. x ≡ event.Step n s c a → ⊥) 0 opening ((λ e. cc), ((λ e. cc), tt)) i (event.Step n s c a) there refl

@@ -1,0 +1,11 @@
+//! What is known of a run that is told goes on line by line.
+ghost use Rattle.std.specs.Prelude.{Bool};
+ghost use Rattle.told_runs.specs.Lines.{IsServedAfresh, IsServedAtFirst, IsServedLineByLine};
+
+/// A run is served line by line: it is so before its first line, with nothing or with the state that it found, and each
+/// line that is served leaves it so, over any disks.
+pub fn served_line_by_line()
+    ensures first { (tells : Bool) → IsServedAtFirst tells }
+    ensures found { (tells : Bool) → IsServedAfresh tells }
+    ensures line { (tells : Bool) → IsServedLineByLine tells }
+{}
