@@ -154,7 +154,7 @@ idle_line start turns events = record {
 }
 
 -- a front of a legal list is legal
-legal_front : (xs ys : List Event) → Legal true (xs ++ ys) → Legal true xs
+pub legal_front : (xs ys : List Event) → Legal true (xs ++ ys) → Legal true xs
 legal_front xs ys legal i e h = subst (λ es. LawfulAt true i es e) (take_front xs ys i (omega (arith, at_within xs i e h))) (legal i e (at_append xs ys i e h))
 
 agrees_front : (xs ys : List Event) (opening : Opening) → AgreesWith (xs ++ ys) opening → AgreesWith xs opening

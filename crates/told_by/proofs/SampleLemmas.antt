@@ -35,7 +35,7 @@ use Rattle.told_by.specs.Makes.{CountsOwnPuts, CountsOwnReads, EndsRestart, MayM
 use Rattle.told_by.specs.Spans.{From}
 use Rattle.told_by.specs.Reads.{Asking}
 use Rattle.told_by.specs.Sample.{SampleIsTold, begin, begun, fetched, name, of_init, of_read, of_space, of_write, place, placed, point, put, read, rules, series, spaced, written}
-use Rattle.told_by.specs.Told.{ToldBy}
+use Rattle.told_by.specs.Told.{TellsLine, ToldBy}
 use Rattle.told_by.proofs.AnswerLemmas.{shard_below}
 use Rattle.told_by.proofs.KindLemmas.{clock_told, init_told, read_told, write_told}
 use Rattle.told_by.proofs.LineLemmas.{line_told, no_place, told_at_first}
@@ -94,7 +94,7 @@ found = answer.Found series false
 pub shard_zero : (id : List ℕ) → shard_of id 0 1 ≡ 0
 shard_zero id = let below = shard_below id 0 1 (omega arith) in omega (arith, below)
 
-ask_or_step : (asks : List Event) → Each (λ j e. IsAskOrStep e) 0 asks → AreSteps asks
+pub ask_or_step : (asks : List Event) → Each (λ j e. IsAskOrStep e) 0 asks → AreSteps asks
 ask_or_step asks each e m = let r = in_at asks e m in each_at (λ j e. IsAskOrStep e) 0 asks each r.0 e r.1
 
 -- the one replica began
@@ -113,10 +113,11 @@ opened_here node zero tenure given =
     ]
 opened_here node (suc shard) tenure given = absurd (let bad = given.1 in cc)
 
-told_init : ToldBy None first of_init
-told_init =
-    line_told None [] [] (line_of begun placed) of_init told_at_first
-    (init_told None [] [] begun placed of_init (record {
+-- what each line adds, and the run so far
+
+pub init_line : TellsLine None [] [] (line_of begun placed) of_init
+init_line =
+    init_told None [] [] begun placed of_init (record {
       makes = record {
         makes = makes_each None [] [] begun placed of_init
             (λ past. record { stood = place; prints = refl; not_before = omega arith }, (λ past. tt, (λ past. (place, refl, refl, ((record { node = 0; tenure = 1; state = Available; source = None } ∷ []), refl, at_any (λ (a : Assignment). (a.node ≡ 0) × (a.tenure ≡ 1)) (record { node = 0; tenure = 1; state = Available; source = None } ∷ []) 0 (record { node = 0; tenure = 1; state = Available; source = None }) refl (refl, refl))), (λ past. record { opens = tt; place = place; last = refl; runs = record { instance_ = record { name = name; group = name; listed = true; drained = false }; stands = refl; holds = refl } }, tt))));
@@ -133,19 +134,24 @@ told_init =
       steps = ask_or_step (event.Ask (asked.Step 0 0 begin) ∷ event.Step 0 0 begin (reply.Began 1 []) ∷ []) (tt, (tt, tt));
       adds = refl;
       not_earlier = λ p h. absurd (no_place p h);
-    }))
+    })
 
-told_space : ToldBy None second (of_init ++ of_space)
-told_space =
-    line_told None first of_init (line_of spaced answer.Done) of_space told_init
-    (clock_told None first of_init spaced answer.Done of_space (record {
+told_init : ToldBy None first of_init
+told_init = line_told None [] [] (line_of begun placed) of_init told_at_first init_line
+
+pub space_line : TellsLine None first of_init (line_of spaced answer.Done) of_space
+space_line =
+    clock_told None first of_init spaced answer.Done of_space (record {
       makes = record { makes = makes_each None first of_init spaced answer.Done of_space (λ past. refl, (λ past. tt, tt)); restarts = restarts_none of_init spaced answer.Done first of_space (none, (none, tt)); hears = tt };
       sets = refl;
       opened = omega arith;
       asks = event.Ask (asked.Clock rules) ∷ [];
       steps = ask_or_step (event.Ask (asked.Clock rules) ∷ []) (tt, tt);
       adds = refl;
-    }))
+    })
+
+told_space : ToldBy None second (of_init ++ of_space)
+told_space = line_told None first of_init (line_of spaced answer.Done) of_space told_init space_line
 
 abbrev before_write : List Event
 before_write = of_init ++ of_space

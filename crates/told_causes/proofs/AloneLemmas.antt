@@ -25,7 +25,7 @@ use Rattle.told_causes.proofs.HaltLemmas.{one_line, opening_low}
 
 -- ---- turns that are alone
 
-only_cut : (t : InnerTurn) (front : List (List InnerTurn)) (earlier : List InnerTurn) (u : InnerTurn) (later : List InnerTurn) (back : List (List InnerTurn)) → (t ∷ []) ∷ [] ≡ front ++ (earlier ++ u ∷ later) ∷ back
+pub only_cut : (t : InnerTurn) (front : List (List InnerTurn)) (earlier : List InnerTurn) (u : InnerTurn) (later : List InnerTurn) (back : List (List InnerTurn)) → (t ∷ []) ∷ [] ≡ front ++ (earlier ++ u ∷ later) ∷ back
     → (front ≡ []) × (earlier ≡ []) × (back ≡ []) × (u ≡ t)
 only_cut t [] [] u later back e = let head : t ∷ [] ≡ u ∷ later = cc in let tail : [] ≡ back = cc in let same : t ≡ u = cc in (refl, refl, sym tail, sym same)
 only_cut t [] (z ∷ earlier) u later back e = let head : t ∷ [] ≡ z ∷ (earlier ++ u ∷ later) = cc in let rest : [] ≡ earlier ++ u ∷ later = cc in absurd (not_empty earlier u later rest)

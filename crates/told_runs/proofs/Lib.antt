@@ -8,3 +8,5 @@ pub mod OwnsLemmas
 pub mod CausedLemmas
 pub mod SampleLemmas
 pub mod LineLemmas
+pub mod LateLemmas
+pub mod BrokenLemmas

@@ -82,6 +82,15 @@ stands n some high =
     none : (i : ℕ) (other : Placement) (done : List (ℕ × ℕ)) → 1 ≤ i → At events i (event.Place other done) → ⊥
     none i other done low there = each_at (λ k x. 1 ≤ k → x ≡ event.Place other done → ⊥) 0 events ((λ at e. omega (arith, at)), ((λ at e. cc), ((λ at e. cc), ((λ at e. cc), ((λ at e. cc), ((λ at e. cc), ((λ at e. cc), ((λ at e. cc), ((λ at e. cc), ((λ at e. cc), ((λ at e. cc), ((λ at e. cc), ((λ at e. cc), ((λ at e. cc), tt)))))))))))))) i (event.Place other done) there (omega (arith, low)) refl
 
+pub never_ends : (i n s : ℕ) (a : StepReply) → At events i (event.Step n s call.End a) → ⊥
+never_ends i n s a there = each_at (λ k x. x ≡ event.Step n s call.End a → ⊥) 0 events ((λ e. cc), ((λ e. cc), ((λ e. cc), ((λ e. cc), ((λ e. cc), ((λ e. cc), ((λ e. cc), ((λ e. cc), ((λ e. cc), ((λ e. cc), ((λ e. cc), ((λ e. cc), ((λ e. cc), ((λ e. cc), tt)))))))))))))) i (event.Step n s call.End a) there refl
+
+-- the one begin has its tenure as fence
+pub began_so : (i n s tenure fence : ℕ) (points : List Point) → At events i (event.Step n s (call.Begin tenure) (reply.Began fence points)) → fence ≡ tenure
+began_so i n s tenure fence points there =
+    each_at (λ k x. x ≡ event.Step n s (call.Begin tenure) (reply.Began fence points) → fence ≡ tenure) 0 events ((λ e. absurd (cc)), ((λ e. absurd (cc)), ((λ e. absurd (cc)), ((λ e. let t : 1 ≡ tenure = cc in let f : 1 ≡ fence = cc in sym f ∙ t), ((λ e. absurd (cc)), ((λ e. absurd (cc)), ((λ e. absurd (cc)), ((λ e. absurd (cc)), ((λ e. absurd (cc)), ((λ e. absurd (cc)), ((λ e. absurd (cc)), ((λ e. absurd (cc)), ((λ e. absurd (cc)), ((λ e. absurd (cc)), tt))))))))))))))
+    i (event.Step n s (call.Begin tenure) (reply.Began fence points)) there refl
+
 order : IsInOrder None turns events sample_told
 order = record {
   boots = each_turn _ (λ h. absurd h) (λ h. absurd h) (λ h. absurd h) (λ h. absurd h);
@@ -90,21 +99,13 @@ order = record {
   lawful = λ i other done there. subst IsLawful (one_place i other done there) lawful_place;
   one = λ k i other done less low high there.
       stands (sample_told.ends (suc k)) (omega (arith, high)) (ends_within None turns events sample_told (suc k) less) ∙ ap Some (one_place i other done there);
-  ends = λ i n s a there stood last. absurd (no_end i n s a there);
+  ends = λ i n s a there stood last. absurd (never_ends i n s a there);
 }
-  where
-    no_end : (i n s : ℕ) (a : StepReply) → At events i (event.Step n s call.End a) → ⊥
-    no_end i n s a there = each_at (λ k x. x ≡ event.Step n s call.End a → ⊥) 0 events ((λ e. cc), ((λ e. cc), ((λ e. cc), ((λ e. cc), ((λ e. cc), ((λ e. cc), ((λ e. cc), ((λ e. cc), ((λ e. cc), ((λ e. cc), ((λ e. cc), ((λ e. cc), ((λ e. cc), ((λ e. cc), tt)))))))))))))) i (event.Step n s call.End a) there refl
 
 opens : OpensWithin None events
 opens = record {
-  fenced = λ i n s tenure fence points there none. inl (began i n s tenure fence points there);
+  fenced = λ i n s tenure fence points there none. inl (began_so i n s tenure fence points there);
 }
-  where
-    began : (i n s tenure fence : ℕ) (points : List Point) → At events i (event.Step n s (call.Begin tenure) (reply.Began fence points)) → fence ≡ tenure
-    began i n s tenure fence points there =
-        each_at (λ k x. x ≡ event.Step n s (call.Begin tenure) (reply.Began fence points) → fence ≡ tenure) 0 events ((λ e. absurd (cc)), ((λ e. absurd (cc)), ((λ e. absurd (cc)), ((λ e. let t : 1 ≡ tenure = cc in let f : 1 ≡ fence = cc in sym f ∙ t), ((λ e. absurd (cc)), ((λ e. absurd (cc)), ((λ e. absurd (cc)), ((λ e. absurd (cc)), ((λ e. absurd (cc)), ((λ e. absurd (cc)), ((λ e. absurd (cc)), ((λ e. absurd (cc)), ((λ e. absurd (cc)), ((λ e. absurd (cc)), tt))))))))))))))
-        i (event.Step n s (call.Begin tenure) (reply.Began fence points)) there refl
 
 -- ---- its answers
 
@@ -114,7 +115,7 @@ only = first_at 0 ∷ []
 abbrev loads : ℕ → ℕ
 loads n = load n ([] ++ [] ∷ [])
 
-initial : IsInitial 1 1 ((name, name) ∷ []) place
+pub initial : IsInitial 1 1 ((name, name) ∷ []) place
 initial = record { version = refl; rf_is = refl; instances = refl; count = refl; each = each_shard }
   where
     may_hold : (other : ℕ) → MayHold (first_instances ((name, name) ∷ [])) [] other → other ≡ 0

@@ -3,3 +3,5 @@ pub mod Bounds
 pub mod Laws
 pub mod Lines
 pub mod Sample
+pub mod LateSample
+pub mod Broken

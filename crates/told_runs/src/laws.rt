@@ -1,6 +1,7 @@
 //! Why each answer of a run is what it is.
 ghost use Rattle.std.specs.Prelude.{Bool};
 ghost use Rattle.told_runs.specs.Laws.{IsCausedWhereTold};
+ghost use Rattle.told_runs.specs.LateSample.{DeliveryIsKnown, LateIsServed};
 ghost use Rattle.told_runs.specs.Sample.{ShortIsServed};
 
 /// Where a list of events that is legal as far as the disks tell tells of a life's present run, and its lines were served in
@@ -13,4 +14,11 @@ pub fn told_is_caused()
 /// What that asks of a run can be met, over disks that tell and over others: by a run of one node that writes and reads.
 pub fn short_is_served()
     ensures { (tells : Bool) → ShortIsServed tells }
+{}
+
+/// And by a run whose write's one message is late and is delivered by a later line, of which all is so that is asked of a
+/// delivery.
+pub fn late_is_served()
+    ensures served { (tells : Bool) → LateIsServed tells }
+    ensures known { (tells : Bool) → DeliveryIsKnown tells }
 {}

@@ -1,5 +1,6 @@
 //! What is known of a run that is told goes on line by line.
 ghost use Rattle.std.specs.Prelude.{Bool};
+ghost use Rattle.told_runs.specs.Broken.{BootsBeside, DeliversAgain, IsNeverServed, TakesAgain, UndueOrder};
 ghost use Rattle.told_runs.specs.Lines.{IsServedAfresh, IsServedAtFirst, IsServedLineByLine};
 
 /// A run is served line by line: it is so before its first line, with nothing or with the state that it found, and each
@@ -8,4 +9,13 @@ pub fn served_line_by_line()
     ensures first { (tells : Bool) → IsServedAtFirst tells }
     ensures found { (tells : Bool) → IsServedAfresh tells }
     ensures line { (tells : Bool) → IsServedLineByLine tells }
+{}
+
+/// Broken lines aren't served: one that delivers a late message again, one that tells twice of a disk that couldn't be taken,
+/// a bootstrap beside another turn, and a read that is refused for its order after its namespace was made.
+pub fn broken_lines_are_refused()
+    ensures again { IsNeverServed DeliversAgain }
+    ensures twice { IsNeverServed TakesAgain }
+    ensures beside { IsNeverServed BootsBeside }
+    ensures order { UndueOrder }
 {}

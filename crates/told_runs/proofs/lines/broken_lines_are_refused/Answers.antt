@@ -1,0 +1,14 @@
+use Rattle.told_runs.proofs.BrokenLemmas.{never_again, never_beside, never_order, never_twice}
+use Rattle.told_runs.proofs.lines.broken_lines_are_refused.Goals as goal
+
+pub returns-clause-again : goal.returns-clause-again
+returns-clause-again c = never_again
+
+pub returns-clause-twice : goal.returns-clause-twice
+returns-clause-twice c = never_twice
+
+pub returns-clause-beside : goal.returns-clause-beside
+returns-clause-beside c = never_beside
+
+pub returns-clause-order : goal.returns-clause-order
+returns-clause-order c = never_order
