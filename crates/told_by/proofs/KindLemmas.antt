@@ -150,6 +150,14 @@ module _ (start : Option MetaState) (turns : List Turn) (events : List Event) (a
         ];
       })
 
+  pub clock_told_from : (h : ClockLine start turns events a b more) → ((clock_told h).spans).from (place_after turns a b) ≡ length events
+  unfolding clock_told
+  clock_told_from h = one_told_from start turns events a b more (_)
+
+  pub clock_told_to : (h : ClockLine start turns events a b more) → ((clock_told h).spans).to (place_after turns a b) ≡ length (events ++ more)
+  unfolding clock_told
+  clock_told_to h = one_told_to start turns events a b more (_)
+
   -- ---- `init`
 
   pub init_told : InitLine start turns events a b more → TellsLine start turns events (line_of a b) more
@@ -199,6 +207,14 @@ module _ (start : Option MetaState) (turns : List Turn) (events : List Event) (a
         hears = (h.makes).hears;
         each_clock = λ i rules le past there. absurd (h.steps (event.Clock rules) (among_back (placing ∷ clock ∷ []) h.begins i (event.Clock rules) (subst (λ es. At es i (event.Clock rules)) whole there) past));
       })
+
+  pub init_told_from : (h : InitLine start turns events a b more) → ((init_told h).spans).from (place_after turns a b) ≡ length events
+  unfolding init_told
+  init_told_from h = one_told_from start turns events a b more (_)
+
+  pub init_told_to : (h : InitLine start turns events a b more) → ((init_told h).spans).to (place_after turns a b) ≡ length (events ++ more)
+  unfolding init_told
+  init_told_to h = one_told_to start turns events a b more (_)
 
   -- ---- writes
 
@@ -273,6 +289,14 @@ module _ (start : Option MetaState) (turns : List Turn) (events : List Event) (a
           | inr rest ↦ elim rest as (λ _. IsClockOf start (turns ++ line_of a b ∷ []) (place_after turns a b) rules) [ inl none ↦ absurd none | inr last ↦ let k = in_ack (length events) b (event.Clock rules) last in let bad = k.2 in cc ]
         ];
       })
+
+  pub write_told_from : (h : WriteLine start turns events a b more) → ((write_told h).spans).from (place_after turns a b) ≡ length events
+  unfolding write_told
+  write_told_from h = one_told_from start turns events a b more (_)
+
+  pub write_told_to : (h : WriteLine start turns events a b more) → ((write_told h).spans).to (place_after turns a b) ≡ length (events ++ more)
+  unfolding write_told
+  write_told_to h = one_told_to start turns events a b more (_)
 
   -- ---- reads
 
@@ -442,3 +466,11 @@ module _ (start : Option MetaState) (turns : List Turn) (events : List Event) (a
         hears = (h.makes).hears;
         each_clock = λ i rules le past there. absurd (r.kinds i (event.Clock rules) le there);
       })
+
+  pub read_told_from : (h : ReadLine start turns events a b more) → ((read_told h).spans).from (place_after turns a b) ≡ length events
+  unfolding read_told
+  read_told_from h = one_told_from start turns events a b more (_)
+
+  pub read_told_to : (h : ReadLine start turns events a b more) → ((read_told h).spans).to (place_after turns a b) ≡ length (events ++ more)
+  unfolding read_told
+  read_told_to h = one_told_to start turns events a b more (_)

@@ -94,7 +94,7 @@ module _ (start : Option MetaState) (turns : List Turn) (events : List Event) (a
   is_alone = (line_of a b, at_cut turns (line_of a b) [], refl)
 
   -- a fact of the line's turn is one of each of its turns
-  each : (P : TurnPlace → Type 0) → P own → (q : TurnPlace) → IsLastTurnPlace turns (line_of a b) q → P q
+  pub each : (P : TurnPlace → Type 0) → P own → (q : TurnPlace) → IsLastTurnPlace turns (line_of a b) q → P q
   each P h q last = subst P (sym (is_own q last)) h
 
   not_earlier : (p q : TurnPlace) → p ≡ own → q ≡ own → IsEarlier p q → ⊥

@@ -198,9 +198,11 @@ module _ {tells : Bool} (now was : TurnPlace → List LateMessage) (lines : List
     order = record {
       alone = only (λ q. WantsLine q → lists_of (line_of a b) ≡ (q.turn ∷ []) ∷ []) lines a b (λ wants. refl);
       inits = only (λ q. IsInitAct q.turn.act → (p : Placement) → printed q.turn.answer ≡ Some p → sets_seed q.turn.act q.turn.answer ≡ true) lines a b (λ is p prints. inits is);
-      lawful = λ i p done added. subst IsLawful (one_place i p done (short i (event.Place p done) added.1)) lawful_place;
-      one = λ i p done added. last ∙ ap Some (one_place i p done (short i (event.Place p done) added.1));
-      ends = λ i n s r added. absurd (never_ends i n s r (short i (event.Step n s call.End r) added.1));
+      adds = record {
+        lawful = λ i p done added. subst IsLawful (one_place i p done (short i (event.Place p done) added.1)) lawful_place;
+        one = λ i p done added. last ∙ ap Some (one_place i p done (short i (event.Place p done) added.1));
+        ends = λ i n s r added. absurd (never_ends i n s r (short i (event.Step n s call.End r) added.1));
+      };
     };
     opens = λ is. record {
       fenced = λ i n s tenure fence points added unbegun. inl (began_so i n s tenure fence points (short i (event.Step n s (call.Begin tenure) (reply.Began fence points)) added.1));

@@ -31,15 +31,18 @@ use Rattle.transcripts.specs.Deliveries.{IsSameMessage, IsSamePlace, LateMessage
 use Rattle.transcripts.specs.Faults.{Fault, Taking}
 use Rattle.transcripts.specs.Moves.{IsLeftFence}
 use Rattle.transcripts.specs.Placements.{has_replica, printed}
-use Rattle.transcripts.specs.Record.{Record, TurnPlace, IsLastTurnPlace, IsTurnPlace, lists_of}
+use Rattle.transcripts.specs.Record.{Record, TurnPlace, IsLastTurnPlace, IsTurnPlace, line_of, lists_of}
 use Rattle.transcripts.proofs.MoreFaults.{AreAmong, different_both}
 use Rattle.transcripts.proofs.PlaceLemmas.{at_push}
 use Rattle.told_by.specs.Hears.{InStretch}
+use Rattle.told_by.specs.Lines.{ClockLine, InitLine, PlainLine, ReadLine, WriteLine, place_after}
 use Rattle.told_by.specs.Openings.{sets_seed}
 use Rattle.told_by.specs.Spans.{IsAlone}
 use Rattle.told_by.specs.Told.{TellsLine, ToldBy}
 use Rattle.told_by.proofs.HearLemmas.{outcomes_on}
+use Rattle.told_by.proofs.KindLemmas.{clock_told, clock_told_from, clock_told_to, init_told, init_told_from, init_told_to, plain_told, plain_told_from, plain_told_to, read_told, read_told_from, read_told_to, write_told, write_told_from, write_told_to}
 use Rattle.told_by.proofs.LineLemmas.{alone_stays, at_front, line_below, line_told, line_told_ends, line_told_from, line_told_last, line_told_to, line_told_was_from, line_told_was_to, no_place, nothing_at, take_all, take_front, told_at_first, told_found}
+use Rattle.told_by.proofs.OneLemmas.{each}
 use Rattle.told_by.proofs.PrintedLemmas.{ends_within}
 use Rattle.told_by.proofs.SampleLemmas.{each_at}
 use Rattle.told_by.proofs.TurnLemmas.{at_cut}
@@ -49,7 +52,7 @@ use Rattle.told_moves.specs.Order.{IsInOrder, OpensWithin}
 use Rattle.told_runs.specs.Answers.{AreAnswered, Delivers, HearsOf, IsAnswered, IsDecidedBy, IsOfKind}
 use Rattle.told_runs.specs.Bounds.{IsBounded, writes_taken}
 use Rattle.told_runs.specs.Laws.{IsServed, OwnsFiles}
-use Rattle.told_runs.specs.Lines.{Adds, IsServedAfresh, IsServedAtFirst, IsServedLineByLine, ServesLine, WantsLine, delivered_on, life_of}
+use Rattle.told_runs.specs.Lines.{Adds, IsServedAfresh, IsServedAtFirst, IsServedLineByLine, IsToldAndServed, KindServes, PrintsByInit, ServesLine, ServesOne, WantsLine, delivered_on, life_of}
 
 -- ---- answers
 
@@ -124,7 +127,7 @@ module _ {tells : Bool} (past : List Record) (start : Option MetaState) (turns :
         | inr ge ↦
             let is : k ≡ length turns = omega (arith, ge, less, length-append turns (line ∷ [])) in
             let begins : length events ≤ i = omega (arith, low, ap after.ends is, ends_were (length turns) (omega arith), (told.lines).last) in
-            ap (λ n. last_place (take n all)) (ends_now k is) ∙ ap last_place (take_all all) ∙ (serves.order).one i place done (begins, there)
+            ap (λ n. last_place (take n all)) (ends_now k is) ∙ ap last_place (take_all all) ∙ ((serves.order).adds).one i place done (begins, there)
       ]
 
   order_on : IsInOrder start long all after
@@ -132,11 +135,11 @@ module _ {tells : Bool} (past : List Record) (start : Option MetaState) (turns :
     boots = alone_so (λ q. IsBootAct q.turn.act) (λ q h. inl h) (served.order).boots;
     prints = λ q at place prints. alone_so (λ x. (printed_ : Placement) × (printed x.turn.answer ≡ Some printed_)) (λ x h. inr (inr h)) (λ x k h. (served.order).prints x k h.0 h.1) q at (place, prints);
     inits = λ q at is place prints. elim (which q at) as (λ _. sets_seed q.turn.act q.turn.answer ≡ true) [ inl k ↦ (served.order).inits q k is place prints | inr k ↦ (serves.order).inits q k is place prints ];
-    lawful = λ i place done there. elim (event_cases i (event.Place place done) there) as (λ _. IsLawful place) [ inl old ↦ (served.order).lawful i place done old.1 | inr new ↦ (serves.order).lawful i place done new ];
+    lawful = λ i place done there. elim (event_cases i (event.Place place done) there) as (λ _. IsLawful place) [ inl old ↦ (served.order).lawful i place done old.1 | inr new ↦ ((serves.order).adds).lawful i place done new ];
     one = one_place;
     ends = λ i n s a there place last. elim (event_cases i (event.Step n s call.End a) there) as (λ _. has_replica (Some place) s n ≡ false) [
       | inl old ↦ (served.order).ends i n s a old.1 place (ap last_place (sym (front i (omega (arith, old.0)))) ∙ last)
-      | inr new ↦ (serves.order).ends i n s a new place last
+      | inr new ↦ ((serves.order).adds).ends i n s a new place last
     ];
   }
 
@@ -250,6 +253,67 @@ module _ {tells : Bool} (past : List Record) (start : Option MetaState) (turns :
 pub served_line : {tells : Bool} → IsServedLineByLine tells
 served_line past start turns unanswered next events line more untaken taking now was h adds serves =
     (line_told start turns events line more h.0 adds, served_on past start turns unanswered next events line more untaken taking now was h.0 h.1 adds serves)
+
+-- ---- a line outside `par`
+
+module _ (tells : Bool) (past : List Record) (start : Option MetaState) (turns : List Turn) (events : List Event) (a : Act) (b : Answer) (more : List Event) (untaken taking : List Fault) (messages : List LateMessage) (was : TurnPlace → List LateMessage) where
+  abbrev own : TurnPlace
+  own = place_after turns a b
+
+  each_turn : (P : TurnPlace → Type 0) → P own → (q : TurnPlace) → IsLastTurnPlace turns (line_of a b) q → P q
+  each_turn = each start turns events a b more
+
+  same_place : (p q : TurnPlace) → IsLastTurnPlace turns (line_of a b) p → IsLastTurnPlace turns (line_of a b) q → IsSamePlace p q
+  same_place p q at there = each_turn (λ x. IsSamePlace x q) (each_turn (IsSamePlace own) (refl, refl, refl) q there) p at
+
+  serves_so : (adds : TellsLine start turns events (line_of a b) more) → (adds.spans).from own ≡ length events → (adds.spans).to own ≡ length (events ++ more) → ServesOne tells untaken taking messages was past start turns events a b more
+      → ServesLine tells untaken taking (λ p. messages) was past start turns events (line_of a b) more adds
+  serves_so adds from to one = record {
+    order = record {
+      alone = each_turn (λ q. WantsLine q → lists_of (line_of a b) ≡ (q.turn ∷ []) ∷ []) (λ wants. refl);
+      inits = each_turn (λ q. PrintsByInit q.turn.act q.turn.answer) one.inits;
+      adds = one.adds;
+    };
+    opens = one.opens;
+    answers = record {
+      each = each_turn (λ q. IsAnswered untaken start ((adds.spans).to q) q) (subst (λ n. IsAnswered untaken start n own) (sym to) one.answered);
+      delivers = each_turn (λ q. Delivers start (events ++ more) adds.spans q messages) (heard_within from to one.delivers);
+      not_again = λ p q at there x y m n. one.not_again q there x y m n;
+      once = λ p q at there x y m n same. same_place p q at there;
+      whole = tt;
+      untaken_are = one.untaken_are;
+      different = one.different;
+    };
+    bound = one.bound;
+  }
+    where
+      heard_within : {low high low_now high_now : ℕ} → low_now ≡ low → high_now ≡ high → HearsOf start (InStretch (events ++ more) low high) own messages b → HearsOf start (InStretch (events ++ more) low_now high_now) own messages b
+      heard_within {low} {high} {low_now} {high_now} e f h =
+          subst (λ n. HearsOf start (InStretch (events ++ more) low_now n) own messages b) (sym f) (subst (λ n. HearsOf start (InStretch (events ++ more) n high) own messages b) (sym e) h)
+
+  by_line : (unanswered next : Option Request) → IsToldAndServed tells taking was past start turns unanswered events → (adds : TellsLine start turns events (line_of a b) more) → (adds.spans).from own ≡ length events → (adds.spans).to own ≡ length (events ++ more)
+      → ServesOne tells untaken taking messages was past start turns events a b more → IsToldAndServed tells (untaken ++ taking) (delivered_on turns was (λ p. messages)) past start (turns ++ line_of a b ∷ []) next (events ++ more)
+  by_line unanswered next h adds from to one = served_line past start turns unanswered next events (line_of a b) more untaken taking (λ p. messages) was h adds (serves_so adds from to one)
+
+pub plain_serves : {tells : Bool} → KindServes PlainLine tells
+plain_serves {tells} past start turns unanswered next events a b more untaken taking messages was h kind one =
+    by_line tells past start turns events a b more untaken taking messages was unanswered next h (plain_told start turns events a b more kind) (plain_told_from start turns events a b more kind) (plain_told_to start turns events a b more kind) one
+
+pub clock_serves : {tells : Bool} → KindServes ClockLine tells
+clock_serves {tells} past start turns unanswered next events a b more untaken taking messages was h kind one =
+    by_line tells past start turns events a b more untaken taking messages was unanswered next h (clock_told start turns events a b more kind) (clock_told_from start turns events a b more kind) (clock_told_to start turns events a b more kind) one
+
+pub init_serves : {tells : Bool} → KindServes InitLine tells
+init_serves {tells} past start turns unanswered next events a b more untaken taking messages was h kind one =
+    by_line tells past start turns events a b more untaken taking messages was unanswered next h (init_told start turns events a b more kind) (init_told_from start turns events a b more kind) (init_told_to start turns events a b more kind) one
+
+pub write_serves : {tells : Bool} → KindServes WriteLine tells
+write_serves {tells} past start turns unanswered next events a b more untaken taking messages was h kind one =
+    by_line tells past start turns events a b more untaken taking messages was unanswered next h (write_told start turns events a b more kind) (write_told_from start turns events a b more kind) (write_told_to start turns events a b more kind) one
+
+pub read_serves : {tells : Bool} → KindServes ReadLine tells
+read_serves {tells} past start turns unanswered next events a b more untaken taking messages was h kind one =
+    by_line tells past start turns events a b more untaken taking messages was unanswered next h (read_told start turns events a b more kind) (read_told_from start turns events a b more kind) (read_told_to start turns events a b more kind) one
 
 -- ---- before the first line
 

@@ -1,6 +1,8 @@
 -- What a line adds to what is known of a run, and that it goes on line by line.
 use Rattle.std.specs.Prelude.{◌≡◌, ◌≢◌, ◌⊎◌, ◌≤◌, ◌+◌, ◌*◌, ℕ, List, [], ◌∷◌, ◌++◌, length, take, Option, Some, None, Bool, true, false, if◌then◌else◌, nat_lt}
 use Rattle.m3_model.specs.Members.{IsIn}
+use Rattle.m3_model.specs.declared.act.Act.{Act}
+use Rattle.m3_model.specs.declared.answer.Answer.{Answer}
 use Rattle.m3_model.specs.declared.limits.TheConstants.{MOST_REQUEST_EVENTS}
 use Rattle.m3_model.specs.declared.placement.Placement.{Placement}
 use Rattle.m3_model.specs.declared.point.Point.{Point}
@@ -22,14 +24,16 @@ use Rattle.transcripts.specs.Deliveries.{LateMessage, IsSameMessage, IsSamePlace
 use Rattle.transcripts.specs.Faults.{AreDifferent, Fault, Taking}
 use Rattle.transcripts.specs.Moves.{IsLeftFence}
 use Rattle.transcripts.specs.Placements.{has_replica, printed}
-use Rattle.transcripts.specs.Record.{Life, Record, TurnPlace, IsTurnPlace, IsLastTurnPlace, lists_of}
+use Rattle.transcripts.specs.Record.{Life, Record, TurnPlace, IsTurnPlace, IsLastTurnPlace, line_of, lists_of}
+use Rattle.told_by.specs.Hears.{InStretch}
+use Rattle.told_by.specs.Lines.{place_after}
 use Rattle.told_by.specs.Openings.{sets_seed}
 use Rattle.told_by.specs.Spans.{Spans}
 use Rattle.told_by.specs.Told.{TellsLine, ToldBy}
 use Rattle.told_causes.specs.Boot.{IsBootAct}
 use Rattle.told_causes.specs.Standing.{IsHaltAct}
 use Rattle.told_moves.specs.Order.{IsInitAct}
-use Rattle.told_runs.specs.Answers.{Delivers, IsAnswered}
+use Rattle.told_runs.specs.Answers.{Delivers, HearsOf, IsAnswered}
 use Rattle.told_runs.specs.Bounds.{writes_taken}
 use Rattle.told_runs.specs.Laws.{IsServed}
 
@@ -43,14 +47,21 @@ Adds events more i e = (length events ≤ i) × At (events ++ more) i e
 abbrev pub WantsLine : TurnPlace → Type 0
 WantsLine q = IsBootAct q.turn.act ⊎ (IsHaltAct q.turn.act ⊎ ((place : Placement) × (printed q.turn.answer ≡ Some place)))
 
--- Such a turn is the line's only one, and an `init` that prints a placement is answered ok; the line adds one Place at most, of a lawful placement, and ends
--- tenures only where the placement that stands has no replica of the slot.
-pub record IsNextInOrder (turns : List Turn) (events : List Event) (line : Turn) (more : List Event) : Type 0 where
-  pub alone : (q : TurnPlace) → IsLastTurnPlace turns line q → WantsLine q → lists_of line ≡ (q.turn ∷ []) ∷ []
-  pub inits : (q : TurnPlace) → IsLastTurnPlace turns line q → IsInitAct q.turn.act → (place : Placement) → printed q.turn.answer ≡ Some place → sets_seed q.turn.act q.turn.answer ≡ true
+-- the line adds one Place at most, of a lawful placement, and ends tenures only where the placement that stands has no replica of the slot
+pub record AddsInOrder (events more : List Event) : Type 0 where
   pub lawful : (i : ℕ) (place : Placement) (done : List (ℕ × ℕ)) → Adds events more i (event.Place place done) → IsLawful place
   pub one : (i : ℕ) (place : Placement) (done : List (ℕ × ℕ)) → Adds events more i (event.Place place done) → last_place (events ++ more) ≡ Some place
   pub ends : (i node shard : ℕ) (a : StepReply) → Adds events more i (event.Step node shard call.End a) → (place : Placement) → last_place (take i (events ++ more)) ≡ Some place → has_replica (Some place) shard node ≡ false
+
+-- an `init` that prints a placement is answered ok
+abbrev pub PrintsByInit : Act → Answer → Type 0
+PrintsByInit a b = IsInitAct a → (place : Placement) → printed b ≡ Some place → sets_seed a b ≡ true
+
+-- The line is served in order, where such a turn is its only one.
+pub record IsNextInOrder (turns : List Turn) (events : List Event) (line : Turn) (more : List Event) : Type 0 where
+  pub alone : (q : TurnPlace) → IsLastTurnPlace turns line q → WantsLine q → lists_of line ≡ (q.turn ∷ []) ∷ []
+  pub inits : (q : TurnPlace) → IsLastTurnPlace turns line q → PrintsByInit q.turn.act q.turn.answer
+  pub adds : AddsInOrder events more
 
 -- ---- files
 
@@ -99,6 +110,26 @@ IsServedLineByLine tells =
     (past : List Record) (start : Option MetaState) (turns : List Turn) (unanswered next : Option Request) (events : List Event) (line : Turn) (more : List Event) (untaken taking : List Fault) (now was : TurnPlace → List LateMessage)
     → IsToldAndServed tells taking was past start turns unanswered events → (adds : TellsLine start turns events line more) → ServesLine tells untaken taking now was past start turns events line more adds
     → IsToldAndServed tells (untaken ++ taking) (delivered_on turns was now) past start (turns ++ line ∷ []) next (events ++ more)
+
+-- What a line outside `par` says: its turn is its only one, and its stretch has all that the line adds.
+pub record ServesOne (tells : Bool) (untaken taking : List Fault) (messages : List LateMessage) (was : TurnPlace → List LateMessage) (past : List Record) (start : Option MetaState) (turns : List Turn) (events : List Event) (a : Act) (b : Answer)
+    (more : List Event) : Type 0 where
+  pub inits : PrintsByInit a b
+  pub adds : AddsInOrder events more
+  pub opens : tells ≡ true → OpensNext start events more
+  pub answered : IsAnswered untaken start (length (events ++ more)) (place_after turns a b)
+  pub delivers : HearsOf start (InStretch (events ++ more) (length events) (length (events ++ more))) (place_after turns a b) messages b
+  pub not_again : (q : TurnPlace) → IsTurnPlace turns q → (x y : LateMessage) → IsIn messages x → IsIn (was q) y → ¬ IsSameMessage x y
+  pub untaken_are : (fault : Fault) → IsIn untaken fault → (fault.kind ≡ Taking) × ¬ IsIn taking fault
+  pub different : AreDifferent untaken
+  pub bound : length (events ++ more) ≤ length events + (MOST_REQUEST_EVENTS * length (acts_in (line_of a b ∷ []))) * (writes_taken past (turns ++ line_of a b ∷ []) + 1)
+
+-- So a run that is told and served stays so by a line of a kind that says what events tell of it.
+abbrev pub KindServes : (Option MetaState → List Turn → List Event → Act → Answer → List Event → Type 0) → Bool → Type 0
+KindServes Kind tells =
+    (past : List Record) (start : Option MetaState) (turns : List Turn) (unanswered next : Option Request) (events : List Event) (a : Act) (b : Answer) (more : List Event) (untaken taking : List Fault) (messages : List LateMessage) (was : TurnPlace → List LateMessage)
+    → IsToldAndServed tells taking was past start turns unanswered events → Kind start turns events a b more → ServesOne tells untaken taking messages was past start turns events a b more
+    → IsToldAndServed tells (untaken ++ taking) (delivered_on turns was (λ p. messages)) past start (turns ++ line_of a b ∷ []) next (events ++ more)
 
 -- A run that found nothing is so before its first line.
 abbrev pub IsServedAtFirst : Bool → Type 0

@@ -1,7 +1,8 @@
 //! What is known of a run that is told goes on line by line.
 ghost use Rattle.std.specs.Prelude.{Bool};
 ghost use Rattle.told_runs.specs.Broken.{BootsBeside, DeliversAgain, IsNeverServed, TakesAgain, UndueOrder};
-ghost use Rattle.told_runs.specs.Lines.{IsServedAfresh, IsServedAtFirst, IsServedLineByLine};
+ghost use Rattle.told_runs.specs.Lines.{IsServedAfresh, IsServedAtFirst, IsServedLineByLine, KindServes};
+ghost use Rattle.told_by.specs.Lines.{ClockLine, InitLine, PlainLine, ReadLine, WriteLine};
 
 /// A run is served line by line: it is so before its first line, with nothing or with the state that it found, and each
 /// line that is served leaves it so, over any disks.
@@ -9,6 +10,15 @@ pub fn served_line_by_line()
     ensures first { (tells : Bool) → IsServedAtFirst tells }
     ensures found { (tells : Bool) → IsServedAfresh tells }
     ensures line { (tells : Bool) → IsServedLineByLine tells }
+{}
+
+/// A line outside `par` of each kind leaves a told run told and served, where it says what its only turn owes.
+pub fn lines_serve()
+    ensures plain { (tells : Bool) → KindServes PlainLine tells }
+    ensures clock { (tells : Bool) → KindServes ClockLine tells }
+    ensures init { (tells : Bool) → KindServes InitLine tells }
+    ensures write { (tells : Bool) → KindServes WriteLine tells }
+    ensures read { (tells : Bool) → KindServes ReadLine tells }
 {}
 
 /// Broken lines aren't served: one that delivers a late message again, one that tells twice of a disk that couldn't be taken,
