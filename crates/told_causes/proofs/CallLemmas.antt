@@ -45,15 +45,14 @@ use Rattle.transcripts.specs.Caused.{is_write}
 use Rattle.transcripts.specs.Faults.{Fault, Failing, Damaged}
 use Rattle.transcripts.specs.Placements.{MayUse, seed_at}
 use Rattle.transcripts.specs.Points.{point_of}
-use Rattle.transcripts.specs.Reasons.{IsOutside, MayFail, MayRefuse, MayServe, TakesPoint}
+use Rattle.transcripts.specs.Reasons.{IsOutside, MayRefuse, MayServe, TakesPoint}
 use Rattle.transcripts.specs.Record.{TurnPlace, IsTurnPlace}
 use Rattle.transcripts.specs.Rules.{rules_at}
 use Rattle.told_by.specs.Hears.{HasServed, HearsAcks, HearsBy, IsHeard, IsOwnCall, IsServed}
 use Rattle.told_by.specs.Told.{ToldBy}
-use Rattle.told_causes.specs.Calls.{IsExplainedAt, AcksAreSaid, IsExplained, IsSteadyNode, ReasonsAreSaid, ServedIsTaken, Within}
+use Rattle.told_causes.specs.Calls.{IsExplainedAt, AcksAreSaid, IsSteadyNode, ReasonsAreSaid, ServedIsTaken, Within}
 use Rattle.told_causes.specs.Faults.{fault_of, faults_told}
 use Rattle.told_causes.specs.Standing.{IsHaltAct}
-use Rattle.told_causes.specs.Boot.{IsKnownMember}
 use Rattle.told_causes.proofs.BootLemmas.{boot_cause, boot_said}
 use Rattle.told_causes.proofs.DownLemmas.{down_cause, down_said}
 use Rattle.told_causes.proofs.FaultLemmas.{steps_faults}

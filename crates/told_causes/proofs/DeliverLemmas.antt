@@ -3,10 +3,10 @@ use Rattle.std.specs.Prelude.{[], ◌∷◌}
 use Rattle.cluster_core.specs.Rows.{LawfulStep, MayRefuse}
 use Rattle.transcripts.specs.Deliveries.{shard_of_message, AreOutcomes, IsLateMessage, LateMessage, MayComeOf}
 use Rattle.m3_model.specs.Rules.{InWindow, IsPast, IsFuture}
-use Rattle.told_by.specs.Hears.{HearsDelivered, HearsLate, HearsOutcomes, IsLatePut}
+use Rattle.told_by.specs.Hears.{HearsLate, HearsOutcomes, IsLatePut}
 use Rattle.told_causes.specs.Deliveries.{IsKnownDelivery, OutcomesAreSaid}
 use Rattle.told_causes.proofs.CallLemmas.{fault_here, outside_future, outside_past, put_outside}
-use Rattle.std.proofs.Common.{◌≡◌, ℕ, List, [], ◌∷◌, take, length, refl, ap, ◌∙◌, subst, true, false, Bool}
+use Rattle.std.proofs.Common.{◌≡◌, ℕ, List, [], ◌∷◌, take, length, refl, ap, ◌∙◌, subst, false, Bool}
 use Rattle.std.specs.Prelude.{Option, Some, None, slice_get}
 use Rattle.m3_model.specs.Rules.{InWindow, IsPast, IsFuture}
 use Rattle.m3_model.specs.declared.reason.Reason.{Reason}
@@ -28,7 +28,6 @@ use Rattle.cluster_core.proofs.TraceLemmas.{lawful_step}
 use Rattle.transcripts.specs.Faults.{Fault, Failing, Damaged}
 use Rattle.transcripts.specs.Record.{TurnPlace, inner_turns}
 use Rattle.transcripts.specs.Rules.{rules_at}
-use Rattle.told_by.specs.Hears.{HearsBy}
 use Rattle.told_by.specs.Told.{ToldBy}
 use Rattle.told_causes.specs.Calls.{Within}
 use Rattle.told_causes.specs.Faults.{faults_told}

@@ -12,7 +12,6 @@ use Rattle.m3_model.specs.declared.reason.Reason.TheVariants as reason
 use Rattle.transcripts.specs.Calls.{Call}
 use Rattle.transcripts.specs.Faults.{Fault}
 use Rattle.transcripts.specs.Placements.{IsCounted, MayUse, placement_after}
-use Rattle.transcripts.specs.Reasons.{MayFail}
 use Rattle.transcripts.specs.Record.{AreSomeOf, InnerTurn, TurnPlace, IsTurnPlace, inner_turns, line_of}
 use Rattle.cluster_core.specs.Lists.{At}
 use Rattle.cluster_core.specs.declared.event.Event.{Event}
@@ -28,8 +27,7 @@ use Rattle.told_by.proofs.LegalSampleLemmas.{sample_legal}
 use Rattle.told_by.proofs.LineLemmas.{place_last}
 use Rattle.told_by.proofs.OneLemmas.{is_last}
 use Rattle.told_by.proofs.SampleLemmas.{each_at, sample_told}
-use Rattle.told_causes.specs.Boot.{IsKnownMember}
-use Rattle.told_causes.specs.Calls.{IsExplainedAt, AllAreExplained, IsExplained, IsNamedOnce, IsSteadyNode, IsUsedBy, ServedAreNamed, Within}
+use Rattle.told_causes.specs.Calls.{IsExplainedAt, AllAreExplained, IsNamedOnce, IsSteadyNode, IsUsedBy, ServedAreNamed, Within}
 use Rattle.told_causes.specs.Faults.{fault_of, faults_told}
 use Rattle.told_causes.specs.Sample.{ReadIsKnown, lines_before}
 use Rattle.told_causes.specs.Standing.{HaltsAlone, IsHaltAct}

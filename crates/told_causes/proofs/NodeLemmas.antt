@@ -1,12 +1,11 @@
 -- Why a restart and a bootstrap are refused for a disk or for damage.
-use Rattle.std.proofs.Common.{◌≡◌, ℕ, List, [], ◌++◌, take, length, refl, sym, ap, ◌∙◌, subst, append-nil, true, Bool}
+use Rattle.std.proofs.Common.{◌≡◌, ℕ, List, [], ◌++◌, take, length, refl, sym, ap, ◌∙◌, subst, append-nil, Bool}
 use Rattle.std.specs.Prelude.{Option, IsTrue}
 use Rattle.m3_model.specs.declared.act.Act.{Act}
 use Rattle.m3_model.specs.declared.act.Act.TheVariants as act
 use Rattle.m3_model.specs.declared.answer.Answer.{Answer}
 use Rattle.m3_model.specs.declared.answer.Answer.TheVariants as answer
 use Rattle.m3_model.specs.declared.reason.Damage.{Damage as Harm}
-use Rattle.m3_model.specs.declared.reason.Reason.{Reason}
 use Rattle.m3_model.specs.declared.reason.Reason.TheVariants as reason
 use Rattle.m3_model.specs.declared.placement.Placement.{Placement}
 use Rattle.m3_model.specs.declared.rules.MetaState.{MetaState}

@@ -1,5 +1,5 @@
 -- Why a late message came to what it did.
-use Rattle.std.specs.Prelude.{◌≡◌, ℕ, List, length, Option, Some, None, true, Bool}
+use Rattle.std.specs.Prelude.{◌≡◌, ℕ, List, length, Option, Some, None, Bool}
 use Rattle.m3_model.specs.declared.act.Act.TheVariants as act
 use Rattle.m3_model.specs.declared.reason.Reason.{Reason}
 use Rattle.m3_model.specs.declared.rules.MetaState.{MetaState}
@@ -7,11 +7,9 @@ use Rattle.m3_model.specs.declared.turn.Turn.{Turn}
 use Rattle.cluster_core.specs.Legal.{Legal}
 use Rattle.cluster_core.specs.declared.event.Event.{Event}
 use Rattle.transcripts.specs.Deliveries.{IsDelivered, IsLateMessage, LateMessage, shard_of_message}
-use Rattle.transcripts.specs.Reasons.{MayFail}
 use Rattle.transcripts.specs.Record.{TurnPlace, IsTurnPlace}
 use Rattle.told_by.specs.Hears.{HearsDelivered, HearsLate}
 use Rattle.told_by.specs.Told.{ToldBy}
-use Rattle.told_causes.specs.Boot.{IsKnownMember}
 use Rattle.told_causes.specs.Calls.{IsExplainedAt, IsNamedOnce, IsSteadyNode, Within}
 use Rattle.told_causes.specs.Faults.{faults_told}
 use Rattle.told_causes.specs.Standing.{HaltsAlone}

@@ -1,5 +1,5 @@
 -- The faults and damages that a list of events tells of: of each slot and line one of each kind for which a step was refused there.
-use Rattle.std.specs.Prelude.{◌≡◌, ◌≤◌, ◌<◌, ◌*◌, ℕ, zero, suc, List, [], ◌∷◌, length, take, drop, Option, Some, None, Bool, true, false, ◌&&◌, if◌then◌else◌, nat_eq, is_some, fold, count_by}
+use Rattle.std.specs.Prelude.{◌≡◌, ◌≤◌, ◌<◌, ◌*◌, ℕ, zero, suc, List, [], ◌∷◌, take, drop, Option, Some, None, Bool, true, false, ◌&&◌, if◌then◌else◌, nat_eq, fold, count_by}
 use Rattle.std.specs.List.{list_any}
 use Rattle.std.specs.Option.{option_map_or}
 use Rattle.m3_model.specs.Members.{IsIn}

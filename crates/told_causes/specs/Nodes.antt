@@ -1,5 +1,5 @@
 -- Why a restart and a bootstrap are refused: the disk of one of the node's replicas failed, or its files were found damaged.
-use Rattle.std.specs.Prelude.{◌≡◌, ℕ, ⊤, List, length, Option, true, Bool}
+use Rattle.std.specs.Prelude.{◌≡◌, ℕ, ⊤, List, length, Option, Bool}
 use Rattle.m3_model.specs.declared.act.Act.{Act}
 use Rattle.m3_model.specs.declared.act.Act.TheVariants as act
 use Rattle.m3_model.specs.declared.answer.Answer.{Answer}

@@ -1,5 +1,5 @@
 -- Whose replicas do as they are asked: nodes that aren't stopped.
-use Rattle.std.specs.Prelude.{◌≡◌, ℕ, ⊤, List, Option, true, false, Bool}
+use Rattle.std.specs.Prelude.{◌≡◌, ℕ, ⊤, List, Option, false, Bool}
 use Rattle.m3_model.specs.declared.placement.Placement.{Placement}
 use Rattle.m3_model.specs.declared.rules.MetaState.{MetaState}
 use Rattle.m3_model.specs.declared.turn.Turn.{Turn}

@@ -1,5 +1,5 @@
 -- What each step leaves of a replica's tenure and fence, and what it began or was to begin with.
-use Rattle.std.proofs.Common.{◌≡◌, ℕ, suc, ◌<◌, ◌≤◌, List, [], ◌∷◌, ◌++◌, take, length, refl, sym, ap, ◌∙◌, subst, inl, inr, arith, true, Bool}
+use Rattle.std.proofs.Common.{◌≡◌, ℕ, suc, ◌<◌, ◌≤◌, List, [], ◌∷◌, ◌++◌, take, length, refl, sym, ap, ◌∙◌, subst, inl, inr, arith, Bool}
 use Rattle.std.specs.Prelude.{◌⊎◌, Some, None}
 use Rattle.std.proofs.lemmas.Bool.{cases_eq}
 use Rattle.m3_model.specs.declared.reason.Reason.{Reason}

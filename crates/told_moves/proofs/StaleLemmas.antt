@@ -1,8 +1,7 @@
 -- A put or a read that is refused for a fence is so for one that a bootstrap of the shard asked for, or that an earlier run left.
-use Rattle.std.proofs.Common.{◌≡◌, ℕ, suc, ◌<◌, ◌≤◌, List, [], ◌∷◌, ◌++◌, take, length, sym, ap, ◌∙◌, subst, inl, inr, arith, true, append-nil}
+use Rattle.std.proofs.Common.{◌≡◌, ℕ, suc, ◌<◌, ◌≤◌, List, [], ◌∷◌, take, length, sym, ap, ◌∙◌, subst, inl, inr, arith, true, append-nil}
 use Rattle.std.specs.Prelude.{◌⊎◌, Option, Some, None}
 use Rattle.std.proofs.lemmas.Bool.{cases_lt}
-use Rattle.m3_model.proofs.MemberLemmas.{IsIn-append_left}
 use Rattle.m3_model.specs.Members.{IsIn}
 use Rattle.m3_model.specs.declared.placement.Placement.{Placement}
 use Rattle.m3_model.specs.declared.reason.Reason.TheVariants as reason
@@ -29,7 +28,7 @@ use Rattle.told_moves.specs.Order.{IsInOrder, IsInitAct, OpensWithin}
 use Rattle.told_moves.proofs.AskLemmas.{IsBootOf, IsMoveAsk}
 use Rattle.told_moves.proofs.FenceLemmas.{MovesBefore, fence_source}
 use Rattle.told_moves.proofs.ReasonLemmas.{RefusedIn, refused_in}
-use Rattle.told_moves.proofs.StoodLemmas.{known_place, may_stand}
+use Rattle.told_moves.proofs.StoodLemmas.{may_stand}
 use Rattle.told_moves.proofs.TenureLemmas.{assigned_low, assigned_so, stands_from}
 
 -- ---- turns

@@ -1,6 +1,6 @@
 -- Why each answer of a run is what it is, put together.
-use Rattle.std.proofs.Common.{◌≡◌, ◌≤◌, ◌<◌, ◌+◌, ℕ, suc, Bool, true, List, [], ◌∷◌, ◌++◌, take, length, refl, sym, ap, ◌∙◌, subst, inl, inr, arith, length-append}
-use Rattle.std.specs.Prelude.{◌⊎◌, Some, None, Option, IsTrue}
+use Rattle.std.proofs.Common.{◌≡◌, ◌≤◌, ◌<◌, ℕ, suc, Bool, List, [], ◌∷◌, ◌++◌, take, length, refl, sym, ap, ◌∙◌, subst, inl, inr, arith}
+use Rattle.std.specs.Prelude.{Some, None, Option, IsTrue}
 use Rattle.m3_model.proofs.MemberLemmas.{IsIn-append_left, IsIn-append_right}
 use Rattle.m3_model.specs.Calls.{is_call}
 use Rattle.m3_model.specs.Members.{IsIn}
@@ -27,7 +27,7 @@ use Rattle.transcripts.specs.Levels.{MissesLevel}
 use Rattle.transcripts.specs.Placements.{printed}
 use Rattle.transcripts.specs.Record.{Record, TurnPlace, IsTurnPlace}
 use Rattle.transcripts.proofs.MoreFaults.{AreAmong, different_both, own_more}
-use Rattle.told_by.specs.Hears.{HearsBy, InStretch, IsRestartCall}
+use Rattle.told_by.specs.Hears.{InStretch, IsRestartCall}
 use Rattle.told_by.specs.Openings.{opening_length}
 use Rattle.told_by.specs.Spans.{IsAlone}
 use Rattle.told_by.specs.Told.{ToldBy}

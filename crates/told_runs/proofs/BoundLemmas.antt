@@ -5,7 +5,6 @@ use Rattle.std.specs.List.{flat_map}
 use Rattle.std.proofs.Math.Nat.{add-mul, mul-add, mul-le-mul_left}
 use Rattle.std.proofs.lemmas.Grind.{flat_map-append}
 use Rattle.std.proofs.lemmas.List.Sums.{sum_by-append}
-use Rattle.m3_model.specs.declared.act.Act.{Act}
 use Rattle.m3_model.specs.declared.limits.TheConstants.{MOST_EVENTS, MOST_REQUEST_EVENTS}
 use Rattle.m3_model.specs.declared.turn.Turn.{Turn}
 use Rattle.cluster_core.specs.Lists.{At}

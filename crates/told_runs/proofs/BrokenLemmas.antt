@@ -1,10 +1,9 @@
 -- Lines that leave a run not known to be served.
-use Rattle.std.proofs.Common.{◌≡◌, List, [], ◌∷◌, ◌++◌, refl, sym, ap, ◌∙◌, subst, inl, inr, length}
-use Rattle.std.specs.Prelude.{◌⊎◌, None}
+use Rattle.std.proofs.Common.{◌≡◌, List, [], ◌∷◌, ◌++◌, refl, sym, ap, ◌∙◌, subst, inl, inr}
+use Rattle.std.specs.Prelude.{None}
 use Rattle.m3_model.specs.Members.{IsIn}
 use Rattle.m3_model.specs.declared.answer.Answer.TheVariants as answer
 use Rattle.transcripts.specs.Caused.{refusal_after}
-use Rattle.transcripts.specs.Faults.{Fault}
 use Rattle.transcripts.specs.Record.{AreSomeOf, InnerTurn, TurnPlace, inner_turns, joined, lists_of}
 use Rattle.told_by.specs.Lines.{place_after}
 use Rattle.told_by.specs.Sample.{events as short_events, fetched, turns as short_turns}

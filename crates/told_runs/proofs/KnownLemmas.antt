@@ -1,8 +1,7 @@
 -- What is known of each call of a run and of each delivery: nodes have one name, slots had a replica, and moves explain their reasons.
-use Rattle.std.proofs.Common.{◌≡◌, ◌≤◌, ◌<◌, ℕ, suc, true, List, [], ◌∷◌, ◌++◌, take, length, refl, sym, ap, ◌∙◌, subst, inl, inr, arith, append_assoc, Bool}
+use Rattle.std.proofs.Common.{◌≡◌, ◌≤◌, ◌<◌, ℕ, true, List, ◌∷◌, ◌++◌, take, length, refl, sym, ap, ◌∙◌, subst, inl, inr, arith, append_assoc, Bool}
 use Rattle.std.specs.Prelude.{◌⊎◌, Some, None, Option, IsTrue, slice_get}
 use Rattle.m3_model.specs.Calls.{is_call}
-use Rattle.m3_model.specs.Members.{IsIn}
 use Rattle.m3_model.specs.declared.act.Act.{Act}
 use Rattle.m3_model.specs.declared.act.Act.TheVariants as act
 use Rattle.m3_model.specs.declared.placement.Instance.{Instance}
@@ -26,11 +25,11 @@ use Rattle.transcripts.specs.Faults.{Fault}
 use Rattle.transcripts.specs.Placements.{IsCounted, has_replica, placement_after, printed, start_placement}
 use Rattle.transcripts.specs.Reasons.{MayFail}
 use Rattle.transcripts.specs.Record.{TurnPlace, IsTurnPlace, inner_turns}
-use Rattle.told_by.specs.Hears.{HasServed, HearsLate, IsHeard, IsLatePut, IsNamedBy, IsOwnCall}
+use Rattle.told_by.specs.Hears.{HearsLate, IsHeard, IsLatePut, IsNamedBy, IsOwnCall}
 use Rattle.told_by.specs.Told.{ToldBy}
 use Rattle.told_by.proofs.LineLemmas.{line_below, take_front}
-use Rattle.told_causes.specs.Boot.{IsBootAct, IsKnownMember, IsKnownSlot, OwnsWhereBegun, WasMember}
-use Rattle.told_causes.specs.Calls.{IsExplainedAt, AllAreExplained, IsExplained, IsKnownCall, IsNamedOnce, IsSteadyNode, IsUsedBy, ServedAreNamed, Within}
+use Rattle.told_causes.specs.Boot.{IsBootAct, IsKnownMember, OwnsWhereBegun, WasMember}
+use Rattle.told_causes.specs.Calls.{IsExplainedAt, IsExplained, IsKnownCall, IsNamedOnce, IsSteadyNode, IsUsedBy, Within}
 use Rattle.told_causes.specs.Deliveries.{IsKnownDelivery}
 use Rattle.told_causes.specs.Faults.{faults_told}
 use Rattle.told_causes.specs.Standing.{HaltsAlone}

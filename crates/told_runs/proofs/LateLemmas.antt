@@ -1,6 +1,6 @@
 -- The run with a late message is served line by line.
-use Rattle.std.proofs.Common.{◌≡◌, ◌≤◌, ◌<◌, ◌+◌, ◌*◌, ℕ, zero, suc, true, false, List, [], ◌∷◌, ◌++◌, take, length, refl, sym, ap, ◌∙◌, subst, inl, inr, arith, Bool, append-nil}
-use Rattle.std.specs.Prelude.{◌⊎◌, Option, Some, None, IsTrue, if◌then◌else◌, nat_lt, map}
+use Rattle.std.proofs.Common.{◌≡◌, ◌≤◌, ◌+◌, ◌*◌, ℕ, true, false, List, [], ◌∷◌, ◌++◌, take, length, refl, sym, ap, ◌∙◌, subst, inl, inr, arith, Bool, append-nil}
+use Rattle.std.specs.Prelude.{◌⊎◌, Some, None, IsTrue, if◌then◌else◌, nat_lt}
 use Rattle.m3_model.specs.Levels.{needed_write}
 use Rattle.m3_model.specs.Members.{IsIn}
 use Rattle.m3_model.specs.declared.act.Act.{Act}
@@ -28,9 +28,9 @@ use Rattle.cluster_core.proofs.UntoldLemmas.{legal_untold}
 use Rattle.transcripts.specs.Caused.{acts_in}
 use Rattle.transcripts.specs.Deliveries.{IsLateMessage, IsSamePlace, LateMessage}
 use Rattle.transcripts.specs.Placements.{IsCounted, has_replica, printed}
-use Rattle.transcripts.specs.Record.{IsAfter, IsLastTurnPlace, IsTurnPlace, TurnPlace, inner_turns, line_of, lists_of}
+use Rattle.transcripts.specs.Record.{IsAfter, IsLastTurnPlace, TurnPlace, inner_turns, line_of, lists_of}
 use Rattle.told_by.specs.Hears.{InStretch, IsHeard}
-use Rattle.told_by.specs.Lines.{MayChange, PlainLine, WriteLine, place_after}
+use Rattle.told_by.specs.Lines.{MayChange, PlainLine, place_after}
 use Rattle.told_by.specs.Openings.{sets_seed}
 use Rattle.told_by.specs.Sample.{begun, events as short_events, name, of_init, of_read, of_space, of_write, place, placed, point, put, spaced, written}
 use Rattle.told_by.specs.Spans.{Spans}
@@ -38,7 +38,7 @@ use Rattle.told_by.specs.Told.{TellsLine}
 use Rattle.told_by.proofs.KindLemmas.{plain_told, plain_told_from, plain_told_to, write_told}
 use Rattle.told_by.proofs.LeaveLemmas.{legal_front}
 use Rattle.told_by.proofs.LegalSampleLemmas.{lawful_place, sample_legal}
-use Rattle.told_by.proofs.OneLemmas.{is_last, is_own}
+use Rattle.told_by.proofs.OneLemmas.{is_own}
 use Rattle.told_by.proofs.SampleLemmas.{ask_or_step, each_at, init_line, makes_each, restarts_none, shard_zero, space_line}
 use Rattle.told_causes.proofs.KnownLemmas.{never_refused, one_place}
 use Rattle.told_moves.specs.Order.{IsInitAct}

@@ -1,5 +1,5 @@
 -- Slots that are called had a replica: a Place gave them one before.
-use Rattle.std.proofs.Common.{◌≡◌, ℕ, zero, suc, ◌<◌, ◌≤◌, List, [], ◌∷◌, take, length, refl, sym, ap, ◌∙◌, subst, inl, inr, arith, Bool, true, false}
+use Rattle.std.proofs.Common.{◌≡◌, ℕ, zero, suc, ◌<◌, ◌≤◌, List, ◌∷◌, take, length, refl, sym, ap, ◌∙◌, subst, inl, inr, arith, Bool, true}
 use Rattle.std.specs.Prelude.{◌⊎◌, ⊤, Any, Some, None, Option, nat_eq}
 use Rattle.std.specs.Option.{option_or}
 use Rattle.std.proofs.lemmas.Bool.{cases_lt, eq-eqb}
@@ -11,7 +11,6 @@ use Rattle.m3_model.specs.declared.act.Act.TheVariants as act
 use Rattle.m3_model.specs.declared.placement.Assignment.{Assignment}
 use Rattle.m3_model.specs.declared.placement.Placement.{Placement}
 use Rattle.m3_model.specs.declared.reason.Damage.{Damage as Harm}
-use Rattle.m3_model.specs.declared.reason.Reason.{Reason}
 use Rattle.m3_model.specs.declared.reason.Reason.TheVariants as reason
 use Rattle.m3_model.specs.declared.replica.Standing.{Standing}
 use Rattle.m3_model.specs.declared.replica.Standing.TheVariants as standing
@@ -40,11 +39,11 @@ use Rattle.transcripts.specs.Caused.{HadBefore}
 use Rattle.transcripts.specs.Faults.{Fault}
 use Rattle.transcripts.specs.Placements.{HadReplica, IsCounted, has_replica, placements, printed}
 use Rattle.transcripts.specs.Record.{TurnPlace, IsTurnPlace, inner_turns}
-use Rattle.told_by.specs.Makes.{IsAssigned, MayAsk}
+use Rattle.told_by.specs.Makes.{MayAsk}
 use Rattle.told_by.specs.Told.{ToldBy}
 use Rattle.told_by.proofs.LeaveLemmas.{place_there}
 use Rattle.told_by.proofs.LineLemmas.{line_below, take_front}
-use Rattle.told_causes.specs.Faults.{IsToldOf, fault_of, faults_told}
+use Rattle.told_causes.specs.Faults.{fault_of, faults_told}
 use Rattle.told_causes.specs.Standing.{WasThere}
 use Rattle.told_causes.proofs.AloneLemmas.{lines_before, take_none}
 use Rattle.told_causes.proofs.FaultLemmas.{faults_steps}

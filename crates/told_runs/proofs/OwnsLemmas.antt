@@ -1,9 +1,6 @@
 -- No begin that a turn is to make is refused as not owned: tenures never fall, and files hold none above the first with which a slot begins.
-use Rattle.std.proofs.Common.{◌≡◌, ◌≤◌, ◌<◌, ℕ, zero, suc, true, List, [], take, length, refl, sym, ap, ◌∙◌, subst, inl, inr, arith}
-use Rattle.std.specs.Prelude.{◌⊎◌, Some, None, Option}
-use Rattle.m3_model.specs.Members.{IsIn}
-use Rattle.m3_model.specs.declared.act.Act.{Act}
-use Rattle.m3_model.specs.declared.answer.Answer.{Answer}
+use Rattle.std.proofs.Common.{◌≡◌, ◌≤◌, ◌<◌, ℕ, suc, true, List, [], take, length, sym, ap, ◌∙◌, inl, inr, arith}
+use Rattle.std.specs.Prelude.{Some, Option}
 use Rattle.m3_model.specs.declared.placement.Placement.{Placement}
 use Rattle.m3_model.specs.declared.reason.Reason.TheVariants as reason
 use Rattle.m3_model.specs.declared.rules.MetaState.{MetaState}
@@ -12,12 +9,11 @@ use Rattle.placement_core.proofs.ListLemmas.{IsIn-from_Any}
 use Rattle.cluster_core.specs.Earlier.{last_place}
 use Rattle.cluster_core.specs.Legal.{Legal}
 use Rattle.cluster_core.specs.Lists.{At}
-use Rattle.cluster_core.specs.Replicas.{replica}
 use Rattle.cluster_core.specs.declared.event.Event.{Event}
 use Rattle.cluster_core.specs.declared.event.Event.TheVariants as event
 use Rattle.cluster_core.specs.declared.event.StepCall.TheVariants as call
 use Rattle.cluster_core.specs.declared.event.StepReply.TheVariants as reply
-use Rattle.cluster_core.proofs.ListLemmas.{at_take, at_within, some_same}
+use Rattle.cluster_core.proofs.ListLemmas.{at_take, some_same}
 use Rattle.cluster_core.proofs.TraceLemmas.{lawful_step}
 use Rattle.transcripts.specs.Placements.{printed}
 use Rattle.transcripts.specs.Record.{TurnPlace, IsTurnPlace}
@@ -28,7 +24,7 @@ use Rattle.told_by.specs.Told.{ToldBy}
 use Rattle.told_by.proofs.LeaveLemmas.{place_there}
 use Rattle.told_by.proofs.LineLemmas.{line_below}
 use Rattle.told_by.proofs.PrintedLemmas.{ends_within}
-use Rattle.told_causes.specs.Boot.{BeginsOver, IsBootAct, OwnsWhereBegun}
+use Rattle.told_causes.specs.Boot.{IsBootAct, OwnsWhereBegun}
 use Rattle.told_causes.proofs.AloneLemmas.{opened, quiet_line}
 use Rattle.told_causes.proofs.RefusalLemmas.{refused_law}
 use Rattle.told_moves.specs.Order.{IsInOrder}

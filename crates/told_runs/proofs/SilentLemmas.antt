@@ -1,6 +1,6 @@
 -- Calls print no placement, whatever they are answered.
 use Rattle.std.proofs.Common.{◌≡◌, ℕ, Bool, true, false, List, refl, sym, ap, ◌∙◌, inl, inr}
-use Rattle.std.specs.Prelude.{◌⊎◌, Some, None, Option, option_map}
+use Rattle.std.specs.Prelude.{Some, None, Option, option_map}
 use Rattle.std.specs.Option.{option_or}
 use Rattle.m3_model.specs.Calls.{is_call}
 use Rattle.m3_model.specs.declared.act.Act.{Act}

@@ -1,5 +1,5 @@
 -- The placement that a call uses: where it stands in the list, and after which lines it stood.
-use Rattle.std.proofs.Common.{◌≡◌, ℕ, zero, suc, ◌<◌, ◌≤◌, ◌+◌, List, [], ◌∷◌, ◌++◌, take, length, refl, sym, ap, ◌∙◌, subst, inl, inr, arith, true, Bool}
+use Rattle.std.proofs.Common.{◌≡◌, ℕ, zero, suc, ◌<◌, ◌≤◌, List, [], ◌∷◌, ◌++◌, take, length, refl, sym, ap, ◌∙◌, subst, inl, inr, arith, Bool}
 use Rattle.std.specs.Prelude.{◌⊎◌, Some, None, Option}
 use Rattle.std.proofs.lemmas.Bool.{cases_lt}
 use Rattle.m3_model.proofs.MemberLemmas.{IsIn-append_cases, IsIn-append_left, IsIn-append_right, IsIn-filter_map}
@@ -7,13 +7,11 @@ use Rattle.m3_model.specs.Members.{IsIn}
 use Rattle.m3_model.specs.declared.placement.Placement.{Placement}
 use Rattle.m3_model.specs.declared.rules.MetaState.{MetaState}
 use Rattle.m3_model.specs.declared.turn.Turn.{Turn}
-use Rattle.cluster_core.specs.Earlier.{last_place}
 use Rattle.cluster_core.specs.Legal.{Legal}
 use Rattle.cluster_core.specs.Lists.{At}
 use Rattle.cluster_core.specs.declared.event.Event.{Event}
 use Rattle.cluster_core.specs.declared.event.Event.TheVariants as event
-use Rattle.cluster_core.proofs.ListLemmas.{at_some, some_same}
-use Rattle.transcripts.specs.Calls.{Call}
+use Rattle.cluster_core.proofs.ListLemmas.{some_same}
 use Rattle.transcripts.specs.Placements.{MayStand, MayUse, placement_after, placements, printed, start_placement}
 use Rattle.transcripts.specs.Record.{AreSomeOf, InnerTurn, TurnPlace, IsTurnPlace, inner_turns, joined, lists_of}
 use Rattle.transcripts.proofs.PlacementLemmas.{after_from}
@@ -23,8 +21,6 @@ use Rattle.told_by.proofs.LineLemmas.{line_below}
 use Rattle.told_by.proofs.PrintedLemmas.{ends_grow, placements_stand}
 use Rattle.told_by.proofs.TurnLemmas.{alone_is, earlier_line, flat_map-IsIn, in_cut, place_in}
 use Rattle.told_causes.proofs.AloneLemmas.{take_none}
-use Rattle.told_causes.specs.Calls.{IsUsedBy}
-use Rattle.told_moves.specs.Moves.{IsPlaced}
 use Rattle.told_moves.specs.Order.{IsInOrder}
 
 -- some of a list are among it

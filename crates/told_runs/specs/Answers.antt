@@ -1,6 +1,6 @@
 -- What a cluster's own look-ups decide of its answers, beside what its events tell: refusals that are due, answers of the act's own kind, the first placement,
 -- and which disks couldn't be taken.
-use Rattle.std.specs.Prelude.{◌≡◌, ◌⊎◌, ◌≤◌, ℕ, ⊤, List, [], ◌∷◌, ◌++◌, length, take, Option, Some, None}
+use Rattle.std.specs.Prelude.{◌≡◌, ◌⊎◌, ◌≤◌, ℕ, ⊤, List, ◌∷◌, ◌++◌, Option, Some, None}
 use Rattle.m3_model.specs.Ascends.{Ascends}
 use Rattle.m3_model.specs.Members.{IsIn}
 use Rattle.m3_model.specs.declared.act.Act.{Act}
@@ -15,7 +15,7 @@ use Rattle.cluster_core.specs.declared.event.Event.{Event}
 use Rattle.transcripts.specs.Caused.{IsBootstrapped, IsRefusedWhole, IsUnmade, refusal_after}
 use Rattle.transcripts.specs.Deliveries.{LateMessage, IsLateBefore, IsSameMessage, IsSamePlace}
 use Rattle.transcripts.specs.Faults.{AreDifferent, Fault, Taking}
-use Rattle.transcripts.specs.Record.{InnerTurn, Record, TurnPlace, IsAfter, IsTurnPlace}
+use Rattle.transcripts.specs.Record.{InnerTurn, TurnPlace, IsAfter, IsTurnPlace}
 use Rattle.told_by.specs.Hears.{HearsOutcomes, InStretch}
 use Rattle.told_by.specs.Spans.{Spans}
 use Rattle.told_by.specs.Told.{ToldBy}

@@ -1,5 +1,5 @@
 -- Lines that leave a run not known to be served.
-use Rattle.std.specs.Prelude.{List, [], ◌∷◌, Option, None, Bool}
+use Rattle.std.specs.Prelude.{List, Option, None, Bool}
 use Rattle.m3_model.specs.Members.{IsIn}
 use Rattle.m3_model.specs.declared.answer.Answer.TheVariants as answer
 use Rattle.m3_model.specs.declared.rules.MetaState.{MetaState}

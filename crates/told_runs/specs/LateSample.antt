@@ -1,5 +1,5 @@
 -- A run whose write's one message is late and is delivered by a later line: it is served line by line, and what is asked of a delivery can be met by it.
-use Rattle.std.specs.Prelude.{ℕ, List, [], ◌∷◌, ◌++◌, None, Bool}
+use Rattle.std.specs.Prelude.{List, [], ◌∷◌, ◌++◌, None, Bool}
 use Rattle.m3_model.specs.declared.act.Act.{Act}
 use Rattle.m3_model.specs.declared.act.Act.TheVariants as act
 use Rattle.m3_model.specs.declared.act.Fate.TheVariants as fate
