@@ -145,7 +145,7 @@ module _ {tells : Bool} (taking : List Fault) (start : Option MetaState) (turns 
 
     pub caused : (unanswered : Option Request) (delivered : TurnPlace → List LateMessage) → AreAnswered taking delivered start turns events told → Caused tells (record { past = past; present = record { start = start; turns = turns; unanswered = unanswered } }) all_faults
     caused unanswered delivered answers = record {
-      different = different_both taking told_faults answers.different (faults_different told.ends events (length turns)) (λ f m n. taken_and_told f (answers.untaken f m) n);
+      different = different_both taking told_faults answers.different (faults_different told.ends events (length turns)) (λ f m n. taken_and_told f (answers.untaken f m).0 n);
       delivered = delivered;
       each = λ p at. caused_at p at (delivered p) (answers.delivers p at) (answers.each p at);
       once = answers.once;

@@ -10,24 +10,24 @@ use Rattle.told_by.specs.Sample.{events as short_events, fetched, turns as short
 use Rattle.told_by.proofs.OneLemmas.{is_last}
 use Rattle.told_causes.proofs.AloneLemmas.{only_cut}
 use Rattle.told_runs.specs.Answers.{IsAnswered, IsDecidedBy}
-use Rattle.told_runs.specs.Broken.{BootsBeside, DeliversAgain, IsNeverServed, TakesAgain, UndueOrder}
+use Rattle.told_runs.specs.Broken.{BootsBeside, DeliversAgain, IsNeverServed, TakesElsewhere, UndueOrder}
 
 pub never_again : IsNeverServed DeliversAgain
-never_again tells untaken taking now was past start turns events line more adds serves d =
+never_again tells untaken now was past start turns events line more adds serves d =
     (serves.answers).not_again d.p d.q d.here d.before d.message d.message d.delivers d.delivered ((refl, refl, refl), refl)
 
-pub never_twice : IsNeverServed TakesAgain
-never_twice tells untaken taking now was past start turns events line more adds serves t = ((serves.answers).untaken_are t.fault t.here).1 t.before
+pub never_elsewhere : IsNeverServed TakesElsewhere
+never_elsewhere tells untaken now was past start turns events line more adds serves t = t.elsewhere ((serves.answers).untaken_are t.fault t.among).1
 
 pub never_beside : IsNeverServed BootsBeside
-never_beside tells untaken taking now was past start turns events line more adds serves b =
+never_beside tells untaken now was past start turns events line more adds serves b =
     let stands = (b.here).stands in
     let only = only_cut (b.q).turn stands.front (b.q).earlier (b.q).turn stands.later stands.back (sym ((serves.order).alone b.q b.here (inl b.boots)) ∙ ap lists_of (sym (b.here).line_is) ∙ stands.in_line) in
     let nobody : (b.q).beside ≡ [] = stands.others ∙ (λ i. joined (only.0 i) ++ joined (only.2 i)) in
     subst (λ ts. IsIn ts b.other) nobody b.beside
 
 pub never_order : UndueOrder
-never_order tells untaken taking now was past more adds serves = by ((serves.answers).each own (is_last None short_turns short_events fetched answer.Order more))
+never_order tells untaken now was past more adds serves = by ((serves.answers).each own (is_last None short_turns short_events fetched answer.Order more))
   where
     own : TurnPlace
     own = place_after short_turns fetched answer.Order

@@ -180,7 +180,7 @@ nothing_delivered p = []
 
 -- a line that delivers nothing
 quiet : (was : TurnPlace → List LateMessage) (lines : List Turn) (a : Act) (b : Answer) (all : List Event) (spans : Spans) → IsAnswered [] None (spans.to (place_after lines a b)) (place_after lines a b) → Delivers None all spans (place_after lines a b) []
-    → AreNextAnswers [] [] (λ p. []) was None lines all (line_of a b) spans
+    → AreNextAnswers [] (λ p. []) was None lines all (line_of a b) spans
 quiet was lines a b all spans answered delivers = record {
   each = only (λ q. IsAnswered [] None (spans.to q) q) lines a b answered;
   delivers = only (λ q. Delivers None all spans q []) lines a b delivers;
@@ -192,8 +192,8 @@ quiet was lines a b all spans answered delivers = record {
 }
 
 module _ {tells : Bool} (now was : TurnPlace → List LateMessage) (lines : List Turn) (a : Act) (b : Answer) (before more : List Event) (adds : TellsLine None lines before (line_of a b) more) where
-  serves : ((i : ℕ) (e : Event) → At (before ++ more) i e → At short_events i e) → last_place (before ++ more) ≡ Some place → (IsInitAct a → sets_seed a b ≡ true) → AreNextAnswers [] [] now was None lines (before ++ more) (line_of a b) adds.spans
-      → length (before ++ more) ≤ length before + (MOST_REQUEST_EVENTS * length (acts_in (line_of a b ∷ []))) * (writes_taken [] (lines ++ line_of a b ∷ []) + 1) → ServesLine tells [] [] now was [] None lines before (line_of a b) more adds
+  serves : ((i : ℕ) (e : Event) → At (before ++ more) i e → At short_events i e) → last_place (before ++ more) ≡ Some place → (IsInitAct a → sets_seed a b ≡ true) → AreNextAnswers [] now was None lines (before ++ more) (line_of a b) adds.spans
+      → length (before ++ more) ≤ length before + (MOST_REQUEST_EVENTS * length (acts_in (line_of a b ∷ []))) * (writes_taken [] (lines ++ line_of a b ∷ []) + 1) → ServesLine tells [] now was [] None lines before (line_of a b) more adds
   serves short last inits answers bound = record {
     order = record {
       alone = only (λ q. WantsLine q → lists_of (line_of a b) ≡ (q.turn ∷ []) ∷ []) lines a b (λ wants. refl);

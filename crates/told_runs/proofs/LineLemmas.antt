@@ -81,7 +81,7 @@ same_back a b same = let place = same.0 in ((sym place.0, sym place.1, sym place
 -- ---- the line
 
 module _ {tells : Bool} (past : List Record) (start : Option MetaState) (turns : List Turn) (unanswered next : Option Request) (events : List Event) (line : Turn) (more : List Event) (untaken taking : List Fault) (now was : TurnPlace → List LateMessage)
-    (told : ToldBy start turns events) (served : IsServed tells taking was (life_of past start turns unanswered) events told) (adds : TellsLine start turns events line more) (serves : ServesLine tells untaken taking now was past start turns events line more adds) where
+    (told : ToldBy start turns events) (served : IsServed tells taking was (life_of past start turns unanswered) events told) (adds : TellsLine start turns events line more) (serves : ServesLine tells untaken now was past start turns events line more adds) where
   abbrev long : List Turn
   long = turns ++ line ∷ []
 
@@ -221,8 +221,11 @@ module _ {tells : Bool} (past : List Record) (start : Option MetaState) (turns :
     delivers = delivers_on;
     once = once_on;
     whole = whole_on;
-    untaken = λ f m. elim (IsIn-append_cases untaken taking f m) as (λ _. f.kind ≡ Taking) [ inl new ↦ ((serves.answers).untaken_are f new).0 | inr old ↦ (served.answers).untaken f old ];
-    different = different_both untaken taking (serves.answers).different (served.answers).different (λ f new old. ((serves.answers).untaken_are f new).1 old);
+    untaken = λ f m. elim (IsIn-append_cases untaken taking f m) as (λ _. (f.kind ≡ Taking) × (f.line < length long)) [
+      | inl new ↦ let is = (serves.answers).untaken_are f new in (is.0, omega (arith, is.1, length-append turns (line ∷ [])))
+      | inr old ↦ let is = (served.answers).untaken f old in (is.0, omega (arith, is.1, length-append turns (line ∷ [])))
+    ];
+    different = different_both untaken taking (serves.answers).different (served.answers).different (λ f new old. omega (arith, ((serves.answers).untaken_are f new).1, ((served.answers).untaken f old).1));
   }
 
   -- ---- how many events
@@ -266,8 +269,8 @@ module _ (tells : Bool) (past : List Record) (start : Option MetaState) (turns :
   same_place : (p q : TurnPlace) → IsLastTurnPlace turns (line_of a b) p → IsLastTurnPlace turns (line_of a b) q → IsSamePlace p q
   same_place p q at there = each_turn (λ x. IsSamePlace x q) (each_turn (IsSamePlace own) (refl, refl, refl) q there) p at
 
-  serves_so : (adds : TellsLine start turns events (line_of a b) more) → (adds.spans).from own ≡ length events → (adds.spans).to own ≡ length (events ++ more) → ServesOne tells untaken taking messages was past start turns events a b more
-      → ServesLine tells untaken taking (λ p. messages) was past start turns events (line_of a b) more adds
+  serves_so : (adds : TellsLine start turns events (line_of a b) more) → (adds.spans).from own ≡ length events → (adds.spans).to own ≡ length (events ++ more) → ServesOne tells untaken messages was past start turns events a b more
+      → ServesLine tells untaken (λ p. messages) was past start turns events (line_of a b) more adds
   serves_so adds from to one = record {
     order = record {
       alone = each_turn (λ q. WantsLine q → lists_of (line_of a b) ≡ (q.turn ∷ []) ∷ []) (λ wants. refl);
@@ -292,7 +295,7 @@ module _ (tells : Bool) (past : List Record) (start : Option MetaState) (turns :
           subst (λ n. HearsOf start (InStretch (events ++ more) low_now n) own messages b) (sym f) (subst (λ n. HearsOf start (InStretch (events ++ more) n high) own messages b) (sym e) h)
 
   by_line : (unanswered next : Option Request) → IsToldAndServed tells taking was past start turns unanswered events → (adds : TellsLine start turns events (line_of a b) more) → (adds.spans).from own ≡ length events → (adds.spans).to own ≡ length (events ++ more)
-      → ServesOne tells untaken taking messages was past start turns events a b more → IsToldAndServed tells (untaken ++ taking) (delivered_on turns was (λ p. messages)) past start (turns ++ line_of a b ∷ []) next (events ++ more)
+      → ServesOne tells untaken messages was past start turns events a b more → IsToldAndServed tells (untaken ++ taking) (delivered_on turns was (λ p. messages)) past start (turns ++ line_of a b ∷ []) next (events ++ more)
   by_line unanswered next h adds from to one = served_line past start turns unanswered next events (line_of a b) more untaken taking (λ p. messages) was h adds (serves_so adds from to one)
 
 pub plain_serves : {tells : Bool} → KindServes PlainLine tells

@@ -1,6 +1,6 @@
 -- What a cluster's own look-ups decide of its answers, beside what its events tell: refusals that are due, answers of the act's own kind, the first placement,
 -- and which disks couldn't be taken.
-use Rattle.std.specs.Prelude.{◌≡◌, ◌⊎◌, ◌≤◌, ℕ, ⊤, List, ◌∷◌, ◌++◌, Option, Some, None}
+use Rattle.std.specs.Prelude.{◌≡◌, ◌⊎◌, ◌≤◌, ℕ, ⊤, List, ◌∷◌, ◌++◌, Option, Some, None, ◌<◌, length}
 use Rattle.m3_model.specs.Ascends.{Ascends}
 use Rattle.m3_model.specs.Members.{IsIn}
 use Rattle.m3_model.specs.declared.act.Act.{Act}
@@ -65,11 +65,11 @@ abbrev pub Delivers : Option MetaState → List Event → Spans → TurnPlace �
 Delivers start events spans p messages = HearsOf start (InStretch events (spans.from p) (spans.to p)) p messages p.turn.answer
 
 -- Each answer of the run is so, where its turns deliver these late messages; no message is delivered twice; a `par` line is refused as a whole only where no
--- placement stands; and these disks couldn't be taken, no two of them alike.
+-- placement stands; and these disks couldn't be taken in its lines, no two of them alike.
 pub record AreAnswered (taking : List Fault) (delivered : TurnPlace → List LateMessage) (start : Option MetaState) (turns : List Turn) (events : List Event) (told : ToldBy start turns events) : Type 0 where
   pub each : (p : TurnPlace) → IsTurnPlace turns p → IsAnswered taking start (told.spans.to p) p
   pub delivers : (p : TurnPlace) → IsTurnPlace turns p → Delivers start events told.spans p (delivered p)
   pub once : (p q : TurnPlace) → IsTurnPlace turns p → IsTurnPlace turns q → (a b : LateMessage) → IsIn (delivered p) a → IsIn (delivered q) b → IsSameMessage a b → IsSamePlace p q
   pub whole : (before : List Turn) (line : Turn) (after : List Turn) → turns ≡ before ++ line ∷ after → IsRefusedWhole start before line.request line.reply
-  pub untaken : (fault : Fault) → IsIn taking fault → fault.kind ≡ Taking
+  pub untaken : (fault : Fault) → IsIn taking fault → (fault.kind ≡ Taking) × (fault.line < length turns)
   pub different : AreDifferent taking

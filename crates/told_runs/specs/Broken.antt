@@ -1,5 +1,5 @@
 -- Lines that leave a run not known to be served.
-use Rattle.std.specs.Prelude.{List, Option, None, Bool}
+use Rattle.std.specs.Prelude.{List, Option, None, Bool, ◌≢◌, length}
 use Rattle.m3_model.specs.Members.{IsIn}
 use Rattle.m3_model.specs.declared.answer.Answer.TheVariants as answer
 use Rattle.m3_model.specs.declared.rules.MetaState.{MetaState}
@@ -14,13 +14,13 @@ use Rattle.told_causes.specs.Boot.{IsBootAct}
 use Rattle.told_runs.specs.Lines.{ServesLine}
 
 -- no such line is served, after whatever lines and whatever it adds
-abbrev pub IsNeverServed : (List Fault → List Fault → (TurnPlace → List LateMessage) → (TurnPlace → List LateMessage) → List Turn → Turn → Type 0) → Type 0
+abbrev pub IsNeverServed : (List Fault → (TurnPlace → List LateMessage) → (TurnPlace → List LateMessage) → List Turn → Turn → Type 0) → Type 0
 IsNeverServed Such =
-    (tells : Bool) (untaken taking : List Fault) (now was : TurnPlace → List LateMessage) (past : List Record) (start : Option MetaState) (turns : List Turn) (events : List Event) (line : Turn) (more : List Event)
-    (adds : TellsLine start turns events line more) → ServesLine tells untaken taking now was past start turns events line more adds → Such untaken taking now was turns line → ⊥
+    (tells : Bool) (untaken : List Fault) (now was : TurnPlace → List LateMessage) (past : List Record) (start : Option MetaState) (turns : List Turn) (events : List Event) (line : Turn) (more : List Event)
+    (adds : TellsLine start turns events line more) → ServesLine tells untaken now was past start turns events line more adds → Such untaken now was turns line → ⊥
 
 -- a late message is delivered again
-pub record DeliversAgain (untaken taking : List Fault) (now was : TurnPlace → List LateMessage) (turns : List Turn) (line : Turn) : Type 0 where
+pub record DeliversAgain (untaken : List Fault) (now was : TurnPlace → List LateMessage) (turns : List Turn) (line : Turn) : Type 0 where
   pub p : TurnPlace
   pub here : IsLastTurnPlace turns line p
   pub q : TurnPlace
@@ -29,14 +29,14 @@ pub record DeliversAgain (untaken taking : List Fault) (now was : TurnPlace → 
   pub delivers : IsIn (now p) message
   pub delivered : IsIn (was q) message
 
--- a disk that couldn't be taken is told twice
-pub record TakesAgain (untaken taking : List Fault) (now was : TurnPlace → List LateMessage) (turns : List Turn) (line : Turn) : Type 0 where
+-- a disk is told of that couldn't be taken in another line
+pub record TakesElsewhere (untaken : List Fault) (now was : TurnPlace → List LateMessage) (turns : List Turn) (line : Turn) : Type 0 where
   pub fault : Fault
-  pub here : IsIn untaken fault
-  pub before : IsIn taking fault
+  pub among : IsIn untaken fault
+  pub elsewhere : fault.line ≢ length turns
 
 -- a bootstrap is made beside another turn
-pub record BootsBeside (untaken taking : List Fault) (now was : TurnPlace → List LateMessage) (turns : List Turn) (line : Turn) : Type 0 where
+pub record BootsBeside (untaken : List Fault) (now was : TurnPlace → List LateMessage) (turns : List Turn) (line : Turn) : Type 0 where
   pub q : TurnPlace
   pub here : IsLastTurnPlace turns line q
   pub boots : IsBootAct q.turn.act
@@ -46,5 +46,5 @@ pub record BootsBeside (untaken taking : List Fault) (now was : TurnPlace → Li
 -- After the short run a read isn't refused for its order: its namespace and a placement stand.
 abbrev pub UndueOrder : Type 0
 UndueOrder =
-    (tells : Bool) (untaken taking : List Fault) (now was : TurnPlace → List LateMessage) (past : List Record) (more : List Event) (adds : TellsLine None short_turns short_events (line_of fetched answer.Order) more)
-    → ServesLine tells untaken taking now was past None short_turns short_events (line_of fetched answer.Order) more adds → ⊥
+    (tells : Bool) (untaken : List Fault) (now was : TurnPlace → List LateMessage) (past : List Record) (more : List Event) (adds : TellsLine None short_turns short_events (line_of fetched answer.Order) more)
+    → ServesLine tells untaken now was past None short_turns short_events (line_of fetched answer.Order) more adds → ⊥

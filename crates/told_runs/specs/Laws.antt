@@ -23,8 +23,8 @@ use Rattle.told_runs.specs.Bounds.{IsBounded}
 abbrev pub OwnsFiles : List Event → Type 0
 OwnsFiles events = (i node shard tenure : ℕ) → At events i (event.Step node shard (call.Begin tenure) (reply.Refused reason.NotOwned)) → (replica node shard (take i events)).begun ≢ []
 
--- What is known of a run beside that a legal list tells of it: its lines were served in order, stops and restarts alone in theirs; where the disks tell what they hold, its files hold
--- no more than earlier runs left; its answers; and how many events a line adds at most.
+-- What is known of a run beside that a legal list tells of it: its lines were served in order, stops and restarts alone in theirs; where the disks tell what
+-- they hold, its files hold no more than earlier runs left; its answers, with the late messages that its turns deliver; and how many events a line adds at most.
 pub record IsServed (tells : Bool) (taking : List Fault) (delivered : TurnPlace → List LateMessage) (life : Life) (events : List Event) (told : ToldBy life.present.start life.present.turns events) : Type 0 where
   pub order : IsInOrder life.present.start life.present.turns events told
   pub halts : HaltsAlone life.present.turns

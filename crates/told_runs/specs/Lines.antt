@@ -77,24 +77,24 @@ abbrev pub delivered_on : List Turn → (TurnPlace → List LateMessage) → (Tu
 delivered_on turns was now p = if nat_lt (length p.lines) (length turns) then was p else now p
 
 -- Each answer of the line is decided, its turns deliver messages that none before delivered, each once; a `par` line is refused as a whole only where no placement
--- stands; and these further disks couldn't be taken.
-pub record AreNextAnswers (untaken taking : List Fault) (now was : TurnPlace → List LateMessage) (start : Option MetaState) (turns : List Turn) (events : List Event) (line : Turn) (spans : Spans) : Type 0 where
+-- stands; and these disks couldn't be taken in it.
+pub record AreNextAnswers (untaken : List Fault) (now was : TurnPlace → List LateMessage) (start : Option MetaState) (turns : List Turn) (events : List Event) (line : Turn) (spans : Spans) : Type 0 where
   pub each : (p : TurnPlace) → IsLastTurnPlace turns line p → IsAnswered untaken start (spans.to p) p
   pub delivers : (p : TurnPlace) → IsLastTurnPlace turns line p → Delivers start events spans p (now p)
   pub not_again : (p q : TurnPlace) → IsLastTurnPlace turns line p → IsTurnPlace turns q → (a b : LateMessage) → IsIn (now p) a → IsIn (was q) b → ¬ IsSameMessage a b
   pub once : (p q : TurnPlace) → IsLastTurnPlace turns line p → IsLastTurnPlace turns line q → (a b : LateMessage) → IsIn (now p) a → IsIn (now q) b → IsSameMessage a b → IsSamePlace p q
   pub whole : IsRefusedWhole start turns line.request line.reply
-  pub untaken_are : (fault : Fault) → IsIn untaken fault → (fault.kind ≡ Taking) × ¬ IsIn taking fault
+  pub untaken_are : (fault : Fault) → IsIn untaken fault → (fault.kind ≡ Taking) × (fault.line ≡ length turns)
   pub different : AreDifferent untaken
 
 -- ---- the line
 
 -- A line that is served leaves what is known of the run known.
-pub record ServesLine (tells : Bool) (untaken taking : List Fault) (now was : TurnPlace → List LateMessage) (past : List Record) (start : Option MetaState) (turns : List Turn) (events : List Event) (line : Turn) (more : List Event)
+pub record ServesLine (tells : Bool) (untaken : List Fault) (now was : TurnPlace → List LateMessage) (past : List Record) (start : Option MetaState) (turns : List Turn) (events : List Event) (line : Turn) (more : List Event)
     (adds : TellsLine start turns events line more) : Type 0 where
   pub order : IsNextInOrder turns events line more
   pub opens : tells ≡ true → OpensNext start events more
-  pub answers : AreNextAnswers untaken taking now was start turns (events ++ more) line adds.spans
+  pub answers : AreNextAnswers untaken now was start turns (events ++ more) line adds.spans
   pub bound : length (events ++ more) ≤ length events + (MOST_REQUEST_EVENTS * length (acts_in (line ∷ []))) * (writes_taken past (turns ++ line ∷ []) + 1)
 
 abbrev pub life_of : List Record → Option MetaState → List Turn → Option Request → Life
@@ -108,11 +108,11 @@ IsToldAndServed tells taking delivered past start turns unanswered events = (tol
 abbrev pub IsServedLineByLine : Bool → Type 0
 IsServedLineByLine tells =
     (past : List Record) (start : Option MetaState) (turns : List Turn) (unanswered next : Option Request) (events : List Event) (line : Turn) (more : List Event) (untaken taking : List Fault) (now was : TurnPlace → List LateMessage)
-    → IsToldAndServed tells taking was past start turns unanswered events → (adds : TellsLine start turns events line more) → ServesLine tells untaken taking now was past start turns events line more adds
+    → IsToldAndServed tells taking was past start turns unanswered events → (adds : TellsLine start turns events line more) → ServesLine tells untaken now was past start turns events line more adds
     → IsToldAndServed tells (untaken ++ taking) (delivered_on turns was now) past start (turns ++ line ∷ []) next (events ++ more)
 
 -- What a line outside `par` says: its turn is its only one, and its stretch has all that the line adds.
-pub record ServesOne (tells : Bool) (untaken taking : List Fault) (messages : List LateMessage) (was : TurnPlace → List LateMessage) (past : List Record) (start : Option MetaState) (turns : List Turn) (events : List Event) (a : Act) (b : Answer)
+pub record ServesOne (tells : Bool) (untaken : List Fault) (messages : List LateMessage) (was : TurnPlace → List LateMessage) (past : List Record) (start : Option MetaState) (turns : List Turn) (events : List Event) (a : Act) (b : Answer)
     (more : List Event) : Type 0 where
   pub inits : PrintsByInit a b
   pub adds : AddsInOrder events more
@@ -120,7 +120,7 @@ pub record ServesOne (tells : Bool) (untaken taking : List Fault) (messages : Li
   pub answered : IsAnswered untaken start (length (events ++ more)) (place_after turns a b)
   pub delivers : HearsOf start (InStretch (events ++ more) (length events) (length (events ++ more))) (place_after turns a b) messages b
   pub not_again : (q : TurnPlace) → IsTurnPlace turns q → (x y : LateMessage) → IsIn messages x → IsIn (was q) y → ¬ IsSameMessage x y
-  pub untaken_are : (fault : Fault) → IsIn untaken fault → (fault.kind ≡ Taking) × ¬ IsIn taking fault
+  pub untaken_are : (fault : Fault) → IsIn untaken fault → (fault.kind ≡ Taking) × (fault.line ≡ length turns)
   pub different : AreDifferent untaken
   pub bound : length (events ++ more) ≤ length events + (MOST_REQUEST_EVENTS * length (acts_in (line_of a b ∷ []))) * (writes_taken past (turns ++ line_of a b ∷ []) + 1)
 
@@ -128,7 +128,7 @@ pub record ServesOne (tells : Bool) (untaken taking : List Fault) (messages : Li
 abbrev pub KindServes : (Option MetaState → List Turn → List Event → Act → Answer → List Event → Type 0) → Bool → Type 0
 KindServes Kind tells =
     (past : List Record) (start : Option MetaState) (turns : List Turn) (unanswered next : Option Request) (events : List Event) (a : Act) (b : Answer) (more : List Event) (untaken taking : List Fault) (messages : List LateMessage) (was : TurnPlace → List LateMessage)
-    → IsToldAndServed tells taking was past start turns unanswered events → Kind start turns events a b more → ServesOne tells untaken taking messages was past start turns events a b more
+    → IsToldAndServed tells taking was past start turns unanswered events → Kind start turns events a b more → ServesOne tells untaken messages was past start turns events a b more
     → IsToldAndServed tells (untaken ++ taking) (delivered_on turns was (λ p. messages)) past start (turns ++ line_of a b ∷ []) next (events ++ more)
 
 -- A run that found nothing is so before its first line.
