@@ -196,7 +196,7 @@ steps_faults ends events (suc k) fault h =
 
 -- ---- how many
 
-count_append : {X : Type 0} (p : X → Bool) (xs ys : List X) → count_by p (xs ++ ys) ≡ count_by p xs + count_by p ys
+pub count_append : {X : Type 0} (p : X → Bool) (xs ys : List X) → count_by p (xs ++ ys) ≡ count_by p xs + count_by p ys
 count_append p xs ys = sum_by-append (λ x. cond (p x) 1 0) xs ys
 
 module _ (test : Fault → Bool) (blind : (fault : Fault) → test fault ≡ test (at_first_line fault)) where

@@ -10,3 +10,4 @@ pub mod SampleLemmas
 pub mod LineLemmas
 pub mod LateLemmas
 pub mod BrokenLemmas
+pub mod CountedLemmas

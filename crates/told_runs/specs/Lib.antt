@@ -5,3 +5,4 @@ pub mod Lines
 pub mod Sample
 pub mod LateSample
 pub mod Broken
+pub mod Counted

@@ -1,5 +1,6 @@
 //! Why each answer of a run is what it is.
 ghost use Rattle.std.specs.Prelude.{Bool};
+ghost use Rattle.told_runs.specs.Counted.{AreFew, AreOfRun, OfServed};
 ghost use Rattle.told_runs.specs.Laws.{IsCausedWhereTold};
 ghost use Rattle.told_runs.specs.LateSample.{DeliveryIsKnown, LateIsServed};
 ghost use Rattle.told_runs.specs.Sample.{ShortIsServed};
@@ -9,6 +10,13 @@ ghost use Rattle.told_runs.specs.Sample.{ShortIsServed};
 /// replicas tell. Where the disks tell what they hold, they are to hold no more than earlier runs left, and more is said.
 pub fn told_is_caused()
     ensures { (tells : Bool) → IsCausedWhereTold tells }
+{}
+
+/// The faults by which it is caused are of its lines; and of one kind, of one slot or in all no more of them are faults of
+/// its steps than steps were refused so.
+pub fn causes_are_counted()
+    ensures of_run { (tells : Bool) → OfServed AreOfRun tells }
+    ensures few { (tells : Bool) → OfServed AreFew tells }
 {}
 
 /// What that asks of a run can be met, over disks that tell and over others: by a run of one node that writes and reads.
