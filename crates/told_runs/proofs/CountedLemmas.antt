@@ -1,5 +1,5 @@
 -- The faults by which a run is caused are of its lines, and few.
-use Rattle.std.proofs.Common.{◌≡◌, ◌≤◌, ◌<◌, ◌+◌, ℕ, suc, List, [], ◌∷◌, ◌++◌, take, length, refl, sym, ap, ◌∙◌, subst, inl, inr, arith, Bool, true, false}
+use Rattle.std.proofs.Common.{◌≡◌, ◌≤◌, ◌<◌, ◌+◌, ℕ, List, [], ◌∷◌, take, length, refl, ap, ◌∙◌, subst, inl, inr, arith, Bool, false}
 use Rattle.std.specs.Prelude.{cond, count_by}
 use Rattle.m3_model.proofs.MemberLemmas.{IsIn-append_cases}
 use Rattle.m3_model.specs.Members.{IsIn}
