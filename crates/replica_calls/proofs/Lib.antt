@@ -1,0 +1,5 @@
+pub mod SlotLemmas
+pub mod ExchangeLemmas
+pub mod TrackLemmas
+pub mod StandLemmas
+mod ReadLemmas

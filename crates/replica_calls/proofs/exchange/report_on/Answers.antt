@@ -1,0 +1,25 @@
+use Rattle.std.proofs.Common.{refl, inr}
+use Rattle.std.specs.Prelude.{Ok}
+use Rattle.cluster_core.specs.declared.event.StepReply.TheVariants as reply
+use Rattle.replica_calls.proofs.ExchangeLemmas.{tell_lawful, told}
+use Rattle.replica_calls.proofs.exchange.report_on.Goals as goal
+
+pub tell-requires-clause-lawful : goal.tell-requires-clause-lawful
+tell-requires-clause-lawful g c κs lives = tell_lawful g.D.Disk.state c.args.slot (reply.Told c.report-report.result) c.args.trail.now c.args.member.now c.requires.opened c.requires.is c.report-report.ensures.step
+
+pub returns-clause-is : goal.returns-clause-is
+returns-clause-is g c = (told g.D.Disk.state c.args.slot (reply.Told c.report-report.result) c.args.trail.now c.args.member.now c.tell.new.trail c.tell.ensures c.requires.is c.report-report.ensures.step).is
+
+pub returns-clause-others : goal.returns-clause-others
+returns-clause-others g c = (told g.D.Disk.state c.args.slot (reply.Told c.report-report.result) c.args.trail.now c.args.member.now c.tell.new.trail c.tell.ensures c.requires.is c.report-report.ensures.step).others
+
+pub returns-clause-answered : goal.returns-clause-answered
+returns-clause-answered g c =
+    let e = c.report-report.ensures in inr (record {
+      said = Ok c.report-report.result;
+      step = e.step;
+      promised = record { ok = (e.standing, e.fence, e.held, e.limit, e.counts); never_refused = tt; stays = refl };
+      first = refl;
+      adds = (told g.D.Disk.state c.args.slot (reply.Told c.report-report.result) c.args.trail.now c.args.member.now c.tell.new.trail c.tell.ensures c.requires.is e.step).adds;
+      told = refl;
+    })

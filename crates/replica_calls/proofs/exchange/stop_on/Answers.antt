@@ -1,0 +1,28 @@
+use Rattle.std.proofs.Common.{refl, ◌∙◌, inr}
+use Rattle.std.specs.Prelude.{Ok}
+use Rattle.cluster_core.specs.declared.event.StepCall.TheVariants as call
+use Rattle.cluster_core.specs.declared.event.StepReply.TheVariants as reply
+use Rattle.replica_machine.specs.Steps.{reply_by}
+use Rattle.replica_calls.proofs.ExchangeLemmas.{room_left, is_answer, went}
+use Rattle.replica_calls.proofs.exchange.stop_on.Goals as goal
+
+pub answer-reply-requires-clause-answers : goal.answer-reply-requires-clause-answers
+answer-reply-requires-clause-answers g c κs lives =
+    is_answer g.D.Disk.state c.args.slot c.args.trail.now c.ask-call.new.trail c.args.member.now c.stop.new.self call.Stop call.Stop c.ask-call.result (reply_by (λ _. reply.Done) (Ok (tt {0}))) c.done_reply.result c.ask-call.ensures.asked refl c.ask-call.ensures.call c.done_reply.ensures
+    c.requires.opened tt c.requires.is c.stop.ensures.step (λ e. cc)
+
+pub returns-clause-is : goal.returns-clause-is
+returns-clause-is g c = (went g.D.Disk.state c.args.slot c.args.trail.now c.ask-call.new.trail c.answer-reply.new.trail c.args.member.now (record c.args.member.now { machine = c.stop.new.self }) call.Stop call.Stop c.ask-call.result (reply_by (λ _. reply.Done) (Ok (tt {0}))) c.done_reply.result c.ask-call.ensures.asked c.answer-reply.ensures.answered refl c.ask-call.ensures.call c.done_reply.ensures c.requires.is c.stop.ensures.step refl).is
+
+pub returns-clause-others : goal.returns-clause-others
+returns-clause-others g c = (went g.D.Disk.state c.args.slot c.args.trail.now c.ask-call.new.trail c.answer-reply.new.trail c.args.member.now (record c.args.member.now { machine = c.stop.new.self }) call.Stop call.Stop c.ask-call.result (reply_by (λ _. reply.Done) (Ok (tt {0}))) c.done_reply.result c.ask-call.ensures.asked c.answer-reply.ensures.answered refl c.ask-call.ensures.call c.done_reply.ensures c.requires.is c.stop.ensures.step refl).others
+
+pub returns-clause-answered : goal.returns-clause-answered
+returns-clause-answered g c = inr (record {
+  said = (Ok (tt {0}));
+  step = c.stop.ensures.step;
+  promised = record { ok = refl; closed = c.stop.ensures.closed };
+  first = refl;
+  adds = (went g.D.Disk.state c.args.slot c.args.trail.now c.ask-call.new.trail c.answer-reply.new.trail c.args.member.now (record c.args.member.now { machine = c.stop.new.self }) call.Stop call.Stop c.ask-call.result (reply_by (λ _. reply.Done) (Ok (tt {0}))) c.done_reply.result c.ask-call.ensures.asked c.answer-reply.ensures.answered refl c.ask-call.ensures.call c.done_reply.ensures c.requires.is c.stop.ensures.step refl).adds;
+  told = c.done_in.ensures.done (Ok (tt {0})) (c.answer-reply.ensures.reply ∙ c.done_reply.ensures);
+})

@@ -1,0 +1,4 @@
+pub mod Slots
+pub mod Exchanges
+pub mod Promises
+pub mod Calls

@@ -1,0 +1,96 @@
+-- What a machine promises of each of its calls: what it answers, and what it is then.
+use Rattle.std.specs.Prelude.{◌≡◌, ◌≢◌, ◌↔◌, ℕ, ⊤, ◌<◌, ◌≤◌, max, true, List, Option, Some, None, Result, Ok, Err, OnOk, IfOk, IfErr, IsErrOf}
+use Rattle.std.specs.FinMap as finite
+use Rattle.m3_model.specs.Contents.{raised}
+use Rattle.m3_model.specs.Rules.{InWindow}
+use Rattle.m3_model.specs.declared.limits.TheConstants.{MOST_REPLICA_POINTS}
+use Rattle.m3_model.specs.declared.point.Pick.{Pick}
+use Rattle.m3_model.specs.declared.point.Point.{Point}
+use Rattle.m3_model.specs.declared.point.Series.{Series}
+use Rattle.m3_model.specs.declared.reason.Damage.{Damage}
+use Rattle.m3_model.specs.declared.reason.Reason.{Reason}
+use Rattle.m3_model.specs.declared.reason.Reason.TheVariants as reason
+use Rattle.m3_model.specs.declared.replica.Report.{Report}
+use Rattle.m3_model.specs.declared.replica.Standing.TheVariants as standing
+use Rattle.m3_model.specs.declared.rules.Rules.{Rules}
+use Rattle.m3_outside.specs.DiskCalls.{LeavesFiles}
+use Rattle.m3_outside.specs.DiskState.{DiskState, Told, Becomes}
+use Rattle.shard_files.specs.Gains.{a_point, a_fence, a_tenure}
+use Rattle.shard_files.specs.Held.{IsSound}
+use Rattle.cluster_core.specs.Rows.{open_fence}
+use Rattle.cluster_core.specs.declared.event.StepCall.{StepCall}
+use Rattle.replica_machine.specs.Boots.{BeganFrom, BeganAgain, MayBeUnowned, IsRefused, IsBootReason}
+use Rattle.replica_machine.specs.Damages.{IsDamageOf, IsFormDamage}
+use Rattle.replica_machine.specs.Machines.{MachineState, shut_machine, refusal, IsOwn, IsRefusedFor, IsLiveAnswer}
+use Rattle.replica_machine.specs.Steps.{BringsTo, RestartsTo}
+use Rattle.replica_machine.specs.declared.machine.Began.{Began}
+
+module _ {D : Type 0} (state : D → DiskState) where
+  -- it begins the tenure: from Boot with what its files hold, and where it is open with nothing more
+  pub record Begins (tenure : ℕ) (c : StepCall) (said : Result Began Reason) (old new : MachineState D) : Type 0 where
+    pub began : old.standing ≡ standing.Boot → IfOk said (BeganFrom state tenure old new)
+    pub again : old.standing ≡ standing.Open → IfOk said (BeganAgain tenure old new)
+    pub down : IsErrOf said reason.Down ↔ (old.standing ≡ standing.Down)
+    pub unowned : IsErrOf said reason.NotOwned → MayBeUnowned state tenure old
+    pub unowned_always : old.standing ≢ standing.Down → tenure < old.begun → IsErrOf said reason.NotOwned
+    pub sound : (damage : Damage) → IsErrOf said (reason.Corrupt damage) → Told (state old.disk) (λ files. ¬ IsSound files)
+    pub damage : (damage : Damage) → IsErrOf said (reason.Corrupt damage) → Told (state old.disk) (IsDamageOf damage)
+    pub form : (damage : Damage) → IsErrOf said (reason.Corrupt damage) → IsFormDamage damage
+    pub reasons : IfErr said IsBootReason
+    pub err : IfErr said (IsRefused old new)
+    pub disk : BringsTo (a_tenure tenure) said (state old.disk) (state new.disk)
+
+  -- it takes the point, or refuses it and keeps all that it had, unless a fault closed it
+  pub record Puts (rules : Rules) (point : Point) (c : StepCall) (said : Result ⊤ Reason) (old new : MachineState D) : Type 0 where
+    pub ok : OnOk said (new ≡ record old { disk = new.disk; content = raised old.content point })
+    pub window : OnOk said (InWindow rules point)
+    pub err : IfErr said (λ why. why ≢ reason.Disk → new ≡ record old { disk = new.disk })
+    pub plain : IfErr said (λ why. why ≢ reason.Disk → why ≢ reason.Memory → new ≡ old)
+    pub unchanged : (state old.disk).tells ≡ true → IsErrOf said reason.Memory → Becomes (λ files. files) (state old.disk) (state new.disk)
+    pub fault : IsErrOf said reason.Disk → new ≡ shut_machine standing.Down old new.disk
+    pub refused : IsRefusedFor (refusal old c) said
+    pub disk : BringsTo (a_point point) said (state old.disk) (state new.disk)
+
+  -- a read is refused for the reason that stands against it; where none does, for want of memory, a fault, or damage of its files
+  abbrev pub MayRefuseRead : Option Reason → MachineState D → Result (List Series) Reason → Type 0
+  MayRefuseRead (Some why) old said = IsErrOf said why
+  MayRefuseRead None old (Ok series) = ⊤
+  MayRefuseRead None old (Err (reason.Corrupt damage)) = Told (state old.disk) (λ files. ¬ IsSound files) × Told (state old.disk) (IsDamageOf damage)
+  MayRefuseRead None old (Err why) = IsOwn why
+
+  -- it answers with its live points, and keeps all that it had; a fault or damage of its files closes it
+  pub record Reads (rules : Rules) (pick : Pick) (from to : ℕ) (c : StepCall) (said : Result (List Series) Reason) (old new : MachineState D) : Type 0 where
+    pub ok : IfOk said (IsLiveAnswer old.content rules pick from to)
+    pub stays : OnOk said (new ≡ record old { disk = new.disk })
+    pub err : IfErr said (IsRefused old new)
+    pub refused : MayRefuseRead (refusal old c) old said
+    pub disk : LeavesFiles (IsErrOf said reason.Disk) (state old.disk) (state new.disk)
+
+  -- it raises its fence, or keeps all that it had, unless a fault closed it
+  pub record Fences (version : ℕ) (c : StepCall) (said : Result ⊤ Reason) (old new : MachineState D) : Type 0 where
+    pub ok : OnOk said (new ≡ record old { disk = new.disk; fence = max old.fence version })
+    pub err : IfErr said (λ why. why ≢ reason.Disk → new ≡ record old { disk = new.disk })
+    pub plain : IfErr said (λ why. why ≢ reason.Disk → why ≢ reason.Memory → new ≡ old)
+    pub unchanged : (state old.disk).tells ≡ true → IsErrOf said reason.Memory → Becomes (λ files. files) (state old.disk) (state new.disk)
+    pub fault : IsErrOf said reason.Disk → new ≡ shut_machine standing.Down old new.disk
+    pub refused : IsRefusedFor (refusal old c) said
+    pub disk : BringsTo (a_fence version) said (state old.disk) (state new.disk)
+
+  -- it is closed, over the same disk
+  pub record Stops (c : StepCall) (said : Result ⊤ Reason) (old new : MachineState D) : Type 0 where
+    pub ok : said ≡ Ok tt
+    pub closed : new ≡ shut_machine standing.Down old old.disk
+
+  -- it stands at Boot, over what its disk kept
+  pub record Restarts (c : StepCall) (said : Result ⊤ Reason) (old new : MachineState D) : Type 0 where
+    pub ok : OnOk said (new ≡ shut_machine standing.Boot old new.disk)
+    pub memory : IsErrOf said reason.Memory → new ≡ record old { disk = new.disk }
+    pub fault : IsErrOf said reason.Disk → new ≡ shut_machine standing.Down old new.disk
+    pub err : IfErr said IsOwn
+    pub disk : RestartsTo said (state old.disk) (state new.disk)
+
+  -- it says how it stands, and stays as it is
+  pub record Reports (c : StepCall) (said : Result Report Reason) (old new : MachineState D) : Type 0 where
+    pub ok : IfOk said (λ report. (report.standing ≡ old.standing) × (report.fence ≡ open_fence old.standing old.fence) × (report.buffered ≡ finite.len old.content) × (report.buffered ≤ MOST_REPLICA_POINTS) × ((report.segments ≡ 0) × (report.snapshot ≡ 0) × (report.volumes ≡ 0)))
+    pub never_refused : IfErr said (λ why. ⊥)
+    pub stays : new ≡ old

@@ -1,0 +1,6 @@
+/// Which call of which client.
+#[derive(Clone, Copy, Debug)]
+pub struct CallId {
+    pub client: u32,
+    pub number: u64,
+}

@@ -1,0 +1,11 @@
+use m3_outside::disk::Disk;
+use replica_machine::machine::Machine;
+use std::snapshot::Snapshot;
+
+/// The replica at a slot.
+#[derive(Drop)]
+pub struct Member<D: Disk> {
+    pub machine: Machine<D>,
+    /// The disk over which the machine was made, as it stood then: for contracts alone, without bytes.
+    pub first: Snapshot<D>,
+}

@@ -1,0 +1,294 @@
+ghost use Rattle.std.specs.Prelude.{◌≡◌, ◌↔◌, ◌+◌, ◌<◌, ◌≤◌, length, nat_le, OnOk, OnErr, IfOk, IfErr, IfSome, IsErr};
+ghost use Rattle.std.specs.FinMap as finite;
+ghost use Rattle.std.specs.Option.{option_copied};
+ghost use Rattle.m3_model.specs.Reads.{space_picked};
+ghost use Rattle.wire_bytes.specs.Entries.{IsBounded};
+ghost use Rattle.cluster_core.specs.Earlier.{HasClock, HasSend, HasTenure};
+ghost use Rattle.cluster_core.specs.Replicas.{replica, fresh};
+ghost use Rattle.cluster_core.specs.declared.event.StepCall.TheVariants as call;
+ghost use Rattle.cluster_core.specs.declared.event.StepReply.TheVariants as reply;
+ghost use Rattle.event_book.specs.Lists.{most_entries};
+ghost use Rattle.event_trail.specs.Trails.{IsLegalOver, IsLawfulOver};
+ghost use Rattle.replica_calls.specs.Calls.{first_member, AreMembersOf, HasRoom, MayCall, MayCopyAndCall, MayTell, IsNoStep};
+ghost use Rattle.replica_calls.specs.Exchanges.{seen_in, IsNothing, HasAdded};
+ghost use Rattle.replica_calls.specs.Promises.{Begins, Puts, Reads, Fences, Stops, Restarts, Reports};
+
+use crate::call_err::CallErr;
+use crate::call_id::CallId;
+use crate::exchange::{boot_on, fence_on, put_on, read_on, report_on, restart_on, stop_on};
+use crate::member::Member;
+use crate::slot::Slot;
+use cluster_core::event::Event;
+use event_book::Full;
+use event_trail::trail::Trail;
+use m3_model::point::{Pick, Point, Series};
+use m3_model::reason::Reason;
+use m3_model::replica::Report;
+use m3_model::rules::Rules;
+use m3_model::seq::Seq;
+use m3_outside::disk::Disk;
+use replica_machine::machine::Machine;
+use std::alloc::Global;
+use std::collections::BTreeMap;
+use std::marker::Model;
+use std::snapshot::Snapshot;
+
+/// The replicas of a run, each at its slot, with the list of the run's events. Contracts see a finite map from slots to machines, and
+/// the list, which is legal as far as the disks tell. Each machine is that of its slot's replica after these events.
+///
+/// A call of a replica that was made adds an Ask and the step that answers it. It isn't made where the slot has no replica, which is
+/// answered `NotOwned`, nor where the list has no room for both. Each call takes time in proportion to the logarithm of the number of
+/// replicas, beside what it does at the machine.
+#[derive(Drop)]
+pub struct Replicas<D: Disk> {
+    map: BTreeMap<Slot, Member<D>>,
+    trail: Trail<D>,
+}
+
+impl<D: Disk> Model for Replicas<D> {
+    ghost use Rattle.std.specs.FinMap.{from_sorted};
+    ghost use Rattle.cluster_core.specs.contracts.event.Event as event;
+    ghost use Rattle.replica_calls.specs.Calls.{Tracked, tracked_code, IsTracked};
+
+    ghost Value = { Tracked D };
+
+    ghost coded = { tracked_code D.code event.the_row.coded };
+
+    ghost view = { λ r. record { members = from_sorted r.map.entries; events = r.trail } };
+
+    ghost invariant = { λ r. IsTracked D.state r.map r.trail };
+}
+
+impl<D: Disk> Replicas<D> {
+    /// No replicas yet. Takes no memory.
+    pub fn new(alloc: Global, trail: Trail<D>) -> Replicas<D>
+        ensures { result ≡ record { members = finite.empty; events = trail } }
+    {
+        Replicas {
+            map: BTreeMap::new(alloc),
+            trail,
+        }
+    }
+
+    /// Makes a machine over the disk and puts it at the slot, of which no step is in the list. Want of memory changes nothing, and gives
+    /// the disk back.
+    pub fn insert(&mut self, alloc: Global, slot: Slot, disk: D) -> Result<(), D>
+        requires { replica slot.node slot.shard self.old.events ≡ fresh }
+        ensures ok { OnOk result (self.new ≡ record self.old { members = finite.insert self.old.members slot (first_member disk) }) }
+        ensures err { IfErr result (λ back. (back ≡ disk) × (self.new ≡ self.old)) }
+    {
+        let first = Snapshot::of(&disk);
+        let member = Member {
+            machine: Machine::new(alloc, disk),
+            first,
+        };
+        match self.map.insert(slot, member) {
+            Ok(_) => Ok(()),
+            Err(refused) => {
+                let (_, back) = refused.value;
+                Err(back.machine.into_disk())
+            }
+        }
+    }
+
+    /// Takes the replica at the slot out, if there is one. Takes no memory.
+    pub fn take(&mut self, slot: Slot) -> Option<Member<D>>
+        ensures taken { result ≡ finite.get self.old.members slot }
+        ensures left { self.new ≡ record self.old { members = finite.remove self.old.members slot } }
+    {
+        self.map.remove(&slot)
+    }
+
+    /// The replica at the slot, if there is one. Takes no memory.
+    pub fn get(&self, slot: Slot) -> Option<&Member<D>>
+        ensures { option_copied result ≡ finite.get self.now.members slot }
+    {
+        self.map.get(&slot)
+    }
+
+    /// What is so of the list and of each replica.
+    pub fn know(&self)
+        ensures legal { IsLegalOver D.state self.now.events }
+        ensures members { AreMembersOf D.state self.now }
+    {
+        self.trail.know();
+    }
+
+    /// Whether so many more events go in. Takes no memory.
+    pub fn has_room(&self, more: u64) -> bool
+        ensures { result ≡ nat_le (length self.now.events + more) most_entries }
+    {
+        self.trail.has_room(more)
+    }
+
+    /// Adds an event that no replica makes and that is lawful after the list, and answers its place. Takes no memory.
+    ///
+    /// # Errors
+    ///
+    /// Full, exactly where the list has no room. Nothing changes.
+    pub fn add(&mut self, event: &Event) -> Result<u64, Full>
+        requires lawful { IsLawfulOver D.state self.old.events event.now }
+        requires no_step { IsNoStep event.now }
+        ensures ok { IfOk result (λ place. HasAdded IsNothing event.now place (seen_in self.old.events) (seen_in self.new.events)) }
+        ensures members { self.new.members ≡ self.old.members }
+        ensures err { OnErr result (self.new ≡ self.old) }
+        ensures full { IsErr result ↔ (¬ HasRoom 1 self.old.events) }
+    {
+        self.trail.know();
+        self.trail.append(event)
+    }
+
+    /// Puts the point on the replica at the slot, as a client's write of this version.
+    ///
+    /// # Errors
+    ///
+    /// The replica's reason; that it wasn't called; or want of memory before the call, which changes nothing.
+    pub fn put(
+        &mut self,
+        alloc: Global,
+        slot: Slot,
+        id: CallId,
+        rules: &Rules,
+        version: u64,
+        point: &Point,
+    ) -> Result<(), CallErr>
+        requires opened { 2 ≤ length self.old.events }
+        requires clock { HasClock self.old.events rules.now }
+        requires sent { HasSend self.old.events version slot.shard point.now }
+        requires space { point.now.ns < length rules.now.spaces }
+        requires bounded { IsBounded point.now }
+        ensures { MayCopyAndCall D.state slot (call.Put id.client id.number rules.entry.now version point.now) (λ _. reply.Done) (Puts D.state rules.entry.now point.now) (λ u. u) result self.old self.new }
+    {
+        match self.map.get_mut(&slot) {
+            Some(member) => put_on(
+                alloc,
+                member,
+                &mut self.trail,
+                slot,
+                id,
+                rules,
+                version,
+                point,
+            ),
+            None => Err(CallErr::Refused(Reason::NotOwned)),
+        }
+    }
+
+    /// Has the replica at the slot begin a tenure that a placement gave it: from Boot it loads its files and is open.
+    ///
+    /// # Errors
+    ///
+    /// The replica's reason, or that it wasn't called.
+    pub fn boot(&mut self, slot: Slot, tenure: u64) -> Result<(), CallErr>
+        requires opened { 2 ≤ length self.old.events }
+        requires tenure { HasTenure self.old.events slot.node slot.shard tenure }
+        ensures { MayCall D.state slot (call.Begin tenure) (λ began. reply.Began began.fence began.points) (Begins D.state tenure) (λ _. tt) result self.old self.new }
+    {
+        match self.map.get_mut(&slot) {
+            Some(member) => boot_on(member, &mut self.trail, slot, tenure),
+            None => Err(CallErr::Refused(Reason::NotOwned)),
+        }
+    }
+
+    /// What the replica at the slot answers a client's read of this version: its points with `from <= t < to` that haven't expired, of the
+    /// series that are picked, in order.
+    ///
+    /// # Errors
+    ///
+    /// The replica's reason; that it wasn't called; or want of memory before the call, which changes nothing.
+    pub fn read(
+        &mut self,
+        alloc: Global,
+        slot: Slot,
+        id: CallId,
+        rules: &Rules,
+        version: u64,
+        pick: &Pick,
+        from: u64,
+        to: u64,
+    ) -> Result<Seq<Series>, CallErr>
+        requires opened { 2 ≤ length self.old.events }
+        requires clock { HasClock self.old.events rules.now }
+        requires space { space_picked pick.now < length rules.now.spaces }
+        ensures { MayCopyAndCall D.state slot (call.Read id.client id.number rules.entry.now version pick.now from to) (λ series. reply.Found series) (Reads D.state rules.entry.now pick.now from to) (λ series. series) result self.old self.new }
+    {
+        match self.map.get_mut(&slot) {
+            Some(member) => read_on(
+                alloc,
+                member,
+                &mut self.trail,
+                slot,
+                id,
+                rules,
+                version,
+                pick,
+                from,
+                to,
+            ),
+            None => Err(CallErr::Refused(Reason::NotOwned)),
+        }
+    }
+
+    /// Raises the fence of the replica at the slot to the version. A fence never falls.
+    ///
+    /// # Errors
+    ///
+    /// The replica's reason, or that it wasn't called.
+    pub fn fence(&mut self, slot: Slot, version: u64) -> Result<(), CallErr>
+        requires opened { 2 ≤ length self.old.events }
+        ensures { MayCall D.state slot (call.Fence version) (λ _. reply.Done) (Fences D.state version) (λ u. u) result self.old self.new }
+    {
+        match self.map.get_mut(&slot) {
+            Some(member) => fence_on(member, &mut self.trail, slot, version),
+            None => Err(CallErr::Refused(Reason::NotOwned)),
+        }
+    }
+
+    /// Stops the replica at the slot. Takes no memory.
+    ///
+    /// # Errors
+    ///
+    /// That it wasn't called.
+    pub fn stop(&mut self, slot: Slot) -> Result<(), CallErr>
+        requires opened { 2 ≤ length self.old.events }
+        ensures { MayCall D.state slot call.Stop (λ _. reply.Done) (Stops D.state) (λ u. u) result self.old self.new }
+    {
+        match self.map.get_mut(&slot) {
+            Some(member) => stop_on(member, &mut self.trail, slot),
+            None => Err(CallErr::Refused(Reason::NotOwned)),
+        }
+    }
+
+    /// The process of the replica at the slot stops and starts again: it stands at Boot, over what its disk kept. The pick chooses what
+    /// that is, where the disk knows how.
+    ///
+    /// # Errors
+    ///
+    /// The replica's reason, or that it wasn't called.
+    pub fn restart(&mut self, slot: Slot, pick: u64) -> Result<(), CallErr>
+        requires opened { 2 ≤ length self.old.events }
+        ensures { MayCall D.state slot call.Restart (λ _. reply.Done) (Restarts D.state) (λ u. u) result self.old self.new }
+    {
+        match self.map.get_mut(&slot) {
+            Some(member) => restart_on(member, &mut self.trail, slot, pick),
+            None => Err(CallErr::Refused(Reason::NotOwned)),
+        }
+    }
+
+    /// How the replica at the slot stands, with its fence where it is open and else 0, and how many points it holds, one at each key. It
+    /// doesn't count segments, snapshots and volumes yet: these are 0. Nobody asks for its step, so the list needs room for that alone.
+    /// Takes no memory.
+    ///
+    /// # Errors
+    ///
+    /// That it wasn't called.
+    pub fn report(&mut self, slot: Slot) -> Result<Report, CallErr>
+        requires opened { 2 ≤ length self.old.events }
+        ensures { MayTell D.state slot call.Report (λ report. reply.Told report) (Reports D.state) (λ report. report) result self.old self.new }
+    {
+        match self.map.get(&slot) {
+            Some(member) => report_on(member, &mut self.trail, slot),
+            None => Err(CallErr::Refused(Reason::NotOwned)),
+        }
+    }
+}
