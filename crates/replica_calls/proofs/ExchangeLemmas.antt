@@ -4,6 +4,7 @@ use Rattle.std.specs.Prelude.{◌⊎◌, ◌↔◌, fold, Result, Ok, Err, IfOk}
 use Rattle.std.proofs.lemmas.List.{append-nil}
 use Rattle.std.proofs.lemmas.List.Sums.{fold-append}
 use Rattle.m3_outside.specs.DiskState.{DiskState}
+use Rattle.cluster_core.specs.Asks.{StepWasAsked}
 use Rattle.cluster_core.specs.Earlier.{IsClock, IsSend, GivesTenure, GavePage}
 use Rattle.cluster_core.specs.Legal.{Legal, LawfulAt}
 use Rattle.cluster_core.specs.Replicas.{replica, fresh, after, step_of}
@@ -127,7 +128,17 @@ module _ (n s : ℕ) (c : StepCall) (a : StepReply) (past : List Event) where
   replica_others m t apart = fold-append (step_of m t) fresh asking (event.Step n s c a ∷ []) ∙ (step_apart n s c a m t (replica m t asking) apart ∙ replica_asking m t)
 
 module _ {D : Type 0} (state : D → DiskState) (slot : Slot) where
-  -- the step that answers an Ask is lawful
+  -- A step is lawful, whatever stands before it, where it was asked for and has what it is given.
+  pub step_lawful : (c : StepCall) (a : StepReply) (events : List Event) (old : Member D) (new : MachineState D) → 2 ≤ length events → StepWasAsked events (event.Step slot.node slot.shard c a) → IsGiven events slot.node slot.shard c
+      → IsMemberOf state slot events old → IsStep state old.machine c a new → IsLawfulOver state events (event.Step slot.node slot.shard c a)
+  step_lawful c a events old new two asked' given is step tells all =
+      let n = slot.node in
+      let s = slot.shard in
+      let r : ReplicaState = replica n s events in
+      let law = step.lawful (old.first).value r is events n s given in
+      lawful_later tells (length events) events (event.Step n s c a) two (asked', weaker (state (old.machine).disk).tells tells (λ t. all t (old.machine).disk) events n s r c a law)
+
+  -- so is the one that answers an Ask
   pub answer_lawful : (same : (x y : StepCall) → (x ≡ y) ⊎ (x ≡ y → ⊥)) (c : StepCall) (a : StepReply) (events : List Event) → IsAnswer state slot c a events → IsLegalOver state events → IsLawfulOver state events (event.Step slot.node slot.shard c a)
   answer_lawful same c a events h legal tells all =
       let n = slot.node in
@@ -136,12 +147,11 @@ module _ {D : Type 0} (state : D → DiskState) (slot : Slot) where
       let more : List Event = asking n s c a past in
       let legal' : Legal tells more = subst (Legal tells) h.asked (legal tells all) in
       let asked' = was_asked n s c a past (balanced n s c a same h.answers tells past (legal_init tells past (ask_of n s c ∷ []) legal')) in
-      let is' : IsMachineOf state (state ((h.old).first).value).images (replica n s more) (h.old).machine = subst (λ r. IsMachineOf state (state ((h.old).first).value).images r (h.old).machine) (sym (replica_asking n s c a past n s)) h.is in
-      let law = (h.step).lawful ((h.old).first).value (replica n s more) is' more n s (given_more past (ask_of n s c ∷ []) n s c h.given) in
+      let is' : IsMemberOf state slot more h.old = subst (λ r. IsMachineOf state (state ((h.old).first).value).images r (h.old).machine) (sym (replica_asking n s c a past n s)) h.is in
       let opened = h.opened in
       let two : 2 ≤ length more = omega (arith, opened, length-append past (ask_of n s c ∷ [])) in
       subst (λ l. LawfulAt tells (length l) l (event.Step n s c a)) (sym h.asked)
-      (lawful_later tells (length more) more (event.Step n s c a) two (asked_by more n s c a asked', weaker (state ((h.old).machine).disk).tells tells (λ t. all t ((h.old).machine).disk) more n s (replica n s more) c a law))
+      (step_lawful c a more h.old h.new two (asked_by more n s c a asked') (given_more past (ask_of n s c ∷ []) n s c h.given) is' h.step tells all)
 
   -- the machine is then that of the slot's replica
   stays_member : (c : StepCall) (a : StepReply) (past events : List Event) (old new : Member D) → events ≡ exchanged slot.node slot.shard c a past → IsMemberOf state slot past old → IsStep state old.machine c a new.machine → new.first ≡ old.first
@@ -152,6 +162,9 @@ module _ {D : Type 0} (state : D → DiskState) (slot : Slot) where
       (subst (λ r. IsMachineOf state (state (old.first).value).images r new.machine) (sym (replica_exchanged slot.node slot.shard c a past)) (step.follows (old.first).value (replica slot.node slot.shard past) is)))
 
 -- ---- as a call makes them
+
+pub opened_after : {was now : ℕ} → 2 ≤ was → was ≤ now → 2 ≤ now
+opened_after opened longer = omega (arith, opened, longer)
 
 pub room_left : (past mid : List Event) (e : Event) → HasRoom 2 past → mid ≡ past ++ e ∷ [] → HasRoom 1 mid
 room_left past mid e room grew = let long = ap length grew ∙ length-append past (e ∷ []) in omega (arith, room, long)
@@ -167,6 +180,7 @@ is_answer state slot past mid old new c c1 c2 a a1 asked e f g opened given is s
 pub record Went {D : Type 0} (state : D → DiskState) (slot : Slot) (Adds : Adding) (c : StepCall) (a : StepReply) (past events : List Event) (new : Member D) : Type 0 where
   pub is : IsMemberOf state slot events new
   pub others : OtherReplicasStay slot past events
+  pub longer : length past ≤ length events
   pub adds : Adds c a (seen_in past) (seen_in events)
 
 pub went : {D : Type 0} (state : D → DiskState) (slot : Slot) (past mid events : List Event) (old new : Member D) (c c1 c2 : StepCall) (a a1 : StepReply) → mid ≡ past ++ ask_of slot.node slot.shard c1 ∷ []
@@ -178,6 +192,7 @@ went state slot past mid events old new c c1 c2 a a1 asked stepped e f g is step
     record {
       is = stays_member state slot c a past events old new grew is step first;
       others = λ m t apart. ap (λ l. replica m t l) grew ∙ replica_others n s c a past m t apart;
+      longer = (let long = ap length grew in let k = length-append (asking n s c a past) (event.Step n s c a ∷ []) in let j = length-append past (ask_of n s c ∷ []) in omega (arith, long, k, j));
       adds = exchanged_alone n s c a past events grew;
     }
 
@@ -185,9 +200,7 @@ went state slot past mid events old new c c1 c2 a a1 asked stepped e f g is step
 
 module _ {D : Type 0} (state : D → DiskState) (slot : Slot) (a : StepReply) (events : List Event) (m : Member D) where
   pub tell_lawful : 2 ≤ length events → IsMemberOf state slot events m → IsStep state m.machine call.Report a m.machine → IsLawfulOver state events (event.Step slot.node slot.shard call.Report a)
-  tell_lawful opened is step tells all =
-      let law = step.lawful (m.first).value (replica slot.node slot.shard events) is events slot.node slot.shard tt in
-      lawful_later tells (length events) events (event.Step slot.node slot.shard call.Report a) opened (tt, weaker (state (m.machine).disk).tells tells (λ t. all t (m.machine).disk) events slot.node slot.shard (replica slot.node slot.shard events) call.Report a law)
+  tell_lawful opened is step = step_lawful state slot call.Report a events m m.machine opened tt tt is step
 
   pub told : (now : List Event) → now ≡ events ++ event.Step slot.node slot.shard call.Report a ∷ [] → IsMemberOf state slot events m → IsStep state m.machine call.Report a m.machine → Went state slot (AddsStep slot) call.Report a events now m
   told now grew is step =
@@ -200,5 +213,6 @@ module _ {D : Type 0} (state : D → DiskState) (slot : Slot) (a : StepReply) (e
       record {
         is = subst (λ r. IsMachineOf state (state (m.first).value).images r m.machine) (sym after_is) (step.follows (m.first).value (replica n s events) is);
         others = λ q t apart. ap (λ l. replica q t l) grew ∙ (fold-append (step_of q t) fresh events more ∙ step_apart n s call.Report a q t (replica q t events) apart);
+        longer = (let long = ap length grew in let k = length-append events more in omega (arith, long, k));
         adds = record { before = []; may_before = refl; after = ap seen_in grew ∙ (λ i. record { events = whole i; own = own i }) };
       }

@@ -1,5 +1,5 @@
 -- Each machine stays that of its slot's replica, and what a call comes to.
-use Rattle.std.proofs.Common.{◌≡◌, ℕ, List, [], ◌∷◌, ◌++◌, length, cond, refl, sym, ap, ◌∙◌, subst, Bool, true, false, inl, inr}
+use Rattle.std.proofs.Common.{◌≡◌, ℕ, ◌≤◌, ◌+◌, arith, length-append, List, [], ◌∷◌, ◌++◌, length, cond, refl, sym, ap, ◌∙◌, subst, Bool, true, false, inl, inr}
 use Rattle.std.specs.Prelude.{◌⊎◌, Some, None, Result, Ok, Err, IfOk, OnErr}
 use Rattle.std.specs.BTreeMap.{BTreeMap, get_by}
 use Rattle.std.specs.Cmp.{tied_itself}
@@ -68,8 +68,9 @@ module _ {D : Type 0} (state : D → DiskState) where
 
   -- through a `&mut` to a machine
   pub tracked_with : (m n : BTreeMap Slot (Member D)) (slot : Slot) (v w : Member D) (past events : List Event) → IsTracked state m past → Wrote m n slot v w → IsMemberOf state slot events w
-      → OtherReplicasStay slot past events → IsTracked state n events
-  tracked_with m n slot v w past events tracked wrote is others = record {
+      → OtherReplicasStay slot past events → 2 ≤ length events → IsTracked state n events
+  tracked_with m n slot v w past events tracked wrote is others opened = record {
+    opened = opened;
     sorted = wrote.sorted;
     are = subst (λ members. AreMembersOf state (record { members = members; events = events })) (sym wrote.after) (are_with (from_sorted {R = slot_cmp} m.entries) slot w past events tracked.are is others);
   }
@@ -121,10 +122,11 @@ module _ {D : Type 0} (state : D → DiskState) where
   at_slot m slot v events tracked is = tracked.are slot v (get_of slot_cmp m.entries slot tracked.sorted ∙ sym is)
 
   -- none at all
-  pub tracked_new : (m : BTreeMap Slot (Member D)) (events : List Event) → m.entries ≡ [] → IsTracked state m events
-  tracked_new m events none =
+  pub tracked_new : (m : BTreeMap Slot (Member D)) (events : List Event) → m.entries ≡ [] → 2 ≤ length events → IsTracked state m events
+  tracked_new m events none opened =
       let empty : from_sorted {R = slot_cmp} m.entries ≡ finite.empty = ap (λ xs. from_sorted {R = slot_cmp} xs) none ∙ from_sorted-empty slot_cmp in
       record {
+        opened = opened;
         sorted = subst (λ xs. is_sorted slot_cmp xs ≡ true) (sym none) refl;
         are = λ s x at. let clash : None ≡ Some x = sym (ap (λ (members : MemberMap D). finite.get members s) empty ∙ get-empty slot_cmp s) ∙ at in cc;
       }
@@ -140,6 +142,7 @@ module _ {D : Type 0} (state : D → DiskState) where
   pub tracked_insert : (m n : BTreeMap Slot (Member D)) (slot : Slot) (w : Member D) (events : List Event) → IsTracked state m events → is_sorted slot_cmp n.entries ≡ true
       → from_sorted {R = slot_cmp} n.entries ≡ finite.insert (from_sorted {R = slot_cmp} m.entries) slot w → IsMemberOf state slot events w → IsTracked state n events
   tracked_insert m n slot w events tracked sorted grew is = record {
+    opened = tracked.opened;
     sorted = sorted;
     are = subst (λ members. AreMembersOf state (record { members = members; events = events })) (sym grew) (are_with (from_sorted {R = slot_cmp} m.entries) slot w events events tracked.are is (λ a b apart. refl));
   }
@@ -147,6 +150,7 @@ module _ {D : Type 0} (state : D → DiskState) where
   -- the same entries
   pub tracked_same : (m n : BTreeMap Slot (Member D)) (events : List Event) → n.entries ≡ m.entries → IsTracked state m events → IsTracked state n events
   tracked_same m n events same tracked = record {
+    opened = tracked.opened;
     sorted = subst (λ es. is_sorted slot_cmp es ≡ true) (sym same) tracked.sorted;
     are = subst (λ es. AreMembersOf state (record { members = from_sorted {R = slot_cmp} es; events = events })) (sym same) tracked.are;
   }
@@ -155,6 +159,7 @@ module _ {D : Type 0} (state : D → DiskState) where
   pub tracked_remove : (m n : BTreeMap Slot (Member D)) (slot : Slot) (events : List Event) → IsTracked state m events → is_sorted slot_cmp n.entries ≡ true
       → from_sorted {R = slot_cmp} n.entries ≡ finite.remove (from_sorted {R = slot_cmp} m.entries) slot → IsTracked state n events
   tracked_remove m n slot events tracked sorted fewer = record {
+    opened = tracked.opened;
     sorted = sorted;
     are = λ s x at. tracked.are s x (left (from_sorted {R = slot_cmp} m.entries) s x (ap (λ (members : MemberMap D). finite.get members s) (sym fewer) ∙ at));
   }
@@ -170,6 +175,7 @@ module _ {D : Type 0} (state : D → DiskState) where
   pub tracked_added : (m : BTreeMap Slot (Member D)) (past events : List Event) (e : Event) {E : Type 0} (result : Result ℕ E) → IsNoStep e → IfOk result (λ place. (place ≡ length past) × (events ≡ past ++ e ∷ [])) → OnErr result (events ≡ past)
       → IsTracked state m past → IsTracked state m events
   tracked_added m past events e (Ok place) other ok err tracked = record {
+    opened = (let old = tracked.opened in let long = ap length ok.1 ∙ length-append past (e ∷ []) in omega (arith, old, long));
     sorted = tracked.sorted;
     are = λ s x at. subst (λ r. IsMachineOf state (state (x.first).value).images r x.machine) (sym (ap (λ l. replica s.node s.shard l) ok.1 ∙ replica_added past e other s.node s.shard)) (tracked.are s x at);
   }

@@ -45,8 +45,9 @@ IsMemberOf state slot events m = IsMachineOf state (state (m.first).value).image
 abbrev pub AreMembersOf : {D : Type 0} → (D → DiskState) → Tracked D → Type 0
 AreMembersOf {D} state t = (s : Slot) (m : Member D) → finite.get t.members s ≡ Some m → IsMemberOf state s t.events m
 
--- what is so of them
+-- what is so of them; the list was opened by a placement and by rules
 pub record IsTracked {D : Type 0} (state : D → DiskState) (map : BTreeMap Slot (Member D)) (events : List Event) : Type 0 where
+  pub opened : 2 ≤ length events
   pub sorted : IsTrue (finite.is_sorted slot_cmp map.entries)
   pub are : AreMembersOf state (record { members = finite.from_sorted map.entries; events = events })
 

@@ -1,5 +1,5 @@
 /// Which call of which client.
-#[derive(Clone, Copy, Debug)]
+#[derive(Clone, Copy)]
 pub struct CallId {
     pub client: u32,
     pub number: u64,

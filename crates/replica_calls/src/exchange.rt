@@ -72,13 +72,13 @@ fn tell<D: Disk>(trail: &mut Trail<D>, slot: Slot, report: Report)
     requires room { HasRoom 1 trail.old }
     ensures { trail.new ≡ trail.old ++ event.Step slot.node slot.shard call.Report (reply.Told report) ∷ [] }
 {
-    let step = Event::Step {
+    let told = Event::Step {
         node: slot.node,
         shard: slot.shard,
         call: StepCall::Report,
         reply: StepReply::Told { report },
     };
-    trail.append_reserved(&step);
+    trail.append_reserved(&told);
 }
 
 pub(crate) fn put_on<D: Disk>(
@@ -99,6 +99,7 @@ pub(crate) fn put_on<D: Disk>(
     requires bounded { IsBounded point.now }
     ensures is { IsMemberOf D.state slot trail.new member.new }
     ensures others { OtherReplicasStay slot trail.old trail.new }
+    ensures opened { 2 ≤ length trail.new }
     ensures answered { MayCopyAndAnswer D.state slot (call.Put id.client id.number rules.entry.now version point.now) (λ _. reply.Done) (Puts D.state rules.entry.now point.now) (λ u. u) result member.old trail.old member.new trail.new }
 {
     if !trail.has_room(2) {
@@ -124,6 +125,7 @@ pub(crate) fn boot_on<D: Disk>(
     requires tenure { HasTenure trail.old slot.node slot.shard tenure }
     ensures is { IsMemberOf D.state slot trail.new member.new }
     ensures others { OtherReplicasStay slot trail.old trail.new }
+    ensures opened { 2 ≤ length trail.new }
     ensures answered { MayAnswer D.state slot (call.Begin tenure) (λ began. reply.Began began.fence began.points) (Begins D.state tenure) (λ _. tt) result member.old trail.old member.new trail.new }
 {
     if !trail.has_room(2) {
@@ -153,6 +155,7 @@ pub(crate) fn read_on<D: Disk>(
     requires space { space_picked pick.now < length rules.now.spaces }
     ensures is { IsMemberOf D.state slot trail.new member.new }
     ensures others { OtherReplicasStay slot trail.old trail.new }
+    ensures opened { 2 ≤ length trail.new }
     ensures answered { MayCopyAndAnswer D.state slot (call.Read id.client id.number rules.entry.now version pick.now from to) (λ series. reply.Found series) (Reads D.state rules.entry.now pick.now from to) (λ series. series) result member.old trail.old member.new trail.new }
 {
     if !trail.has_room(2) {
@@ -177,6 +180,7 @@ pub(crate) fn fence_on<D: Disk>(
     requires opened { 2 ≤ length trail.old }
     ensures is { IsMemberOf D.state slot trail.new member.new }
     ensures others { OtherReplicasStay slot trail.old trail.new }
+    ensures opened { 2 ≤ length trail.new }
     ensures answered { MayAnswer D.state slot (call.Fence version) (λ _. reply.Done) (Fences D.state version) (λ u. u) result member.old trail.old member.new trail.new }
 {
     if !trail.has_room(2) {
@@ -197,6 +201,7 @@ pub(crate) fn stop_on<D: Disk>(
     requires opened { 2 ≤ length trail.old }
     ensures is { IsMemberOf D.state slot trail.new member.new }
     ensures others { OtherReplicasStay slot trail.old trail.new }
+    ensures opened { 2 ≤ length trail.new }
     ensures answered { MayAnswer D.state slot call.Stop (λ _. reply.Done) (Stops D.state) (λ u. u) result member.old trail.old member.new trail.new }
 {
     if !trail.has_room(2) {
@@ -218,6 +223,7 @@ pub(crate) fn restart_on<D: Disk>(
     requires opened { 2 ≤ length trail.old }
     ensures is { IsMemberOf D.state slot trail.new member.new }
     ensures others { OtherReplicasStay slot trail.old trail.new }
+    ensures opened { 2 ≤ length trail.new }
     ensures answered { MayAnswer D.state slot call.Restart (λ _. reply.Done) (Restarts D.state) (λ u. u) result member.old trail.old member.new trail.new }
 {
     if !trail.has_room(2) {
@@ -238,6 +244,7 @@ pub(crate) fn report_on<D: Disk>(
     requires opened { 2 ≤ length trail.old }
     ensures is { IsMemberOf D.state slot trail.new member.now }
     ensures others { OtherReplicasStay slot trail.old trail.new }
+    ensures opened { 2 ≤ length trail.new }
     ensures answered { MayAnswerBy 1 (AddsStep slot) D.state call.Report (λ report. reply.Told report) (Reports D.state) (λ report. report) result member.now trail.old member.now trail.new }
 {
     if !trail.has_room(1) {

@@ -60,8 +60,9 @@ impl<D: Disk> Model for Replicas<D> {
 }
 
 impl<D: Disk> Replicas<D> {
-    /// No replicas yet. Takes no memory.
+    /// No replicas yet, and a list that was opened. Takes no memory.
     pub fn new(alloc: Global, trail: Trail<D>) -> Replicas<D>
+        requires { 2 ≤ length trail }
         ensures { result ≡ record { members = finite.empty; events = trail } }
     {
         Replicas {
@@ -108,6 +109,7 @@ impl<D: Disk> Replicas<D> {
 
     /// What is so of the list and of each replica.
     pub fn know(&self)
+        ensures opened { 2 ≤ length self.now.events }
         ensures legal { IsLegalOver D.state self.now.events }
         ensures members { AreMembersOf D.state self.now }
     {
@@ -152,7 +154,6 @@ impl<D: Disk> Replicas<D> {
         version: u64,
         point: &Point,
     ) -> Result<(), CallErr>
-        requires opened { 2 ≤ length self.old.events }
         requires clock { HasClock self.old.events rules.now }
         requires sent { HasSend self.old.events version slot.shard point.now }
         requires space { point.now.ns < length rules.now.spaces }
@@ -180,7 +181,6 @@ impl<D: Disk> Replicas<D> {
     ///
     /// The replica's reason, or that it wasn't called.
     pub fn boot(&mut self, slot: Slot, tenure: u64) -> Result<(), CallErr>
-        requires opened { 2 ≤ length self.old.events }
         requires tenure { HasTenure self.old.events slot.node slot.shard tenure }
         ensures { MayCall D.state slot (call.Begin tenure) (λ began. reply.Began began.fence began.points) (Begins D.state tenure) (λ _. tt) result self.old self.new }
     {
@@ -207,7 +207,6 @@ impl<D: Disk> Replicas<D> {
         from: u64,
         to: u64,
     ) -> Result<Seq<Series>, CallErr>
-        requires opened { 2 ≤ length self.old.events }
         requires clock { HasClock self.old.events rules.now }
         requires space { space_picked pick.now < length rules.now.spaces }
         ensures { MayCopyAndCall D.state slot (call.Read id.client id.number rules.entry.now version pick.now from to) (λ series. reply.Found series) (Reads D.state rules.entry.now pick.now from to) (λ series. series) result self.old self.new }
@@ -235,7 +234,6 @@ impl<D: Disk> Replicas<D> {
     ///
     /// The replica's reason, or that it wasn't called.
     pub fn fence(&mut self, slot: Slot, version: u64) -> Result<(), CallErr>
-        requires opened { 2 ≤ length self.old.events }
         ensures { MayCall D.state slot (call.Fence version) (λ _. reply.Done) (Fences D.state version) (λ u. u) result self.old self.new }
     {
         match self.map.get_mut(&slot) {
@@ -250,7 +248,6 @@ impl<D: Disk> Replicas<D> {
     ///
     /// That it wasn't called.
     pub fn stop(&mut self, slot: Slot) -> Result<(), CallErr>
-        requires opened { 2 ≤ length self.old.events }
         ensures { MayCall D.state slot call.Stop (λ _. reply.Done) (Stops D.state) (λ u. u) result self.old self.new }
     {
         match self.map.get_mut(&slot) {
@@ -266,7 +263,6 @@ impl<D: Disk> Replicas<D> {
     ///
     /// The replica's reason, or that it wasn't called.
     pub fn restart(&mut self, slot: Slot, pick: u64) -> Result<(), CallErr>
-        requires opened { 2 ≤ length self.old.events }
         ensures { MayCall D.state slot call.Restart (λ _. reply.Done) (Restarts D.state) (λ u. u) result self.old self.new }
     {
         match self.map.get_mut(&slot) {
@@ -283,7 +279,6 @@ impl<D: Disk> Replicas<D> {
     ///
     /// That it wasn't called.
     pub fn report(&mut self, slot: Slot) -> Result<Report, CallErr>
-        requires opened { 2 ≤ length self.old.events }
         ensures { MayTell D.state slot call.Report (λ report. reply.Told report) (Reports D.state) (λ report. report) result self.old self.new }
     {
         match self.map.get(&slot) {

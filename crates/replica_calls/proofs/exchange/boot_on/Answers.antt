@@ -2,7 +2,7 @@ use Rattle.std.proofs.Common.{refl, ◌∙◌, inr}
 use Rattle.cluster_core.specs.declared.event.StepCall.TheVariants as call
 use Rattle.cluster_core.specs.declared.event.StepReply.TheVariants as reply
 use Rattle.replica_machine.specs.Steps.{reply_by}
-use Rattle.replica_calls.proofs.ExchangeLemmas.{room_left, is_answer, went}
+use Rattle.replica_calls.proofs.ExchangeLemmas.{opened_after, is_answer, went}
 use Rattle.replica_calls.proofs.exchange.boot_on.Goals as goal
 
 pub answer-reply-requires-clause-answers : goal.answer-reply-requires-clause-answers
@@ -15,6 +15,9 @@ returns-clause-is g c = (went g.D.Disk.state c.args.slot c.args.trail.now c.ask-
 
 pub returns-clause-others : goal.returns-clause-others
 returns-clause-others g c = (went g.D.Disk.state c.args.slot c.args.trail.now c.ask-call.new.trail c.answer-reply.new.trail c.args.member.now (record c.args.member.now { machine = c.boot-said.new.self }) (call.Begin c.args.tenure) (call.Begin c.args.tenure) c.ask-call.result (reply_by (λ began. reply.Began began.fence began.points) c.boot-said.result) c.began_reply.result c.ask-call.ensures.asked c.answer-reply.ensures.answered refl c.ask-call.ensures.call c.began_reply.ensures c.requires.is c.boot-said.ensures.step refl).others
+
+pub returns-clause-opened : goal.returns-clause-opened
+returns-clause-opened g c = opened_after c.requires.opened (went g.D.Disk.state c.args.slot c.args.trail.now c.ask-call.new.trail c.answer-reply.new.trail c.args.member.now (record c.args.member.now { machine = c.boot-said.new.self }) (call.Begin c.args.tenure) (call.Begin c.args.tenure) c.ask-call.result (reply_by (λ began. reply.Began began.fence began.points) c.boot-said.result) c.began_reply.result c.ask-call.ensures.asked c.answer-reply.ensures.answered refl c.ask-call.ensures.call c.began_reply.ensures c.requires.is c.boot-said.ensures.step refl).longer
 
 pub returns-clause-answered : goal.returns-clause-answered
 returns-clause-answered g c = inr (record {

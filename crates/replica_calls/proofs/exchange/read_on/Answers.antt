@@ -3,7 +3,7 @@ use Rattle.cluster_core.specs.declared.event.StepCall.TheVariants as call
 use Rattle.cluster_core.specs.declared.event.StepReply.TheVariants as reply
 use Rattle.replica_machine.specs.Steps.{reply_by}
 use Rattle.replica_calls.proofs.ReadLemmas.{read_promised, no_corrupt_read}
-use Rattle.replica_calls.proofs.ExchangeLemmas.{room_left, is_answer, went}
+use Rattle.replica_calls.proofs.ExchangeLemmas.{opened_after, is_answer, went}
 use Rattle.replica_calls.proofs.exchange.read_on.Goals as goal
 
 pub answer-reply-requires-clause-answers : goal.answer-reply-requires-clause-answers
@@ -16,6 +16,9 @@ returns-clause-is g c = (went g.D.Disk.state c.args.slot c.args.trail.now c.ask-
 
 pub returns-clause-others : goal.returns-clause-others
 returns-clause-others g c = (went g.D.Disk.state c.args.slot c.args.trail.now c.ask-call.new.trail c.answer-reply.new.trail c.args.member.now c.args.member.now (call.Read c.args.id.client c.args.id.number c.args.rules.now c.args.version c.args.pick.now c.args.from c.args.to) c.in-Ok.copied c.ask-call.result (reply_by (λ series. reply.Found series) c.read-said.result) c.found_reply.result c.ask-call.ensures.asked c.answer-reply.ensures.answered c.in-Ok.ensures (c.ask-call.ensures.call ∙ c.in-Ok.ensures) c.found_reply.ensures c.requires.is (c.read-said.ensures.step c.args.id.client c.args.id.number) refl).others
+
+pub returns-clause-opened : goal.returns-clause-opened
+returns-clause-opened g c = opened_after c.requires.opened (went g.D.Disk.state c.args.slot c.args.trail.now c.ask-call.new.trail c.answer-reply.new.trail c.args.member.now c.args.member.now (call.Read c.args.id.client c.args.id.number c.args.rules.now c.args.version c.args.pick.now c.args.from c.args.to) c.in-Ok.copied c.ask-call.result (reply_by (λ series. reply.Found series) c.read-said.result) c.found_reply.result c.ask-call.ensures.asked c.answer-reply.ensures.answered c.in-Ok.ensures (c.ask-call.ensures.call ∙ c.in-Ok.ensures) c.found_reply.ensures c.requires.is (c.read-said.ensures.step c.args.id.client c.args.id.number) refl).longer
 
 pub returns-clause-answered : goal.returns-clause-answered
 returns-clause-answered g c = inr (inr (record {

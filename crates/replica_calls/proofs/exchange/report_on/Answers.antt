@@ -1,7 +1,7 @@
 use Rattle.std.proofs.Common.{refl, inr}
 use Rattle.std.specs.Prelude.{Ok}
 use Rattle.cluster_core.specs.declared.event.StepReply.TheVariants as reply
-use Rattle.replica_calls.proofs.ExchangeLemmas.{tell_lawful, told}
+use Rattle.replica_calls.proofs.ExchangeLemmas.{opened_after, tell_lawful, told}
 use Rattle.replica_calls.proofs.exchange.report_on.Goals as goal
 
 pub tell-requires-clause-lawful : goal.tell-requires-clause-lawful
@@ -12,6 +12,9 @@ returns-clause-is g c = (told g.D.Disk.state c.args.slot (reply.Told c.report-re
 
 pub returns-clause-others : goal.returns-clause-others
 returns-clause-others g c = (told g.D.Disk.state c.args.slot (reply.Told c.report-report.result) c.args.trail.now c.args.member.now c.tell.new.trail c.tell.ensures c.requires.is c.report-report.ensures.step).others
+
+pub returns-clause-opened : goal.returns-clause-opened
+returns-clause-opened g c = opened_after c.requires.opened (told g.D.Disk.state c.args.slot (reply.Told c.report-report.result) c.args.trail.now c.args.member.now c.tell.new.trail c.tell.ensures c.requires.is c.report-report.ensures.step).longer
 
 pub returns-clause-answered : goal.returns-clause-answered
 returns-clause-answered g c =

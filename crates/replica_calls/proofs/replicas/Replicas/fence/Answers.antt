@@ -14,7 +14,7 @@ pub invariant_of-self : goal.invariant_of-self
 invariant_of-self g c =
     tracked_with g.D.Disk.state c.self.inside.map (c.get_mut.follows.lender c.fence_on.new.member) c.args.slot c.in-Some.member.now c.fence_on.new.member c.self.inside.trail c.fence_on.new.trail c.self.invariant
     (wrote c.self.inside.map (c.get_mut.follows.lender c.fence_on.new.member) c.args.slot c.in-Some.member.now c.fence_on.new.member c.self.invariant.sorted (c.get_mut.follows.holds c.fence_on.new.member) c.in-Some.ensures.value)
-    c.fence_on.ensures.is c.fence_on.ensures.others
+    c.fence_on.ensures.is c.fence_on.ensures.others c.fence_on.ensures.opened
 
 pub returns-in-Some : goal.returns-in-Some
 returns-in-Some g c =

@@ -14,7 +14,7 @@ pub invariant_of-self : goal.invariant_of-self
 invariant_of-self g c =
     tracked_with g.D.Disk.state c.self.inside.map c.self.inside.map c.args.slot c.in-Some.member.now c.in-Some.member.now c.self.inside.trail c.report_on.new.trail c.self.invariant
     (looked_at c.self.inside.map c.args.slot c.in-Some.member.now c.self.invariant.sorted c.in-Some.ensures.value)
-    c.report_on.ensures.is c.report_on.ensures.others
+    c.report_on.ensures.is c.report_on.ensures.others c.report_on.ensures.opened
 
 pub returns-in-Some : goal.returns-in-Some
 returns-in-Some g c =
