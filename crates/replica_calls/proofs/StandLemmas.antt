@@ -1,13 +1,21 @@
 -- What a call adds, whatever others add before it and meanwhile.
-use Rattle.std.proofs.Common.{◌≡◌, ℕ, ◌≤◌, ◌+◌, List, [], ◌∷◌, ◌++◌, length, refl, sym, ap, ◌∙◌, subst, arith, append_assoc, length-append}
-use Rattle.std.proofs.lemmas.List.{take_at}
+use Rattle.std.proofs.Common.{◌≡◌, ℕ, ◌≤◌, ◌+◌, List, [], ◌∷◌, ◌++◌, length, refl, sym, ap, ◌∙◌, subst, inl, inr, arith, append_assoc, length-append}
+use Rattle.std.specs.Prelude.{◌⊎◌, Result}
+use Rattle.std.specs.FinMap as finite
+use Rattle.std.proofs.lemmas.List.{append-nil, take_at}
+use Rattle.m3_outside.specs.DiskState.{DiskState}
 use Rattle.cluster_core.specs.Lists.{At, IsPrefix}
 use Rattle.cluster_core.specs.declared.event.Event.{Event}
 use Rattle.cluster_core.specs.declared.event.Event.TheVariants as event
 use Rattle.cluster_core.specs.declared.event.StepCall.{StepCall}
 use Rattle.cluster_core.specs.declared.event.StepReply.{StepReply}
 use Rattle.cluster_core.proofs.ExtendLemmas.{at_last}
-use Rattle.replica_calls.specs.Exchanges.{ask_of, Seen, HasExchanged}
+use Rattle.replica_machine.specs.Steps.{reply_by}
+use Rattle.replica_calls.specs.Calls.{Tracked, Promise, Adding, MayCallBy, MayCall, MayCopyAndCall, MayTell}
+use Rattle.replica_calls.specs.Exchanges.{ask_of, own_events, Seen, seen_in, IsNothing, HasExchanged, HasStepped, HasAdded}
+use Rattle.replica_calls.specs.declared.call_err.CallErr.{CallErr}
+use Rattle.replica_calls.specs.declared.slot.Slot.{Slot}
+use Rattle.replica_calls.proofs.SlotLemmas.{get-insert_other}
 
 module _ (MayCome : List Event → Type 0) (n s : ℕ) (c : StepCall) (a : StepReply) (old new : Seen) (h : HasExchanged MayCome n s c a old new) where
   -- what was seen begins what is seen then
@@ -33,3 +41,61 @@ module _ (MayCome : List Event → Type 0) (n s : ℕ) (c : StepCall) (a : StepR
   -- and the caller made its Ask alone
   pub exchange_own : new.own ≡ old.own ++ ask_of n s c ∷ []
   exchange_own = ap (λ x. x.own) h.after
+
+module _ (MayCome : List Event → Type 0) (n s : ℕ) (c : StepCall) (a : StepReply) (old new : Seen) (h : HasStepped MayCome n s c a old new) where
+  pub stepped_longer : IsPrefix old.events new.events
+  stepped_longer =
+      let step : List Event = event.Step n s c a ∷ [] in
+      let whole : new.events ≡ old.events ++ (h.before ++ step) = ap (λ x. x.events) h.after ∙ append_assoc old.events h.before step in
+      subst (λ l. IsPrefix old.events l) (sym whole) (take_at old.events (h.before ++ step) (length old.events) refl)
+
+  pub stepped_stands : (place : ℕ) × (length old.events ≤ place) × At new.events place (event.Step n s c a)
+  stepped_stands =
+      let past : List Event = old.events ++ h.before in
+      let b = length-append old.events h.before in
+      (length past, omega (arith, b), subst (λ l. At l (length past) (event.Step n s c a)) (sym (ap (λ x. x.events) h.after)) (at_last past (event.Step n s c a)))
+
+  -- and the caller made nothing
+  pub stepped_own : new.own ≡ old.own
+  stepped_own = ap (λ x. x.own) h.after
+
+module _ (MayCome : List Event → Type 0) (e : Event) (place : ℕ) (old new : Seen) (h : HasAdded MayCome e place old new) where
+  pub added_longer : IsPrefix old.events new.events
+  added_longer =
+      let whole : new.events ≡ old.events ++ (h.before ++ e ∷ []) = ap (λ x. x.events) h.after ∙ append_assoc old.events h.before (e ∷ []) in
+      subst (λ l. IsPrefix old.events l) (sym whole) (take_at old.events (h.before ++ e ∷ []) (length old.events) refl)
+
+  -- the event stands at its place, past what was seen
+  pub added_stands : (length old.events ≤ place) × At new.events place e
+  added_stands =
+      let past : List Event = old.events ++ h.before in
+      let b = length-append old.events h.before in
+      let p = h.place_is in
+      (omega (arith, b, p), subst (λ k. At new.events k e) (sym h.place_is) (subst (λ l. At l (length past) e) (sym (ap (λ x. x.events) h.after)) (at_last past e)))
+
+  pub added_own : new.own ≡ old.own ++ own_events (e ∷ [])
+  added_own = ap (λ x. x.own) h.after
+
+-- ---- a call at a slot
+
+module _ {D X Y : Type 0} (state : D → DiskState) (slot : Slot) (c : StepCall) (ok : X → StepReply) (Promised : Promise D X) (f : X → Y) (result : Result Y CallErr) (old new : Tracked D) where
+  still : new ≡ old → IsPrefix old.events new.events
+  still same = subst (λ (t : Tracked D). IsPrefix old.events t.events) (sym same) (subst (λ l. IsPrefix old.events l) (append-nil old.events) (take_at old.events [] (length old.events) refl))
+
+  -- the list before begins the list after
+  pub call_longer : MayCall state slot c ok Promised f result old new → IsPrefix old.events new.events
+  call_longer (inl missed) = still missed.same
+  call_longer (inr called) = let h = called.answered in exchange_longer IsNothing slot.node slot.shard c (reply_by ok h.said) (seen_in old.events) (seen_in new.events) h.adds
+
+  pub copied_call_longer : MayCopyAndCall state slot c ok Promised f result old new → IsPrefix old.events new.events
+  copied_call_longer (inl wanted) = still wanted.same
+  copied_call_longer (inr may) = call_longer may
+
+  pub tell_longer : MayTell state slot c ok Promised f result old new → IsPrefix old.events new.events
+  tell_longer (inl missed) = still missed.same
+  tell_longer (inr called) = let h = called.answered in stepped_longer IsNothing slot.node slot.shard c (reply_by ok h.said) (seen_in old.events) (seen_in new.events) h.adds
+
+  -- and the replicas of other slots are as they were
+  pub others_stay : (more : ℕ) (Adds : Adding) → MayCallBy more Adds state slot c ok Promised f result old new → (s : Slot) → ¬ (s ≡ slot) → finite.get new.members s ≡ finite.get old.members s
+  others_stay more Adds (inl missed) s apart = ap (λ (t : Tracked D). finite.get t.members s) missed.same
+  others_stay more Adds (inr called) s apart = ap (λ m. finite.get m s) called.members ∙ get-insert_other old.members slot called.after s apart
