@@ -1,15 +1,16 @@
 -- What a call adds, whatever others add before it and meanwhile.
-use Rattle.std.proofs.Common.{◌≡◌, ℕ, ◌≤◌, ◌+◌, List, [], ◌∷◌, ◌++◌, length, refl, sym, ap, ◌∙◌, subst, inl, inr, arith, append_assoc, length-append}
+use Rattle.std.proofs.Common.{◌≡◌, ℕ, ◌≤◌, ◌+◌, List, [], ◌∷◌, ◌++◌, length, refl, sym, ap, ◌∙◌, subst, drop, inl, inr, arith, append_assoc, length-append}
 use Rattle.std.specs.Prelude.{◌⊎◌, Result}
 use Rattle.std.specs.FinMap as finite
-use Rattle.std.proofs.lemmas.List.{append-nil, take_at}
+use Rattle.std.specs.List.{Any}
+use Rattle.std.proofs.lemmas.List.{append-nil, take_at, take-append-drop}
 use Rattle.m3_outside.specs.DiskState.{DiskState}
 use Rattle.cluster_core.specs.Lists.{At, IsPrefix}
 use Rattle.cluster_core.specs.declared.event.Event.{Event}
 use Rattle.cluster_core.specs.declared.event.Event.TheVariants as event
 use Rattle.cluster_core.specs.declared.event.StepCall.{StepCall}
 use Rattle.cluster_core.specs.declared.event.StepReply.{StepReply}
-use Rattle.cluster_core.proofs.ExtendLemmas.{at_last}
+use Rattle.cluster_core.proofs.ExtendLemmas.{any_more, at_last}
 use Rattle.replica_machine.specs.Steps.{reply_by}
 use Rattle.replica_calls.specs.Calls.{Tracked, Promise, Adding, MayCallBy, MayCall, MayCopyAndCall, MayTell}
 use Rattle.replica_calls.specs.Exchanges.{ask_of, own_events, Seen, seen_in, IsNothing, HasExchanged, HasStepped, HasAdded}
@@ -75,6 +76,20 @@ module _ (MayCome : List Event → Type 0) (e : Event) (place : ℕ) (old new : 
 
   pub added_own : new.own ≡ old.own ++ own_events (e ∷ [])
   added_own = ap (λ x. x.own) h.after
+
+rest_of : (seen now : List Event) → IsPrefix seen now → seen ++ drop (length seen) now ≡ now
+rest_of seen now longer = ap (λ l. l ++ drop (length seen) now) (sym longer) ∙ take-append-drop (length seen) now
+
+-- what stands in what was seen stands in what is seen then
+pub any_stays : (P : Event → Type 0) (seen now : List Event) → IsPrefix seen now → Any P seen → Any P now
+any_stays P seen now longer h = subst (λ l. Any P l) (rest_of seen now longer) (any_more P seen (drop (length seen) now) h)
+
+-- one call after another
+pub longer_twice : (seen mid now : List Event) → IsPrefix seen mid → IsPrefix mid now → IsPrefix seen now
+longer_twice seen mid now first second =
+    let rest : List Event = drop (length seen) mid ++ drop (length mid) now in
+    let whole : seen ++ rest ≡ now = sym (append_assoc seen (drop (length seen) mid) (drop (length mid) now)) ∙ (ap (λ l. l ++ drop (length mid) now) (rest_of seen mid first) ∙ rest_of mid now second) in
+    subst (λ l. IsPrefix seen l) whole (take_at seen rest (length seen) refl)
 
 -- ---- a call at a slot
 

@@ -33,12 +33,12 @@ use std::collections::BTreeMap;
 use std::marker::Model;
 use std::snapshot::Snapshot;
 
-/// The replicas of a run, each at its slot, with the list of the run's events. Contracts see a finite map from slots to machines, and
+/// The replicas of a run, each at its slot, with the list of the run's events. Contracts see a finite map from slots to replicas, and
 /// the list, which is legal as far as the disks tell. Each machine is that of its slot's replica after these events.
 ///
-/// A call of a replica that was made adds an Ask and the step that answers it. It isn't made where the slot has no replica, which is
-/// answered `NotOwned`, nor where the list has no room for both. Each call takes time in proportion to the logarithm of the number of
-/// replicas, beside what it does at the machine.
+/// A call of a replica adds an Ask and the step that answers it, with the machine's own reply; a report adds its step alone. It isn't made
+/// where the slot has no replica, nor where the list has no room for these events. Each call takes time in proportion to the logarithm
+/// of the number of replicas, beside what it does at the machine; `put` and `read` copy what they are given first.
 #[derive(Drop)]
 pub struct Replicas<D: Disk> {
     map: BTreeMap<Slot, Member<D>>,
@@ -71,8 +71,8 @@ impl<D: Disk> Replicas<D> {
         }
     }
 
-    /// Makes a machine over the disk and puts it at the slot, of which no step is in the list. Want of memory changes nothing, and gives
-    /// the disk back.
+    /// Makes a machine over the disk and puts it at the slot, of which no step is in the list, in place of one that stands there. Want of
+    /// memory changes nothing, and gives the disk back.
     pub fn insert(&mut self, alloc: Global, slot: Slot, disk: D) -> Result<(), D>
         requires { replica slot.node slot.shard self.old.events ≡ fresh }
         ensures ok { OnOk result (self.new ≡ record self.old { members = finite.insert self.old.members slot (first_member disk) }) }
@@ -144,7 +144,8 @@ impl<D: Disk> Replicas<D> {
     ///
     /// # Errors
     ///
-    /// The replica's reason; that it wasn't called; or want of memory before the call, which changes nothing.
+    /// The replica's reason. `NotOwned` where the slot has no replica, `Full` where the list has no room for two events, or want of
+    /// memory before the call: these change nothing.
     pub fn put(
         &mut self,
         alloc: Global,
@@ -179,7 +180,8 @@ impl<D: Disk> Replicas<D> {
     ///
     /// # Errors
     ///
-    /// The replica's reason, or that it wasn't called.
+    /// The replica's reason. `NotOwned` where the slot has no replica, or `Full` where the list has no room for two events: these change
+    /// nothing.
     pub fn boot(&mut self, slot: Slot, tenure: u64) -> Result<(), CallErr>
         requires tenure { HasTenure self.old.events slot.node slot.shard tenure }
         ensures { MayCall D.state slot (call.Begin tenure) (λ began. reply.Began began.fence began.points) (Begins D.state tenure) (λ _. tt) result self.old self.new }
@@ -195,7 +197,8 @@ impl<D: Disk> Replicas<D> {
     ///
     /// # Errors
     ///
-    /// The replica's reason; that it wasn't called; or want of memory before the call, which changes nothing.
+    /// The replica's reason. `NotOwned` where the slot has no replica, `Full` where the list has no room for two events, or want of
+    /// memory before the call: these change nothing.
     pub fn read(
         &mut self,
         alloc: Global,
@@ -232,7 +235,8 @@ impl<D: Disk> Replicas<D> {
     ///
     /// # Errors
     ///
-    /// The replica's reason, or that it wasn't called.
+    /// The replica's reason. `NotOwned` where the slot has no replica, or `Full` where the list has no room for two events: these change
+    /// nothing.
     pub fn fence(&mut self, slot: Slot, version: u64) -> Result<(), CallErr>
         ensures { MayCall D.state slot (call.Fence version) (λ _. reply.Done) (Fences D.state version) (λ u. u) result self.old self.new }
     {
@@ -246,7 +250,7 @@ impl<D: Disk> Replicas<D> {
     ///
     /// # Errors
     ///
-    /// That it wasn't called.
+    /// `NotOwned` where the slot has no replica, or `Full` where the list has no room for two events. Nothing changes.
     pub fn stop(&mut self, slot: Slot) -> Result<(), CallErr>
         ensures { MayCall D.state slot call.Stop (λ _. reply.Done) (Stops D.state) (λ u. u) result self.old self.new }
     {
@@ -261,7 +265,8 @@ impl<D: Disk> Replicas<D> {
     ///
     /// # Errors
     ///
-    /// The replica's reason, or that it wasn't called.
+    /// The replica's reason. `NotOwned` where the slot has no replica, or `Full` where the list has no room for two events: these change
+    /// nothing.
     pub fn restart(&mut self, slot: Slot, pick: u64) -> Result<(), CallErr>
         ensures { MayCall D.state slot call.Restart (λ _. reply.Done) (Restarts D.state) (λ u. u) result self.old self.new }
     {
@@ -277,7 +282,7 @@ impl<D: Disk> Replicas<D> {
     ///
     /// # Errors
     ///
-    /// That it wasn't called.
+    /// `NotOwned` where the slot has no replica, or `Full` where the list has no room for one event. Nothing changes.
     pub fn report(&mut self, slot: Slot) -> Result<Report, CallErr>
         ensures { MayTell D.state slot call.Report (λ report. reply.Told report) (Reports D.state) (λ report. report) result self.old self.new }
     {
