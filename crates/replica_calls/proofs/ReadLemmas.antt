@@ -1,6 +1,6 @@
 -- A read of points in memory keeps what is promised of one that reads files.
 use Rattle.std.proofs.Common.{◌≡◌, ℕ, List, refl, sym, ◌∙◌, subst, inl, inr, arith, Bool, true, false, cond}
-use Rattle.std.specs.Prelude.{◌⊎◌, Option, Some, None, Result, Ok, Err, OnOk, IfOk, IfErr, IsErrOf, nat_le}
+use Rattle.std.specs.Prelude.{Option, Some, None, Result, Ok, Err, OnOk, IfOk, IfErr, IsErrOf, nat_le}
 use Rattle.std.specs.Option.{option_or}
 use Rattle.m3_model.specs.declared.point.Pick.{Pick}
 use Rattle.m3_model.specs.declared.point.Series.{Series}

@@ -1,6 +1,6 @@
 -- What a call adds, whatever others add before it and meanwhile.
 use Rattle.std.proofs.Common.{◌≡◌, ℕ, ◌≤◌, ◌+◌, List, [], ◌∷◌, ◌++◌, length, refl, sym, ap, ◌∙◌, subst, drop, inl, inr, arith, append_assoc, length-append}
-use Rattle.std.specs.Prelude.{◌⊎◌, Result}
+use Rattle.std.specs.Prelude.{Result}
 use Rattle.std.specs.FinMap as finite
 use Rattle.std.specs.List.{Any}
 use Rattle.std.proofs.lemmas.List.{append-nil, take_at, take-append-drop}

@@ -1,4 +1,3 @@
-use Rattle.std.proofs.Common.{ap}
 use Rattle.replica_calls.proofs.ExchangeLemmas.{added_alone, full_without_room}
 use Rattle.replica_calls.proofs.TrackLemmas.{tracked_added}
 use Rattle.replica_calls.proofs.replicas.Replicas.add.Goals as goal
