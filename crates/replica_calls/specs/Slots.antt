@@ -16,6 +16,7 @@ slot_cmp = then_cmp (on (λ s. s.shard) nat_cmp) (on (λ s. s.node) nat_cmp)
 abbrev pub slot_code : Coded Slot
 slot_code = code_by (ℕ × ℕ) (coded× coded_ℕ coded_ℕ) (λ s. (s.shard, s.node)) (λ p. record { shard = p.0; node = p.1 }) (λ _. refl)
 
+-- the snapshot that was taken of this value
 abbrev pub shown : {X : Type 0} → X → Snapshot X
 shown x = record { marker = record {}; value = x }
 
