@@ -18,16 +18,23 @@ use Rattle.replica_calls.specs.declared.call_err.CallErr.{CallErr}
 use Rattle.replica_calls.specs.declared.slot.Slot.{Slot}
 use Rattle.replica_calls.proofs.SlotLemmas.{get-insert_other}
 
+longer_by : (seen more now : List Event) → now ≡ seen ++ more → IsPrefix seen now
+longer_by seen more now grew = subst (λ l. IsPrefix seen l) (sym grew) (take_at seen more (length seen) refl)
+
 module _ (MayCome : List Event → Type 0) (n s : ℕ) (c : StepCall) (a : StepReply) (old new : Seen) (h : HasExchanged MayCome n s c a old new) where
-  -- what was seen begins what is seen then
-  pub exchange_longer : IsPrefix old.events new.events
-  exchange_longer =
+  -- what comes to what was seen
+  abbrev pub exchange_adds : List Event
+  exchange_adds = h.before ++ ask_of n s c ∷ (h.between ++ event.Step n s c a ∷ [])
+
+  pub exchange_grew : new.events ≡ old.events ++ exchange_adds
+  exchange_grew =
       let ask : List Event = ask_of n s c ∷ [] in
       let step : List Event = event.Step n s c a ∷ [] in
-      let rest : List Event = h.before ++ (ask ++ (h.between ++ step)) in
-      let whole : new.events ≡ old.events ++ rest =
-      ap (λ x. x.events) h.after ∙ (append_assoc ((old.events ++ h.before) ++ ask) h.between step ∙ (append_assoc (old.events ++ h.before) ask (h.between ++ step) ∙ append_assoc old.events h.before (ask ++ (h.between ++ step)))) in
-      subst (λ l. IsPrefix old.events l) (sym whole) (take_at old.events rest (length old.events) refl)
+      ap (λ x. x.events) h.after ∙ (append_assoc ((old.events ++ h.before) ++ ask) h.between step ∙ (append_assoc (old.events ++ h.before) ask (h.between ++ step) ∙ append_assoc old.events h.before (ask ++ (h.between ++ step))))
+
+  -- what was seen begins what is seen then
+  pub exchange_longer : IsPrefix old.events new.events
+  exchange_longer = longer_by old.events exchange_adds new.events exchange_grew
 
   -- the step stands past it
   pub exchange_stands : (place : ℕ) × (length old.events ≤ place) × At new.events place (event.Step n s c a)
@@ -44,11 +51,11 @@ module _ (MayCome : List Event → Type 0) (n s : ℕ) (c : StepCall) (a : StepR
   exchange_own = ap (λ x. x.own) h.after
 
 module _ (MayCome : List Event → Type 0) (n s : ℕ) (c : StepCall) (a : StepReply) (old new : Seen) (h : HasStepped MayCome n s c a old new) where
+  pub stepped_grew : new.events ≡ old.events ++ (h.before ++ event.Step n s c a ∷ [])
+  stepped_grew = ap (λ x. x.events) h.after ∙ append_assoc old.events h.before (event.Step n s c a ∷ [])
+
   pub stepped_longer : IsPrefix old.events new.events
-  stepped_longer =
-      let step : List Event = event.Step n s c a ∷ [] in
-      let whole : new.events ≡ old.events ++ (h.before ++ step) = ap (λ x. x.events) h.after ∙ append_assoc old.events h.before step in
-      subst (λ l. IsPrefix old.events l) (sym whole) (take_at old.events (h.before ++ step) (length old.events) refl)
+  stepped_longer = longer_by old.events (h.before ++ event.Step n s c a ∷ []) new.events stepped_grew
 
   pub stepped_stands : (place : ℕ) × (length old.events ≤ place) × At new.events place (event.Step n s c a)
   stepped_stands =
@@ -61,10 +68,11 @@ module _ (MayCome : List Event → Type 0) (n s : ℕ) (c : StepCall) (a : StepR
   stepped_own = ap (λ x. x.own) h.after
 
 module _ (MayCome : List Event → Type 0) (e : Event) (place : ℕ) (old new : Seen) (h : HasAdded MayCome e place old new) where
+  pub added_grew : new.events ≡ old.events ++ (h.before ++ e ∷ [])
+  added_grew = ap (λ x. x.events) h.after ∙ append_assoc old.events h.before (e ∷ [])
+
   pub added_longer : IsPrefix old.events new.events
-  added_longer =
-      let whole : new.events ≡ old.events ++ (h.before ++ e ∷ []) = ap (λ x. x.events) h.after ∙ append_assoc old.events h.before (e ∷ []) in
-      subst (λ l. IsPrefix old.events l) (sym whole) (take_at old.events (h.before ++ e ∷ []) (length old.events) refl)
+  added_longer = longer_by old.events (h.before ++ e ∷ []) new.events added_grew
 
   -- the event stands at its place, past what was seen
   pub added_stands : (length old.events ≤ place) × At new.events place e
@@ -89,13 +97,13 @@ pub longer_twice : (seen mid now : List Event) → IsPrefix seen mid → IsPrefi
 longer_twice seen mid now first second =
     let rest : List Event = drop (length seen) mid ++ drop (length mid) now in
     let whole : seen ++ rest ≡ now = sym (append_assoc seen (drop (length seen) mid) (drop (length mid) now)) ∙ (ap (λ l. l ++ drop (length mid) now) (rest_of seen mid first) ∙ rest_of mid now second) in
-    subst (λ l. IsPrefix seen l) whole (take_at seen rest (length seen) refl)
+    longer_by seen rest now (sym whole)
 
 -- ---- a call at a slot
 
 module _ {D X Y : Type 0} (state : D → DiskState) (slot : Slot) (c : StepCall) (ok : X → StepReply) (Promised : Promise D X) (f : X → Y) (result : Result Y CallErr) (old new : Tracked D) where
   still : new ≡ old → IsPrefix old.events new.events
-  still same = subst (λ (t : Tracked D). IsPrefix old.events t.events) (sym same) (subst (λ l. IsPrefix old.events l) (append-nil old.events) (take_at old.events [] (length old.events) refl))
+  still same = longer_by old.events [] new.events (ap (λ (t : Tracked D). t.events) same ∙ sym (append-nil old.events))
 
   -- the list before begins the list after
   pub call_longer : MayCall state slot c ok Promised f result old new → IsPrefix old.events new.events
