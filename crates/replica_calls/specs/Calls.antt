@@ -74,10 +74,10 @@ pub record WantedMemory {D Y : Type 0} (more : ℕ) (slot : Slot) (result : Resu
   pub room : HasRoom more old.events
   pub memory : result ≡ Err (call_err.Refused reason.Memory)
 
--- what a caller is told of what a machine said
-abbrev pub told_by : {X Y : Type 0} → (X → Y) → Result X Reason → Result Y CallErr
-told_by f (Ok x) = Ok (f x)
-told_by f (Err why) = Err (call_err.Refused why)
+-- what a call answers for what its machine said
+abbrev pub result_of : {X Y : Type 0} → (X → Y) → Result X Reason → Result Y CallErr
+result_of f (Ok x) = Ok (f x)
+result_of f (Err why) = Err (call_err.Refused why)
 
 -- how a call adds to the list
 abbrev pub Adding : Type 1
@@ -94,7 +94,7 @@ pub record HasAnswered {D X Y : Type 0} (state : D → DiskState) (c : StepCall)
   pub promised : Promised c said old.machine new.machine
   pub first : new.first ≡ old.first
   pub adds : Adds c (reply_by ok said) (seen_in past) (seen_in events)
-  pub told : result ≡ told_by f said
+  pub told : result ≡ result_of f said
 
 -- an Ask and the step come to the list
 abbrev pub AddsBoth : Slot → Adding

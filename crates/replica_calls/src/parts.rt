@@ -9,7 +9,7 @@ ghost use Rattle.cluster_core.specs.declared.event.StepReply.{StepReply as Reply
 ghost use Rattle.cluster_core.specs.declared.event.StepReply.TheVariants as reply;
 ghost use Rattle.replica_machine.specs.Steps.{reply_by};
 ghost use Rattle.replica_machine.specs.declared.machine.Began.{Began as Opened};
-ghost use Rattle.replica_calls.specs.Calls.{told_by};
+ghost use Rattle.replica_calls.specs.Calls.{result_of};
 ghost use Rattle.replica_calls.specs.Exchanges.{ask_of};
 
 use crate::call_err::CallErr;
@@ -75,8 +75,8 @@ pub(crate) fn done_reply(said: Result<(), Reason>) -> StepReply
 
 // What a reply tells that is done or began, or else refused.
 pub(crate) fn done_in(answer: StepReply) -> Result<(), CallErr>
-    ensures done { (said : Outcome ⊤ Why) → answer ≡ reply_by (λ _. reply.Done) said → result ≡ told_by (λ u. u) said }
-    ensures began { (said : Outcome Opened Why) → answer ≡ reply_by (λ b. reply.Began b.fence b.points) said → result ≡ told_by (λ _. tt) said }
+    ensures done { (said : Outcome ⊤ Why) → answer ≡ reply_by (λ _. reply.Done) said → result ≡ result_of (λ u. u) said }
+    ensures began { (said : Outcome Opened Why) → answer ≡ reply_by (λ b. reply.Began b.fence b.points) said → result ≡ result_of (λ _. tt) said }
 {
     match answer {
         StepReply::Refused { reason } => Err(CallErr::Refused(reason)),
@@ -126,7 +126,7 @@ pub(crate) fn found_reply(said: Result<Seq<Series>, Reason>) -> StepReply
 
 // What a reply that found or refused tells.
 pub(crate) fn found_in(alloc: Global, answer: StepReply) -> Result<Seq<Series>, CallErr>
-    ensures { (said : Outcome (List Found) Why) → answer ≡ reply_by (λ series. reply.Found series) said → result ≡ told_by (λ series. series) said }
+    ensures { (said : Outcome (List Found) Why) → answer ≡ reply_by (λ series. reply.Found series) said → result ≡ result_of (λ series. series) said }
 {
     match answer {
         StepReply::Found { series } => Ok(series),
