@@ -1,6 +1,6 @@
 -- A call's Ask and its step come to the list.
 use Rattle.std.proofs.Common.{◌≡◌, ℕ, ◌≤◌, ◌+◌, List, [], ◌∷◌, ◌++◌, length, refl, sym, ap, ◌∙◌, subst, inl, inr, arith, Bool, true, false, cond, length-append}
-use Rattle.std.specs.Prelude.{◌⊎◌, ◌↔◌, fold, Result, Ok, Err, IfOk}
+use Rattle.std.specs.Prelude.{◌⊎◌, ◌↔◌, Result, Ok, Err, IfOk}
 use Rattle.std.proofs.lemmas.List.{append-nil}
 use Rattle.std.proofs.lemmas.List.Sums.{fold-append}
 use Rattle.m3_outside.specs.DiskState.{DiskState}

@@ -1,5 +1,5 @@
 -- What a call adds, whatever others add before it and meanwhile.
-use Rattle.std.proofs.Common.{◌≡◌, ℕ, ◌≤◌, ◌+◌, List, [], ◌∷◌, ◌++◌, length, refl, sym, ap, ◌∙◌, subst, drop, inl, inr, arith, append_assoc, length-append}
+use Rattle.std.proofs.Common.{◌≡◌, ℕ, ◌≤◌, List, [], ◌∷◌, ◌++◌, length, refl, sym, ap, ◌∙◌, subst, drop, inl, inr, arith, append_assoc, length-append}
 use Rattle.std.specs.Prelude.{Result}
 use Rattle.std.specs.FinMap as finite
 use Rattle.std.specs.List.{Any}
