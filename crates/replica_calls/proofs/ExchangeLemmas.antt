@@ -23,7 +23,7 @@ use Rattle.event_trail.proofs.Balances.{legal_init, balanced, was_asked, asked_b
 use Rattle.event_trail.proofs.Untold.{weaker}
 use Rattle.replica_machine.specs.Machines.{MachineState, IsMachineOf}
 use Rattle.replica_machine.specs.Steps.{IsStep, IsGiven}
-use Rattle.replica_calls.specs.Calls.{IsMemberOf, HasRoom, Adding, IsAnswer, OtherReplicasStay, AddsBoth, AddsStep, IsNoStep}
+use Rattle.replica_calls.specs.Calls.{IsMemberOf, Adding, IsAnswer, OtherReplicasStay, AddsBoth, AddsStep, IsNoStep}
 use Rattle.replica_calls.specs.Exchanges.{ask_of, is_callers, own_events, seen_in, IsNothing, HasExchanged, HasAdded}
 use Rattle.replica_calls.specs.declared.member.Member.{Member}
 use Rattle.replica_calls.specs.declared.slot.Slot.{Slot}
@@ -165,9 +165,6 @@ module _ {D : Type 0} (state : D → DiskState) (slot : Slot) where
 
 pub opened_after : {was now : ℕ} → 2 ≤ was → was ≤ now → 2 ≤ now
 opened_after opened longer = omega (arith, opened, longer)
-
-pub room_left : (past mid : List Event) (e : Event) → HasRoom 2 past → mid ≡ past ++ e ∷ [] → HasRoom 1 mid
-room_left past mid e room grew = let long = ap length grew ∙ length-append past (e ∷ []) in omega (arith, room, long)
 
 pub is_answer : {D : Type 0} (state : D → DiskState) (slot : Slot) (past mid : List Event) (old : Member D) (new : MachineState D) (c c1 c2 : StepCall) (a a1 : StepReply) → mid ≡ past ++ ask_of slot.node slot.shard c1 ∷ [] → c1 ≡ c → c2 ≡ c → a1 ≡ a
     → 2 ≤ length past → IsGiven past slot.node slot.shard c → IsMemberOf state slot past old → IsStep state old.machine c a new → (c ≡ call.Report → ⊥) → IsAnswer state slot c2 a1 mid
