@@ -1,0 +1,74 @@
+ghost use Rattle.std.specs.Prelude.{◌≡◌, ◌<◌, ◌≤◌, true, map, IfOk, IfSome, IsErr, IsErrOf};
+ghost use Rattle.m3_model.specs.declared.limits.TheConstants.{NUMBER_END};
+ghost use Rattle.m3_outside.specs.DiskState.{DiskState};
+ghost use Rattle.m3_outside.specs.DiskCalls.{LeavesFiles};
+ghost use Rattle.m3_outside.specs.declared.disk_err.DiskErr.TheVariants.{Failed as DiskFailed};
+ghost use Rattle.commit_log.specs.Contents as contents;
+ghost use Rattle.shard_files.specs.Steps as steps;
+ghost use Rattle.shard_files.specs.Steps.{next_volume};
+
+use m3_model::limits::NUMBER_END;
+use m3_outside::disk::Disk;
+use m3_outside::disk_err::DiskErr;
+use m3_outside::file_name::FileName;
+use std::alloc::Global;
+
+// Whether the name is that of a file of some volume of this namespace and this start.
+fn is_part(ns: u8, start: u64, name: FileName) -> bool
+    ensures { result ≡ steps.is_part ns start name }
+{
+    1 <= name.kind && name.kind <= 7 && name.ns == ns && name.block == start
+}
+
+// The numbers of these volumes, one for each of their files.
+fn volume_numbers<D: Disk>(
+    alloc: Global,
+    disk: &mut D,
+    ns: u8,
+    start: u64,
+) -> Result<Vec<u64>, DiskErr>
+    ensures leaves { LeavesFiles (IsErrOf result DiskFailed) (D.state disk.old) (D.state disk.new) }
+    ensures ok { (D.state disk.old).tells ≡ true → IfOk result (λ v. contents.next_after v.items ≡ next_volume ns start (D.state disk.old).files) }
+{
+    let names = disk.list()?;
+    let parts = names
+        .as_slice()
+        .iter()
+        .copied()
+        .filter(|name| is_part(ns, start, *name));
+    Ok(parts.map(|name| name.number).collect(alloc)?)
+}
+
+// One above all of these numbers, or 1 where there are none. None where that isn't below the limit.
+fn next_after(numbers: &[u64]) -> Option<u64>
+    ensures next { IfSome result (λ next. next ≡ contents.next_after numbers.now) }
+    ensures limit { IfSome result (λ next. next < NUMBER_END) }
+{
+    let mut next = 1;
+    for number in numbers {
+        if *number >= NUMBER_END - 1 {
+            return None;
+        }
+        next = next.max(*number + 1);
+    }
+    Some(next)
+}
+
+/// The number for the next volume of this namespace and this start. Where that would be `NUMBER_END` or a higher one, memory is
+/// said to be wanted.
+pub(crate) fn next_number<D: Disk>(
+    alloc: Global,
+    disk: &mut D,
+    ns: u8,
+    start: u64,
+) -> Result<u64, DiskErr>
+    ensures leaves { LeavesFiles (IsErrOf result DiskFailed) (D.state disk.old) (D.state disk.new) }
+    ensures ok { (D.state disk.old).tells ≡ true → IfOk result (λ n. n ≡ next_volume ns start (D.state disk.old).files) }
+    ensures limit { IfOk result (λ n. n < NUMBER_END) }
+{
+    let numbers = volume_numbers(alloc, disk, ns, start)?;
+    match next_after(&numbers) {
+        None => Err(DiskErr::Memory),
+        Some(next) => Ok(next),
+    }
+}
