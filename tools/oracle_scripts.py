@@ -1,0 +1,268 @@
+"""Random scripts of request lines. `tools/oracle.py` says what this is for.
+
+A script is drawn from one number. Most of its lines are in the grammar, with names, identifiers and times that meet often and
+times at the edges of windows and retentions; some are spoilt in one of many ways.
+"""
+import json
+import random
+from typing import Any
+
+Request = dict[str, Any]
+
+NAMES = ["a", "b", "c", "d", "e", "B", "ab", "a-", "_", "-", "0", "1", "10", "node-" + "9" * 27, "Z", "a_b"]
+NO_NAMES = ["", " ", "a b", "é", "a.b", "\"", "\\", "a\n", "\u0000", "x" * 33, "ⅷ", "٣", "~", "a ", "/"]
+GROUPS = ["g1", "g2", "g3", "g4", "g5", "G" * 32, "a"]
+SPACES = ["m", "n", "M", "long-" + "s" * 27, "m_", "0", "1", "2", "3", "4", "a"]
+IDS = ["hello", "h", "x=1", " ", "é", "\u0000", "z" * 512, "}", "\"q\"", "𐐷", '{dc="x"}', '{dc="y"}', '{dc="x",host="h1"}',
+       '{dc="x",host="h2"}', '{dc="y",host="h1"}', '{_="",a1="\\"\\\\"}', '{dc="é,=}"}', '{A="1",a="2"}', '{dc=""}',
+       "{" + ",".join(f'k{at:02}="{at}"' for at in range(32)) + "}"]
+NO_IDS = ["", "{", "{}", "{dc}", '{dc="x"', '{dc="x"} ', '{dc="x",}', '{dc="x",dc="y"}', '{host="h1",dc="x"}', '{1a="x"}', '{dc="\\n"}',
+          '{dc="x""}', '{dc= "x"}', '{ dc="x"}', '{dé="x"}', '{="x"}', "z" * 513, "é" * 257, '{dc="\\"}', "{dc=x}", '{a="1",A="2"}',
+          "{" + ",".join(f'k{at:02}="{at}"' for at in range(33)) + "}", '{dc="' + "z" * 506 + '"}', "{{}}"]
+MATCHERS = [["dc", "=", "x"], ["dc", "=", "y"], ["dc", "!=", "x"], ["host", "=", "h1"], ["host", "!=", "h1"], ["dc", "=", ""],
+            ["dc", "!=", ""], ["_", "=", ""], ["a1", "=", "\"\\"], ["nope", "!=", "é"], ["k31", "=", "31"], ["a", "=", "2"]]
+LEVELS = ["one", "majority", "all", "unstrict"]
+EDGES = [-1, 0, 1, 0.5, 1.0, 1e3, -0.0, True, None, "", "1", [], {}, [[]], 2**31, 2**32 - 1, 2**32, 2**40 - 1, 2**40, 2**62 - 1, 2**62,
+         2**63 - 1, 2**63, -2**63, -2**63 - 1, 2**64, 10**40, 5, 6, 8, 9, 16, 17, 63, 64, 65, "one", "late", "x" * 32, "x" * 33,
+         ["a"], [["a", "g"]], [["a", "g", "h"]], "later", "{"]
+OTHER_OPS = ["add", "drain", "cancel", "remove", "replace", "tick", "flush", "snapshot", "repair", "status", "par", "", "Write", "write ",
+             "put", "delete", "nop", "\u0000", 1, None, [], ["write"], {"op": "write"}]
+RAW = [b"{}", b"[]", b"null", b"1", b'"write"', b"{", b"}", b"[1,2", b'{"op":"deliver"}}', b'{"op":"deliver"} x', b"{'op':'deliver'}",
+       b'{"op":"deliver",}', b'{,"op":"deliver"}', b'{"op" "deliver"}', b'{op:"deliver"}', b'\xef\xbb\xbf{"op":"deliver"}',
+       b'\x0c{"op":"deliver"}', b'{"op":"deliver"}\x00', b'{"op":"now","now":01}', b'{"op":"now","now":+1}', b'{"op":"now","now":1.}',
+       b'{"op":"now","now":.5}', b'{"op":"now","now":-}', b'{"op":"now","now":0x1}', b'{"op":"now","now":NaN}',
+       b'{"op":"now","now":Infinity}', b'{"op":"now","now":1e999}', b'{"op":"now","now":1E0}', b'{"op":"now","now":-0}',
+       b'{"op":"now","now":9' + b"9" * 400 + b"}", b'{"op":"stop","node":"\xff"}', b'{"op":"stop","node":"\xc0\x80"}',
+       b'{"op":"stop","node":"\xed\xa0\x80"}', b'{"op":"stop","node":"\t"}', b'{"op":"stop","node":"\\ud800"}',
+       b'{"op":"stop","node":"\\udc00\\ud800"}', b'{"op":"stop","node":"\\x41"}', b'{"op":"stop","node":"\\u00e"}',
+       b'{"op":"stop","node":"\\ud801\\udc37"}', b'{"op":"stop","node":"\\u0061"}', b'{"\\u006fp":"deliver"}', b'{"op":"deliver","x":1}',
+       b'{"op":"deliver","\\ud800":1}', b'{"op":"stop","op":"deliver"}', b'{"op":"deliver","op":"stop"}', b'{"op":"deliver","op":1}',
+       b'{"op":1,"op":"deliver"}', b'{"op":"now","now":"x","now":0}', b'{"op":"now","now":0,"now":"x"}', b'\r{"op":"deliver"}\r',
+       b' \t{ "op"\t:\r"deliver" } ', b'{"op":"deliver"}//', b'{"op":"stop","node":"a\\/b"}', b'{"op":"deliver","":0}']
+BLANKS = [b"", b" ", b"\t", b"\r", b" \t\r \r"]
+
+
+class Script:
+    """One script in the making: what it knows of the cluster only serves to make lines that meet."""
+
+    def __init__(self, number: int):
+        self.dice = random.Random(number)
+        self.rf = self.dice.choice([1, 2, 3, 3, 3, 4, 5])
+        self.nodes = self.dice.sample(NAMES, self.rf)
+        self.shards = self.dice.choice([1, 1, 1, 2, 2, 3, 3, 4, 7, 64])
+        self.spaces = self.dice.sample(SPACES, self.dice.choice([1, 2, 3]))
+        self.windows: dict[str, Request] = {}
+        self.now = 0
+        self.ids = self.dice.sample(IDS, self.dice.choice([1, 1, 2, 3, 8]))
+        self.times: list[int] = [0]
+
+    # ---- lines in the grammar
+
+    def init(self) -> Request:
+        groups = self.dice.sample(GROUPS, self.rf)
+        seed = self.dice.choice([0, 1, 7, 2**32 - 1, self.dice.randrange(2**32)])
+        nodes = [list(pair) for pair in zip(self.nodes, groups)]
+        return {"op": "init", "rf": self.rf, "shards": self.shards, "seed": seed, "nodes": nodes}
+
+    def namespace(self, name: str) -> Request:
+        block = self.dice.choice([1, 2, 10, 200, 200, 200, 200, 2**40 - 1])
+        past, future = (self.dice.choice([0, 1, block // 2, block - 1, block - 1, block - 1]) for _ in range(2))
+        retention = min(self.dice.choice([block, block + 1, 2 * block, 3 * block]), 2**40 - 1)
+        line = {"op": "namespace", "name": name, "block": block, "past": min(past, block - 1), "future": min(future, block - 1),
+                "retention": retention}
+        self.windows.setdefault(name, dict(line))
+        return line
+
+    def space(self) -> str:
+        return self.dice.choice(self.spaces if self.dice.random() < 0.97 else SPACES)
+
+    def node(self) -> str:
+        return self.dice.choice(self.nodes if self.dice.random() < 0.97 else NAMES)
+
+    def edge(self, space: str) -> int:
+        """A time at an edge of a window or of a retention, or one that was used before."""
+        window = self.windows.get(space, {"past": 0, "future": 0, "retention": 0})
+        edges = [self.now - window["past"], self.now + window["future"], self.now - window["retention"], self.dice.choice(self.times)]
+        at = self.dice.choice(edges) + self.dice.choice([-1, 0, 0, 1, 1, 2]) if self.dice.random() < 0.3 else self.now
+        return min(max(at, 0), 2**62 - 1)
+
+    def advance(self) -> Request:
+        space = self.dice.choice(self.spaces)
+        retention = self.windows.get(space, {"retention": 0})["retention"]
+        steps = [self.now, self.now + 1, self.now + self.dice.randint(0, 50), self.now - 1, self.dice.choice(self.times) + retention,
+                 self.dice.choice(self.times) + retention - 1]
+        moment = max(self.dice.choice(steps), 0)
+        if self.dice.random() < 0.01:
+            moment = 2**62 - 1
+        self.now = max(self.now, moment) if moment < 2**62 else self.now
+        return {"op": "now", "now": moment}
+
+    def call(self) -> Request:
+        space = self.space()
+        op = self.dice.choice(["write", "write", "write", "fetch", "match"])
+        line: Request = {"op": op, "ns": space}
+        if op == "write":
+            line |= {"id": self.dice.choice(self.ids), "t": self.edge(space), "v": self.dice.choice([0, 1, 2, -1, 2**63 - 1, -2**63])}
+            self.times.append(line["t"])
+        else:
+            at = self.edge(space)
+            last = self.dice.choice([2**62 - 1, 2**62 - 1, self.edge(space), at + 1, at])
+            line |= {"from": self.dice.choice([0, 0, 0, at]), "to": min(last, 2**62 - 1)}
+            if op == "fetch":
+                line["id"] = self.dice.choice(self.ids)
+            else:
+                line["where"] = self.dice.choices(MATCHERS, k=self.dice.choice([0, 0, 1, 1, 2, 16]))
+        if self.dice.random() < 0.6:
+            line["level"] = self.dice.choice(LEVELS[:3] if op == "write" else [*LEVELS, "unstrict"])
+        return line
+
+    def fates(self) -> Request:
+        items = {}
+        for _ in range(self.dice.choice([0, 2, 4, 8, 16, 32])):
+            node = self.dice.choice(self.nodes * 20 + NAMES)
+            place = (self.dice.choice([0] * 9 + [1, 8]), self.dice.choice([0, 1, 2, 3, 4, 5, 9]), node)
+            items[place] = [*place, self.dice.choice(["lose", "lose", "late", "late", "twice"])]
+        return {"op": "fates", "list": list(items.values())}
+
+    def node_line(self) -> Request:
+        op = self.dice.choice(["stop", "stop", "restart", "restart", "restart", "bootstrap", "bootstrap"])
+        line: Request = {"op": op, "node": self.node()}
+        if op == "restart" and self.dice.random() < 0.3:
+            line["pick"] = self.dice.choice([0, 1, 228, 2**62 - 1])
+        if op == "bootstrap" and self.dice.random() < 0.6:
+            line["shard"] = self.dice.choice([0, 0, 0, 1, 1, 2, self.shards - 1, self.shards, 63]) % 64
+        return line
+
+    def request(self) -> Request:
+        draw = self.dice.random()
+        if draw < 0.60:
+            return self.call()
+        if draw < 0.70:
+            return self.advance()
+        if draw < 0.80:
+            return self.fates()
+        if draw < 0.85:
+            return {"op": "deliver"}
+        if draw < 0.96:
+            return self.node_line()
+        return self.init() if draw < 0.97 else self.namespace(self.dice.choice(SPACES))
+
+    # ---- spoilt lines
+
+    def spoilt(self) -> bytes:
+        """A line that is out of the grammar, or barely in it."""
+        line = self.request()
+        key = self.dice.choice(list(line))
+        match self.dice.randrange(8):
+            case 0:
+                return self.dice.choice(RAW)
+            case 1:
+                del line[key]
+            case 2:
+                line[self.dice.choice(["level", "version", "pick", "shard", "x", "", "ns", "Op"])] = self.dice.choice(EDGES)
+            case 3 | 4:
+                line[key] = self.dice.choice(EDGES + OTHER_OPS + NO_NAMES)
+            case 5:
+                line = self.with_id()
+            case 6:
+                line = self.with_list()
+            case 7:
+                text = self.spelt(line)
+                return text[:self.dice.randrange(1, len(text))] if self.dice.random() < 0.5 else self.flipped(text)
+        return self.spelt(line)
+
+    def flipped(self, text: bytes) -> bytes:
+        at = self.dice.randrange(len(text))
+        return text[:at] + bytes([self.dice.randrange(256)]).replace(b"\n", b" ") + text[at + 1:]
+
+    def with_id(self) -> Request:
+        return {"op": "write", "ns": self.space(), "id": self.dice.choice(NO_IDS), "t": self.edge("m"), "v": 0}
+
+    def with_list(self) -> Request:
+        """A line whose list is wrong in one of its items, or too long."""
+        dice = self.dice
+        match dice.randrange(6):
+            case 0:
+                nodes = [[f"n{at}", f"g{at}"] for at in range(dice.choice([0, 1, 16, 17]))]
+                return self.init() | {"nodes": nodes}
+            case 1:
+                second = dice.choice([["a", "h"], ["b", "g"], ["b", ""], ["b"], "b", ["b", "ü"]])
+                return self.init() | {"nodes": [["a", dice.choice(["g", "h"])], second]}
+            case 2:
+                wrong = [["", "=", "x"], ["1", "=", "x"], ["dc", "~", "x"], ["dc", "=", 1], ["dc", "="], ["é", "=", "x"],
+                         ["dc", "=", "x" * 600]]
+                return {"op": "match", "ns": self.space(), "from": 0, "to": 9, "where": [dice.choice(wrong)]}
+            case 3:
+                return {"op": "match", "ns": self.space(), "from": 0, "to": 9, "where": [["dc", "!=", "q"]] * dice.choice([16, 17])}
+            case 4:
+                node = self.node()
+                wrong = [[0, 0, node, "lost"], [9, 0, node, "lose"], [0, 2**62, node, "lose"], [0, -1, node, "late"], [0, 0, "", "late"],
+                         [0, 0, node], [0, 0, "nobody", "twice"], [0, 2**62 - 1, node, "twice"]]
+                return {"op": "fates", "list": [[0, 0, node, "late"], dice.choice(wrong)]}
+            case _:
+                items = [[0, at, self.nodes[0], "late"] for at in range(dice.choice([1023, 1024, 1025]))]
+                return {"op": "fates", "list": items}
+
+    # ---- bytes
+
+    def spelt(self, line: Request) -> bytes:
+        keys = list(line)
+        if self.dice.random() < 0.3:
+            self.dice.shuffle(keys)
+        spaces = self.dice.choice([(",", ":")] * 4 + [(", ", ": "), (" ,\t", "\r: ")])
+        return json.dumps({key: line[key] for key in keys}, ensure_ascii=self.dice.random() < 0.3, separators=spaces).encode()
+
+    def lines(self, wrong: float) -> list[bytes]:
+        lines = [self.spelt(self.init())] if self.dice.random() < 0.97 else []
+        lines += [self.spelt(self.namespace(name)) for name in self.spaces]
+        for _ in range(self.dice.choice([5, 20, 40, 60])):
+            draw = self.dice.random()
+            lines.append(self.spoilt() if draw < wrong else self.dice.choice(BLANKS) if draw > 0.98 else self.spelt(self.request()))
+        return lines
+
+
+# ---- scripts that no chance would make
+
+INIT = b'{"op":"init","rf":2,"shards":3,"seed":9,"nodes":[["a","g"],["b","h"]]}'
+SPACE = b'{"op":"namespace","name":"%s","block":9,"past":8,"future":8,"retention":9}'
+WRITE = b'{"op":"write","ns":"m","id":"x%d","t":0,"v":1,"level":"one"}'
+FETCH = b'{"op":"fetch","ns":"m","id":"x0","from":0,"to":1}'
+
+
+def too_many_late() -> list[bytes]:
+    """More late writes than are held back."""
+    fates = json.dumps({"op": "fates", "list": [[0, at, "b", "late"] for at in range(1024)]}).encode()
+    rounds = 4 * [fates, *(WRITE % (at % 100) for at in range(1024))]
+    return [INIT, SPACE % b"m", *rounds, fates, WRITE % 7, WRITE % 8, b'{"op":"deliver"}', fates, WRITE % 7, b'{"op":"deliver"}', FETCH]
+
+
+def too_many_spaces() -> list[bytes]:
+    return [INIT, *(SPACE % name for name in (b"0", b"1", b"2", b"3", b"4", b"5", b"6", b"7", b"8", b"7", b"9", b""))]
+
+
+def deep_lines() -> list[bytes]:
+    nested = [b"[" * depth + b"]" * depth for depth in (1, 126, 127, 128, 2000)]
+    return [INIT, *(b'{"op":"%s","x":%s}' % (op, it) for op in (b"tick", b"deliver") for it in nested), b'{"op":"tick","x":"%s"}' % (b"[" * 999)]
+
+
+def long_lines() -> list[bytes]:
+    """Lines beyond 65,536 bytes: one that is put off, one of blanks, a match with long values, and one that is wrong."""
+    value = b"v" * 40000
+    match = b'{"op":"match","ns":"m","from":0,"to":1,"where":[["a","=","%s"],["b","!=","%s"]]}' % (value, value)
+    return [INIT, SPACE % b"m", b'{"op":"tick","x":"%s"}' % (2 * value), b" " * 70000, match, b'{"op":"stop","node":"%s"}' % (2 * value), FETCH]
+
+
+def raw_lines() -> list[bytes]:
+    return [*RAW, INIT, *BLANKS, *RAW]
+
+
+FIXED = [too_many_late, too_many_spaces, deep_lines, long_lines, raw_lines]
+
+
+def script(number: int) -> bytes:
+    """The script of this number: the first few are fixed. Of the others half have few wrong lines, a quarter mostly such."""
+    if number < len(FIXED):
+        return b"\n".join(FIXED[number]()) + b"\n"
+    made = Script(number)
+    lines = made.lines(made.dice.choice([0.0, 0.02, 0.1, 0.6]))
+    return b"\n".join(lines) + made.dice.choice([b"\n", b"\n", b"\n", b""])
