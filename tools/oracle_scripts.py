@@ -13,7 +13,7 @@ NAMES = ["a", "b", "c", "d", "e", "B", "ab", "a-", "_", "-", "0", "1", "10", "no
 NO_NAMES = ["", " ", "a b", "é", "a.b", "\"", "\\", "a\n", "\u0000", "x" * 33, "ⅷ", "٣", "~", "a ", "/"]
 GROUPS = ["g1", "g2", "g3", "g4", "g5", "G" * 32, "a"]
 SPACES = ["m", "n", "M", "long-" + "s" * 27, "m_", "0", "1", "2", "3", "4", "a"]
-IDS = ["hello", "h", "x=1", " ", "é", "\u0000", "z" * 512, "}", "\"q\"", "𐐷", '{dc="x"}', '{dc="y"}', '{dc="x",host="h1"}',
+IDS = ["hello", "h", "H", "x=1", " ", "é", "\u0000", "z" * 512, "}", "\"q\"", "𐐷", '{dc="x"}', '{dc="y"}', '{dc="x",host="h1"}',
        '{dc="x",host="h2"}', '{dc="y",host="h1"}', '{_="",a1="\\"\\\\"}', '{dc="é,=}"}', '{A="1",a="2"}', '{dc=""}',
        "{" + ",".join(f'k{at:02}="{at}"' for at in range(32)) + "}"]
 NO_IDS = ["", "{", "{}", "{dc}", '{dc="x"', '{dc="x"} ', '{dc="x",}', '{dc="x",dc="y"}', '{host="h1",dc="x"}', '{1a="x"}', '{dc="\\n"}',
@@ -89,8 +89,8 @@ class Script:
     def advance(self) -> Request:
         space = self.dice.choice(self.spaces)
         retention = self.windows.get(space, {"retention": 0})["retention"]
-        steps = [self.now, self.now + 1, self.now + self.dice.randint(0, 50), self.now - 1, self.dice.choice(self.times) + retention,
-                 self.dice.choice(self.times) + retention - 1]
+        expiry = self.dice.choice(self.times) + retention
+        steps = [self.now, self.now + 1, self.now + 1, self.now + self.dice.randint(0, 20), self.now - 1, expiry]
         moment = max(self.dice.choice(steps), 0)
         if self.dice.random() < 0.01:
             moment = 2**62 - 1
@@ -111,7 +111,7 @@ class Script:
             if op == "fetch":
                 line["id"] = self.dice.choice(self.ids)
             else:
-                line["where"] = self.dice.choices(MATCHERS, k=self.dice.choice([0, 0, 1, 1, 2, 16]))
+                line["where"] = self.dice.choices(MATCHERS, k=self.dice.choice([0, 0, 0, 1, 2, 16]))
         if self.dice.random() < 0.6:
             line["level"] = self.dice.choice(LEVELS[:3] if op == "write" else [*LEVELS, "unstrict"])
         return line
@@ -252,11 +252,51 @@ def long_lines() -> list[bytes]:
     return [INIT, SPACE % b"m", b'{"op":"tick","x":"%s"}' % (2 * value), b" " * 70000, match, b'{"op":"stop","node":"%s"}' % (2 * value), FETCH]
 
 
+def partly_back() -> list[bytes]:
+    """Nodes that serve some of their shards again: what comes short is another shard than the last."""
+    init = b'{"op":"init","rf":3,"shards":3,"seed":1,"nodes":[["a","g"],["b","h"],["c","i"]]}'
+    away = [b'{"op":"%s","node":"%s"}' % (op, node) for node in (b"a", b"b") for op in (b"stop", b"restart")]
+    back = [b'{"op":"bootstrap","node":"%s","shard":%d}' % (node, shard) for shard in (2, 1, 0) for node in (b"a", b"b")]
+    reads = [b'{"op":"match","ns":"m","where":[],"from":0,"to":1,"level":"%s"}' % level.encode() for level in LEVELS]
+    return [init, SPACE % b"m", *(WRITE % at for at in range(9)), *away, *(line for one in back for line in (one, *reads))]
+
+
+BASES: list[Request] = [
+    {"op": "init", "rf": 1, "shards": 1, "seed": 0, "nodes": [["a", "g"]]},
+    {"op": "namespace", "name": "m", "block": 9, "past": 8, "future": 8, "retention": 9},
+    {"op": "now", "now": 0},
+    {"op": "write", "ns": "q", "id": "x", "t": 0, "v": 1, "level": "one", "version": 1},
+    {"op": "fetch", "ns": "q", "id": "x", "from": 0, "to": 1, "level": "unstrict", "version": 1},
+    {"op": "match", "ns": "q", "where": [["a", "=", "b"]], "from": 0, "to": 1, "level": "unstrict", "version": 1},
+    {"op": "fates", "list": [[0, 0, "a", "lose"]]},
+    {"op": "deliver"},
+    {"op": "stop", "node": "q"},
+    {"op": "restart", "node": "q", "pick": 0},
+    {"op": "bootstrap", "node": "q", "shard": 0}]
+FATES = [[0, 0, "a", "late"], [0, 0, "a", "lose"], [0, 1, "a", "late"], [1, 0, "a", "late"], [0, 0, "b", "late"]]
+
+
+def edge_lines() -> list[bytes]:
+    """Each field of each op with each value of a list that has the edges of all fields, without it, and with one more."""
+    lines = [INIT]
+    for base in BASES:
+        for key in base:
+            values = EDGES + NO_NAMES + LEVELS + ["lost", "late"] + (NO_IDS + IDS if key == "id" else [])
+            changed = [base | {key: value} for value in values]
+            changed += [{other: base[other] for other in base if other != key}, base | {"x" + key: 0}]
+            lines += [json.dumps(line).encode() for line in changed]
+        lines += [json.dumps({key: base[key] for key in base if key != "version"} | {"level": level}).encode() for level in LEVELS]
+    lines += [json.dumps({"op": "fates", "list": [[client, 0, "a", "lose"]]}).encode() for client in range(-1, 11)]
+    lines += [json.dumps({"op": "fates", "list": [one, other]}).encode() for one in FATES for other in FATES]
+    return lines
+
+
 def raw_lines() -> list[bytes]:
     return [*RAW, INIT, *BLANKS, *RAW]
 
 
-FIXED = [too_many_late, too_many_spaces, deep_lines, long_lines, raw_lines]
+FIXED = [too_many_late, too_many_spaces, deep_lines, long_lines, partly_back, edge_lines,
+         raw_lines]
 
 
 def script(number: int) -> bytes:
