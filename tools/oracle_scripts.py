@@ -13,8 +13,9 @@ NAMES = ["a", "b", "c", "d", "e", "B", "ab", "a-", "_", "-", "0", "1", "10", "no
 NO_NAMES = ["", " ", "a b", "é", "a.b", "\"", "\\", "a\n", "\u0000", "x" * 33, "ⅷ", "٣", "~", "a ", "/"]
 GROUPS = ["g1", "g2", "g3", "g4", "g5", "G" * 32, "a"]
 SPACES = ["m", "n", "M", "long-" + "s" * 27, "m_", "0", "1", "2", "3", "4", "a"]
-IDS = ["hello", "h", "H", "x=1", " ", "é", "\u0000", "z" * 512, "}", "\"q\"", "𐐷", '{dc="x"}', '{dc="y"}', '{dc="x",host="h1"}',
-       '{dc="x",host="h2"}', '{dc="y",host="h1"}', '{_="",a1="\\"\\\\"}', '{dc="é,=}"}', '{A="1",a="2"}', '{dc=""}',
+IDS = ["hello", "h", "H", "\b\f\n\r\t\u001f\u007f\u2028/", "x=1", " ", "é", "\u0000", "z" * 512, "}", "\"q\"", "𐐷", '{dc="x"}',
+       '{dc="y"}', '{dc="x",host="h1"}', '{dc="x",host="h2"}', '{dc="y",host="h1"}', '{_="",a1="\\"\\\\"}', '{dc="é,=}"}',
+       '{A="1",a="2"}', '{dc=""}',
        "{" + ",".join(f'k{at:02}="{at}"' for at in range(32)) + "}"]
 NO_IDS = ["", "{", "{}", "{dc}", '{dc="x"', '{dc="x"} ', '{dc="x",}', '{dc="x",dc="y"}', '{host="h1",dc="x"}', '{1a="x"}', '{dc="\\n"}',
           '{dc="x""}', '{dc= "x"}', '{ dc="x"}', '{dé="x"}', '{="x"}', "z" * 513, "é" * 257, '{dc="\\"}', "{dc=x}", '{a="1",A="2"}',
@@ -233,7 +234,8 @@ def too_many_late() -> list[bytes]:
     """More late writes than are held back."""
     fates = json.dumps({"op": "fates", "list": [[0, at, "b", "late"] for at in range(1024)]}).encode()
     rounds = 4 * [fates, *(WRITE % (at % 100) for at in range(1024))]
-    return [INIT, SPACE % b"m", *rounds, fates, WRITE % 7, WRITE % 8, b'{"op":"deliver"}', fates, WRITE % 7, b'{"op":"deliver"}', FETCH]
+    deliver = b'{"op":"deliver"}'
+    return [INIT, SPACE % b"m", *rounds, fates, WRITE % 7, WRITE % 8, deliver, fates, WRITE % 7, deliver, FETCH]
 
 
 def too_many_spaces() -> list[bytes]:
@@ -242,14 +244,16 @@ def too_many_spaces() -> list[bytes]:
 
 def deep_lines() -> list[bytes]:
     nested = [b"[" * depth + b"]" * depth for depth in (1, 126, 127, 128, 2000)]
-    return [INIT, *(b'{"op":"%s","x":%s}' % (op, it) for op in (b"tick", b"deliver") for it in nested), b'{"op":"tick","x":"%s"}' % (b"[" * 999)]
+    lines = [b'{"op":"%s","x":%s}' % (op, it) for op in (b"tick", b"deliver") for it in nested]
+    return [INIT, *lines, b'{"op":"tick","x":"%s"}' % (b"[" * 999)]
 
 
 def long_lines() -> list[bytes]:
     """Lines beyond 65,536 bytes: one that is put off, one of blanks, a match with long values, and one that is wrong."""
     value = b"v" * 40000
     match = b'{"op":"match","ns":"m","from":0,"to":1,"where":[["a","=","%s"],["b","!=","%s"]]}' % (value, value)
-    return [INIT, SPACE % b"m", b'{"op":"tick","x":"%s"}' % (2 * value), b" " * 70000, match, b'{"op":"stop","node":"%s"}' % (2 * value), FETCH]
+    others = [b'{"op":"tick","x":"%s"}' % (2 * value), b" " * 70000, b'{"op":"stop","node":"%s"}' % (2 * value)]
+    return [INIT, SPACE % b"m", *others, match, FETCH]
 
 
 def partly_back() -> list[bytes]:
@@ -291,12 +295,19 @@ def edge_lines() -> list[bytes]:
     return lines
 
 
+def all_ids() -> list[bytes]:
+    """Each identifier written and read: how texts are printed, and in which order series come."""
+    write = [json.dumps({"op": "write", "ns": "m", "id": it, "t": 0, "v": at}).encode() for at, it in enumerate(IDS)]
+    where = [json.dumps({"op": "match", "ns": "m", "where": [it], "from": 0, "to": 1}).encode() for it in MATCHERS]
+    return [INIT, SPACE % b"m", *write, b'{"op":"match","ns":"m","where":[],"from":0,"to":1}', *where]
+
+
 def raw_lines() -> list[bytes]:
     return [*RAW, INIT, *BLANKS, *RAW]
 
 
 FIXED = [too_many_late, too_many_spaces, deep_lines, long_lines, partly_back, edge_lines,
-         raw_lines]
+         all_ids, raw_lines]
 
 
 def script(number: int) -> bytes:
