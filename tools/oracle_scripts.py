@@ -257,12 +257,13 @@ def long_lines() -> list[bytes]:
 
 
 def partly_back() -> list[bytes]:
-    """Nodes that serve some of their shards again: what comes short is another shard than the last."""
+    """Nodes that serve some of their shards again: what comes short is another shard than the last. Then one is stopped twice."""
     init = b'{"op":"init","rf":3,"shards":3,"seed":1,"nodes":[["a","g"],["b","h"],["c","i"]]}'
     away = [b'{"op":"%s","node":"%s"}' % (op, node) for node in (b"a", b"b") for op in (b"stop", b"restart")]
     back = [b'{"op":"bootstrap","node":"%s","shard":%d}' % (node, shard) for shard in (2, 1, 0) for node in (b"a", b"b")]
     reads = [b'{"op":"match","ns":"m","where":[],"from":0,"to":1,"level":"%s"}' % level.encode() for level in LEVELS]
-    return [init, SPACE % b"m", *(WRITE % at for at in range(9)), *away, *(line for one in back for line in (one, *reads))]
+    again = [*away[:2], away[0], WRITE % 3, *reads, away[1], WRITE % 3, *reads]  # stopped before it was back
+    return [init, SPACE % b"m", *(WRITE % at for at in range(9)), *away, *(line for one in back for line in (one, *reads)), *again]
 
 
 BASES: list[Request] = [
