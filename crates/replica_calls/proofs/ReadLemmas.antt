@@ -91,5 +91,6 @@ module _ {D : Type 0} (state : D → DiskState) (m : MachineState D) where
     stays = stays said;
     err = left said no_fault none;
     refused = may_refuse (refusal m c) said refused none;
+    form = λ damage is. absurd (none damage is);
     disk = leaves_itself (IsErrOf said reason.Disk) no_fault;
   }

@@ -64,6 +64,7 @@ module _ {D : Type 0} (state : D → DiskState) where
     pub stays : OnOk said (new ≡ record old { disk = new.disk })
     pub err : IfErr said (IsRefused old new)
     pub refused : MayRefuseRead (refusal old c) old said
+    pub form : (damage : Damage) → IsErrOf said (reason.Corrupt damage) → IsFormDamage damage
     pub disk : LeavesFiles (IsErrOf said reason.Disk) (state old.disk) (state new.disk)
 
   -- it raises its fence, or keeps all that it had, unless a fault closed it

@@ -1,0 +1,4 @@
+pub mod ToldLemmas
+pub mod RunLemmas
+pub mod DeliveryLemmas
+pub mod ReadyLemmas

@@ -1,0 +1,9 @@
+pub mod Messages
+pub mod Outcomes
+pub mod Tallies
+pub mod Runs
+pub mod Brought
+pub mod Ready
+pub mod Writes
+pub mod Deliveries
+pub mod Reads

@@ -1,0 +1,25 @@
+//! Events of calls of clients.
+ghost use Rattle.std.specs.Prelude.{◌≡◌, [], ◌∷◌, length, Bool};
+ghost use Rattle.cluster_core.specs.Legal.{Lawful};
+ghost use Rattle.replica_calls.specs.Calls.{HasRoom, IsNoStep};
+ghost use Rattle.session_net.specs.Runs.{Ran};
+
+use cluster_core::event::Event;
+use m3_outside::disk::Disk;
+use replica_calls::replicas::Replicas;
+
+/// Adds an event that no replica makes to the list, after which it is lawful and which has room for it, and answers its
+/// place. Takes no memory.
+pub fn add<D: Disk>(replicas: &mut Replicas<D>, event: &Event) -> u64
+    requires lawful { (tells : Bool) → Lawful tells replicas.old.events event.now }
+    requires no_step { IsNoStep event.now }
+    requires room { HasRoom 1 replicas.old.events }
+    ensures place { result ≡ length replicas.old.events }
+    ensures ran { Ran D.state replicas.old (event.now ∷ []) replicas.new }
+{
+    replicas.know();
+    match replicas.add(event) {
+        Ok(place) => place,
+        Err(_) => unreachable!(),
+    }
+}

@@ -1,0 +1,8 @@
+//! What calls of clients share: the replicas that they reach, what becomes of their messages, and the count of their answers.
+#![tactic(auto)]
+
+pub mod adding;
+pub mod messages;
+pub mod net;
+pub mod session_err;
+pub mod tally;

@@ -1,0 +1,23 @@
+ghost use Rattle.std.specs.Prelude.{◌<◌, ◌^◌, length};
+ghost use Rattle.std.specs.List.{All};
+ghost use Rattle.std.proofs.Props.{props};
+ghost use Rattle.wire_bytes.specs.Entries.{IsBounded};
+
+use m3_model::rules::MetaState;
+use m3_outside::disk::Disk;
+use net_plan::bag::Bag;
+use net_plan::fates::Fates;
+use replica_calls::replicas::Replicas;
+
+/// What calls of clients meet: the rules and the placement that they go by, the replicas that they reach with the list of
+/// the run's events, what becomes of their messages, and the late ones among these.
+#[derive(Drop)]
+pub struct Net<D: Disk> {
+    pub state: MetaState,
+    pub replicas: Replicas<D>,
+    pub fates: Fates,
+    pub bag: Bag,
+    ghost some_shards: { 0 < length state.place.shards },
+    ghost few_shards: { length state.place.shards < 2 ^ 32 },
+    ghost bounded_late: { All (λ one. IsBounded one.point) bag } by { Prim.hlevel props },
+}
