@@ -1,0 +1,4 @@
+mod AskLemmas
+mod ShardLemmas
+mod GatherLemmas
+mod FetchLemmas

@@ -1,0 +1,68 @@
+use Rattle.std.proofs.Common.{inr}
+use Rattle.cluster_core.specs.Earlier.{IsClock}
+use Rattle.session_net.specs.Runs.{slot_at}
+use Rattle.session_net.specs.declared.session_err.SessionErr.TheVariants as err
+use Rattle.session_net.proofs.ReadyLemmas.{any_after, there_after, clock_there}
+use Rattle.session_reads.specs.Gathering.{wish_of, IsUnread}
+use Rattle.session_reads.proofs.ShardLemmas.{counted_member, has_shard, may_end_so, ended, unended, half_read, passed_on}
+use Rattle.session_reads.proofs.shard.read_nodes.Goals as goal
+
+pub start-requires-clause-clock : goal.start-requires-clause-clock
+start-requires-clause-clock g c κs within = clock_there (c.args.replicas.now).events c.args.state.now.rules c.requires.ready.clock
+
+pub start-requires-clause-shard : goal.start-requires-clause-shard
+start-requires-clause-shard g c κs within = (has_shard c.args.state.now c.args.replicas.now c.args.shard c.requires.ready c.requires.shard)
+
+pub ask_nodes-requires-clause-clock : goal.ask_nodes-requires-clause-clock
+ask_nodes-requires-clause-clock g c κs within =
+    any_after g.D.Disk.state (IsClock c.args.state.now.rules) c.args.replicas.now c.start.new.replicas _ (c.in_ok-place.ensures.ok).1 (clock_there (c.args.replicas.now).events c.args.state.now.rules c.requires.ready.clock)
+
+pub ask_nodes-requires-clause-there : goal.ask_nodes-requires-clause-there
+ask_nodes-requires-clause-there g c κs within n m =
+    there_after g.D.Disk.state c.args.replicas.now c.start.new.replicas _ (slot_at n c.args.shard) (c.in_ok-place.ensures.ok).1 (c.requires.ready.there n c.args.shard (counted_member c.args.state.now.place c.args.shard c.args.nodes.now c.requires.counted n m))
+
+pub returns-in_err-ask_nodes-clause-err : goal.returns-in_err-ask_nodes-clause-err
+returns-in_err-ask_nodes-clause-err g c =
+    let asking = c.args.asking.now in
+    let state = c.args.state.now in
+    let w = wish_of c.args.pick.now asking in
+    let asked = c.in_err-ask_nodes.ensures.err in
+    passed_on c.from_residual-in_err-ask_nodes.result err.Memory (IsUnread g.D.Disk.state state c.args.fates.now asking.id w c.args.shard c.args.quorum.needed c.args.replicas.now c.ask_nodes.new.replicas) c.from_residual-in_err-ask_nodes.ensures.1
+    (inr (half_read g.D.Disk.state state c.args.fates.now asking.id w c.args.shard asked.0 c.args.nodes.now c.args.replicas.now c.start.new.replicas c.ask_nodes.new.replicas asked.1 c.requires.counted
+    (c.in_ok-place.ensures.ok).1
+    asked.2))
+
+pub settle-requires-clause-ends : goal.settle-requires-clause-ends
+settle-requires-clause-ends g c κs within =
+    let asking = c.args.asking.now in
+    let state = c.args.state.now in
+    let w = wish_of c.args.pick.now asking in
+    let asked = c.in_ok-ask_nodes.ensures.ok in
+    may_end_so g.D.Disk.state state c.args.fates.now asking.id w c.args.shard c.args.nodes.now c.args.replicas.now c.start.new.replicas c.ask_nodes.new.replicas asked.0 c.requires.ready c.requires.shard c.requires.counted
+    (c.in_ok-place.ensures.ok).1
+    asked.1
+    asked.6 c.ask_nodes.new.into.points asked.4 asked.5 c.space_of-ns.result c.space_of-ns.ensures c.ask_nodes.new.tally.answered.items c.ask_nodes.new.tally.reasons.items asked.2 asked.3 c.in_ok-place.place (c.in_ok-place.ensures.ok).0
+
+pub returns-clause-ok : goal.returns-clause-ok
+returns-clause-ok g c =
+    let asking = c.args.asking.now in
+    let state = c.args.state.now in
+    let w = wish_of c.args.pick.now asking in
+    let asked = c.in_ok-ask_nodes.ensures.ok in
+    ended g.D.Disk.state state c.args.fates.now asking.id w c.args.shard c.args.nodes.now c.args.replicas.now c.start.new.replicas c.ask_nodes.new.replicas asked.0 c.requires.ready c.requires.shard c.requires.counted
+    (c.in_ok-place.ensures.ok).1
+    asked.1
+    asked.6 c.ask_nodes.new.into.points asked.4 asked.5 c.space_of-ns.result c.space_of-ns.ensures c.ask_nodes.new.tally.answered.items c.ask_nodes.new.tally.reasons.items asked.2 asked.3 c.in_ok-place.place (c.in_ok-place.ensures.ok).0
+    c.settle.new.replicas c.args.quorum.needed c.args.quorum.majority c.settle.result c.settle.ensures.ok
+
+pub returns-clause-err : goal.returns-clause-err
+returns-clause-err g c =
+    let asking = c.args.asking.now in
+    let state = c.args.state.now in
+    let w = wish_of c.args.pick.now asking in
+    let asked = c.in_ok-ask_nodes.ensures.ok in
+    unended g.D.Disk.state state c.args.fates.now asking.id w c.args.shard c.args.nodes.now c.args.replicas.now c.start.new.replicas c.ask_nodes.new.replicas asked.0 c.requires.ready c.requires.shard c.requires.counted
+    (c.in_ok-place.ensures.ok).1
+    asked.1
+    asked.6 c.ask_nodes.new.into.points asked.4 asked.5 c.space_of-ns.result c.space_of-ns.ensures c.ask_nodes.new.tally.answered.items c.ask_nodes.new.tally.reasons.items asked.2 asked.3 c.in_ok-place.place (c.in_ok-place.ensures.ok).0
+    c.settle.new.replicas c.args.quorum.needed c.args.quorum.majority c.settle.result c.settle.ensures.err

@@ -1,0 +1,190 @@
+//! Messages to the nodes of one shard, and the join of their answers.
+ghost use Rattle.std.specs.Prelude.{◌≡◌, ◌≢◌, ◌<◌, ◌*◌, ℕ, suc, List, [], ◌∷◌, ◌++◌, map, None, length, take, IfOk, OnOk, OnErr, IsErrOf};
+ghost use Rattle.std.specs.FinMap as finite;
+ghost use Rattle.std.specs.List.{filter_map};
+ghost use Rattle.std.specs.Result.{result_ok, result_err};
+ghost use Rattle.m3_model.specs.Members.{IsIn};
+ghost use Rattle.m3_model.specs.Reads.{points_in, space_picked};
+ghost use Rattle.m3_model.specs.declared.reason.Damage.{Damage};
+ghost use Rattle.m3_model.specs.declared.reason.Reason.TheVariants as reason;
+ghost use Rattle.replica_machine.specs.Damages.{IsFormDamage};
+ghost use Rattle.m3_model.specs.declared.point.Series.{Series as Found};
+ghost use Rattle.block_buffer.specs.Joins.{joined};
+ghost use Rattle.cluster_core.specs.Earlier.{HasClock};
+ghost use Rattle.cluster_core.specs.declared.event.StepReply.TheVariants as reply;
+ghost use Rattle.replica_calls.specs.Calls.{HasRoom};
+ghost use Rattle.session_net.specs.Brought.{Delivered, Brought};
+ghost use Rattle.session_net.specs.Messages.{Heard};
+ghost use Rattle.session_net.specs.Outcomes.{Told, told_of, answering, refusing};
+ghost use Rattle.session_net.specs.Reads.{read_of, AreForms};
+ghost use Rattle.session_net.specs.Runs.{slot_at};
+ghost use Rattle.session_net.specs.Tallies.{HasRoom as Counts};
+ghost use Rattle.session_reads.specs.Gathering.{wish_of, points_said, AreBefore, IsContentOf, WereAsked};
+
+use block_buffer::buffer::Buffer;
+use m3_model::act::Fate;
+use m3_model::memory::Memory;
+use m3_model::point::{Pick, Series};
+use m3_model::reason::Reason;
+use m3_model::rules::MetaState;
+use m3_model::seq::Seq;
+use m3_outside::disk::Disk;
+use net_plan::fates::Fates;
+use replica_calls::CallErr;
+use replica_calls::call_id::CallId;
+use replica_calls::replicas::Replicas;
+use replica_calls::slot::Slot;
+use session_net::messages::fate_to;
+use session_net::tally::Tally;
+use std::alloc::Global;
+
+// What the messages of one fetch share beside its pick.
+#[derive(Clone, Copy)]
+pub(crate) struct Asking {
+    pub(crate) id: CallId,
+    pub(crate) from: u64,
+    pub(crate) to: u64,
+}
+
+// The namespace of a pick.
+pub(crate) fn space_of(pick: &Pick) -> u8
+    ensures { result ≡ space_picked pick.now }
+{
+    match pick {
+        Pick::One { ns, .. } => *ns,
+        Pick::Match { ns, .. } => *ns,
+    }
+}
+
+// Joins the points of an answer.
+pub(crate) fn join_all(into: &mut Buffer, ns: u8, series: &[Series]) -> Result<(), Memory>
+    ensures { OnOk result (into.new.points ≡ joined into.old.points (points_in ns series.now)) }
+{
+    for one in series {
+        into.join(ns, one)?;
+    }
+    Ok(())
+}
+
+// What the replica at the slot, which is there, answers.
+fn read_once<D: Disk>(
+    alloc: Global,
+    replicas: &mut Replicas<D>,
+    slot: Slot,
+    state: &MetaState,
+    asking: &Asking,
+    pick: &Pick,
+) -> Result<Seq<Series>, Reason>
+    requires clock { HasClock replicas.old.events state.now.rules }
+    requires there { finite.get replicas.old.members slot ≢ None }
+    requires room { HasRoom 2 replicas.old.events }
+    requires known { space_picked pick.now < length state.now.rules.spaces }
+    ensures delivered { Delivered D.state reply.Found slot.node slot.shard (read_of asking.now.id state.entry.now.rules state.entry.now.place.version (wish_of pick.now asking.now)) result replicas.old replicas.new }
+    ensures before { IfOk result (AreBefore (space_picked pick.now) asking.now.to) }
+    ensures form { (damage : Damage) → IsErrOf result (reason.Corrupt damage) → IsFormDamage damage }
+{
+    match replicas.read(
+        alloc,
+        slot,
+        asking.id,
+        &state.rules,
+        state.place.version,
+        pick,
+        asking.from,
+        asking.to,
+    ) {
+        Ok(series) => Ok(series),
+        Err(CallErr::Refused(why)) => Err(why),
+        Err(CallErr::Full) => unreachable!(),
+    }
+}
+
+// What it answers as the message's fate has it: a message that is cut isn't delivered, and of one that is delivered twice
+// the first answer is heard.
+fn read_by_fate<D: Disk>(
+    alloc: Global,
+    replicas: &mut Replicas<D>,
+    fate: Fate,
+    slot: Slot,
+    state: &MetaState,
+    asking: &Asking,
+    pick: &Pick,
+) -> Result<Seq<Series>, Reason>
+    requires clock { HasClock replicas.old.events state.now.rules }
+    requires there { finite.get replicas.old.members slot ≢ None }
+    requires room { HasRoom 4 replicas.old.events }
+    requires known { space_picked pick.now < length state.now.rules.spaces }
+    ensures brought { Brought D.state reply.Found fate slot.node slot.shard (read_of asking.now.id state.entry.now.rules state.entry.now.place.version (wish_of pick.now asking.now)) result replicas.old replicas.new }
+    ensures before { IfOk result (AreBefore (space_picked pick.now) asking.now.to) }
+    ensures form { (damage : Damage) → IsErrOf result (reason.Corrupt damage) → IsFormDamage damage }
+{
+    match fate {
+        Fate::Lose | Fate::Late => Err(Reason::Cut),
+        Fate::Deliver => read_once(alloc, replicas, slot, state, asking, pick),
+        Fate::Twice => {
+            let heard = read_once(alloc, replicas, slot, state, asking, pick);
+            drop(read_once(alloc, replicas, slot, state, asking, pick));
+            heard
+        }
+    }
+}
+
+// Counts what a node said, and joins its answer where it has one.
+fn take_answer(
+    into: &mut Buffer,
+    tally: &mut Tally,
+    ns: u8,
+    node: u8,
+    said: Result<Seq<Series>, Reason>,
+) -> Result<(), Memory>
+    requires { Counts 1 tally.old }
+    ensures room { (n : ℕ) → Counts (suc n) tally.old → OnOk result (Counts n tally.new) }
+    ensures answered { (told : List Told) → tally.old.answered.items ≡ answering told → OnOk result (tally.new.answered.items ≡ answering (told ++ (node, result_err said) ∷ [])) }
+    ensures reasons { (told : List Told) → tally.old.reasons.items ≡ refusing told → OnOk result (tally.new.reasons.items ≡ refusing (told ++ (node, result_err said) ∷ [])) }
+    ensures joins { OnOk result (into.new.points ≡ joined into.old.points (points_said ns said)) }
+{
+    match said {
+        Ok(series) => {
+            join_all(into, ns, series.as_slice())?;
+            tally.add(node, None);
+        }
+        Err(why) => tally.add(node, Some(why)),
+    }
+    Ok(())
+}
+
+// Asks these nodes, one after the other, and counts and joins what they answer.
+pub(crate) fn ask_nodes<D: Disk>(
+    alloc: Global,
+    replicas: &mut Replicas<D>,
+    fates: &Fates,
+    state: &MetaState,
+    asking: &Asking,
+    pick: &Pick,
+    shard: u32,
+    nodes: &[u8],
+    tally: &mut Tally,
+    into: &mut Buffer,
+) -> Result<(), Memory>
+    requires clock { HasClock replicas.old.events state.now.rules }
+    requires there { (n : ℕ) → IsIn nodes.now n → finite.get replicas.old.members (slot_at n shard) ≢ None }
+    requires room { HasRoom (4 * length nodes.now) replicas.old.events }
+    requires known { space_picked pick.now < length state.now.rules.spaces }
+    requires counts { Counts (length nodes.now) tally.old }
+    requires none_answered { tally.old.answered.items ≡ [] }
+    requires none_refused { tally.old.reasons.items ≡ [] }
+    requires nothing { into.old.points ≡ finite.empty }
+    ensures ok { OnOk result ((heard : List (Heard (List Found))) × WereAsked D.state fates.now asking.now.id shard (read_of asking.now.id state.entry.now.rules state.entry.now.place.version (wish_of pick.now asking.now)) nodes.now heard replicas.old replicas.new
+        × (tally.new.answered.items ≡ answering (map told_of heard)) × (tally.new.reasons.items ≡ refusing (map told_of heard)) × IsContentOf (space_picked pick.now) (filter_map (λ x. result_ok x.1) heard) into.new.points
+        × ((answer : List Found) → IsIn (filter_map (λ x. result_ok x.1) heard) answer → AreBefore (space_picked pick.now) asking.now.to answer) × AreForms heard) }
+    ensures err { OnErr result ((k : ℕ) × (heard : List (Heard (List Found))) × WereAsked D.state fates.now asking.now.id shard (read_of asking.now.id state.entry.now.rules state.entry.now.place.version (wish_of pick.now asking.now)) (take k nodes.now) heard replicas.old replicas.new) }
+{
+    let ns = space_of(pick);
+    for node in nodes {
+        let slot = Slot { shard, node: *node };
+        let fate = fate_to(fates, asking.id, *node);
+        let said = read_by_fate(alloc, replicas, fate, slot, state, asking, pick);
+        take_answer(into, tally, ns, *node, said)?;
+    }
+    Ok(())
+}

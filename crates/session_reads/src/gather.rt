@@ -1,0 +1,77 @@
+//! The reads of shards, one after the other.
+ghost use Rattle.std.specs.Prelude.{◌≡◌, ◌<◌, ◌^◌, List, [], length, IfOk, IfErr};
+ghost use Rattle.m3_model.specs.Reads.{space_picked};
+ghost use Rattle.m3_model.specs.declared.point.Matcher.{Matcher};
+ghost use Rattle.m3_model.specs.declared.point.Pick.TheVariants as picked;
+ghost use Rattle.session_net.specs.Ready.{IsReady};
+ghost use Rattle.session_net.specs.Reads.{asked_shards, IsUnfound};
+ghost use Rattle.session_reads.specs.Gathering.{wish_of, IsGathered};
+
+use crate::ask::{Asking, join_all, space_of};
+use crate::shard::{Gave, Quorum, ask_shard, series_below};
+use block_buffer::buffer::Buffer;
+use m3_model::point::Pick;
+use m3_model::rules::MetaState;
+use m3_outside::disk::Disk;
+use net_plan::fates::Fates;
+use replica_calls::replicas::Replicas;
+use series_id::shard_of;
+use session_net::session_err::SessionErr;
+use std::alloc::Global;
+
+// Reads all shards, one after the other, and joins what they give.
+fn gather_all<D: Disk>(
+    alloc: Global,
+    replicas: &mut Replicas<D>,
+    state: &MetaState,
+    fates: &Fates,
+    asking: &Asking,
+    pick: &Pick,
+    quorum: Quorum,
+) -> Result<Gave, SessionErr>
+    requires ready { IsReady state.now replicas.old [] }
+    requires known { space_picked pick.now < length state.now.rules.spaces }
+    requires few_shards { length state.now.place.shards < 2 ^ 32 }
+    requires all { (wanted : List Matcher) × (pick.now ≡ picked.Match (space_picked pick.now) wanted) }
+    ensures ok { IfOk result (λ gave. IsGathered D.state state.entry.now fates.now asking.now.id (wish_of pick.now asking.now) quorum.needed quorum.majority (asked_shards state.entry.now pick.now) gave.series gave.whole replicas.old replicas.new) }
+    ensures err { IfErr result (IsUnfound D.state state.entry.now fates.now asking.now.id (wish_of pick.now asking.now) quorum.needed replicas.old replicas.new) }
+{
+    let ns = space_of(pick);
+    let mut joined = Buffer::new(alloc);
+    let mut whole = true;
+    for shard in 0..state.place.shards.len() as u32 {
+        let gave = ask_shard(alloc, replicas, state, fates, asking, pick, shard, quorum)?;
+        join_all(&mut joined, ns, gave.series.as_slice())?;
+        whole &= gave.whole;
+    }
+    let series = series_below(alloc, joined, ns, asking.to)?;
+    Ok(Gave { series, whole })
+}
+
+// Reads the shards that are asked: that of the identifier, whose series are the answer, or all where matchers pick the
+// series. It ends with the first of which fewer nodes than needed answered.
+pub(crate) fn gather<D: Disk>(
+    alloc: Global,
+    replicas: &mut Replicas<D>,
+    state: &MetaState,
+    fates: &Fates,
+    asking: &Asking,
+    pick: &Pick,
+    quorum: Quorum,
+) -> Result<Gave, SessionErr>
+    requires ready { IsReady state.now replicas.old [] }
+    requires known { space_picked pick.now < length state.now.rules.spaces }
+    requires some_shards { 0 < length state.now.place.shards }
+    requires few_shards { length state.now.place.shards < 2 ^ 32 }
+    ensures ok { IfOk result (λ gave. IsGathered D.state state.entry.now fates.now asking.now.id (wish_of pick.now asking.now) quorum.needed quorum.majority (asked_shards state.entry.now pick.now) gave.series gave.whole replicas.old replicas.new) }
+    ensures err { IfErr result (IsUnfound D.state state.entry.now fates.now asking.now.id (wish_of pick.now asking.now) quorum.needed replicas.old replicas.new) }
+{
+    match pick {
+        Pick::One { id, .. } => {
+            let shards = state.place.shards.len() as u32;
+            let shard = shard_of(id.as_str(), state.seed, shards);
+            ask_shard(alloc, replicas, state, fates, asking, pick, shard, quorum)
+        }
+        Pick::Match { .. } => gather_all(alloc, replicas, state, fates, asking, pick, quorum),
+    }
+}

@@ -1,0 +1,262 @@
+//! The read of one shard, from its start in the list to its end.
+ghost use Rattle.std.specs.Prelude.{◌≡◌, ◌⊎◌, ◌<◌, ◌≤◌, ◌+◌, ◌*◌, ℕ, List, [], ◌∷◌, length, true, false, IfOk, IfErr, OnErr, nat_le};
+ghost use Rattle.std.specs.FinMap as finite;
+ghost use Rattle.m3_model.specs.Reads.{space_picked};
+ghost use Rattle.m3_model.specs.declared.point.Series.{Series as Found};
+ghost use Rattle.cluster_core.specs.Earlier.{HasClock, HasShard};
+ghost use Rattle.cluster_core.specs.Legal.{IsFetched};
+ghost use Rattle.cluster_core.specs.declared.event.Event.TheVariants as event;
+ghost use Rattle.event_book.specs.Lists.{most_entries};
+ghost use Rattle.replica_calls.specs.Calls.{HasRoom};
+ghost use Rattle.session_net.specs.Outcomes.{AreCounted, IsShortOf};
+ghost use Rattle.session_net.specs.Reads.{most_added};
+ghost use Rattle.session_net.specs.Tallies.{HasRoom as Counts};
+ghost use Rattle.session_net.specs.Ready.{IsReady};
+ghost use Rattle.session_net.specs.declared.session_err.SessionErr.TheVariants as err;
+ghost use Rattle.session_net.specs.Runs.{Ran};
+ghost use Rattle.session_reads.specs.Gathering.{wish_of, IsSeries, IsShardRead, IsUnread};
+
+use crate::ask::{Asking, ask_nodes, space_of};
+use block_buffer::buffer::Buffer;
+use cluster_core::event::Event;
+use m3_model::duplicate::Duplicate;
+use m3_model::memory::Memory;
+use m3_model::point::{Pick, Series};
+use m3_model::rules::MetaState;
+use m3_model::seq::Seq;
+use m3_outside::disk::Disk;
+use net_plan::fates::Fates;
+use placement_core::replicas::counted;
+use replica_calls::replicas::Replicas;
+use session_net::adding::add;
+use session_net::session_err::SessionErr;
+use session_net::tally::Tally;
+use std::alloc::Global;
+
+// How many nodes of a shard a read asks for.
+#[derive(Clone, Copy)]
+pub(crate) struct Quorum {
+    // How many have to answer.
+    pub(crate) needed: u32,
+    // How many are a majority.
+    pub(crate) majority: u32,
+}
+
+// What was given: the join of all answers, and whether at least a majority of each shard answered.
+#[derive(Drop)]
+pub(crate) struct Gave {
+    pub(crate) series: Seq<Series>,
+    pub(crate) whole: bool,
+}
+
+// The FetchStart of a shard.
+fn start_event(
+    alloc: Global,
+    state: &MetaState,
+    asking: &Asking,
+    pick: &Pick,
+    shard: u32,
+) -> Result<Event, Memory>
+    ensures { IfOk result (λ made. made ≡ event.FetchStart state.entry.now.place.version shard state.entry.now.rules pick.now asking.now.from asking.now.to) }
+{
+    Ok(Event::FetchStart {
+        version: state.place.version,
+        shard,
+        rules: state.rules.copy(alloc)?,
+        pick: pick.copy(alloc)?,
+        from: asking.from,
+        to: asking.to,
+    })
+}
+
+// Adds it to the list, which has room for it, and gives its place.
+fn start<D: Disk>(
+    alloc: Global,
+    replicas: &mut Replicas<D>,
+    state: &MetaState,
+    asking: &Asking,
+    pick: &Pick,
+    shard: u32,
+) -> Result<u64, Memory>
+    requires clock { HasClock replicas.old.events state.now.rules }
+    requires shard { HasShard replicas.old.events state.now.place.version shard }
+    requires room { HasRoom 1 replicas.old.events }
+    ensures ok { IfOk result (λ place. (place ≡ length replicas.old.events) × Ran D.state replicas.old (event.FetchStart state.entry.now.place.version shard state.entry.now.rules pick.now asking.now.from asking.now.to ∷ []) replicas.new) }
+    ensures err { OnErr result (replicas.new ≡ replicas.old) }
+{
+    let event = start_event(alloc, state, asking, pick, shard)?;
+    let place = add(replicas, &event);
+    drop(event);
+    Ok(place)
+}
+
+// The FetchDone of the FetchStart at this place.
+fn done_event(start: u64, nodes: Seq<u8>, series: Seq<Series>) -> Event
+    ensures { result ≡ event.FetchDone start nodes series }
+{
+    Event::FetchDone {
+        start,
+        nodes,
+        series,
+    }
+}
+
+// The series of a FetchDone.
+fn series_in(done: Event) -> Seq<Series>
+    requires { (start : ℕ) × (nodes : List ℕ) × (series : List Found) × (done ≡ event.FetchDone start nodes series) }
+    ensures { (start : ℕ) (nodes : List ℕ) (series : List Found) → done ≡ event.FetchDone start nodes series → result ≡ series }
+{
+    match done {
+        Event::FetchDone { series, .. } => series,
+        _ => unreachable!(),
+    }
+}
+
+// Adds the FetchDone of the FetchStart at this place to the list, which has room for it, and gives its series back.
+fn finish<D: Disk>(
+    replicas: &mut Replicas<D>,
+    start: u64,
+    nodes: Seq<u8>,
+    series: Seq<Series>,
+) -> Seq<Series>
+    requires ends { IsFetched replicas.old.events start nodes series }
+    requires room { HasRoom 1 replicas.old.events }
+    ensures series { result ≡ series }
+    ensures ran { Ran D.state replicas.old (event.FetchDone start nodes series ∷ []) replicas.new }
+{
+    let done = done_event(start, nodes, series);
+    add(replicas, &done);
+    series_in(done)
+}
+
+// The joined points below `to` as series.
+pub(crate) fn series_below(
+    alloc: Global,
+    joined: Buffer,
+    ns: u8,
+    to: u64,
+) -> Result<Seq<Series>, Memory>
+    ensures { IfOk result (IsSeries joined.points ns to) }
+{
+    let all = Pick::Match {
+        ns,
+        wanted: Seq::new(alloc),
+    };
+    joined.range(alloc, &all, 0, to)
+}
+
+// Ends the read of the shard that began at this place, where enough nodes answered: then the list has its FetchDone.
+fn settle<D: Disk>(
+    alloc: Global,
+    replicas: &mut Replicas<D>,
+    start: u64,
+    shard: u32,
+    quorum: Quorum,
+    tally: Tally,
+    joined: Buffer,
+    ns: u8,
+    to: u64,
+) -> Result<Gave, SessionErr>
+    requires ends { (series : List Found) → IsSeries joined.points ns to series → IsFetched replicas.old.events start tally.answered.items series }
+    requires room { HasRoom 1 replicas.old.events }
+    ensures ok { IfOk result (λ gave. IsSeries joined.points ns to gave.series × (quorum.needed ≤ length tally.answered.items) × (gave.whole ≡ nat_le quorum.majority (length tally.answered.items))
+        × Ran D.state replicas.old (event.FetchDone start tally.answered.items gave.series ∷ []) replicas.new) }
+    ensures err { IfErr result (λ e. ((e ≡ err.Memory) ⊎ IsShortOf quorum.needed shard tally.answered.items tally.reasons.items e) × (replicas.new ≡ replicas.old)) }
+{
+    if tally.answered.len() < quorum.needed as usize {
+        return Err(tally.too_few(shard, quorum.needed));
+    }
+    let whole = quorum.majority as usize <= tally.answered.len();
+    let Tally { answered, .. } = tally;
+    let series = series_below(alloc, joined, ns, to)?;
+    let series = finish(replicas, start, Seq::from_vec(answered), series);
+    Ok(Gave { series, whole })
+}
+
+// Whether the list has room for all that the read of so many nodes may add.
+fn fits<D: Disk>(replicas: &Replicas<D>, nodes: usize) -> bool
+    ensures { result ≡ nat_le (length replicas.now.events + (2 + 4 * nodes)) most_entries }
+{
+    replicas.has_room((nodes as u64).saturating_mul(4).saturating_add(2))
+}
+
+// Reads one shard over these nodes, which are all that count for it.
+fn read_nodes<D: Disk>(
+    alloc: Global,
+    replicas: &mut Replicas<D>,
+    state: &MetaState,
+    fates: &Fates,
+    asking: &Asking,
+    pick: &Pick,
+    shard: u32,
+    quorum: Quorum,
+    nodes: &[u8],
+    mut tally: Tally,
+) -> Result<Gave, SessionErr>
+    requires ready { IsReady state.now replicas.old [] }
+    requires known { space_picked pick.now < length state.now.rules.spaces }
+    requires shard { shard < length state.now.place.shards }
+    requires counted { AreCounted state.now.place shard nodes.now }
+    requires room { HasRoom (most_added nodes.now) replicas.old.events }
+    requires counts { Counts (length nodes.now) tally }
+    requires none_answered { tally.answered.items ≡ [] }
+    requires none_refused { tally.reasons.items ≡ [] }
+    ensures ok { IfOk result (λ gave. IsShardRead D.state state.entry.now fates.now asking.now.id (wish_of pick.now asking.now) shard quorum.needed quorum.majority gave.series gave.whole replicas.old replicas.new) }
+    ensures err { IfErr result (IsUnread D.state state.entry.now fates.now asking.now.id (wish_of pick.now asking.now) shard quorum.needed replicas.old replicas.new) }
+{
+    let place = start(alloc, replicas, state, asking, pick, shard)?;
+    let mut joined = Buffer::new(alloc);
+    ask_nodes(
+        alloc,
+        replicas,
+        fates,
+        state,
+        asking,
+        pick,
+        shard,
+        nodes,
+        &mut tally,
+        &mut joined,
+    )?;
+    let ns = space_of(pick);
+    settle(
+        alloc, replicas, place, shard, quorum, tally, joined, ns, asking.to,
+    )
+}
+
+// Reads one shard: its FetchStart comes to the list first, then what each message to a node that counts brings, and at
+// the end the FetchDone with the nodes that answered and the join of their answers, where there are enough.
+pub(crate) fn ask_shard<D: Disk>(
+    alloc: Global,
+    replicas: &mut Replicas<D>,
+    state: &MetaState,
+    fates: &Fates,
+    asking: &Asking,
+    pick: &Pick,
+    shard: u32,
+    quorum: Quorum,
+) -> Result<Gave, SessionErr>
+    requires ready { IsReady state.now replicas.old [] }
+    requires known { space_picked pick.now < length state.now.rules.spaces }
+    requires shard { shard < length state.now.place.shards }
+    ensures ok { IfOk result (λ gave. IsShardRead D.state state.entry.now fates.now asking.now.id (wish_of pick.now asking.now) shard quorum.needed quorum.majority gave.series gave.whole replicas.old replicas.new) }
+    ensures err { IfErr result (IsUnread D.state state.entry.now fates.now asking.now.id (wish_of pick.now asking.now) shard quorum.needed replicas.old replicas.new) }
+{
+    let nodes = counted(alloc, &state.place, shard)?;
+    let tally = Tally::with_room(alloc, nodes.len())?;
+    if !fits(replicas, nodes.len()) {
+        return Err(SessionErr::Full);
+    }
+    read_nodes(
+        alloc,
+        replicas,
+        state,
+        fates,
+        asking,
+        pick,
+        shard,
+        quorum,
+        nodes.as_slice(),
+        tally,
+    )
+}
