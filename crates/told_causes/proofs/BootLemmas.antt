@@ -38,15 +38,15 @@ use Rattle.transcripts.specs.Waiting.{Replica, is_assigned, is_covering, is_memb
 use Rattle.told_by.specs.Hears.{HearsBegun, HearsBy, HearsOpened, InStretch, IsBeginOf, IsBegun, IsFirstBegun}
 use Rattle.told_by.specs.Makes.{EndsRestart, IsAssigned, IsCoveredSlot, MayAsk}
 use Rattle.told_by.specs.Openings.{IsInitOf, opening_length, sets_seed}
-use Rattle.told_by.specs.Spans.{From, IsAlone}
+use Rattle.told_by.specs.Spans.{From}
 use Rattle.told_by.specs.Told.{ToldBy}
 use Rattle.told_by.proofs.LeaveLemmas.{place_there}
 use Rattle.told_by.proofs.LineLemmas.{line_below, take_front}
 use Rattle.told_by.proofs.OpeningLemmas.{first_event}
 use Rattle.told_by.proofs.PrintedLemmas.{after_up, ends_within, placements_stand}
 use Rattle.told_by.proofs.TurnLemmas.{alone_is, at_cut, cut_at, own_list, place_in}
-use Rattle.told_causes.proofs.AloneLemmas.{alone_place, alone_turns, lines_before, quiet_line, take_none}
-use Rattle.told_causes.specs.Boot.{BootHasCause, BootIsSaid, BootsAlone, IsBootAct, IsKnownSlot, WasMember}
+use Rattle.told_causes.proofs.AloneLemmas.{alone_by_place, alone_turns, lines_before, quiet_line, take_none}
+use Rattle.told_causes.specs.Boot.{BootHasCause, BootIsSaid, IsBootAct, IsKnownSlot, PlacesAlone, WasMember}
 use Rattle.told_causes.specs.Standing.{IsHaltAct}
 use Rattle.told_causes.proofs.HaltLemmas.{last_name, late_step, one_line, opening_low}
 use Rattle.told_causes.proofs.NameLemmas.{name_is}
@@ -104,13 +104,6 @@ init_of _ _ e = absurd (let bad : false ≡ true = e in cc)
 
 -- ---- bootstraps
 
--- none is earlier in the list of a turn: it is alone in its line
-pub no_boot_earlier : (turns : List Turn) → BootsAlone turns → (p : TurnPlace) → IsTurnPlace turns p → (t : InnerTurn) → IsIn p.earlier t → IsBootAct t.act → ⊥
-no_boot_earlier turns alone p at t m boots =
-    let q = own_list turns p at t m in
-    let same = alone_place turns q.place p (alone q.place q.in_run (subst (λ (u : InnerTurn). IsBootAct u.act) (sym q.turn_is) boots)) q.in_run at (ap length (sym q.lines_are)) in
-    omega (arith, q.earlier, ap (λ (z : TurnPlace). length z.earlier) same)
-
 -- a begin with this tenure stands there
 begin_is : (events : List Event) (n s tenure i : ℕ) (c : StepCall) (a : StepReply) → IsBeginOf tenure c → At events i (event.Step n s c a) → At events i (event.Step n s (call.Begin tenure) a)
 begin_is events n s tenure i c a is there = subst (λ x. At events i (event.Step n s x a)) is there
@@ -127,19 +120,19 @@ pub record HasBegun (events : List Event) (from to n s : ℕ) (stood : Placement
   pub high : place < to
   pub there : At events place (event.Step n s (call.Begin tenure) answer)
 
--- so a bootstrap that was answered ok, alone in its line, begins each slot that it covers and that is a member when the line begins
-pub covered_begun : {tells : Bool} → (start : Option MetaState) (turns : List Turn) (events : List Event) → Legal tells events → (told : ToldBy start turns events) → (q : TurnPlace) → IsTurnPlace turns q → IsAlone turns q
+-- so a bootstrap that was answered ok begins each slot that it covers and that is a member when its line begins
+pub covered_begun : {tells : Bool} → (start : Option MetaState) (turns : List Turn) (events : List Event) → Legal tells events → (told : ToldBy start turns events) → PlacesAlone start turns events told → (q : TurnPlace) → IsTurnPlace turns q
     → (n s : ℕ) (name : List ℕ) (stood : Placement) → placement_after (start_placement start) (inner_turns (take (length q.lines) turns)) ≡ Some stood → has_replica (Some stood) s n ≡ true
     → ((i : ℕ) (done : List (ℕ × ℕ)) → At events i (event.Place stood done) → OfNode stood n (λ own. own ≡ name))
     → (node : List ℕ) (asked : Option ℕ) (available : List (ℕ × List ℕ)) (place : Placement) (version : ℕ) → q.turn.act ≡ act.Bootstrap node asked → q.turn.answer ≡ answer.Available available place version → name ≡ node → is_covering s asked ≡ true
     → HasBegun events ((told.spans).from q) ((told.spans).to q) n s stood
-covered_begun start turns events legal told q at only n s name stood stands member names node asked available place version acts answers same covers =
+covered_begun start turns events legal told places q at n s name stood stands member names node asked available place version acts answers same covers =
     let k = length q.lines in
     let from = (told.spans).from q in
     let last : last_place (take (told.ends k) events) ≡ Some stood = placements_stand start turns events legal told k (omega (arith, line_below turns q at)) ∙ stands in
     let there = place_there (take (told.ends k) events) stood last in
     let at_list = at_take events there.0 (told.ends k) (event.Place stood there.1) there.2 in
-    let last_there : last_place (take from events) ≡ Some stood = quiet_line start turns events legal told q at only (omega (arith, at_list.1)) ∙ last in
+    let last_there : last_place (take from events) ≡ Some stood = quiet_line start turns events legal told q at (alone_by_place start turns events legal told places q at) (omega (arith, at_list.1)) ∙ last in
     let own = names there.0 there.1 at_list.0 in
     let slot : IsCoveredSlot (take from events) node asked n s = record { of_node = record { place = stood; last = last_there; named = record { instance_ = own.instance_; stands = own.stands; holds = own.holds ∙ same } }; covers = covers } in
     let hears : HearsBegun (take from events) (InStretch events from ((told.spans).to q)) node asked =
@@ -155,7 +148,7 @@ covered_begun start turns events legal told q at only n s name stood stands memb
 
 -- ---- the slot
 
-module _ {tells : Bool} (start : Option MetaState) (turns : List Turn) (events : List Event) (legal : Legal tells events) (told : ToldBy start turns events) (alone : BootsAlone turns) (n s : ℕ) (name : List ℕ) (known : IsKnownSlot start turns events told n s name) where
+module _ {tells : Bool} (start : Option MetaState) (turns : List Turn) (events : List Event) (legal : Legal tells events) (told : ToldBy start turns events) (places : PlacesAlone start turns events told) (n s : ℕ) (name : List ℕ) (known : IsKnownSlot start turns events told n s name) where
   abbrev x : Replica
   x = record { shard = s; node = n; name = name }
 
@@ -303,7 +296,7 @@ module _ {tells : Bool} (start : Option MetaState) (turns : List Turn) (events :
       let begins_so : IsBootAct q.turn.act = subst IsBootAct (sym acts) tt in
       let p = member_place (placed x start turns k) s n member in
       let is_there : has_replica (Some p.0) s n ≡ true = subst (λ o. has_replica o s n ≡ true) p.1 member in
-      let b = covered_begun start turns events legal told q at (alone q at begins_so) n s name p.0 (ap (placed x start turns) line_is ∙ p.1) is_there (λ i done there. known.has_name i p.0 done there is_there) node asked available place version acts answers same covers in
+      let b = covered_begun start turns events legal told places q at n s name p.0 (ap (placed x start turns) line_is ∙ p.1) is_there (λ i done there. known.has_name i p.0 done there is_there) node asked available place version acts answers same covers in
       let begins : told.ends k ≤ (told.spans).from q = omega (arith, (told.lines).low q at, ap told.ends line_is) in
       let i = b.place in
       let low = b.low in
@@ -456,16 +449,25 @@ module _ {tells : Bool} (start : Option MetaState) (turns : List Turn) (events :
       front : take (length p.lines) turns ≡ p.lines
       front = lines_before start turns events legal told p at
 
-      -- in a line with other turns none is a bootstrap
-      none_earlier : (stays : Bool) (t : InnerTurn) → IsIn p.earlier t → EndsWait x stays t → ⊥
-      none_earlier stays t m h = no_boot_earlier turns alone p at t m (subst IsBootAct (sym h.act_is) tt)
+      -- no bootstrap earlier in its list began the slot, where that is at boot since the line began
+      none_earlier : ((m : ℕ) → told.ends (length p.lines) ≤ m → m ≤ i → BootAt m) → (after : Option Placement) (t : InnerTurn) → IsIn p.earlier t → EndsWait x (is_member x (waiting_after x start p.lines).place && is_member x after) t → ⊥
+      none_earlier boots after t m h =
+          let q = own_list turns p at t m in
+          let k = length p.lines in
+          let before : (waiting_after x start p.lines).place ≡ placed x start turns k = ap (λ ls. (waiting_after x start ls).place) (sym front) ∙ place_is k (omega (arith, line_below turns p at)) in
+          let before_p = (told.tells).order.order q.place p q.in_run at (inr (ap length q.lines_are, q.client_is, q.earlier)) in
+          let finishes : (told.spans).to q.place ≤ i = omega (arith, before_p, low) in
+          let ends = and_both _ _ h.ends in
+          let named = and_both (pointwise nat_eq name h.node) (is_covering s h.asked) ends.1 in
+          boot_clash k i boots q.place q.in_run (ap length q.lines_are) finishes (ap (is_member x) (sym before) ∙ (and_both _ _ ends.0).0) h.node h.asked h.available h.place h.version (ap (λ (u : InnerTurn). u.act) q.turn_is ∙ h.act_is)
+          (ap (λ (u : InnerTurn). u.answer) q.turn_is ∙ h.answered) (name_is name h.node named.0) named.1
 
-      by_waits : Waits (length p.lines) → waits_at x start p ≡ true
-      by_waits (inl waits) =
+      by_waits : ((m : ℕ) → told.ends (length p.lines) ≤ m → m ≤ i → BootAt m) → Waits (length p.lines) → waits_at x start p ≡ true
+      by_waits boots (inl waits) =
           let before = waiting_after x start p.lines in
           let stays = is_member x before.place && is_member x (placement_after before.place (p.earlier ++ p.beside)) in
-          ap (waits_after x stays p.earlier) (ap (λ ls. (waiting_after x start ls).waits) (sym front) ∙ waits) ∙ waits_on x stays p.earlier (none_earlier stays)
-      by_waits (inr never) =
+          ap (waits_after x stays p.earlier) (ap (λ ls. (waiting_after x start ls).waits) (sym front) ∙ waits) ∙ waits_on x stays p.earlier (none_earlier boots (placement_after before.place (p.earlier ++ p.beside)))
+      by_waits boots (inr never) =
           let j = was.lines in
           let not_later = was.not_later in
           let same : take j p.lines ≡ take j turns = sym (ap (take j) at.in_run ∙ take_front p.lines (p.line ∷ at.after) j not_later) in
@@ -473,7 +475,7 @@ module _ {tells : Bool} (start : Option MetaState) (turns : List Turn) (events :
 
       by_how : (from : ℕ) → ((m : ℕ) → from ≤ m → m ≤ i → BootAt m) → (from ≡ told.ends (length p.lines)) ⊎ ((m : ℕ) × (suc m ≡ from) × (told.ends (length p.lines) ≤ m) × At events m (event.Step n s call.Restart reply.Done)) → length p.lines < length turns
           → told.ends (length p.lines) ≤ i → i < told.ends (suc (length p.lines)) → from ≤ i → waits_at x start p ≡ true
-      by_how from boots (inl begins) less above below most = by_waits (boot_waits (length p.lines) (omega (arith, less)) (boots (told.ends (length p.lines)) (omega (arith, begins)) above))
+      by_how from boots (inl begins) less above below most = by_waits (λ m within. boots m (omega (arith, begins, within))) (boot_waits (length p.lines) (omega (arith, less)) (boots (told.ends (length p.lines)) (omega (arith, begins)) above))
       by_how from boots (inr m) less above below most =
           let r = restarted m.0 (length p.lines) less m.2 (omega (arith, m.1, most, below)) m.3 in
           let q = told.makers m.0 in
@@ -488,4 +490,4 @@ pub boot_cause : {tells : Bool} → BootHasCause tells
 boot_cause {tells} start turns events legal told p at quiet n s name known c step =
     let there = (step.1).2 in
     let r = replica n s (take step.0 events) in
-    cause_at start turns events legal told known.alone n s name known.slot p at quiet known.was step.0 (step.1).0 (step.1).1 (first_boot r c (refused_law tells (take step.0 events) n s r c reason.Boot (lawful_step events legal step.0 n s c (reply.Refused reason.Boot) there)))
+    cause_at start turns events legal told known.places n s name known.slot p at quiet known.was step.0 (step.1).0 (step.1).1 (first_boot r c (refused_law tells (take step.0 events) n s r c reason.Boot (lawful_step events legal step.0 n s c (reply.Refused reason.Boot) there)))

@@ -11,5 +11,6 @@ pub mod BootLemmas
 pub mod SampleLemmas
 pub mod RunLemmas
 pub mod AloneLemmas
+pub mod StoodLemmas
 pub mod NodeLemmas
 pub mod KnownLemmas

@@ -1,6 +1,6 @@
 -- Why a restart and a bootstrap are refused for a disk or for damage.
-use Rattle.std.proofs.Common.{◌≡◌, ℕ, List, [], ◌++◌, take, length, refl, sym, ap, ◌∙◌, subst, append-nil, Bool}
-use Rattle.std.specs.Prelude.{Option, IsTrue}
+use Rattle.std.proofs.Common.{◌≡◌, ℕ, List, take, length, refl, sym, subst, Bool}
+use Rattle.std.specs.Prelude.{None, Some, Option, IsTrue}
 use Rattle.m3_model.specs.declared.act.Act.{Act}
 use Rattle.m3_model.specs.declared.act.Act.TheVariants as act
 use Rattle.m3_model.specs.declared.answer.Answer.{Answer}
@@ -10,6 +10,7 @@ use Rattle.m3_model.specs.declared.reason.Reason.TheVariants as reason
 use Rattle.m3_model.specs.declared.placement.Placement.{Placement}
 use Rattle.m3_model.specs.declared.rules.MetaState.{MetaState}
 use Rattle.m3_model.specs.declared.turn.Turn.{Turn}
+use Rattle.cluster_core.specs.Earlier.{last_place}
 use Rattle.cluster_core.specs.Legal.{Legal}
 use Rattle.cluster_core.specs.declared.event.Event.{Event}
 use Rattle.cluster_core.specs.declared.event.Event.TheVariants as event
@@ -18,30 +19,30 @@ use Rattle.cluster_core.specs.declared.event.StepReply.TheVariants as reply
 use Rattle.transcripts.specs.Caused.{HadBefore, InFiles, IsCalled, IsMemberBefore, IsOwn, OnDisk}
 use Rattle.transcripts.specs.Deliveries.{LateMessage}
 use Rattle.transcripts.specs.Faults.{Damaged, Failing, Fault}
-use Rattle.transcripts.specs.Placements.{has_replica, placement_after, start_placement}
-use Rattle.transcripts.specs.Record.{TurnPlace, IsTurnPlace, inner_turns}
+use Rattle.transcripts.specs.Placements.{has_replica, placement_at, printed}
+use Rattle.transcripts.specs.Record.{TurnPlace, IsTurnPlace}
 use Rattle.told_by.specs.Hears.{AnySlot, HasStep, HearsBy, HearsRefused, IsJoinCall, IsMember, IsRestartCall}
 use Rattle.told_by.specs.Makes.{IsNamedLast}
-use Rattle.told_by.specs.Spans.{IsAlone}
 use Rattle.told_by.specs.Told.{ToldBy}
 use Rattle.told_causes.specs.Calls.{Within}
 use Rattle.told_causes.specs.Faults.{faults_told}
 use Rattle.told_causes.specs.Nodes.{AreReached, NamesReplica, NodeAnswersAreSaid}
-use Rattle.told_causes.proofs.AloneLemmas.{none_earlier, stands_alone}
+use Rattle.told_causes.specs.Boot.{PlacesAlone}
+use Rattle.told_causes.proofs.AloneLemmas.{alone_by_place, stands_first}
+use Rattle.told_causes.proofs.StoodLemmas.{may_stand}
 use Rattle.told_causes.proofs.CallLemmas.{fault_here}
 
-module _ {tells : Bool} (start : Option MetaState) (turns : List Turn) (events : List Event) (legal : Legal tells events) (told : ToldBy start turns events) (p : TurnPlace) (at : IsTurnPlace turns p) (only : IsAlone turns p) where
+module _ {tells : Bool} (start : Option MetaState) (turns : List Turn) (events : List Event) (legal : Legal tells events) (told : ToldBy start turns events) (places : PlacesAlone start turns events told) (p : TurnPlace) (at : IsTurnPlace turns p) (quiet : printed p.turn.answer ≡ None) where
   abbrev faults : List Fault
   faults = faults_told told.ends events (length turns)
 
-  nothing_earlier : inner_turns p.lines ++ (p.earlier ++ []) ≡ inner_turns p.lines
-  nothing_earlier = ap (λ es. inner_turns p.lines ++ (es ++ [])) (none_earlier turns p only at) ∙ append-nil (inner_turns p.lines)
+  -- the placement that stands where it begins is the one before the line
+  first : (place : Placement) → last_place (take ((told.spans).from p) events) ≡ Some place → placement_at start p ≡ Some place
+  first = stands_first start turns events legal told p at (alone_by_place start turns events legal told places p at)
 
   -- the node is called so in the placement before the line
   called : (node : ℕ) (name : List ℕ) → IsNamedLast (take ((told.spans).from p) events) node name → IsCalled start p name node
-  called node name h =
-      let here = stands_alone start turns events legal told p at only h.place h.last in
-      record { place = h.place; stands = (inner_turns p.lines ++ (p.earlier ++ []), record { others = []; some_of = tt; are = refl }, ap (placement_after (start_placement start)) nothing_earlier ∙ here); named = h.named }
+  called node name h = record { place = h.place; stands = may_stand start turns events legal told places p at quiet h.place (first h.place h.last); named = h.named }
 
   on_disk : (name : List ℕ) (shard : ℕ) (Kind : StepCall → Type 0) (Reached : Placement → ℕ → Type 0) (Holds : ℕ → Type 0) → ((node : ℕ) → (last : IsNamedLast (take ((told.spans).from p) events) node name) → Reached last.place node → HasStep (Within events told.spans p) Kind node shard (reply.Refused reason.Disk) → Holds node)
       → HearsRefused (take ((told.spans).from p) events) (Within events told.spans p) Reached name shard Kind reason.Disk → OnDisk faults start p Holds name shard
@@ -56,7 +57,7 @@ module _ {tells : Bool} (start : Option MetaState) (turns : List Turn) (events :
 
   -- a member of the placement that stands is one before the line
   member : (name : List ℕ) (shard node : ℕ) → (last : IsNamedLast (take ((told.spans).from p) events) node name) → IsMember shard last.place node → IsMemberBefore start p shard node
-  member name shard node last h = subst (λ o. IsTrue (has_replica o shard node)) (sym (stands_alone start turns events legal told p at only last.place last.last)) h
+  member name shard node last h = subst (λ o. IsTrue (has_replica o shard node)) (sym (first last.place last.last)) h
 
   in_files : (name : List ℕ) (shard : ℕ) (Kind : StepCall → Type 0) (harm : Harm) → HearsRefused (take ((told.spans).from p) events) (Within events told.spans p) (IsMember shard) name shard Kind (reason.Corrupt harm) → InFiles faults start p (IsMemberBefore start p shard) name shard
   in_files name shard Kind harm h =
@@ -76,4 +77,11 @@ module _ {tells : Bool} (start : Option MetaState) (turns : List Turn) (events :
   by_act shard messages _ _ h is reached = absurd is
 
 pub node_answers : {tells : Bool} → NodeAnswersAreSaid tells
-node_answers start turns events legal told p at only shard is reached messages = by_act start turns events legal told p at only shard messages p.turn.act p.turn.answer ((told.tells).hears p at) is reached
+node_answers start turns events legal told places p at shard is reached messages =
+    by_act start turns events legal told places p at (prints_none p.turn.act p.turn.answer is) shard messages p.turn.act p.turn.answer ((told.tells).hears p at) is reached
+  where
+    prints_none : (a : Act) (b : Answer) → NamesReplica a b shard → printed b ≡ None
+    prints_none (act.Restart node pick) (answer.Disk name s) h = refl
+    prints_none (act.Bootstrap node asked) (answer.Disk name s) h = refl
+    prints_none (act.Bootstrap node asked) (answer.Corrupt name s damage) h = refl
+    prints_none _ _ h = absurd h

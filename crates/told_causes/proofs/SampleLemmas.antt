@@ -1,5 +1,5 @@
 -- The run that hears of a replica which nobody began.
-use Rattle.std.proofs.Common.{◌≡◌, ℕ, ◌+◌, List, [], ◌∷◌, ◌++◌, take, refl, sym, ap, ◌∙◌, subst, inl, inr, arith, true, false}
+use Rattle.std.proofs.Common.{◌≡◌, ℕ, zero, suc, ◌+◌, List, [], ◌∷◌, ◌++◌, take, refl, sym, ap, ◌∙◌, subst, inl, inr, arith, true, false}
 use Rattle.std.specs.Prelude.{Some, None, slice_get}
 use Rattle.m3_model.specs.Members.{IsIn}
 use Rattle.m3_model.specs.declared.act.Act.TheVariants as act
@@ -8,7 +8,7 @@ use Rattle.m3_model.specs.declared.placement.Placement.{Placement}
 use Rattle.m3_model.specs.declared.reason.Reason.{Reason}
 use Rattle.m3_model.specs.declared.reason.Reason.TheVariants as reason
 use Rattle.transcripts.specs.Fates.{OfNode}
-use Rattle.transcripts.specs.Record.{InnerTurn, IsLastTurnPlace, line_of}
+use Rattle.transcripts.specs.Record.{IsLastTurnPlace, line_of}
 use Rattle.cluster_core.specs.Legal.{Legal, LawfulAt}
 use Rattle.cluster_core.specs.Lists.{At}
 use Rattle.cluster_core.specs.declared.event.Asked.TheVariants as asked
@@ -20,15 +20,13 @@ use Rattle.cluster_core.proofs.ListLemmas.{some_same}
 use Rattle.told_by.specs.Hears.{HearsReason, InStretch, IsSweepCall}
 use Rattle.told_by.specs.Lines.{MayChange, PlainLine}
 use Rattle.told_by.specs.Sample.{name, place, rules}
-use Rattle.told_by.specs.Spans.{IsAlone}
 use Rattle.told_by.specs.Told.{TellsLine, ToldBy}
-use Rattle.told_by.proofs.BrokenLemmas.{turn_among}
 use Rattle.told_by.proofs.KindLemmas.{plain_told, plain_told_from, plain_told_to}
 use Rattle.told_by.proofs.LegalSampleLemmas.{asked_at, lawful_place}
 use Rattle.told_by.proofs.LineLemmas.{line_told, line_told_from, line_told_to, told_found}
 use Rattle.told_by.proofs.OneLemmas.{is_last}
 use Rattle.told_by.proofs.SampleLemmas.{Each, each_at, makes_each, restarts_none}
-use Rattle.told_causes.specs.Boot.{BootsAlone, IsBootAct, IsKnownSlot}
+use Rattle.told_causes.specs.Boot.{IsKnownSlot, PlacesAlone}
 use Rattle.told_causes.specs.Sample.{BootIsHeard, events, found, swept, ticking, turns}
 
 abbrev opening : List Event
@@ -86,12 +84,10 @@ slot told = record {
   owned = λ q at over begins tenure given i here. each_at (λ k x. x ≡ event.Step 0 0 (call.Begin tenure) (reply.Refused reason.NotOwned) → ⊥) 0 events ((λ e. cc), ((λ e. cc), ((λ e. cc), ((λ e. cc), tt)))) i (event.Step 0 0 (call.Begin tenure) (reply.Refused reason.NotOwned)) here.2 refl;
 }
 
-alone : BootsAlone turns
-alone q at boots =
-    elim (turn_among turns q at) as (λ _. IsAlone turns q) [
-      | inl same ↦ absurd (subst (λ (t : InnerTurn). IsBootAct t.act) (sym same) boots)
-      | inr nothing ↦ absurd nothing
-    ]
+-- its one line has one turn
+places : (told : ToldBy (Some found) turns events) → PlacesAlone (Some found) turns events told
+places told zero i p done less low high there = (line_of act.Tick swept, record { act = act.Tick; answer = swept }, refl, refl)
+places told (suc k) i p done less low high there = absurd (omega (arith, less))
 
 last : IsLastTurnPlace [] (line_of act.Tick swept) ticking
 last = is_last (Some found) [] opening act.Tick swept more
@@ -100,7 +96,7 @@ pub boot_is_heard : BootIsHeard
 boot_is_heard = (
   told,
   legal,
-  record { alone = alone; slot = slot told; was = record { lines = 0; not_later = omega arith; member = refl } },
+  record { places = places told; slot = slot told; was = record { lines = 0; not_later = omega arith; member = refl } },
   (
     3,
     (

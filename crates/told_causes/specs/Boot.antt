@@ -1,5 +1,5 @@
 -- Why a replica isn't begun: it waits for a bootstrap since the run opened, since it was assigned, or since its node was restarted.
-use Rattle.std.specs.Prelude.{◌≡◌, ◌⊎◌, ◌≤◌, ℕ, ⊤, List, length, take, Option, Some, true, IsTrue, Bool}
+use Rattle.std.specs.Prelude.{◌≡◌, ◌⊎◌, ◌≤◌, ◌<◌, ℕ, suc, ⊤, List, [], ◌∷◌, length, take, Option, Some, true, IsTrue, Bool}
 use Rattle.m3_model.specs.declared.act.Act.{Act}
 use Rattle.m3_model.specs.declared.act.Act.TheVariants as act
 use Rattle.m3_model.specs.declared.placement.Placement.{Placement}
@@ -16,12 +16,11 @@ use Rattle.cluster_core.specs.declared.event.StepCall.TheVariants as call
 use Rattle.cluster_core.specs.declared.event.StepReply.TheVariants as reply
 use Rattle.transcripts.specs.Fates.{OfNode}
 use Rattle.transcripts.specs.Placements.{has_replica, placement_after, printed, start_placement}
-use Rattle.transcripts.specs.Record.{TurnPlace, IsTurnPlace, inner_turns}
+use Rattle.transcripts.specs.Record.{InnerTurn, TurnPlace, IsTurnPlace, inner_turns, lists_of}
 use Rattle.transcripts.specs.Waiting.{WaitsForBoot, waits_at}
 use Rattle.told_by.specs.Hears.{Happens, InStretch, IsNamedBy}
 use Rattle.told_by.specs.Makes.{IsAssigned}
 use Rattle.told_by.specs.Openings.{sets_seed}
-use Rattle.told_by.specs.Spans.{IsAlone}
 use Rattle.told_by.specs.Told.{ToldBy}
 use Rattle.told_causes.specs.Standing.{IsHaltAct}
 
@@ -30,9 +29,13 @@ abbrev pub IsBootAct : Act → Type 0
 IsBootAct (act.Bootstrap node asked) = ⊤
 IsBootAct _ = ⊥
 
--- each bootstrap is the only turn of its line
-abbrev pub BootsAlone : List Turn → Type 0
-BootsAlone turns = (q : TurnPlace) → IsTurnPlace turns q → IsBootAct q.turn.act → IsAlone turns q
+-- the line has one turn
+abbrev pub HasOneTurn : List Turn → ℕ → Type 0
+HasOneTurn turns k = (line : Turn) × (turn : InnerTurn) × At turns k line × (lists_of line ≡ (turn ∷ []) ∷ [])
+
+-- each line with a Place has one turn
+abbrev pub PlacesAlone : (start : Option MetaState) (turns : List Turn) (events : List Event) → ToldBy start turns events → Type 0
+PlacesAlone start turns events told = (k i : ℕ) (place : Placement) (done : List (ℕ × ℕ)) → k < length turns → told.ends k ≤ i → i < told.ends (suc k) → At events i (event.Place place done) → HasOneTurn turns k
 
 -- the turn begins replicas over this placement: a bootstrap over the one that stands, an `init` over the one that it prints
 abbrev pub BeginsOver : List Event → ℕ → TurnPlace → Placement → Type 0
@@ -56,9 +59,9 @@ pub record WasMember (start : Option MetaState) (p : TurnPlace) (shard node : �
   pub not_later : lines ≤ length p.lines
   pub member : IsTrue (has_replica (placement_after (start_placement start) (inner_turns (take lines p.lines))) shard node)
 
--- what is known of a replica that is asked: bootstraps are alone in their lines, its slot is known, and it was a member
+-- what is known of a replica that is asked: lines with a Place have one turn, its slot is known, and it was a member
 pub record IsKnownMember (start : Option MetaState) (turns : List Turn) (events : List Event) (told : ToldBy start turns events) (p : TurnPlace) (shard node : ℕ) (name : List ℕ) : Type 0 where
-  pub alone : BootsAlone turns
+  pub places : PlacesAlone start turns events told
   pub slot : IsKnownSlot start turns events told node shard name
   pub was : WasMember start p shard node
 

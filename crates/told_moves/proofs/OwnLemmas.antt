@@ -38,10 +38,10 @@ use Rattle.told_by.proofs.LeaveLemmas.{place_there}
 use Rattle.told_by.proofs.LineLemmas.{line_below, take_front}
 use Rattle.told_by.proofs.OpeningLemmas.{first_event}
 use Rattle.told_by.proofs.PrintedLemmas.{ends_grow, ends_within, placements_stand}
-use Rattle.told_by.proofs.TurnLemmas.{cut_at, place_in}
-use Rattle.told_causes.specs.Boot.{IsBootAct}
+use Rattle.told_by.proofs.TurnLemmas.{cut_at, own_list, place_in}
 use Rattle.told_causes.proofs.AloneLemmas.{lines_before}
-use Rattle.told_causes.proofs.BootLemmas.{HasBegun, covered_begun, no_boot_earlier, true_or_not}
+use Rattle.told_causes.proofs.BootLemmas.{HasBegun, covered_begun, true_or_not}
+use Rattle.told_causes.proofs.StoodLemmas.{may_stand, stood}
 use Rattle.told_causes.proofs.HaltLemmas.{late_step, opening_two}
 use Rattle.told_causes.proofs.NameLemmas.{any_found, name_is}
 use Rattle.told_causes.proofs.RefusalLemmas.{first_down, refused_law}
@@ -51,7 +51,6 @@ use Rattle.told_moves.specs.Order.{IsInOrder}
 use Rattle.told_moves.proofs.AskLemmas.{begin_asked}
 use Rattle.told_moves.proofs.ReasonLemmas.{RefusedIn, refused_in}
 use Rattle.told_moves.proofs.SlotLemmas.{EndedAt, IsEnded, Tries, ended_at, owned_began, slot, tried_began}
-use Rattle.told_moves.proofs.StoodLemmas.{may_stand, stood}
 use Rattle.told_moves.proofs.TenureLemmas.{GivenAt, given_by, line_low, member_named, member_tenure, name_everywhere, stands_at, stands_from, tenure_grows}
 
 -- ---- turns
@@ -176,50 +175,64 @@ module _ {tells : Bool} (start : Option MetaState) (turns : List Turn) (events :
     abbrev x : Replica
     x = record { shard = s; node = n; name = name }
 
-    -- a bootstrap after the end of the slot's tenure that covers it, a member, would have begun it
+    -- a bootstrap after the end of the slot's tenure that covers it, a member when its line begins, would have begun it
+    turn_clash : tells ≡ true → (i : ℕ) → i ≤ length events → (e : EndedAt events legal n s i) → (q : TurnPlace) → IsTurnPlace turns q → (k : ℕ) → k < length turns → e.place < told.ends k → length q.lines ≡ k → (told.spans).to q ≤ i → (after : Option Placement)
+        → EndsWait x (is_member x (placed k) && is_member x after) q.turn → ⊥
+    turn_clash is i bound e q at_q k less later line_is finishes after h =
+        let ends = and_both _ _ h.ends in
+        let covers = and_both (pointwise nat_eq name h.node) (is_covering s h.asked) ends.1 in
+        let member = (and_both _ _ ends.0).0 in
+        let p = member_place (placed k) s n member in
+        let is_there : has_replica (Some p.0) s n ≡ true = subst (λ o. has_replica o s n ≡ true) p.1 member in
+        let b = covered_begun start turns events legal told order.places q at_q n s name p.0 (ap placed line_is ∙ p.1) is_there (λ z done here. member_named start turns events legal told order z n s p.0 done name here named is_there)
+        h.node h.asked h.available h.place h.version h.act_is h.answered (name_is name h.node covers.0) covers.1 in
+        by_begun b (placements_stand start turns events legal told k (omega (arith, less)) ∙ p.1) (omega (arith, (told.lines).low q at_q, ap told.ends line_is)) finishes (omega (arith, (told.lines).high q at_q, ap (λ j. told.ends (suc j)) line_is))
+      where
+        by_begun : {from to : ℕ} {stood : Placement} → HasBegun events from to n s stood → last_place (take (told.ends k) events) ≡ Some stood → told.ends k ≤ from → to ≤ i → to ≤ told.ends (suc k) → ⊥
+        by_begun b last begins finishes ends =
+            let low = b.low in
+            let high = b.high in
+            begin_clash is n s b.place b.tenure b.answer b.begun b.there (e.since b.place (omega (arith, later, begins, low)) (omega (arith, high, finishes))) (e.since (suc b.place) (omega (arith, later, begins, low)) (omega (arith, high, finishes)))
+            (tried_low k less n s b.place b.tenure (omega (arith, begins, low)) (omega (arith, high, ends)) (given_by events legal n s (told.ends k) b.tenure _ last b.given))
+
     boot_clash : tells ≡ true → (i : ℕ) → i ≤ length events → (e : EndedAt events legal n s i) → (k : ℕ) → k < length turns → e.place < told.ends k → told.ends (suc k) ≤ i → (line : Turn) → At turns k line
         → (t : InnerTurn) → IsIn (inner_turns (line ∷ [])) t → EndsWait x (is_member x (placed k) && is_member x (placed (suc k))) t → ⊥
     boot_clash is i bound e k less later finishes line there t m h =
         let cut = cut_at turns k line there in
         let q = place_in turns cut.0 line cut.1 cut.2 t (subst (λ ts. IsIn ts t) (append-nil (joined (lists_of line))) m) in
         let line_is : length (q.0).lines ≡ k = ap length q.3 ∙ cut.3 in
-        let acts : (q.0).turn.act ≡ act.Bootstrap h.node h.asked = ap (λ (u : InnerTurn). u.act) q.2 ∙ h.act_is in
-        let answers : (q.0).turn.answer ≡ answer.Available h.available h.place h.version = ap (λ (u : InnerTurn). u.answer) q.2 ∙ h.answered in
-        let ends = and_both _ _ h.ends in
-        let covers = and_both (pointwise nat_eq name h.node) (is_covering s h.asked) ends.1 in
-        let member = (and_both _ _ ends.0).0 in
-        let p = member_place (placed k) s n member in
-        let is_there : has_replica (Some p.0) s n ≡ true = subst (λ o. has_replica o s n ≡ true) p.1 member in
-        let b = covered_begun start turns events legal told q.0 q.1 (order.boots q.0 q.1 (subst IsBootAct (sym acts) tt)) n s name p.0 (ap placed line_is ∙ p.1) is_there (λ z done here. member_named start turns events legal told order z n s p.0 done name here named is_there)
-        h.node h.asked h.available h.place h.version acts answers (name_is name h.node covers.0) covers.1 in
-        by_begun b (placements_stand start turns events legal told k (omega (arith, less)) ∙ p.1) (omega (arith, (told.lines).low q.0 q.1, ap told.ends line_is)) (omega (arith, (told.lines).high q.0 q.1, ap (λ j. told.ends (suc j)) line_is))
-      where
-        by_begun : {from to : ℕ} {stood : Placement} → HasBegun events from to n s stood → last_place (take (told.ends k) events) ≡ Some stood → told.ends k ≤ from → to ≤ told.ends (suc k) → ⊥
-        by_begun b last begins ends =
-            let low = b.low in
-            let high = b.high in
-            begin_clash is n s b.place b.tenure b.answer b.begun b.there (e.since b.place (omega (arith, later, begins, low)) (omega (arith, high, ends, finishes))) (e.since (suc b.place) (omega (arith, later, begins, low)) (omega (arith, high, ends, finishes)))
-            (tried_low k less n s b.place b.tenure (omega (arith, begins, low)) (omega (arith, high, ends)) (given_by events legal n s (told.ends k) b.tenure _ last b.given))
+        turn_clash is i bound e q.0 q.1 k less later line_is (omega (arith, (told.lines).high q.0 q.1, ap (λ j. told.ends (suc j)) line_is, finishes)) (placed (suc k)) (subst (EndsWait x (is_member x (placed k) && is_member x (placed (suc k)))) (sym q.2) h)
 
     -- so a member whose tenure ended is new since the line that assigned it
-    is_new : (p : TurnPlace) → IsTurnPlace turns p → (i : ℕ) → told.ends (length p.lines) ≤ i → i ≤ length events → (e : EndedAt events legal n s i) → WasAssigned x e.place (length p.lines) → IsNew tells x start p
+    is_new : (p : TurnPlace) → IsTurnPlace turns p → (i : ℕ) → (told.spans).from p ≤ i → i ≤ length events → (e : EndedAt events legal n s i) → WasAssigned x e.place (length p.lines) → IsNew tells x start p
     is_new p at i low bound e w = record {
       lines = w.line;
       earlier = w.early;
       assigned = let early = w.early in ap (λ o. is_assigned x o (placement_by start p.lines (suc w.line))) (same w.line (omega (arith, early))) ∙ ap (is_assigned x (placed w.line)) (same (suc w.line) early) ∙ w.assigned;
       not_since = λ is k line above there. by_line is k line above there (at_within p.lines k line there);
-      not_beside = λ is. none_begun x (placement_by start p.lines (length p.lines)) (placement_after (placement_by start p.lines (length p.lines)) (p.earlier ++ p.beside)) p.earlier (λ t m h. no_boot_earlier turns order.boots p at t m (subst IsBootAct (sym h.act_is) tt));
+      not_beside = λ is. none_begun x (placement_by start p.lines (length p.lines)) (placement_after (placement_by start p.lines (length p.lines)) (p.earlier ++ p.beside)) p.earlier (by_earlier is (placement_after (placement_by start p.lines (length p.lines)) (p.earlier ++ p.beside)));
     }
       where
         same : (j : ℕ) → j ≤ length p.lines → placement_by start p.lines j ≡ placed j
         same j le = ap (λ ls. placement_after (start_placement start) (inner_turns ls)) (sym (ap (take j) at.in_run ∙ take_front p.lines (p.line ∷ at.after) j le))
+
+        by_earlier : tells ≡ true → (after : Option Placement) → (t : InnerTurn) → IsIn p.earlier t → EndsWait x (is_member x (placement_by start p.lines (length p.lines)) && is_member x after) t → ⊥
+        by_earlier is after t m h =
+            let k = length p.lines in
+            let q = own_list turns p at t m in
+            let less : k < length turns = line_below turns p at in
+            let later = w.later in
+            let begins : e.place < told.ends k = omega (arith, later, ends_grow start turns events told (suc w.line) k w.early (omega (arith, less))) in
+            let finishes = (told.tells).order.order q.place p q.in_run at (inr (ap length q.lines_are, q.client_is, q.earlier)) in
+            turn_clash is i bound e q.place q.in_run k less begins (ap length q.lines_are) (omega (arith, finishes, low)) after
+            (subst (λ (u : InnerTurn). EndsWait x (is_member x (placed k) && is_member x after) u) (sym q.turn_is) (subst (λ o. EndsWait x (is_member x o && is_member x after) t) (same k (omega arith)) h))
 
         by_line : tells ≡ true → (k : ℕ) (line : Turn) → w.line < k → At p.lines k line → k < length p.lines → is_begun_in x (placement_by start p.lines k) (placement_by start p.lines (suc k)) (inner_turns (line ∷ [])) ≡ false
         by_line is k line above there early =
             let less : k < length turns = omega (arith, early, line_below turns p at) in
             let later = w.later in
             let begins : e.place < told.ends k = omega (arith, later, ends_grow start turns events told (suc w.line) k above (omega (arith, less))) in
-            let finishes : told.ends (suc k) ≤ i = omega (arith, ends_grow start turns events told (suc k) (length p.lines) early (omega (arith, line_below turns p at)), low) in
+            let finishes : told.ends (suc k) ≤ i = omega (arith, ends_grow start turns events told (suc k) (length p.lines) early (omega (arith, line_below turns p at)), (told.lines).low p at, low) in
             let here : At turns k line = subst (λ ts. At ts k line) (sym at.in_run) (at_append p.lines (p.line ∷ at.after) k line there) in
             ap (λ o. is_begun_in x o (placement_by start p.lines (suc k)) (inner_turns (line ∷ []))) (same k (omega (arith, early)))
             ∙ ap (λ o. is_begun_in x (placed k) o (inner_turns (line ∷ []))) (same (suc k) early)
@@ -230,8 +243,8 @@ module _ {tells : Bool} (start : Option MetaState) (turns : List Turn) (events :
         → OwnsNot start p s n version ⊎ IsNew tells x start p
     ended_unowned p at quiet version i low high place last stands e =
         elim (true_or_not (has_replica (Some place) s n)) as (λ _. OwnsNot start p s n version ⊎ IsNew tells x start p) [
-          | inr gone ↦ inl (record { place = place; may_stand = may_stand start turns events legal told order p at place stands; not_owned = inl gone })
-          | inl member ↦ inr (is_new p at i (omega (arith, (told.lines).low p at, low)) (omega (arith, high, (told.tells).order.not_above p at)) e (by_member member))
+          | inr gone ↦ inl (record { place = place; may_stand = may_stand start turns events legal told order.places p at quiet.prints_none place stands; not_owned = inl gone })
+          | inl member ↦ inr (is_new p at i low (omega (arith, high, (told.tells).order.not_above p at)) e (by_member member))
         ]
       where
         was : (at_end : Placement) × (last_place (take e.place events) ≡ Some at_end)
@@ -249,7 +262,7 @@ module _ {tells : Bool} (start : Option MetaState) (turns : List Turn) (events :
                   let is : placed k ≡ Some place = ap (λ ls. placement_after (start_placement start) (inner_turns ls)) (lines_before start turns events legal told p at) ∙ stands in
                   assigned_at x e.place was.0 (late_step events legal e.place n s call.End reply.Done e.there) was.1 gone k (omega (arith, line_below turns p at)) lt (ap (is_member x) is ∙ member)
               | inr ge ↦
-                  let here = stood start turns events legal told order p at quiet.prints_none e.place ge (omega (arith, below, high, (told.lines).high p at)) in
+                  let here = stood start turns events legal told order.places p at quiet.prints_none e.place ge (omega (arith, below, high, (told.lines).high p at)) in
                   let same : was.0 ≡ place = some_same was.0 place (sym was.1 ∙ here ∙ stands) in
                   let bad : true ≡ false = sym member ∙ ap (λ q. has_replica (Some q) s n) (sym same) ∙ gone in
                   cc
@@ -258,7 +271,7 @@ module _ {tells : Bool} (start : Option MetaState) (turns : List Turn) (events :
   not_owned_at : (p : TurnPlace) → IsTurnPlace turns p → IsQuiet p → (used : Placement) (s n : ℕ) → IsRefusedAt start turns events told p used s n reason.NotOwned → RefusedIn start turns events told p n s used.version reason.NotOwned → IsUnowned tells start p used s n
   not_owned_at p at quiet used s n h r =
       elim r.founds as (λ _. IsUnowned tells start p used s n) [
-        | inr t ↦ inl (above_owns_not p n s used.version t.0 r.at r.place r.bound r.last (may_stand start turns events legal told order p at r.place r.stands) t.1 t.2)
+        | inr t ↦ inl (above_owns_not p n s used.version t.0 r.at r.place r.bound r.last (may_stand start turns events legal told order.places p at quiet.prints_none r.place r.stands) t.1 t.2)
         | inl none ↦
             let e = ended_at events legal n s r.at r.bound (record { open_ = r.open_; none = none }) in
             elim (ended_unowned n s h.name (name_everywhere events legal n used h.name h.placed h.named) p at quiet used.version r.at r.low r.high r.place r.last r.stands e) as (λ _. IsUnowned tells start p used s n) [

@@ -31,7 +31,7 @@ use Rattle.told_by.specs.Told.{ToldBy}
 use Rattle.told_causes.proofs.RefusalLemmas.{or_cases, refused_law}
 use Rattle.told_moves.specs.Moves.{IsAtVersion, IsQuiet, IsRefusedAt}
 use Rattle.told_moves.specs.Order.{IsInOrder}
-use Rattle.told_moves.proofs.StoodLemmas.{stood}
+use Rattle.told_causes.proofs.StoodLemmas.{stood}
 use Rattle.told_moves.proofs.TenureLemmas.{stands_at}
 
 -- the reasons that a move of the shard leaves
@@ -150,5 +150,5 @@ refused_in {tells} start turns events legal told order p at quiet used s n why i
     let law = refused_law tells (take i events) n s r h.asked why (lawful_step events legal i n s h.asked (reply.Refused why) there) in
     let move = refused_move r h.asked used.version why h.at_version is (first_is tells (take i events) s r h.asked used.version why h.at_version is law) in
     let place = stands_at start turns events legal told order i n s h.asked (reply.Refused why) there in
-    let line = stood start turns events legal told order p at quiet.prints_none i (omega (arith, (told.lines).low p at, low)) (omega (arith, (told.lines).high p at, high)) in
+    let line = stood start turns events legal told order.places p at quiet.prints_none i (omega (arith, (told.lines).low p at, low)) (omega (arith, (told.lines).high p at, high)) in
     record { at = i; low = low; high = high; bound = omega (arith, high, (told.tells).order.not_above p at); place = place.0; last = place.1; stands = sym line ∙ place.1; open_ = move.0; founds = move.1 }

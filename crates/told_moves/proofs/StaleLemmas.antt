@@ -1,8 +1,8 @@
 -- A put or a read that is refused for a fence is so for one that a bootstrap of the shard asked for, or that an earlier run left.
-use Rattle.std.proofs.Common.{◌≡◌, ℕ, suc, ◌<◌, ◌≤◌, List, [], ◌∷◌, take, length, sym, ap, ◌∙◌, subst, inl, inr, arith, true, append-nil}
+use Rattle.std.proofs.Common.{◌≡◌, ℕ, suc, ◌<◌, ◌≤◌, List, [], ◌∷◌, ◌++◌, length-append, take, length, sym, ap, ◌∙◌, subst, inl, inr, arith, true, append-nil}
 use Rattle.std.specs.Prelude.{◌⊎◌, Option, Some, None}
-use Rattle.std.proofs.lemmas.Bool.{cases_lt}
 use Rattle.m3_model.specs.Members.{IsIn}
+use Rattle.m3_model.proofs.MemberLemmas.{IsIn-append_left, IsIn-append_right}
 use Rattle.m3_model.specs.declared.placement.Placement.{Placement}
 use Rattle.m3_model.specs.declared.reason.Reason.TheVariants as reason
 use Rattle.m3_model.specs.declared.rules.MetaState.{MetaState}
@@ -13,22 +13,21 @@ use Rattle.cluster_core.specs.Lists.{At}
 use Rattle.cluster_core.specs.declared.event.Event.{Event}
 use Rattle.cluster_core.specs.declared.event.Event.TheVariants as event
 use Rattle.cluster_core.proofs.ListLemmas.{at_take, at_within, fold_suc, some_same}
-use Rattle.transcripts.specs.Moves.{IsBootstrapFor, IsFencedAbove, IsLeftFence, IsOfMove, IsTakenIn, placement_by}
+use Rattle.transcripts.specs.Moves.{IsBootstrapFor, IsFencedAbove, IsLeftFence, IsOfMove, IsTakenBy, IsTakenIn, placement_by}
 use Rattle.transcripts.specs.Placements.{placement_after, printed, start_placement}
-use Rattle.transcripts.specs.Record.{TurnPlace, IsTurnPlace, inner_turns, joined, lists_of}
+use Rattle.transcripts.specs.Record.{InnerTurn, TurnPlace, IsTurnPlace, inner_turns, joined, lists_of}
 use Rattle.told_by.specs.Told.{ToldBy}
 use Rattle.told_by.proofs.LeaveLemmas.{place_there}
 use Rattle.told_by.proofs.LineLemmas.{at_front, line_below, take_front}
 use Rattle.told_by.proofs.PrintedLemmas.{ends_within, greatest_so_far, placements_stand}
-use Rattle.told_by.proofs.TurnLemmas.{at_cut, cut_before, flat_map-IsIn, in_cut, in_its_line}
+use Rattle.told_by.proofs.TurnLemmas.{at_cut, cut_before, flat_map-IsIn, in_cut, in_its_line, stands, before_line, before_there, in_other_list, is_it, comes_later}
 use Rattle.told_causes.specs.Boot.{IsBootAct}
-use Rattle.told_causes.proofs.AloneLemmas.{alone_place}
+use Rattle.told_causes.proofs.StoodLemmas.{may_stand, stood}
 use Rattle.told_moves.specs.Moves.{IsPlaced, IsQuiet, StaleIsSaid}
 use Rattle.told_moves.specs.Order.{IsInOrder, IsInitAct, OpensWithin}
 use Rattle.told_moves.proofs.AskLemmas.{IsBootOf, IsMoveAsk}
 use Rattle.told_moves.proofs.FenceLemmas.{MovesBefore, fence_source}
 use Rattle.told_moves.proofs.ReasonLemmas.{RefusedIn, refused_in}
-use Rattle.told_moves.proofs.StoodLemmas.{may_stand}
 use Rattle.told_moves.proofs.TenureLemmas.{assigned_low, assigned_so, stands_from}
 
 -- ---- turns
@@ -40,17 +39,16 @@ among_lines turns q p at_q at lt =
     flat_map-IsIn (λ (line : Turn). joined (lists_of line)) p.lines q.line q.turn (subst (λ ls. IsIn ls q.line) (sym cut.1) (in_cut q.lines q.line cut.0)) (in_its_line q at_q.stands)
 
 module _ (start : Option MetaState) (turns : List Turn) (events : List Event) (legal : Legal true events) (told : ToldBy start turns events) (order : IsInOrder start turns events told) (opens : OpensWithin start events) where
-  -- what is asked for in a bootstrap's stretch that begins before another turn's ends was asked for in an earlier line
-  asked_earlier : (p q : TurnPlace) → IsTurnPlace turns p → IsTurnPlace turns q → IsQuiet p → IsBootAct q.turn.act → (told.spans).from q < (told.spans).to p → length q.lines < length p.lines
+  -- a bootstrap whose stretch begins before another turn's ends is of an earlier line, or earlier in its list, or in another list of its line
+  asked_earlier : (p q : TurnPlace) → IsTurnPlace turns p → IsTurnPlace turns q → IsQuiet p → IsBootAct q.turn.act → (told.spans).from q < (told.spans).to p
+      → (length q.lines < length p.lines) ⊎ ((length q.lines ≡ length p.lines) × IsIn (p.earlier ++ p.beside) q.turn)
   asked_earlier p q at at_q quiet boots begins =
-      elim (cases_lt (length q.lines) (length p.lines)) as (λ _. length q.lines < length p.lines) [
-        | inl lt ↦ lt
-        | inr ge ↦ elim (cases_lt (length p.lines) (length q.lines)) as (λ _. length q.lines < length p.lines) [
-          | inl gt ↦ absurd (omega (arith, (told.tells).order.order p q at at_q (inl gt), begins))
-          | inr le ↦
-              let is = alone_place turns q p (order.boots q at_q boots) at_q at (omega (arith, ge, le)) in
-              absurd (quiet.begins_none (subst (λ (z : TurnPlace). IsBootAct z.turn.act) (sym is) boots))
-        ]
+      elim (stands turns q p at_q at) as (λ _. (length q.lines < length p.lines) ⊎ ((length q.lines ≡ length p.lines) × IsIn (p.earlier ++ p.beside) q.turn)) [
+        | before_line rest line lines among ↦ inl (omega (arith, ap length lines, length-append q.lines (line ∷ rest)))
+        | before_there lines among ↦ inr (ap length lines, IsIn-append_left p.earlier p.beside q.turn among)
+        | in_other_list lines among ↦ inr (ap length lines, IsIn-append_right p.earlier p.beside q.turn among)
+        | is_it same ↦ absurd (quiet.begins_none (subst (λ (t : InnerTurn). IsBootAct t.act) same boots))
+        | comes_later later ↦ absurd (omega (arith, (told.tells).order.order p q at at_q later, begins))
       ]
 
   -- a placement that stands somewhere in the stretch of a turn of an earlier line stood when that line began, or when it ended
@@ -87,7 +85,13 @@ module _ (start : Option MetaState) (turns : List Turn) (events : List Event) (l
         node = node;
         assigned = assigned_so ask.place node s fence ask.assigned;
         turn = (ask.q).turn;
-        taken = inl (taken_in p at ask.q ask.in_run early k (ask.within).0 (omega (arith, (ask.within).1, (told.lines).high ask.q ask.in_run)) ask.place ask.last);
+        taken = elim early as (λ _. IsTakenBy start p ask.place (ask.q).turn) [
+          | inl lt ↦ inl (taken_in p at ask.q ask.in_run lt k (ask.within).0 (omega (arith, (ask.within).1, (told.lines).high ask.q ask.in_run)) ask.place ask.last)
+          | inr line ↦
+              let begins : told.ends (length p.lines) ≤ k = omega (arith, (told.lines).low ask.q ask.in_run, ap told.ends line.0, (ask.within).0) in
+              let stands_so = stood start turns events legal told order.places p at quiet.prints_none k begins (omega (arith, high, (told.lines).high p at)) in
+              inr (line.1, may_stand start turns events legal told order.places p at quiet.prints_none ask.place (sym stands_so ∙ ask.last))
+        ];
         asks = record { instance_ = named.instance_; stands = named.stands; holds = subst (IsBootstrapFor s (named.instance_).name) (sym boot.act_is) (sym named.holds, boot.covers) };
       }
 
@@ -133,7 +137,7 @@ module _ (start : Option MetaState) (turns : List Turn) (events : List Event) (l
       record {
         above = above;
         place = h.place;
-        may_stand = may_stand start turns events legal told order p at h.place h.stands;
+        may_stand = may_stand start turns events legal told order.places p at quiet.prints_none h.place h.stands;
         not_above = cause_low p at n s fence h.at h.high h.place h.last source;
         cause = elim source as (λ _. IsLeftFence start fence ⊎ IsOfMove start p s fence) [ inl left ↦ inl left | inr m ↦ inr (move_cause p at quiet used placed n s fence h.at above h.high m) ];
       }

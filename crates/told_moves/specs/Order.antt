@@ -19,24 +19,18 @@ use Rattle.transcripts.specs.Moves.{IsLeftFence}
 use Rattle.transcripts.specs.Placements.{has_replica, printed}
 use Rattle.transcripts.specs.Record.{TurnPlace, IsTurnPlace}
 use Rattle.told_by.specs.Openings.{sets_seed}
-use Rattle.told_by.specs.Spans.{IsAlone}
 use Rattle.told_by.specs.Told.{ToldBy}
-use Rattle.told_causes.specs.Boot.{BootsAlone}
+use Rattle.told_causes.specs.Boot.{PlacesAlone}
 
 -- the act makes the first placement
 abbrev pub IsInitAct : Act → Type 0
 IsInitAct (act.Init rf shards seed nodes) = ⊤
 IsInitAct _ = ⊥
 
--- each turn that prints a placement is the only one of its line
-abbrev pub PrintsAlone : List Turn → Type 0
-PrintsAlone turns = (q : TurnPlace) → IsTurnPlace turns q → (place : Placement) → printed q.turn.answer ≡ Some place → IsAlone turns q
-
--- bootstraps and placement lines are alone in their lines; an `init` that prints a placement is answered ok; each Place is a lawful placement, and a line
--- has one at most; a tenure ends where the placement that stands has no replica of the slot
+-- a line with a Place has one turn, and one Place at most; an `init` that prints a placement is answered ok; each Place is a lawful placement; a tenure ends
+-- where the placement that stands has no replica of the slot
 pub record IsInOrder (start : Option MetaState) (turns : List Turn) (events : List Event) (told : ToldBy start turns events) : Type 0 where
-  pub boots : BootsAlone turns
-  pub prints : PrintsAlone turns
+  pub places : PlacesAlone start turns events told
   pub inits : (q : TurnPlace) → IsTurnPlace turns q → IsInitAct q.turn.act → (place : Placement) → printed q.turn.answer ≡ Some place → sets_seed q.turn.act q.turn.answer ≡ true
   pub lawful : (i : ℕ) (place : Placement) (done : List (ℕ × ℕ)) → At events i (event.Place place done) → IsLawful place
   pub one : (k i : ℕ) (place : Placement) (done : List (ℕ × ℕ)) → k < length turns → told.ends k ≤ i → i < told.ends (suc k) → At events i (event.Place place done) → last_place (take (told.ends (suc k)) events) ≡ Some place

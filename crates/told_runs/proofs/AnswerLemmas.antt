@@ -29,15 +29,13 @@ use Rattle.transcripts.specs.Record.{Record, TurnPlace, IsTurnPlace}
 use Rattle.transcripts.proofs.MoreFaults.{AreAmong, different_both, own_more}
 use Rattle.told_by.specs.Hears.{InStretch, IsRestartCall}
 use Rattle.told_by.specs.Openings.{opening_length}
-use Rattle.told_by.specs.Spans.{IsAlone}
 use Rattle.told_by.specs.Told.{ToldBy}
 use Rattle.told_by.proofs.LineLemmas.{line_below}
-use Rattle.told_causes.specs.Boot.{IsBootAct}
 use Rattle.told_causes.specs.Calls.{IsKnownCall, Within}
 use Rattle.told_causes.specs.Deliveries.{IsKnownDelivery}
 use Rattle.told_causes.specs.Faults.{fault_of, faults_told}
 use Rattle.told_causes.specs.Nodes.{AreReached, NamesReplica}
-use Rattle.told_causes.specs.Standing.{HaltsAlone, IsHaltAct}
+use Rattle.told_causes.specs.Standing.{HaltsAlone}
 use Rattle.told_causes.proofs.CallLemmas.{acks_said}
 use Rattle.told_causes.proofs.DeliverLemmas.{outcomes_said}
 use Rattle.told_causes.proofs.FaultLemmas.{faults_different, faults_steps}
@@ -78,10 +76,10 @@ module _ {tells : Bool} (taking : List Fault) (start : Option MetaState) (turns 
   restart_reached p at quiet shard _ = tt
 
   -- a restart or a bootstrap that was refused for a disk or for files
-  of_node : (p : TurnPlace) → IsTurnPlace turns p → IsAlone turns p → (a : Act) (b : Answer) → p.turn.act ≡ a → p.turn.answer ≡ b → printed b ≡ None → (shard : ℕ) → NamesReplica a b shard → (messages : List LateMessage) → IsOwn tells all_faults start messages p a b
-  of_node p at only a b acts answers quiet shard names messages =
+  of_node : (p : TurnPlace) → IsTurnPlace turns p → (a : Act) (b : Answer) → p.turn.act ≡ a → p.turn.answer ≡ b → printed b ≡ None → (shard : ℕ) → NamesReplica a b shard → (messages : List LateMessage) → IsOwn tells all_faults start messages p a b
+  of_node p at a b acts answers quiet shard names messages =
       let names_it : NamesReplica p.turn.act p.turn.answer shard = subst (λ x. NamesReplica x p.turn.answer shard) (sym acts) (subst (λ y. NamesReplica a y shard) (sym answers) names) in
-      let own = node_answers start turns events legal told p at only shard names_it (restart_reached p at (ap printed answers ∙ quiet) shard p.turn.act) messages in
+      let own = node_answers start turns events legal told order.places p at shard names_it (restart_reached p at (ap printed answers ∙ quiet) shard p.turn.act) messages in
       own_more tells told_faults all_faults told_among start messages p a b (subst (λ x. IsOwn tells told_faults start messages p x b) acts (subst (λ y. IsOwn tells told_faults start messages p p.turn.act y) answers own))
 
   call_known : (p : TurnPlace) → IsTurnPlace turns p → (a : Act) (b : Answer) → p.turn.act ≡ a → p.turn.answer ≡ b → IsTrue (is_call a) → printed b ≡ None → IsKnownCall tells start turns events told p
@@ -103,10 +101,10 @@ module _ {tells : Bool} (taking : List Fault) (start : Option MetaState) (turns 
       own_more tells told_faults all_faults told_among start messages p act.Deliver (answer.Outcomes outcomes) (outcomes_said start turns events told p (known.deliveries p at acts (ap printed answers)) outcomes (record { messages = messages; in_order = h.0; each = h.1 }))
   own_by p at (act.Stop node) answer.Done acts answers messages h kind = tt
   own_by p at (act.Restart node pick) answer.Done acts answers messages h kind = tt
-  own_by p at (act.Restart node pick) (answer.Disk name shard) acts answers messages h kind = of_node p at (halts p at (subst IsHaltAct (sym acts) tt)) (act.Restart node pick) (answer.Disk name shard) acts answers refl shard refl messages
+  own_by p at (act.Restart node pick) (answer.Disk name shard) acts answers messages h kind = of_node p at (act.Restart node pick) (answer.Disk name shard) acts answers refl shard refl messages
   own_by p at (act.Bootstrap node asked) (answer.Available available place version) acts answers messages h kind = kind
-  own_by p at (act.Bootstrap node asked) (answer.Disk name shard) acts answers messages h kind = of_node p at (order.boots p at (subst IsBootAct (sym acts) tt)) (act.Bootstrap node asked) (answer.Disk name shard) acts answers refl shard refl messages
-  own_by p at (act.Bootstrap node asked) (answer.Corrupt name shard damage) acts answers messages h kind = of_node p at (order.boots p at (subst IsBootAct (sym acts) tt)) (act.Bootstrap node asked) (answer.Corrupt name shard damage) acts answers refl shard refl messages
+  own_by p at (act.Bootstrap node asked) (answer.Disk name shard) acts answers messages h kind = of_node p at (act.Bootstrap node asked) (answer.Disk name shard) acts answers refl shard refl messages
+  own_by p at (act.Bootstrap node asked) (answer.Corrupt name shard damage) acts answers messages h kind = of_node p at (act.Bootstrap node asked) (answer.Corrupt name shard damage) acts answers refl shard refl messages
   own_by p at (act.Write ns id t v level version) (answer.Acks nodes) acts answers messages h kind =
       acks_said start turns events legal told p at halts (call_known p at (act.Write ns id t v level version) (answer.Acks nodes) acts answers refl refl).named ns id t v level version nodes acts answers
   own_by p at (act.Write ns id t v level version) (answer.Consistency got needed reasons shard) acts answers messages h kind =

@@ -10,7 +10,7 @@ use Rattle.told_by.specs.Sample.{events as short_events, fetched, turns as short
 use Rattle.told_by.proofs.OneLemmas.{is_last}
 use Rattle.told_causes.proofs.AloneLemmas.{only_cut}
 use Rattle.told_runs.specs.Answers.{IsAnswered, IsDecidedBy}
-use Rattle.told_runs.specs.Broken.{BootsBeside, DeliversAgain, IsNeverServed, TakesElsewhere, UndueOrder}
+use Rattle.told_runs.specs.Broken.{DeliversAgain, IsNeverServed, PlacesBeside, TakesElsewhere, UndueOrder}
 
 pub never_again : IsNeverServed DeliversAgain
 never_again tells untaken now was past start turns events line more adds serves d =
@@ -19,10 +19,11 @@ never_again tells untaken now was past start turns events line more adds serves 
 pub never_elsewhere : IsNeverServed TakesElsewhere
 never_elsewhere tells untaken now was past start turns events line more adds serves t = t.elsewhere ((serves.answers).untaken_are t.fault t.among).1
 
-pub never_beside : IsNeverServed BootsBeside
+pub never_beside : IsNeverServed PlacesBeside
 never_beside tells untaken now was past start turns events line more adds serves b =
     let stands = (b.here).stands in
-    let only = only_cut (b.q).turn stands.front (b.q).earlier (b.q).turn stands.later stands.back (sym ((serves.order).alone b.q b.here (inl b.boots)) ∙ ap lists_of (sym (b.here).line_is) ∙ stands.in_line) in
+    let one = (serves.order).places b.place_at b.place b.done b.made in
+    let only = only_cut one.0 stands.front (b.q).earlier (b.q).turn stands.later stands.back (sym one.1 ∙ ap lists_of (sym (b.here).line_is) ∙ stands.in_line) in
     let nobody : (b.q).beside ≡ [] = stands.others ∙ (λ i. joined (only.0 i) ++ joined (only.2 i)) in
     subst (λ ts. IsIn ts b.other) nobody b.beside
 

@@ -90,7 +90,7 @@ module _ {tells : Bool} (start : Option MetaState) (turns : List Turn) (events :
 
     known_member : tells ≡ true → (place : Placement) (shard node : ℕ) (slot : IsSlotAt place shard node) → (name : List ℕ) → IsNamedBy events node name → IsKnownMember start turns events told p shard node name
     known_member is place shard node slot name everywhere = record {
-      alone = order.boots;
+      places = order.places;
       slot = record {
         everywhere = everywhere;
         has_name = λ i other done there member. member_named start turns events legal told order i node shard other done name there everywhere member;

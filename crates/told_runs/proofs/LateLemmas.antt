@@ -41,11 +41,12 @@ use Rattle.told_by.proofs.LegalSampleLemmas.{lawful_place, sample_legal}
 use Rattle.told_by.proofs.OneLemmas.{is_own}
 use Rattle.told_by.proofs.SampleLemmas.{ask_or_step, each_at, init_line, makes_each, restarts_none, shard_zero, space_line}
 use Rattle.told_causes.proofs.KnownLemmas.{never_refused, one_place}
+use Rattle.told_causes.specs.Standing.{IsHaltAct}
 use Rattle.told_moves.specs.Order.{IsInitAct}
 use Rattle.told_runs.specs.Answers.{Delivers, HearsOf, IsAnswered}
 use Rattle.told_runs.specs.Bounds.{writes_taken}
 use Rattle.told_runs.specs.LateSample.{DeliveryIsKnown, LateIsServed, came, delivering, events, events_to_space, events_to_write, fated, lines_to_fates, lines_to_write, message, missed, of_delivery, turns}
-use Rattle.told_runs.specs.Lines.{AreNextAnswers, IsToldAndServed, ServesLine, WantsLine, delivered_on}
+use Rattle.told_runs.specs.Lines.{AreNextAnswers, IsToldAndServed, ServesLine, delivered_on}
 use Rattle.told_runs.proofs.CausedLemmas.{known_run}
 use Rattle.told_runs.proofs.LineLemmas.{served_first, served_line}
 use Rattle.told_runs.proofs.SampleLemmas.{began_so, initial, never_ends}
@@ -196,7 +197,8 @@ module _ {tells : Bool} (now was : TurnPlace → List LateMessage) (lines : List
       → length (before ++ more) ≤ length before + (MOST_REQUEST_EVENTS * length (acts_in (line_of a b ∷ []))) * (writes_taken [] (lines ++ line_of a b ∷ []) + 1) → ServesLine tells [] now was [] None lines before (line_of a b) more adds
   serves short last inits answers bound = record {
     order = record {
-      alone = only (λ q. WantsLine q → lists_of (line_of a b) ≡ (q.turn ∷ []) ∷ []) lines a b (λ wants. refl);
+      halts = only (λ q. IsHaltAct q.turn.act → lists_of (line_of a b) ≡ (q.turn ∷ []) ∷ []) lines a b (λ halts. refl);
+      places = λ i p done added. (record { act = a; answer = b }, refl);
       inits = only (λ q. IsInitAct q.turn.act → (p : Placement) → printed q.turn.answer ≡ Some p → sets_seed q.turn.act q.turn.answer ≡ true) lines a b (λ is p prints. inits is);
       adds = record {
         lawful = λ i p done added. subst IsLawful (one_place i p done (short i (event.Place p done) added.1)) lawful_place;

@@ -30,7 +30,7 @@ use Rattle.transcripts.specs.Caused.{IsRefusedWhole, acts_in}
 use Rattle.transcripts.specs.Deliveries.{IsSameMessage, IsSamePlace, LateMessage}
 use Rattle.transcripts.specs.Faults.{Fault, Taking}
 use Rattle.transcripts.specs.Moves.{IsLeftFence}
-use Rattle.transcripts.specs.Placements.{has_replica, printed}
+use Rattle.transcripts.specs.Placements.{has_replica}
 use Rattle.transcripts.specs.Record.{Record, TurnPlace, IsLastTurnPlace, IsTurnPlace, line_of, lists_of}
 use Rattle.transcripts.proofs.MoreFaults.{AreAmong, different_both}
 use Rattle.transcripts.proofs.PlaceLemmas.{at_push}
@@ -46,13 +46,13 @@ use Rattle.told_by.proofs.OneLemmas.{each}
 use Rattle.told_by.proofs.PrintedLemmas.{ends_within}
 use Rattle.told_by.proofs.SampleLemmas.{each_at}
 use Rattle.told_by.proofs.TurnLemmas.{at_cut}
-use Rattle.told_causes.specs.Boot.{IsBootAct}
+use Rattle.told_causes.specs.Boot.{HasOneTurn}
 use Rattle.told_causes.specs.Standing.{HaltsAlone, IsHaltAct}
 use Rattle.told_moves.specs.Order.{IsInOrder, OpensWithin}
 use Rattle.told_runs.specs.Answers.{AreAnswered, Delivers, HearsOf, IsAnswered, IsDecidedBy, IsOfKind}
 use Rattle.told_runs.specs.Bounds.{IsBounded, writes_taken}
 use Rattle.told_runs.specs.Laws.{IsServed, OwnsFiles}
-use Rattle.told_runs.specs.Lines.{Adds, IsServedAfresh, IsServedAtFirst, IsServedLineByLine, IsToldAndServed, KindServes, PrintsByInit, ServesLine, ServesOne, WantsLine, delivered_on, life_of}
+use Rattle.told_runs.specs.Lines.{Adds, IsServedAfresh, IsServedAtFirst, IsServedLineByLine, IsToldAndServed, KindServes, PrintsByInit, ServesLine, ServesOne, delivered_on, life_of}
 
 -- ---- answers
 
@@ -105,38 +105,39 @@ module _ {tells : Bool} (past : List Record) (start : Option MetaState) (turns :
   here_alone : (q : TurnPlace) → IsLastTurnPlace turns line q → lists_of line ≡ (q.turn ∷ []) ∷ [] → IsAlone long q
   here_alone q k only = (line, subst (λ ls. At long (length ls) line) (sym k.lines_are) (at_cut turns line []), only)
 
-  alone_so : (Wants : TurnPlace → Type 0) → ((q : TurnPlace) → Wants q → WantsLine q) → ((q : TurnPlace) → IsTurnPlace turns q → Wants q → IsAlone turns q) → (q : TurnPlace) → IsTurnPlace long q → Wants q → IsAlone long q
-  alone_so Wants wants old q at h = elim (which q at) as (λ _. IsAlone long q) [ inl k ↦ alone_stays turns line q (old q k h) | inr k ↦ here_alone q k ((serves.order).alone q k (wants q h)) ]
-
   ends_were : (k : ℕ) → k ≤ length turns → after.ends k ≡ told.ends k
   ends_were k le = line_told_ends start turns events line more told adds k le
 
   ends_now : (k : ℕ) → k ≡ length turns → after.ends (suc k) ≡ length all
   ends_now k is = ap (λ m. after.ends (suc m)) is ∙ line_told_last start turns events line more told adds
 
-  one_place : (k i : ℕ) (place : Placement) (done : List (ℕ × ℕ)) → k < length long → after.ends k ≤ i → i < after.ends (suc k) → At all i (event.Place place done) → last_place (take (after.ends (suc k)) all) ≡ Some place
-  one_place k i place done less low high there =
-      elim (cases_lt k (length turns)) as (λ _. last_place (take (after.ends (suc k)) all) ≡ Some place) [
-        | inl old ↦
-            let ends_so = ends_were (suc k) old in
-            let bound = ends_within start turns events told (suc k) old in
-            let there_too = at_front events more i (event.Place place done) there (omega (arith, high, ends_so, bound)) in
-            ap (λ n. last_place (take n all)) ends_so
-            ∙ ap last_place (front (told.ends (suc k)) bound)
-            ∙ (served.order).one k i place done old (omega (arith, low, ends_were k (omega (arith, old)))) (omega (arith, high, ends_so)) there_too
+  -- a Place of an old line, or of the new one
+  each_place : (P : ℕ → Placement → Type 0) → ((k i : ℕ) (place : Placement) (done : List (ℕ × ℕ)) → k < length turns → told.ends k ≤ i → i < told.ends (suc k) → At events i (event.Place place done) → P k place)
+      → ((i : ℕ) (place : Placement) (done : List (ℕ × ℕ)) → Adds events more i (event.Place place done) → P (length turns) place)
+      → (k i : ℕ) (place : Placement) (done : List (ℕ × ℕ)) → k < length long → after.ends k ≤ i → i < after.ends (suc k) → At all i (event.Place place done) → P k place
+  each_place P old new k i place done less low high there =
+      elim (cases_lt k (length turns)) as (λ _. P k place) [
+        | inl lt ↦
+            let ends_so = ends_were (suc k) lt in
+            let bound = ends_within start turns events told (suc k) lt in
+            old k i place done lt (omega (arith, low, ends_were k (omega (arith, lt)))) (omega (arith, high, ends_so)) (at_front events more i (event.Place place done) there (omega (arith, high, ends_so, bound)))
         | inr ge ↦
             let is : k ≡ length turns = omega (arith, ge, less, length-append turns (line ∷ [])) in
             let begins : length events ≤ i = omega (arith, low, ap after.ends is, ends_were (length turns) (omega arith), (told.lines).last) in
-            ap (λ n. last_place (take n all)) (ends_now k is) ∙ ap last_place (take_all all) ∙ ((serves.order).adds).one i place done (begins, there)
+            subst (λ m. P m place) (sym is) (new i place done (begins, there))
       ]
 
   order_on : IsInOrder start long all after
   order_on = record {
-    boots = alone_so (λ q. IsBootAct q.turn.act) (λ q h. inl h) (served.order).boots;
-    prints = λ q at place prints. alone_so (λ x. (printed_ : Placement) × (printed x.turn.answer ≡ Some printed_)) (λ x h. inr (inr h)) (λ x k h. (served.order).prints x k h.0 h.1) q at (place, prints);
+    places = each_place (λ k place. HasOneTurn long k)
+        (λ k i place done old low high there. let one = (served.order).places k i place done old low high there in (one.0, one.1, at_append turns (line ∷ []) k one.0 one.2, one.3))
+        (λ i place done new. let one = (serves.order).places i place done new in (line, one.0, at_cut turns line [], one.1));
     inits = λ q at is place prints. elim (which q at) as (λ _. sets_seed q.turn.act q.turn.answer ≡ true) [ inl k ↦ (served.order).inits q k is place prints | inr k ↦ (serves.order).inits q k is place prints ];
     lawful = λ i place done there. elim (event_cases i (event.Place place done) there) as (λ _. IsLawful place) [ inl old ↦ (served.order).lawful i place done old.1 | inr new ↦ ((serves.order).adds).lawful i place done new ];
-    one = one_place;
+    one = each_place (λ k place. last_place (take (after.ends (suc k)) all) ≡ Some place)
+        (λ k i place done old low high there.
+        ap (λ n. last_place (take n all)) (ends_were (suc k) old) ∙ ap last_place (front (told.ends (suc k)) (ends_within start turns events told (suc k) old)) ∙ (served.order).one k i place done old low high there)
+        (λ i place done new. ap (λ n. last_place (take n all)) (ends_now (length turns) refl) ∙ ap last_place (take_all all) ∙ ((serves.order).adds).one i place done new);
     ends = λ i n s a there place last. elim (event_cases i (event.Step n s call.End a) there) as (λ _. has_replica (Some place) s n ≡ false) [
       | inl old ↦ (served.order).ends i n s a old.1 place (ap last_place (sym (front i (omega (arith, old.0)))) ∙ last)
       | inr new ↦ ((serves.order).adds).ends i n s a new place last
@@ -144,7 +145,7 @@ module _ {tells : Bool} (past : List Record) (start : Option MetaState) (turns :
   }
 
   halts_on : HaltsAlone long
-  halts_on = alone_so (λ q. IsHaltAct q.turn.act) (λ q h. inr (inl h)) served.halts
+  halts_on q at h = elim (which q at) as (λ _. IsAlone long q) [ inl k ↦ alone_stays turns line q (served.halts q k h) | inr k ↦ here_alone q k ((serves.order).halts q k h) ]
 
   opens_on : tells ≡ true → OpensWithin start all
   opens_on is = record {
@@ -273,7 +274,8 @@ module _ (tells : Bool) (past : List Record) (start : Option MetaState) (turns :
       → ServesLine tells untaken (λ p. messages) was past start turns events (line_of a b) more adds
   serves_so adds from to one = record {
     order = record {
-      alone = each_turn (λ q. WantsLine q → lists_of (line_of a b) ≡ (q.turn ∷ []) ∷ []) (λ wants. refl);
+      halts = each_turn (λ q. IsHaltAct q.turn.act → lists_of (line_of a b) ≡ (q.turn ∷ []) ∷ []) (λ halts. refl);
+      places = λ i place done adds. (own.turn, refl);
       inits = each_turn (λ q. PrintsByInit q.turn.act q.turn.answer) one.inits;
       adds = one.adds;
     };
@@ -325,8 +327,7 @@ served_first past unanswered = (
   told_at_first,
   record {
     order = record {
-      boots = λ q at. absurd (no_place q at);
-      prints = λ q at. absurd (no_place q at);
+      places = λ k i place done less. absurd (omega (arith, less));
       inits = λ q at. absurd (no_place q at);
       lawful = λ i place done there. absurd (nothing_at i (event.Place place done) there);
       one = λ k i place done less. absurd (omega (arith, less));
@@ -348,8 +349,7 @@ served_afresh past state unanswered lawful = (
   told_found state,
   record {
     order = record {
-      boots = λ q at. absurd (no_place q at);
-      prints = λ q at. absurd (no_place q at);
+      places = λ k i place done less. absurd (omega (arith, less));
       inits = λ q at. absurd (no_place q at);
       lawful = λ i place done there. each_at (λ k x. x ≡ event.Place place done → IsLawful place) 0 opening ((λ e. let same : state.place ≡ place = cc in subst IsLawful same lawful), ((λ e. cc), tt)) i (event.Place place done) there refl;
       one = λ k i place done less. absurd (omega (arith, less));

@@ -50,8 +50,9 @@ use Rattle.told_causes.proofs.FaultLemmas.{faults_steps}
 use Rattle.told_causes.proofs.HaltLemmas.{late_step, opening_low}
 use Rattle.told_causes.proofs.RefusalLemmas.{refused_law}
 use Rattle.told_causes.proofs.RunLemmas.{open_by}
+use Rattle.told_causes.proofs.StoodLemmas.{no_place}
 use Rattle.told_moves.specs.Order.{IsInOrder}
-use Rattle.told_moves.proofs.StoodLemmas.{known_before, no_place}
+use Rattle.told_moves.proofs.StoodLemmas.{known_before}
 use Rattle.told_moves.proofs.AskLemmas.{begin_asked}
 use Rattle.told_moves.proofs.TenureLemmas.{shard_is}
 
@@ -257,5 +258,5 @@ module _ {tells : Bool} (start : Option MetaState) (turns : List Turn) (events :
               known = subst (λ ls. IsIn (placements start (inner_turns ls)) h.place) (lines_before start turns events legal told p at) (known_before start turns events legal told order (length p.lines) (omega (arith, less)) h.place_at h.place h.done h.there lt);
               member = h.member;
             }
-        | inr ge ↦ absurd (no_place start turns events legal told order p at quiet h.place_at h.place h.done ge (omega (arith, early, high)) h.there)
+        | inr ge ↦ absurd (no_place start turns events legal told order.places p at quiet h.place_at h.place h.done ge (omega (arith, early, high)) h.there)
       ]

@@ -25,7 +25,7 @@ use Rattle.told_by.proofs.LeaveLemmas.{place_there}
 use Rattle.told_by.proofs.LineLemmas.{line_below}
 use Rattle.told_by.proofs.PrintedLemmas.{ends_within}
 use Rattle.told_causes.specs.Boot.{IsBootAct, OwnsWhereBegun}
-use Rattle.told_causes.proofs.AloneLemmas.{opened, quiet_line}
+use Rattle.told_causes.proofs.AloneLemmas.{alone_by_place, opened, quiet_line}
 use Rattle.told_causes.proofs.RefusalLemmas.{refused_law}
 use Rattle.told_moves.specs.Order.{IsInOrder}
 use Rattle.told_runs.specs.Laws.{OwnsFiles}
@@ -52,10 +52,9 @@ module _ (start : Option MetaState) (turns : List Turn) (events : List Event) (l
       → (i : ℕ) → InStretch events ((told.spans).from q) ((told.spans).to q) i (event.Step n s (call.Begin tenure) (reply.Refused reason.NotOwned)) → ⊥
   by_boot q at boots place last n s tenure given i here =
       let k = length q.lines in
-      let only = order.boots q at boots in
       let less : k < length turns = line_below turns q at in
-      let some = opened start turns events legal told q at only less place last in
-      let stands = sym (quiet_line start turns events legal told q at only some) ∙ last in
+      let some = opened start turns events legal told q at less place last in
+      let stands = sym (quiet_line start turns events legal told q at (alone_by_place start turns events legal told order.places q at) some) ∙ last in
       owned_begin n s i tenure here.2
       (tried_low start turns events legal told order k less n s i tenure (omega (arith, here.0, (told.lines).low q at)) (omega (arith, here.1, (told.lines).high q at)) (given_by events legal n s (told.ends k) tenure place stands given))
 

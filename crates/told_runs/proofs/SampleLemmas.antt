@@ -40,6 +40,7 @@ use Rattle.told_by.proofs.SampleLemmas.{each_at, sample_told}
 use Rattle.told_by.proofs.TurnLemmas.{in_cut}
 use Rattle.told_causes.proofs.AloneLemmas.{quiet_places}
 use Rattle.told_causes.proofs.KnownLemmas.{never_refused, one_place}
+use Rattle.told_causes.specs.Boot.{PlacesAlone}
 use Rattle.told_moves.specs.Order.{IsInOrder, OpensWithin}
 use Rattle.told_runs.specs.Answers.{AreAnswered, Delivers, IsAnswered}
 use Rattle.told_runs.specs.Bounds.{IsBounded, writes_taken}
@@ -91,10 +92,17 @@ began_so i n s tenure fence points there =
     each_at (λ k x. x ≡ event.Step n s (call.Begin tenure) (reply.Began fence points) → fence ≡ tenure) 0 events ((λ e. absurd (cc)), ((λ e. absurd (cc)), ((λ e. absurd (cc)), ((λ e. let t : 1 ≡ tenure = cc in let f : 1 ≡ fence = cc in sym f ∙ t), ((λ e. absurd (cc)), ((λ e. absurd (cc)), ((λ e. absurd (cc)), ((λ e. absurd (cc)), ((λ e. absurd (cc)), ((λ e. absurd (cc)), ((λ e. absurd (cc)), ((λ e. absurd (cc)), ((λ e. absurd (cc)), ((λ e. absurd (cc)), tt))))))))))))))
     i (event.Step n s (call.Begin tenure) (reply.Began fence points)) there refl
 
+-- each of its lines has one turn
+places : PlacesAlone None turns events sample_told
+places zero i p done less low high there = (line_of begun placed, record { act = begun; answer = placed }, refl, refl)
+places (suc zero) i p done less low high there = (line_of spaced answer.Done, record { act = spaced; answer = answer.Done }, refl, refl)
+places (suc (suc zero)) i p done less low high there = (line_of written (answer.Acks (0 ∷ [])), record { act = written; answer = answer.Acks (0 ∷ []) }, refl, refl)
+places (suc (suc (suc zero))) i p done less low high there = (line_of fetched found, record { act = fetched; answer = found }, refl, refl)
+places (suc (suc (suc (suc k)))) i p done less low high there = absurd (omega (arith, less))
+
 order : IsInOrder None turns events sample_told
 order = record {
-  boots = each_turn _ (λ h. absurd h) (λ h. absurd h) (λ h. absurd h) (λ h. absurd h);
-  prints = each_turn _ (λ p e. (line_of begun placed, refl, refl)) (λ p e. cc) (λ p e. cc) (λ p e. cc);
+  places = places;
   inits = each_turn _ (λ h p e. refl) (λ h. absurd h) (λ h. absurd h) (λ h. absurd h);
   lawful = λ i other done there. subst IsLawful (one_place i other done there) lawful_place;
   one = λ k i other done less low high there.

@@ -19,8 +19,9 @@ use Rattle.told_by.specs.Openings.{opening_length}
 use Rattle.told_by.specs.Told.{ToldBy}
 use Rattle.told_by.proofs.LineLemmas.{line_below}
 use Rattle.told_by.proofs.PrintedLemmas.{ends_grow, placements_stand}
-use Rattle.told_by.proofs.TurnLemmas.{alone_is, earlier_line, flat_map-IsIn, in_cut, place_in}
+use Rattle.told_by.proofs.TurnLemmas.{earlier_line, flat_map-IsIn, in_cut, place_in}
 use Rattle.told_causes.proofs.AloneLemmas.{take_none}
+use Rattle.told_causes.proofs.StoodLemmas.{printed_before}
 use Rattle.told_moves.specs.Order.{IsInOrder}
 
 -- some of a list are among it
@@ -131,20 +132,20 @@ module _ {tells : Bool} (start : Option MetaState) (turns : List Turn) (events :
         listed_known p (omega (arith, less)) h.place_at place h.done h.there
         (omega (arith, h.in_time, (told.lines).high q.place q.in_run, ends_grow start turns events told (suc (length (q.place).lines)) (length p.lines) (omega (arith, q.earlier)) (omega (arith, less))))
 
-    -- no turn of its own line prints one
-    none_beside : (t : InnerTurn) (place : Placement) → IsIn (p.earlier ++ p.beside) t → printed t.answer ≡ Some place → ⊥
-    none_beside t place m prints =
+    -- so is one that another turn of its own line printed
+    known_beside : (t : InnerTurn) (place : Placement) → IsIn (p.earlier ++ p.beside) t → printed t.answer ≡ Some place → IsKnownPlace start turns events told p place
+    known_beside t place m prints =
         let q = place_in turns p.lines p.line at.after at.in_run t (in_line p turns at t m) in
         let prints_q : printed (q.0).turn.answer ≡ Some place = ap (λ (u : InnerTurn). printed u.answer) q.2 ∙ prints in
-        let same = alone_is turns q.0 p (order.prints q.0 q.1 place prints_q) at (sym (ap length q.3)) in
-        let bad : None ≡ Some place = sym quiet ∙ ap (λ (u : InnerTurn). printed u.answer) (sym same) ∙ prints_q in
-        cc
+        let less : length p.lines < length turns = line_below turns p at in
+        let z = printed_before start turns events legal told order.places p at quiet q.0 q.1 (ap length q.3) place prints_q in
+        listed_known p (omega (arith, less)) z.0 place z.1 z.2 z.3
 
     by_turn : (t : InnerTurn) (place : Placement) → IsIn (inner_turns p.lines ++ (p.earlier ++ p.beside)) t → printed t.answer ≡ Some place → IsKnownPlace start turns events told p place
     by_turn t place m prints =
         elim (IsIn-append_cases (inner_turns p.lines) (p.earlier ++ p.beside) t m) as (λ _. IsKnownPlace start turns events told p place) [
           | inl before ↦ printed_known t place before prints
-          | inr beside ↦ absurd (none_beside t place beside prints)
+          | inr beside ↦ known_beside t place beside prints
         ]
 
     -- what a transcript knows

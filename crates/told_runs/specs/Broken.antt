@@ -1,26 +1,27 @@
 -- Lines that leave a run not known to be served.
-use Rattle.std.specs.Prelude.{List, Option, None, Bool, ◌≢◌, length}
+use Rattle.std.specs.Prelude.{ℕ, List, Option, None, Bool, ◌≢◌, length}
 use Rattle.m3_model.specs.Members.{IsIn}
 use Rattle.m3_model.specs.declared.answer.Answer.TheVariants as answer
+use Rattle.m3_model.specs.declared.placement.Placement.{Placement}
 use Rattle.m3_model.specs.declared.rules.MetaState.{MetaState}
 use Rattle.m3_model.specs.declared.turn.Turn.{Turn}
 use Rattle.cluster_core.specs.declared.event.Event.{Event}
+use Rattle.cluster_core.specs.declared.event.Event.TheVariants as event
 use Rattle.transcripts.specs.Deliveries.{LateMessage}
 use Rattle.transcripts.specs.Faults.{Fault}
 use Rattle.transcripts.specs.Record.{InnerTurn, Record, TurnPlace, IsLastTurnPlace, IsTurnPlace, line_of}
 use Rattle.told_by.specs.Sample.{events as short_events, fetched, turns as short_turns}
 use Rattle.told_by.specs.Told.{TellsLine}
-use Rattle.told_causes.specs.Boot.{IsBootAct}
-use Rattle.told_runs.specs.Lines.{ServesLine}
+use Rattle.told_runs.specs.Lines.{Adds, ServesLine}
 
 -- no such line is served, after whatever lines and whatever it adds
-abbrev pub IsNeverServed : (List Fault → (TurnPlace → List LateMessage) → (TurnPlace → List LateMessage) → List Turn → Turn → Type 0) → Type 0
+abbrev pub IsNeverServed : (List Fault → (TurnPlace → List LateMessage) → (TurnPlace → List LateMessage) → List Turn → List Event → Turn → List Event → Type 0) → Type 0
 IsNeverServed Such =
     (tells : Bool) (untaken : List Fault) (now was : TurnPlace → List LateMessage) (past : List Record) (start : Option MetaState) (turns : List Turn) (events : List Event) (line : Turn) (more : List Event)
-    (adds : TellsLine start turns events line more) → ServesLine tells untaken now was past start turns events line more adds → Such untaken now was turns line → ⊥
+    (adds : TellsLine start turns events line more) → ServesLine tells untaken now was past start turns events line more adds → Such untaken now was turns events line more → ⊥
 
 -- a late message is delivered again
-pub record DeliversAgain (untaken : List Fault) (now was : TurnPlace → List LateMessage) (turns : List Turn) (line : Turn) : Type 0 where
+pub record DeliversAgain (untaken : List Fault) (now was : TurnPlace → List LateMessage) (turns : List Turn) (events : List Event) (line : Turn) (more : List Event) : Type 0 where
   pub p : TurnPlace
   pub here : IsLastTurnPlace turns line p
   pub q : TurnPlace
@@ -30,18 +31,21 @@ pub record DeliversAgain (untaken : List Fault) (now was : TurnPlace → List La
   pub delivered : IsIn (was q) message
 
 -- a disk is told of that couldn't be taken in another line
-pub record TakesElsewhere (untaken : List Fault) (now was : TurnPlace → List LateMessage) (turns : List Turn) (line : Turn) : Type 0 where
+pub record TakesElsewhere (untaken : List Fault) (now was : TurnPlace → List LateMessage) (turns : List Turn) (events : List Event) (line : Turn) (more : List Event) : Type 0 where
   pub fault : Fault
   pub among : IsIn untaken fault
   pub elsewhere : fault.line ≢ length turns
 
--- a bootstrap is made beside another turn
-pub record BootsBeside (untaken : List Fault) (now was : TurnPlace → List LateMessage) (turns : List Turn) (line : Turn) : Type 0 where
+-- a Place is made in a line where turns stand beside each other
+pub record PlacesBeside (untaken : List Fault) (now was : TurnPlace → List LateMessage) (turns : List Turn) (events : List Event) (line : Turn) (more : List Event) : Type 0 where
   pub q : TurnPlace
   pub here : IsLastTurnPlace turns line q
-  pub boots : IsBootAct q.turn.act
   pub other : InnerTurn
   pub beside : IsIn q.beside other
+  pub place_at : ℕ
+  pub place : Placement
+  pub done : List (ℕ × ℕ)
+  pub made : Adds events more place_at (event.Place place done)
 
 -- After the short run a read isn't refused for its order: its namespace and a placement stand.
 abbrev pub UndueOrder : Type 0

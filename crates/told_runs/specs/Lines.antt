@@ -24,13 +24,12 @@ use Rattle.transcripts.specs.Deliveries.{LateMessage, IsSameMessage, IsSamePlace
 use Rattle.transcripts.specs.Faults.{AreDifferent, Fault, Taking}
 use Rattle.transcripts.specs.Moves.{IsLeftFence}
 use Rattle.transcripts.specs.Placements.{has_replica, printed}
-use Rattle.transcripts.specs.Record.{Life, Record, TurnPlace, IsTurnPlace, IsLastTurnPlace, line_of, lists_of}
+use Rattle.transcripts.specs.Record.{InnerTurn, Life, Record, TurnPlace, IsTurnPlace, IsLastTurnPlace, line_of, lists_of}
 use Rattle.told_by.specs.Hears.{InStretch}
 use Rattle.told_by.specs.Lines.{place_after}
 use Rattle.told_by.specs.Openings.{sets_seed}
 use Rattle.told_by.specs.Spans.{Spans}
 use Rattle.told_by.specs.Told.{TellsLine, ToldBy}
-use Rattle.told_causes.specs.Boot.{IsBootAct}
 use Rattle.told_causes.specs.Standing.{IsHaltAct}
 use Rattle.told_moves.specs.Order.{IsInitAct}
 use Rattle.told_runs.specs.Answers.{Delivers, HearsOf, IsAnswered}
@@ -43,10 +42,6 @@ Adds events more i e = (length events ≤ i) × At (events ++ more) i e
 
 -- ---- the order
 
--- the turn begins replicas, stops or restarts a node, or prints a placement
-abbrev pub WantsLine : TurnPlace → Type 0
-WantsLine q = IsBootAct q.turn.act ⊎ (IsHaltAct q.turn.act ⊎ ((place : Placement) × (printed q.turn.answer ≡ Some place)))
-
 -- the line adds one Place at most, of a lawful placement, and ends tenures only where the placement that stands has no replica of the slot
 pub record AddsInOrder (events more : List Event) : Type 0 where
   pub lawful : (i : ℕ) (place : Placement) (done : List (ℕ × ℕ)) → Adds events more i (event.Place place done) → IsLawful place
@@ -57,9 +52,10 @@ pub record AddsInOrder (events more : List Event) : Type 0 where
 abbrev pub PrintsByInit : Act → Answer → Type 0
 PrintsByInit a b = IsInitAct a → (place : Placement) → printed b ≡ Some place → sets_seed a b ≡ true
 
--- The line is served in order, where such a turn is its only one.
+-- The line is served in order: one that stops or restarts a node, or adds a Place, has one turn.
 pub record IsNextInOrder (turns : List Turn) (events : List Event) (line : Turn) (more : List Event) : Type 0 where
-  pub alone : (q : TurnPlace) → IsLastTurnPlace turns line q → WantsLine q → lists_of line ≡ (q.turn ∷ []) ∷ []
+  pub halts : (q : TurnPlace) → IsLastTurnPlace turns line q → IsHaltAct q.turn.act → lists_of line ≡ (q.turn ∷ []) ∷ []
+  pub places : (i : ℕ) (place : Placement) (done : List (ℕ × ℕ)) → Adds events more i (event.Place place done) → (turn : InnerTurn) × (lists_of line ≡ (turn ∷ []) ∷ [])
   pub inits : (q : TurnPlace) → IsLastTurnPlace turns line q → PrintsByInit q.turn.act q.turn.answer
   pub adds : AddsInOrder events more
 
