@@ -1,4 +1,5 @@
--- Why lists with a moment within a read, with a peer that wasn't streamed, or with a placement that isn't printed don't tell of their runs.
+-- Why lists with a moment within a read, with a peer that wasn't streamed, with one move that two turns print, or with a placement that isn't printed don't tell
+-- of their runs.
 use Rattle.std.proofs.Common.{◌≡◌, ℕ, ◌+◌, ◌≤◌, ◌<◌, List, [], ◌∷◌, ◌++◌, take, length, refl, sym, ap, ◌∙◌, subst, inl, inr, arith, false, true}
 use Rattle.std.specs.Prelude.{Some, None}
 use Rattle.std.proofs.lemmas.Bool.{cases_lt}
@@ -10,7 +11,11 @@ use Rattle.m3_model.specs.declared.act.ReadLevel.TheVariants as level
 use Rattle.m3_model.specs.declared.answer.Answer.TheVariants as answer
 use Rattle.m3_model.specs.declared.placement.Placement.{Placement}
 use Rattle.m3_model.specs.declared.point.Pick.TheVariants as pick
+use Rattle.m3_model.specs.declared.turn.Reply.TheVariants as replies
+use Rattle.m3_model.specs.declared.turn.Request.TheVariants as request
+use Rattle.m3_model.specs.declared.turn.Turn.{Turn}
 use Rattle.transcripts.specs.Calls.{Call, IsAskedOf}
+use Rattle.transcripts.specs.Joined.{IsBootstrapOf}
 use Rattle.transcripts.specs.Placements.{printed, seed_at}
 use Rattle.transcripts.specs.Record.{InnerTurn, TurnPlace, IsTurnPlace, inner_turns, line_of, lists_of}
 use Rattle.cluster_core.specs.Joins.{HasFenced, HasStreamed}
@@ -19,7 +24,7 @@ use Rattle.cluster_core.specs.declared.event.Asked.TheVariants as asked
 use Rattle.cluster_core.specs.declared.event.Event.{Event}
 use Rattle.cluster_core.specs.declared.event.Event.TheVariants as event
 use Rattle.cluster_core.proofs.ListLemmas.{some_same}
-use Rattle.told_by.specs.Broken.{MomentWithinRead, PlacedUnprinted, UnstreamedPeer, clocked, five, later_place, later_rules, moved, unprinted, unstreamed}
+use Rattle.told_by.specs.Broken.{MomentWithinRead, MovePrintedTwice, PlacedUnprinted, UnstreamedPeer, both_join, clocked, five, joined, joining, later_place, later_rules, moved, other_name, unprinted, unstreamed}
 use Rattle.told_by.specs.Clocks.{IsClockOf, sets_rules}
 use Rattle.told_by.specs.Reads.{IsAskedBy}
 use Rattle.told_by.specs.Sample.{fetched, name, place, rules, series}
@@ -112,6 +117,33 @@ peer_unstreamed told =
     let e = (told.tells).placements.each_end 5 moved ((0, 1) ∷ []) (omega arith) (omega arith) refl (0, 1) (inl refl) in
     let q = some_name e.names (omega (arith, (e.enough).enough)) in
     no_stream q.0 (e.joining).tenure (e.streamed q.0 q.1)
+
+-- ---- a move that two turns print
+
+-- the line, and its two turns
+abbrev both : Turn
+both = record { request = request.Par [] ((joining ∷ []) ∷ (joining ∷ []) ∷ []); reply = replies.Par [] ((joined ∷ []) ∷ (joined ∷ []) ∷ []) }
+
+abbrev one_worker : ℕ → TurnPlace
+one_worker client = record { lines = []; line = both; client = client; earlier = []; beside = record { act = joining; answer = joined } ∷ []; turn = record { act = joining; answer = joined } }
+
+first_in : IsTurnPlace both_join (one_worker 1)
+first_in = record { after = []; in_run = refl; stands = record { front = []; later = []; back = (record { act = joining; answer = joined } ∷ []) ∷ []; in_line = refl; others = refl; client_is = refl } }
+
+second_in : IsTurnPlace both_join (one_worker 2)
+second_in = record { after = []; in_run = refl; stands = record { front = (record { act = joining; answer = joined } ∷ []) ∷ []; later = []; back = []; in_line = refl; others = refl; client_is = refl } }
+
+prints_it : (client : ℕ) → IsBootstrapOf (one_worker client) ((0, 0 ∷ []) ∷ [])
+prints_it client = record { node = other_name; asked = None; act_is = refl; place = moved; version = 3; answered = refl }
+
+-- each has a Place of its own that ends a move of the shard, and the list has one
+pub printed_twice : MovePrintedTwice
+printed_twice events once told =
+    let e = (told.tells).placements.ends_printed (one_worker 1) first_in ((0, 0 ∷ []) ∷ []) (prints_it 1) (0, 0 ∷ []) (inl refl) in
+    let f = (told.tells).placements.ends_printed (one_worker 2) second_in ((0, 0 ∷ []) ∷ []) (prints_it 2) (0, 0 ∷ []) (inl refl) in
+    let same : e.place_at ≡ f.place_at = once e.place_at f.place_at e.place f.place e.done f.done e.node f.node e.there f.there e.ended f.ended in
+    let one : one_worker 1 ≡ one_worker 2 = sym e.own ∙ ap told.makers same ∙ f.own in
+    omega (arith, ap (λ (p : TurnPlace). p.client) one)
 
 -- ---- a placement that isn't printed
 

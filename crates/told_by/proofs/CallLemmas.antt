@@ -15,7 +15,7 @@ use Rattle.told_by.specs.Lists.{IsCallPlace, IsListPlace, MadeBy, MadeByCall, Te
 use Rattle.told_by.specs.Openings.{IsInitOf}
 use Rattle.told_by.specs.Spans.{IsEarlier, IsOfTurn, Spans}
 use Rattle.told_by.specs.Told.{Tells}
-use Rattle.told_by.proofs.LineLemmas.{Lifts, lift_ack, lift_begun, lift_clock, lift_init, lift_restart, lift_send, lift_sent, lift_told}
+use Rattle.told_by.proofs.LineLemmas.{Lifts, lift_ack, lift_begun, lift_clock, lift_ended, lift_init, lift_restart, lift_send, lift_sent, lift_told}
 
 module _ (start : Option MetaState) (turns : List Turn) (events : List Event) (line : Turn) (more : List Event) (list_of : ℕ → ℕ) (list : ℕ) (calls : TellsCalls start turns events line more list_of list) where
   abbrev all : List Event
@@ -84,6 +84,7 @@ module _ (start : Option MetaState) (turns : List Turn) (events : List Event) (l
       is_place = λ p h place is. (told_of p h).placements.is_place p (call_at p h) place is;
       not_earlier = λ p q hp hq earlier was is of_was of_is. calls.not_earlier p q (length p.earlier) (length q.earlier) (call_at p hp) (call_at q hq) (same_line p q hp hq earlier) was is of_was of_is;
       each_end = λ i place done mine past there d m. (tells_at i (event.Place place done) mine there tt).placements.each_end i place done (mine, refl) past there d m;
+      ends_printed = λ p h. lift_ended (lifts (length p.earlier)) p ((told_of p h).placements.ends_printed p (call_at p h));
     };
     clocks = record {
       set = λ p h sets. lift_clock (lifts (length p.earlier)) start p ((told_of p h).clocks.set p (call_at p h) sets);

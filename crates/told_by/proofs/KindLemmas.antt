@@ -1,5 +1,5 @@
 -- Each kind of line tells of its turn.
-use Rattle.transcripts.specs.Record.{line_of}
+use Rattle.transcripts.specs.Record.{TurnPlace, line_of}
 use Rattle.std.proofs.Common.{◌≡◌, ℕ, suc, ◌<◌, ◌≤◌, ◌+◌, List, [], ◌∷◌, ◌++◌, take, length, refl, sym, ap, ◌∙◌, subst, inl, inr, arith, length-append, append_assoc, true, false}
 use Rattle.std.specs.Prelude.{◌⊎◌, Option, Some, None}
 use Rattle.std.proofs.lemmas.Bool.{cases_lt}
@@ -25,7 +25,7 @@ use Rattle.cluster_core.proofs.ListLemmas.{at_append, at_in, at_within}
 use Rattle.told_by.specs.Clocks.{IsClockOf, rules_left, sets_rules}
 use Rattle.told_by.specs.Lines.{AreFetched, ClockLine, InitLine, IsAskOrStep, MayChange, PlainLine, ReadLine, WriteLine, ack_by, place_after, start_of}
 use Rattle.told_by.specs.Openings.{IsInitOf, sets_seed}
-use Rattle.told_by.specs.Placements.{PrintsPeers}
+use Rattle.told_by.specs.Placements.{EndsPrinted, PrintsPeers}
 use Rattle.told_by.specs.Reads.{Asking, IsAskedBy, Fetched, IsAskingOf, IsFetchOf, IsStartAt, IsStartOf}
 use Rattle.told_by.specs.Spans.{From}
 use Rattle.told_by.specs.Told.{TellsLine}
@@ -64,6 +64,10 @@ in_ack n (answer.Acks nodes) e (inl same) = (nodes, refl, same)
 in_ack n (answer.Acks nodes) e (inr none) = absurd none
 in_ack n _ e h = absurd h
 
+-- an answer of another kind prints no shard as turned available
+not_boot : {Mine : ℕ → Type 0} {events : List Event} {makers : ℕ → TurnPlace} → (turns : List Turn) (a : Act) (b : Answer) → ((available : List (ℕ × List ℕ)) (place : Placement) (version : ℕ) → b ≡ answer.Available available place version → ⊥) → EndsPrinted Mine events makers (place_after turns a b)
+not_boot turns a b other available boot x m = absurd (other available boot.place boot.version boot.answered)
+
 -- ---- lines of no event of a turn but Places
 
 module _ (start : Option MetaState) (turns : List Turn) (events : List Event) (a : Act) (b : Answer) (more : List Event) where
@@ -100,6 +104,7 @@ module _ (start : Option MetaState) (turns : List Turn) (events : List Event) (a
         each_done = λ i began nodes series le there. absurd (among i (event.FetchDone began nodes series) le there);
         prints = h.prints;
         each_end = λ i place done le past there. among i (event.Place place done) le there;
+        ends = h.ends;
         set = λ sets. absurd (let bad : true ≡ false = sym sets ∙ (h.plain).no_rules in cc);
         makes = (h.makes).makes;
         restarts = (h.makes).restarts;
@@ -140,6 +145,7 @@ module _ (start : Option MetaState) (turns : List Turn) (events : List Event) (a
         each_done = λ i began nodes series le there. elim (among i (event.FetchDone began nodes series) le there) as (λ _. IsStartAt (From (length events)) (events ++ more) (makers start turns events a b more) (place_after turns a b) began) [ inl none ↦ absurd none | inr is ↦ cc ];
         prints = record { is_place = λ place is. absurd (let bad : None ≡ Some place = sym (ap printed done) ∙ is in cc); not_earlier = λ p k was is of_was of_is. absurd (let bad : None ≡ Some is = sym (ap printed done) ∙ of_is in cc) };
         each_end = λ i place done le past there d m. elim (among i (event.Place place done) le there) as (λ _. PrintsPeers (take i (events ++ more)) (place_after turns a b) d.0 d.1) [ inl none ↦ absurd none | inr is ↦ cc ];
+        ends = not_boot turns a b (λ available place version is. let bad : answer.Done ≡ answer.Available available place version = sym done ∙ is in cc);
         set = λ sets. record { clock = length events + length h.asks; there = clock_there; mine = omega arith; past_opening = omega (arith, h.opened); own = refl };
         makes = (h.makes).makes;
         restarts = (h.makes).restarts;
@@ -201,6 +207,7 @@ module _ (start : Option MetaState) (turns : List Turn) (events : List Event) (a
           not_earlier = λ p k was is of_was of_is. absurd (let bad : None ≡ Some was = sym (h.not_earlier p k) ∙ of_was in cc);
         };
         each_end = λ i place done le past there d m. absurd (h.steps (event.Place place done) (among_back (placing ∷ clock ∷ []) h.begins i (event.Place place done) (subst (λ es. At es i (event.Place place done)) whole there) past));
+        ends = not_boot turns a b (λ available place version is. let bad : answer.Placed h.place h.version ≡ answer.Available available place version = sym h.answered ∙ is in cc);
         set = λ sets. absurd (let bad : true ≡ false = sym sets ∙ ap (sets_rules a) h.answered ∙ placed_sets_not a h.place h.version in cc);
         makes = (h.makes).makes;
         restarts = (h.makes).restarts;
@@ -280,6 +287,7 @@ module _ (start : Option MetaState) (turns : List Turn) (events : List Event) (a
           | inl is ↦ cc
           | inr rest ↦ elim rest as (λ _. PrintsPeers (take i (events ++ more)) (place_after turns a b) d.0 d.1) [ inl none ↦ absurd none | inr last ↦ let k = in_ack (length events) b (event.Place place done) last in let bad = k.2 in cc ]
         ];
+        ends = not_boot turns a b (λ available place version is. let bad : None ≡ Some place = sym h.no_place ∙ ap printed is in cc);
         set = λ sets. absurd (let bad : true ≡ false = sym sets ∙ h.no_rules in cc);
         makes = (h.makes).makes;
         restarts = (h.makes).restarts;
@@ -460,6 +468,7 @@ module _ (start : Option MetaState) (turns : List Turn) (events : List Event) (a
         each_done = r.dones;
         prints = record { is_place = λ place is. absurd (let bad : None ≡ Some place = sym h.no_place ∙ is in cc); not_earlier = λ p k was is of_was of_is. absurd (let bad : None ≡ Some is = sym h.no_place ∙ of_is in cc) };
         each_end = λ i place done le past there. absurd (r.kinds i (event.Place place done) le there);
+        ends = not_boot turns a b (λ available place version is. let bad : None ≡ Some place = sym h.no_place ∙ ap printed is in cc);
         set = λ sets. absurd (let bad : true ≡ false = sym sets ∙ h.no_rules in cc);
         makes = (h.makes).makes;
         restarts = (h.makes).restarts;

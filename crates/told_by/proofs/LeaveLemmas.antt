@@ -151,6 +151,7 @@ idle_line start turns events = record {
   opened = inr refl;
   adds = λ i e h. absurd (let bad = at_within [] i e h in omega arith);
   prints = record { is_place = λ place e. absurd (let bad : None ≡ Some place = e in cc); not_earlier = λ p k was is f e. absurd (let bad : None ≡ Some is = e in cc) };
+  ends = λ available boot x m. absurd (let bad : answer.Memory ≡ answer.Available available boot.place boot.version = boot.answered in cc);
 }
 
 -- a front of a legal list is legal

@@ -28,7 +28,7 @@ use Rattle.cluster_core.specs.declared.event.StepReply.TheVariants as reply
 use Rattle.cluster_core.proofs.ListLemmas.{at_append, at_within}
 use Rattle.told_by.specs.Clocks.{HasClock, IsClockOf, TellsClocks, rules_left}
 use Rattle.told_by.specs.Openings.{IsInitOf, IsOpenedBy, TellsInit, opening_length}
-use Rattle.told_by.specs.Placements.{HasPlace, PrintsPeers, TellsPlacements}
+use Rattle.told_by.specs.Placements.{EndsPrinted, HasPlace, PrintsPeers, TellsPlacements}
 use Rattle.told_by.specs.Reads.{Asking, Fetched, IsAskingOf, IsFetchOf, IsStartAt, IsStartOf, IsTold, TellsReads}
 use Rattle.told_by.specs.Spans.{AreOrdered, From, IsAlone, IsEarlier, IsWithin, Spans}
 use Rattle.told_by.specs.Told.{AreLines, TellsLine, ToldBy}
@@ -144,6 +144,21 @@ lift_clock l start p h = record {
   past_opening = h.past_opening;
   own = l.same h.clock (event.Clock (rules_left start p)) h.there h.mine ∙ h.own;
 }
+
+pub lift_ended : {Mine Others : ℕ → Type 0} {events longer : List Event} {makers others : ℕ → TurnPlace} → Lifts Mine Others events longer makers others → (p : TurnPlace) → EndsPrinted Mine events makers p → EndsPrinted Others longer others p
+lift_ended l p h available boot x m =
+    let e = h available boot x m in
+    record {
+      place_at = e.place_at;
+      place = e.place;
+      done = e.done;
+      there = l.stays e.place_at (event.Place e.place e.done) e.there;
+      mine = l.below e.place_at e.mine;
+      own = l.same e.place_at (event.Place e.place e.done) e.there e.mine ∙ e.own;
+      node = e.node;
+      named = e.named;
+      ended = e.ended;
+    }
 
 pub lift_restart : {Mine Others : ℕ → Type 0} {events longer : List Event} {makers others : ℕ → TurnPlace} → Lifts Mine Others events longer makers others → (p : TurnPlace) (i n s : ℕ) → EndsRestart Mine events makers p i n s → EndsRestart Others longer others p i n s
 lift_restart l p i n s (inl done) = inl done
@@ -402,6 +417,10 @@ module _ (start : Option MetaState) (turns : List Turn) (events : List Event) (l
           ((told.tells).placements.each_end i place done above past (at_front events more i (event.Place place done) there lt) d m))
       | inr ge ↦ subst (λ x. PrintsPeers (take i all) x d.0 d.1) (sym (by_right i (length events) (told.makers i) (next.makers i) ge)) ((next.tells).placements.each_end i place done ge past there d m)
     ];
+    ends_printed = λ p h. elim (which p h) as (λ _. EndsPrinted (From low) all makers p) [
+      | inl k ↦ lift_ended olds p ((told.tells).placements.ends_printed p k)
+      | inr k ↦ lift_ended news p ((next.tells).placements.ends_printed p k)
+    ];
   }
 
   clock_stays : (p : TurnPlace) (rules : Rules) → IsClockOf start turns p rules → IsClockOf start long p rules
@@ -551,7 +570,7 @@ told_at_first = record {
       each_start = λ i version s rules chosen from to low there. absurd (nothing_at i (event.FetchStart version s rules chosen from to) there);
       each_done = λ i began nodes series low there. absurd (nothing_at i (event.FetchDone began nodes series) there);
     };
-    placements = record { is_place = λ p h place is. absurd (no_place p h); not_earlier = λ p q h k e was is of_was of_is. absurd (no_place p h); each_end = λ i place done low past there d m. absurd (nothing_at i (event.Place place done) there) };
+    placements = record { is_place = λ p h place is. absurd (no_place p h); not_earlier = λ p q h k e was is of_was of_is. absurd (no_place p h); each_end = λ i place done low past there d m. absurd (nothing_at i (event.Place place done) there); ends_printed = λ p h. absurd (no_place p h) };
     clocks = record { set = λ p h sets. absurd (no_place p h); each_clock = λ i rules low past there. absurd (nothing_at i (event.Clock rules) there) };
     makes = λ i e low past there. absurd (nothing_at i e there);
     restarts = λ i n s r low past there. absurd (nothing_at i (event.Step n s call.Restart r) there);
@@ -592,7 +611,7 @@ module _ (state : MetaState) where
         each_start = λ i version s rules chosen from to low there. absurd (nothing_past i (event.FetchStart version s rules chosen from to) low there);
         each_done = λ i began nodes series low there. absurd (nothing_past i (event.FetchDone began nodes series) low there);
       };
-      placements = record { is_place = λ p h place is. absurd (no_place p h); not_earlier = λ p q h k e was is of_was of_is. absurd (no_place p h); each_end = λ i place done low past there d m. absurd (nothing_past i (event.Place place done) low there) };
+      placements = record { is_place = λ p h place is. absurd (no_place p h); not_earlier = λ p q h k e was is of_was of_is. absurd (no_place p h); each_end = λ i place done low past there d m. absurd (nothing_past i (event.Place place done) low there); ends_printed = λ p h. absurd (no_place p h) };
       clocks = record { set = λ p h sets. absurd (no_place p h); each_clock = λ i rules low past there. absurd (nothing_past i (event.Clock rules) low there) };
       makes = λ i e low past there. absurd (nothing_past i e low there);
       restarts = λ i n s r low past there. absurd (nothing_past i (event.Step n s call.Restart r) low there);

@@ -23,7 +23,7 @@ use Rattle.told_by.specs.Lists.{IsListPlace, MadeBy, TellsLists}
 use Rattle.told_by.specs.Openings.{IsInitOf}
 use Rattle.told_by.specs.Spans.{From, IsEarlier, IsOfTurn, Spans}
 use Rattle.told_by.specs.Told.{Tells, TellsLine}
-use Rattle.told_by.proofs.LineLemmas.{Lifts, lift_ack, lift_begun, lift_clock, lift_init, lift_restart, lift_send, lift_sent, lift_told}
+use Rattle.told_by.proofs.LineLemmas.{Lifts, lift_ack, lift_begun, lift_clock, lift_ended, lift_init, lift_restart, lift_send, lift_sent, lift_told}
 
 only_list : {X : Type 0} (one : X) (front : List X) (list : X) (back : List X) → one ∷ [] ≡ front ++ list ∷ back → front ≡ []
 only_list one [] list back e = refl
@@ -135,6 +135,7 @@ module _ (start : Option MetaState) (turns : List Turn) (events : List Event) (l
             record { place_at = q.place_at; done = q.done; there = q.there; in_time = subst (λ n. q.place_at < (lists.spans n).to p) (sym l.number) q.in_time };
         not_earlier = λ p q hp hq earlier was is of_was of_is. by_order p q hp hq earlier was is of_was of_is;
         each_end = λ i place done le past there d m. (tells_at i (event.Place place done) le there tt).placements.each_end i place done (own i le) past there d m;
+        ends_printed = λ p h. let l = in_list p h in lift_ended (lifts l.list) p ((told_of p l).placements.ends_printed p l.here);
       };
       clocks = record {
         set = λ p h sets. let l = in_list p h in lift_clock (lifts l.list) start p ((told_of p l).clocks.set p l.here sets);

@@ -29,7 +29,7 @@ use Rattle.cluster_core.proofs.ListLemmas.{at_in, at_within}
 use Rattle.told_by.specs.Clocks.{HasClock, IsClockOf, sets_rules}
 use Rattle.told_by.specs.Lines.{PrintsPlace, place_after}
 use Rattle.told_by.specs.Openings.{IsInitOf, sets_seed}
-use Rattle.told_by.specs.Placements.{HasPlace, PrintsPeers}
+use Rattle.told_by.specs.Placements.{EndsPrinted, HasPlace, PrintsPeers}
 use Rattle.told_by.specs.Reads.{IsStartAt, IsStartOf, IsTold}
 use Rattle.told_by.specs.Spans.{From, IsAlone, IsEarlier, Spans}
 use Rattle.told_by.specs.Told.{TellsLine}
@@ -78,6 +78,7 @@ module _ (start : Option MetaState) (turns : List Turn) (events : List Event) (a
     pub each_done : (i began : ℕ) (nodes : List ℕ) (series : List Series) → length events ≤ i → At all i (event.FetchDone began nodes series) → IsStartAt (From (length events)) all makers own began
     pub prints : PrintsPlace turns all b
     pub each_end : (i : ℕ) (place : Placement) (done : List (ℕ × ℕ)) → length events ≤ i → 2 ≤ i → At all i (event.Place place done) → (d : ℕ × ℕ) → IsIn done d → PrintsPeers (take i all) own d.0 d.1
+    pub ends : EndsPrinted (From (length events)) all makers own
     pub set : sets_rules a b ≡ true → HasClock start (From (length events)) all makers own
     pub each_clock : (i : ℕ) (rules : Rules) → length events ≤ i → 2 ≤ i → At all i (event.Clock rules) → IsClockOf start long own rules
     pub makes : (i : ℕ) (e : Event) → length events ≤ i → 2 ≤ i → At all i e → MayMake start (take i all) own e
@@ -132,6 +133,7 @@ module _ (start : Option MetaState) (turns : List Turn) (events : List Event) (a
         is_place = λ p h. each (λ q. (place : Placement) → printed q.turn.answer ≡ Some place → HasPlace all (length all) place) (t.prints).is_place p h;
         not_earlier = λ p q hp hq e. absurd (not_earlier p q (is_own p hp) (is_own q hq) e);
         each_end = t.each_end;
+        ends_printed = λ p h. each (EndsPrinted (From (length events)) all makers) t.ends p h;
       };
       clocks = record {
         set = λ p h. each (λ q. sets_rules q.turn.act q.turn.answer ≡ true → HasClock start (From (length events)) all makers q) t.set p h;

@@ -1,6 +1,9 @@
 -- Lists that don't tell of the short run, each broken in one place.
-use Rattle.std.specs.Prelude.{ℕ, List, [], ◌∷◌, ◌++◌, Some, None, true, false}
+use Rattle.std.specs.Prelude.{◌≡◌, ℕ, List, [], ◌∷◌, ◌++◌, Some, None, true, false}
+use Rattle.m3_model.specs.Members.{IsIn}
+use Rattle.m3_model.specs.declared.act.Act.{Act}
 use Rattle.m3_model.specs.declared.act.Act.TheVariants as act
+use Rattle.m3_model.specs.declared.answer.Answer.{Answer}
 use Rattle.m3_model.specs.declared.answer.Answer.TheVariants as answer
 use Rattle.m3_model.specs.declared.placement.Assignment.{Assignment}
 use Rattle.m3_model.specs.declared.placement.Placement.{Placement}
@@ -8,8 +11,11 @@ use Rattle.m3_model.specs.declared.placement.ShardState.TheVariants.{Available, 
 use Rattle.m3_model.specs.declared.point.Pick.TheVariants as pick
 use Rattle.m3_model.specs.declared.rules.MetaState.{MetaState}
 use Rattle.m3_model.specs.declared.rules.Rules.{Rules}
+use Rattle.m3_model.specs.declared.turn.Reply.TheVariants as replies
+use Rattle.m3_model.specs.declared.turn.Request.TheVariants as request
 use Rattle.m3_model.specs.declared.turn.Turn.{Turn}
 use Rattle.transcripts.specs.Record.{line_of}
+use Rattle.cluster_core.specs.Lists.{At}
 use Rattle.cluster_core.specs.declared.event.Asked.TheVariants as asked
 use Rattle.cluster_core.specs.declared.event.Event.{Event}
 use Rattle.cluster_core.specs.declared.event.Event.TheVariants as event
@@ -128,6 +134,25 @@ unstreamed =
     ∷ event.Place moved ((0, 1) ∷ [])
     ∷ []
 
+-- a bootstrap, and that it ended the move
+abbrev pub joining : Act
+joining = act.Bootstrap other_name None
+
+abbrev pub joined : Answer
+joined = answer.Available ((0, 0 ∷ []) ∷ []) moved 3
+
 -- a bootstrap that prints a peer which wasn't streamed
 abbrev pub UnstreamedPeer : Type 0
-UnstreamedPeer = ToldBy (Some found_moving) (line_of (act.Bootstrap other_name None) (answer.Available ((0, 0 ∷ []) ∷ []) moved 3) ∷ []) unstreamed → ⊥
+UnstreamedPeer = ToldBy (Some found_moving) (line_of joining joined ∷ []) unstreamed → ⊥
+
+-- two workers of one `par` line that both print the shard
+abbrev pub both_join : List Turn
+both_join = record { request = request.Par [] ((joining ∷ []) ∷ (joining ∷ []) ∷ []); reply = replies.Par [] ((joined ∷ []) ∷ (joined ∷ []) ∷ []) } ∷ []
+
+-- the list ends a move of the shard once at most
+abbrev pub EndsOnce : List Event → ℕ → Type 0
+EndsOnce events s =
+    (i j : ℕ) (p q : Placement) (dp dq : List (ℕ × ℕ)) (n m : ℕ) → At events i (event.Place p dp) → At events j (event.Place q dq) → IsIn dp (s, n) → IsIn dq (s, m) → i ≡ j
+
+abbrev pub MovePrintedTwice : Type 0
+MovePrintedTwice = (events : List Event) → EndsOnce events 0 → ToldBy (Some found_moving) both_join events → ⊥

@@ -24,7 +24,7 @@ use Rattle.told_by.specs.Clocks.{rules_left, sets_rules}
 use Rattle.told_by.specs.Hears.{HearsBy, InStretch}
 use Rattle.told_by.specs.Makes.{EndsRestart, MayMake}
 use Rattle.told_by.specs.Openings.{sets_seed}
-use Rattle.told_by.specs.Placements.{HasPlace, PrintsPeers}
+use Rattle.told_by.specs.Placements.{EndsPrinted, HasPlace, PrintsPeers}
 use Rattle.told_by.specs.Reads.{Asking, IsAskedBy, AreTogether, Fetched, IsAskingOf}
 use Rattle.told_by.specs.Spans.{From}
 use Rattle.told_by.specs.Writes.{IsSendOf, IsUnmetWrite}
@@ -75,6 +75,7 @@ pub record PlainLine (start : Option MetaState) (turns : List Turn) (events : Li
   pub opened : (0 < length events) ⊎ (more ≡ [])
   pub adds : (i : ℕ) (e : Event) → At more i e → MayChange (place_after turns a b) (events ++ take i more) e
   pub prints : PrintsPlace turns (events ++ more) b
+  pub ends : EndsPrinted (From (length events)) (events ++ more) (λ _. place_after turns a b) (place_after turns a b)
 
 -- ---- `now` and `namespace`
 

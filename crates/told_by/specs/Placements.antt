@@ -1,6 +1,8 @@
--- What a list tells of placements: each printed one is a Place; and where a Place ends moves, its turn prints whom each joining node merged.
+-- What a list tells of placements: each printed one is a Place; where a Place ends moves, its turn prints whom each joining node merged; and a turn that prints
+-- a shard as turned available ends its move.
 use Rattle.std.specs.Prelude.{◌≡◌, ◌≤◌, ◌<◌, ℕ, List, Some, take}
 use Rattle.m3_model.specs.Members.{IsIn}
+use Rattle.transcripts.specs.Fates.{OfNode}
 use Rattle.transcripts.specs.Joined.{IsBootstrapOf}
 use Rattle.transcripts.specs.Placements.{printed}
 use Rattle.transcripts.specs.Record.{TurnPlace}
@@ -40,6 +42,22 @@ pub record PrintsPeers (past : List Event) (p : TurnPlace) (s y : ℕ) : Type 0 
   pub is_joining : joining.state ≡ Initializing
   pub streamed : (q : ℕ) → IsIn names q → HasStreamed s y joining.tenure q past
 
+-- a Place that the turn makes ends a move of the shard to the node that the placement calls so
+pub record EndsOwn (Mine : ℕ → Type 0) (events : List Event) (makers : ℕ → TurnPlace) (p : TurnPlace) (name : List ℕ) (s : ℕ) : Type 0 where
+  pub place_at : ℕ
+  pub place : Placement
+  pub done : List (ℕ × ℕ)
+  pub there : At events place_at (event.Place place done)
+  pub mine : Mine place_at
+  pub own : makers place_at ≡ p
+  pub node : ℕ
+  pub named : OfNode place node (λ called. called ≡ name)
+  pub ended : IsIn done (s, node)
+
+-- the turn ends a move to its node of each shard that it prints
+abbrev pub EndsPrinted : (ℕ → Type 0) → List Event → (ℕ → TurnPlace) → TurnPlace → Type 0
+EndsPrinted Mine events makers p = (available : List (ℕ × List ℕ)) (boot : IsBootstrapOf p available) (x : ℕ × List ℕ) → IsIn available x → EndsOwn Mine events makers p boot.node x.0
+
 pub record TellsPlacements (Here : TurnPlace → Type 0) (Mine : ℕ → Type 0) (events : List Event) (spans : Spans) (makers : ℕ → TurnPlace) : Type 0 where
   -- each printed placement
   pub is_place : (p : TurnPlace) → Here p → (place : Placement) → printed p.turn.answer ≡ Some place → HasPlace events (spans.to p) place
@@ -47,3 +65,5 @@ pub record TellsPlacements (Here : TurnPlace → Type 0) (Mine : ℕ → Type 0)
   pub not_earlier : (p q : TurnPlace) → Here p → Here q → IsEarlier p q → (was is : Placement) → printed p.turn.answer ≡ Some was → printed q.turn.answer ≡ Some is → was.version ≤ is.version
   -- each move that a Place ends
   pub each_end : (i : ℕ) (place : Placement) (done : List (ℕ × ℕ)) → Mine i → 2 ≤ i → At events i (event.Place place done) → (d : ℕ × ℕ) → IsIn done d → PrintsPeers (take i events) (makers i) d.0 d.1
+  -- and each shard that a turn prints as turned available, by a Place of its own
+  pub ends_printed : (p : TurnPlace) → Here p → EndsPrinted Mine events makers p

@@ -3,6 +3,7 @@ use Rattle.std.proofs.Common.{◌≡◌, ℕ, zero, suc, ◌+◌, List, [], ◌�
 use Rattle.std.specs.Prelude.{Some, None, slice_get}
 use Rattle.m3_model.specs.Members.{IsIn}
 use Rattle.m3_model.specs.declared.act.Act.TheVariants as act
+use Rattle.m3_model.specs.declared.answer.Answer.TheVariants as answer
 use Rattle.m3_model.specs.declared.placement.Instance.{Instance}
 use Rattle.m3_model.specs.declared.placement.Placement.{Placement}
 use Rattle.m3_model.specs.declared.reason.Reason.{Reason}
@@ -53,6 +54,7 @@ tick_line = record {
   opened = inl (omega arith);
   adds = λ i e there. let here : 0 + i ≡ i = omega arith in subst (λ k. MayChange ticking (opening ++ take k more) e) here (each_at (λ j x. MayChange ticking (opening ++ take j more) x) 0 more (tt, (tt, tt)) i e there);
   prints = record { is_place = λ p e. absurd (let bad : None ≡ Some p = e in cc); not_earlier = λ p k was is f e. absurd (let bad : None ≡ Some is = e in cc) };
+  ends = λ available boot x m. absurd (let bad : swept ≡ answer.Available available boot.place boot.version = boot.answered in cc);
 }
 
 abbrev next : TellsLine (Some found) [] opening (line_of act.Tick swept) more

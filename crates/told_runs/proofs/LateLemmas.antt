@@ -75,6 +75,7 @@ fates_line = plain_told None two_lines events_to_space fated answer.Done [] (rec
   opened = inl (omega arith);
   adds = λ i e there. no_more two_lines i e there;
   prints = record { is_place = λ p e. absurd (let bad : None ≡ Some p = e in cc); not_earlier = λ p k was is f e. absurd (let bad : None ≡ Some is = e in cc) };
+  ends = λ available boot x m. absurd (let bad : answer.Done ≡ answer.Available available boot.place boot.version = boot.answered in cc);
 })
 
 abbrev Heard : ℕ × Reason → Type 0
@@ -162,6 +163,7 @@ delivery = record {
   opened = inl (omega arith);
   adds = λ i e there. let here : 0 + i ≡ i = omega arith in subst (λ k. MayChange delivering (events_to_write ++ take k of_delivery) e) here (each_at (λ j x. MayChange delivering (events_to_write ++ take j of_delivery) x) 0 of_delivery (tt, (tt, tt)) i e there);
   prints = record { is_place = λ p e. absurd (let bad : None ≡ Some p = e in cc); not_earlier = λ p k was is f e. absurd (let bad : None ≡ Some is = e in cc) };
+  ends = λ available boot x m. absurd (let bad : came ≡ answer.Available available boot.place boot.version = boot.answered in cc);
 }
 
 delivery_line : TellsLine None lines_to_write events_to_write (line_of act.Deliver came) of_delivery

@@ -1,4 +1,4 @@
-use Rattle.told_by.proofs.BrokenMoveLemmas.{moment_within, peer_unstreamed, place_unprinted}
+use Rattle.told_by.proofs.BrokenMoveLemmas.{moment_within, peer_unstreamed, place_unprinted, printed_twice}
 use Rattle.told_by.proofs.BrokenLemmas.{lost_send, never_placed, nobody_asks, nobody_sends, nobody_stops, other_puts}
 use Rattle.told_by.proofs.sample.broken_lists_are_refused.Goals as goal
 
@@ -28,3 +28,6 @@ returns-clause-unstreamed c = peer_unstreamed
 
 pub returns-clause-never_printed : goal.returns-clause-never_printed
 returns-clause-never_printed c = place_unprinted
+
+pub returns-clause-printed_twice : goal.returns-clause-printed_twice
+returns-clause-printed_twice c = printed_twice
