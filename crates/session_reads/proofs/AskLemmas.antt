@@ -1,11 +1,13 @@
 -- The nodes of a shard are asked, one after the other, and their answers joined.
-use Rattle.std.proofs.Common.{◌≡◌, ℕ, ◌+◌, ◌<◌, List, [], ◌∷◌, ◌++◌, length, take, get_or, refl, sym, ap, ◌∙◌, subst, inl, inr, arith, length-append}
-use Rattle.std.specs.Prelude.{◌⊎◌, Some, Result, Ok, Err, OnErr, IsErrOf}
+use Rattle.std.proofs.Common.{◌≡◌, ℕ, ℤ, ◌+◌, ◌<◌, List, [], ◌∷◌, ◌++◌, length, take, get_or, refl, sym, ap, ◌∙◌, subst, inl, inr, arith, length-append}
+use Rattle.std.specs.Prelude.{◌⊎◌, None, Some, Result, Ok, Err, OnErr, IsErrOf}
+use Rattle.std.specs.FinMap.{get, empty, get-empty}
 use Rattle.std.specs.List.{filter_map}
 use Rattle.std.specs.Result.{result_ok}
 use Rattle.std.proofs.lemmas.List.{take_more}
 use Rattle.m3_model.specs.Answers.{HasPoint}
 use Rattle.m3_model.specs.Contents.{Contents, Holds, raised, key_of}
+use Rattle.m3_model.specs.Keys.{key_cmp}
 use Rattle.m3_model.specs.Members.{IsIn}
 use Rattle.m3_model.specs.Reads.{points_in}
 use Rattle.m3_model.specs.declared.act.Fate.{Fate}
@@ -85,6 +87,20 @@ answer_last : (heard : List (Heard (List Series))) (n : ℕ) (answer : List Seri
 answer_last heard n answer = filter_map-IsIn (λ (x : Heard (List Series)). result_ok x.1) (heard ++ (n, Ok answer) ∷ []) (n, Ok answer) answer (IsIn-append_right heard ((n, Ok answer) ∷ []) (n, Ok answer) (inl refl)) refl
 
 -- ---- what was heard, joined
+
+-- an empty content has no points
+pub nothing_held : (c : Contents) → c ≡ empty → (p : Point) → HasPoint c p → ⊥
+nothing_held c is p here = let none = get-empty {X = ℤ} key_cmp (key_of p) in let bad : None ≡ Some p.v = sym none ∙ ap (λ (b : Contents). get b (key_of p)) (sym is) ∙ here in cc
+
+-- nothing was joined to it
+pub content_none : (ns : ℕ) (c : Contents) → c ≡ empty → IsContentOf ns [] c
+content_none ns c is = record { covers = λ answer m p here. absurd m; nothing_else = λ p here. absurd (nothing_held c is p here) }
+
+pub before_none : (ns to : ℕ) (answer : List Series) → IsIn [] answer → AreBefore ns to answer
+before_none ns to answer m = absurd m
+
+pub forms_none : AreForms []
+forms_none x m = absurd m
 
 -- what one more node said was joined
 pub content_more : (ns n : ℕ) (heard : List (Heard (List Series))) (said : Result (List Series) Reason) (old new : Contents) → IsContentOf ns (answers_of heard) old → new ≡ joined old (points_said ns said) → IsContentOf ns (answers_of (heard ++ (n, said) ∷ [])) new

@@ -1,12 +1,11 @@
 -- The reads of shards, one after the other, and what they give together.
-use Rattle.std.proofs.Common.{◌≡◌, ℕ, zero, suc, ◌+◌, ◌<◌, ◌≤◌, ℤ, List, [], ◌∷◌, ◌++◌, length, Bool, true, false, cond, eqb, refl, sym, ap, ◌∙◌, subst, inl, inr, arith, append_assoc, length-append}
-use Rattle.std.specs.Prelude.{◌⊎◌, ◌&&◌, Some, None, Result, Ok, Err, IfOk, IfErr}
-use Rattle.std.specs.FinMap.{empty, get-empty}
+use Rattle.std.proofs.Common.{◌≡◌, ℕ, zero, suc, ◌+◌, ◌<◌, ◌≤◌, List, [], ◌∷◌, ◌++◌, length, Bool, true, false, cond, eqb, refl, sym, ap, ◌∙◌, subst, inl, inr, arith, append_assoc, length-append}
+use Rattle.std.specs.Prelude.{◌⊎◌, ◌&&◌, Result, Ok, Err, IfOk, IfErr}
+use Rattle.std.specs.FinMap.{empty}
 use Rattle.std.proofs.lemmas.Bool.{eqb-true, eq-eqb}
 use Rattle.std.proofs.lemmas.Int.{ints}
 use Rattle.m3_model.specs.Answers.{HasPoint}
-use Rattle.m3_model.specs.Contents.{Contents, Holds, key_of}
-use Rattle.m3_model.specs.Keys.{key_cmp}
+use Rattle.m3_model.specs.Contents.{Contents, Holds}
 use Rattle.m3_model.specs.Members.{IsIn}
 use Rattle.m3_model.specs.Reads.{IsOrdered, points_in, space_picked}
 use Rattle.m3_model.specs.declared.point.Point.{Point}
@@ -28,7 +27,7 @@ use Rattle.session_net.specs.declared.session_err.SessionErr.TheVariants as err
 use Rattle.session_net.proofs.RunLemmas.{ran_nothing, ran_then}
 use Rattle.session_reads.specs.Gathering.{AreBefore, IsSeries, IsShardRead, IsUnread, IsGathered}
 use Rattle.session_reads.specs.declared.shard.Gave.{Gave}
-use Rattle.session_reads.proofs.AskLemmas.{joined_stays, joined_has, joined_from}
+use Rattle.session_reads.proofs.AskLemmas.{nothing_held, joined_stays, joined_has, joined_from}
 use Rattle.session_reads.proofs.ShardLemmas.{points_space, held_covered}
 
 -- ---- numbers of shards
@@ -314,4 +313,4 @@ module _ {D : Type 0} (disk : D → DiskState) (state : MetaState) (fates : Fate
 
     pub unread_if : (result : Result Gave SessionErr) → IfErr result (IsUnread disk state fates id w s needed old new) → IfErr result (IsUnfound disk state fates id w needed old new)
     unread_if (Ok gave) h = h
-    unread_if (Err e) h = unread old new [] [] true empty s e asked (so_far_none empty (λ p h. let none = get-empty {X = ℤ} key_cmp (key_of p) in let bad : None ≡ Some p.v = sym none ∙ h in cc)) h
+    unread_if (Err e) h = unread old new [] [] true empty s e asked (so_far_none empty (nothing_held empty refl)) h

@@ -38,12 +38,22 @@ use session_net::messages::fate_to;
 use session_net::tally::Tally;
 use std::alloc::Global;
 
-// What the messages of one fetch share beside its pick.
+// How many nodes of a shard a read asks for.
+#[derive(Clone, Copy)]
+pub(crate) struct Quorum {
+    // How many have to answer.
+    pub(crate) needed: u32,
+    // How many are a majority.
+    pub(crate) majority: u32,
+}
+
+// What the reads of one fetch share beside its pick.
 #[derive(Clone, Copy)]
 pub(crate) struct Asking {
     pub(crate) id: CallId,
     pub(crate) from: u64,
     pub(crate) to: u64,
+    pub(crate) quorum: Quorum,
 }
 
 // The namespace of a pick.

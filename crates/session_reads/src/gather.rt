@@ -8,7 +8,7 @@ ghost use Rattle.session_net.specs.Reads.{asked_shards, IsUnfound};
 ghost use Rattle.session_reads.specs.Gathering.{wish_of, IsGathered};
 
 use crate::ask::{Asking, join_all, space_of};
-use crate::shard::{Gave, Quorum, ask_shard, series_below};
+use crate::shard::{Gave, ask_shard, series_below};
 use block_buffer::buffer::Buffer;
 use m3_model::point::Pick;
 use m3_model::rules::MetaState;
@@ -27,20 +27,19 @@ fn gather_all<D: Disk>(
     fates: &Fates,
     asking: &Asking,
     pick: &Pick,
-    quorum: Quorum,
 ) -> Result<Gave, SessionErr>
     requires ready { IsReady state.now replicas.old [] }
     requires known { space_picked pick.now < length state.now.rules.spaces }
     requires few_shards { length state.now.place.shards < 2 ^ 32 }
     requires all { (wanted : List Matcher) × (pick.now ≡ picked.Match (space_picked pick.now) wanted) }
-    ensures ok { IfOk result (λ gave. IsGathered D.state state.entry.now fates.now asking.now.id (wish_of pick.now asking.now) quorum.needed quorum.majority (asked_shards state.entry.now pick.now) gave.series gave.whole replicas.old replicas.new) }
-    ensures err { IfErr result (IsUnfound D.state state.entry.now fates.now asking.now.id (wish_of pick.now asking.now) quorum.needed replicas.old replicas.new) }
+    ensures ok { IfOk result (λ gave. IsGathered D.state state.entry.now fates.now asking.now.id (wish_of pick.now asking.now) asking.now.quorum.needed asking.now.quorum.majority (asked_shards state.entry.now pick.now) gave.series gave.whole replicas.old replicas.new) }
+    ensures err { IfErr result (IsUnfound D.state state.entry.now fates.now asking.now.id (wish_of pick.now asking.now) asking.now.quorum.needed replicas.old replicas.new) }
 {
     let ns = space_of(pick);
     let mut joined = Buffer::new(alloc);
     let mut whole = true;
     for shard in 0..state.place.shards.len() as u32 {
-        let gave = ask_shard(alloc, replicas, state, fates, asking, pick, shard, quorum)?;
+        let gave = ask_shard(alloc, replicas, state, fates, asking, pick, shard)?;
         join_all(&mut joined, ns, gave.series.as_slice())?;
         whole &= gave.whole;
     }
@@ -57,21 +56,20 @@ pub(crate) fn gather<D: Disk>(
     fates: &Fates,
     asking: &Asking,
     pick: &Pick,
-    quorum: Quorum,
 ) -> Result<Gave, SessionErr>
     requires ready { IsReady state.now replicas.old [] }
     requires known { space_picked pick.now < length state.now.rules.spaces }
     requires some_shards { 0 < length state.now.place.shards }
     requires few_shards { length state.now.place.shards < 2 ^ 32 }
-    ensures ok { IfOk result (λ gave. IsGathered D.state state.entry.now fates.now asking.now.id (wish_of pick.now asking.now) quorum.needed quorum.majority (asked_shards state.entry.now pick.now) gave.series gave.whole replicas.old replicas.new) }
-    ensures err { IfErr result (IsUnfound D.state state.entry.now fates.now asking.now.id (wish_of pick.now asking.now) quorum.needed replicas.old replicas.new) }
+    ensures ok { IfOk result (λ gave. IsGathered D.state state.entry.now fates.now asking.now.id (wish_of pick.now asking.now) asking.now.quorum.needed asking.now.quorum.majority (asked_shards state.entry.now pick.now) gave.series gave.whole replicas.old replicas.new) }
+    ensures err { IfErr result (IsUnfound D.state state.entry.now fates.now asking.now.id (wish_of pick.now asking.now) asking.now.quorum.needed replicas.old replicas.new) }
 {
     match pick {
         Pick::One { id, .. } => {
             let shards = state.place.shards.len() as u32;
             let shard = shard_of(id.as_str(), state.seed, shards);
-            ask_shard(alloc, replicas, state, fates, asking, pick, shard, quorum)
+            ask_shard(alloc, replicas, state, fates, asking, pick, shard)
         }
-        Pick::Match { .. } => gather_all(alloc, replicas, state, fates, asking, pick, quorum),
+        Pick::Match { .. } => gather_all(alloc, replicas, state, fates, asking, pick),
     }
 }

@@ -4,9 +4,8 @@ ghost use Rattle.m3_model.specs.declared.act.ReadLevel.TheVariants as read;
 ghost use Rattle.session_net.specs.Ready.{IsReady};
 ghost use Rattle.session_net.specs.Reads.{IsFound, IsRefusedRead};
 
-use crate::ask::Asking;
+use crate::ask::{Asking, Quorum};
 use crate::gather::gather;
-use crate::shard::Quorum;
 use m3_model::act::ReadLevel;
 use m3_model::point::{Pick, Series};
 use m3_model::seq::Seq;
@@ -69,11 +68,16 @@ pub fn fetch<D: Disk>(
     ensures fates { net.new.fates ≡ net.old.fates }
     ensures bag { net.new.bag ≡ net.old.bag }
 {
-    let asking = Asking { id, from, to };
     let rf = net.state.place.rf;
     let quorum = Quorum {
         needed: needed_read(level, rf),
         majority: majority(rf),
+    };
+    let asking = Asking {
+        id,
+        from,
+        to,
+        quorum,
     };
     let gave = gather(
         alloc,
@@ -82,7 +86,6 @@ pub fn fetch<D: Disk>(
         &net.fates,
         &asking,
         pick,
-        quorum,
     )?;
     Ok(Found {
         series: gave.series,

@@ -33,15 +33,6 @@ use session_net::session_err::SessionErr;
 use session_net::tally::Tally;
 use std::alloc::Global;
 
-// How many nodes of a shard a read asks for.
-#[derive(Clone, Copy)]
-pub(crate) struct Quorum {
-    // How many have to answer.
-    pub(crate) needed: u32,
-    // How many are a majority.
-    pub(crate) majority: u32,
-}
-
 // What was given: the join of all answers, and whether at least a majority of each shard answered.
 #[derive(Drop)]
 pub(crate) struct Gave {
@@ -151,24 +142,23 @@ fn settle<D: Disk>(
     replicas: &mut Replicas<D>,
     start: u64,
     shard: u32,
-    quorum: Quorum,
+    asking: &Asking,
     tally: Tally,
     joined: Buffer,
     ns: u8,
-    to: u64,
 ) -> Result<Gave, SessionErr>
-    requires ends { (series : List Found) → IsSeries joined.points ns to series → IsFetched replicas.old.events start tally.answered.items series }
+    requires ends { (series : List Found) → IsSeries joined.points ns asking.now.to series → IsFetched replicas.old.events start tally.answered.items series }
     requires room { HasRoom 1 replicas.old.events }
-    ensures ok { IfOk result (λ gave. IsSeries joined.points ns to gave.series × (quorum.needed ≤ length tally.answered.items) × (gave.whole ≡ nat_le quorum.majority (length tally.answered.items))
+    ensures ok { IfOk result (λ gave. IsSeries joined.points ns asking.now.to gave.series × (asking.now.quorum.needed ≤ length tally.answered.items) × (gave.whole ≡ nat_le asking.now.quorum.majority (length tally.answered.items))
         × Ran D.state replicas.old (event.FetchDone start tally.answered.items gave.series ∷ []) replicas.new) }
-    ensures err { IfErr result (λ e. ((e ≡ err.Memory) ⊎ IsShortOf quorum.needed shard tally.answered.items tally.reasons.items e) × (replicas.new ≡ replicas.old)) }
+    ensures err { IfErr result (λ e. ((e ≡ err.Memory) ⊎ IsShortOf asking.now.quorum.needed shard tally.answered.items tally.reasons.items e) × (replicas.new ≡ replicas.old)) }
 {
-    if tally.answered.len() < quorum.needed as usize {
-        return Err(tally.too_few(shard, quorum.needed));
+    if tally.answered.len() < asking.quorum.needed as usize {
+        return Err(tally.too_few(shard, asking.quorum.needed));
     }
-    let whole = quorum.majority as usize <= tally.answered.len();
+    let whole = asking.quorum.majority as usize <= tally.answered.len();
     let Tally { answered, .. } = tally;
-    let series = series_below(alloc, joined, ns, to)?;
+    let series = series_below(alloc, joined, ns, asking.to)?;
     let series = finish(replicas, start, Seq::from_vec(answered), series);
     Ok(Gave { series, whole })
 }
@@ -189,7 +179,6 @@ fn read_nodes<D: Disk>(
     asking: &Asking,
     pick: &Pick,
     shard: u32,
-    quorum: Quorum,
     nodes: &[u8],
     mut tally: Tally,
 ) -> Result<Gave, SessionErr>
@@ -201,8 +190,8 @@ fn read_nodes<D: Disk>(
     requires counts { Counts (length nodes.now) tally }
     requires none_answered { tally.answered.items ≡ [] }
     requires none_refused { tally.reasons.items ≡ [] }
-    ensures ok { IfOk result (λ gave. IsShardRead D.state state.entry.now fates.now asking.now.id (wish_of pick.now asking.now) shard quorum.needed quorum.majority gave.series gave.whole replicas.old replicas.new) }
-    ensures err { IfErr result (IsUnread D.state state.entry.now fates.now asking.now.id (wish_of pick.now asking.now) shard quorum.needed replicas.old replicas.new) }
+    ensures ok { IfOk result (λ gave. IsShardRead D.state state.entry.now fates.now asking.now.id (wish_of pick.now asking.now) shard asking.now.quorum.needed asking.now.quorum.majority gave.series gave.whole replicas.old replicas.new) }
+    ensures err { IfErr result (IsUnread D.state state.entry.now fates.now asking.now.id (wish_of pick.now asking.now) shard asking.now.quorum.needed replicas.old replicas.new) }
 {
     let place = start(alloc, replicas, state, asking, pick, shard)?;
     let mut joined = Buffer::new(alloc);
@@ -219,9 +208,7 @@ fn read_nodes<D: Disk>(
         &mut joined,
     )?;
     let ns = space_of(pick);
-    settle(
-        alloc, replicas, place, shard, quorum, tally, joined, ns, asking.to,
-    )
+    settle(alloc, replicas, place, shard, asking, tally, joined, ns)
 }
 
 // Reads one shard: its FetchStart comes to the list first, then what each message to a node that counts brings, and at
@@ -234,13 +221,12 @@ pub(crate) fn ask_shard<D: Disk>(
     asking: &Asking,
     pick: &Pick,
     shard: u32,
-    quorum: Quorum,
 ) -> Result<Gave, SessionErr>
     requires ready { IsReady state.now replicas.old [] }
     requires known { space_picked pick.now < length state.now.rules.spaces }
     requires shard { shard < length state.now.place.shards }
-    ensures ok { IfOk result (λ gave. IsShardRead D.state state.entry.now fates.now asking.now.id (wish_of pick.now asking.now) shard quorum.needed quorum.majority gave.series gave.whole replicas.old replicas.new) }
-    ensures err { IfErr result (IsUnread D.state state.entry.now fates.now asking.now.id (wish_of pick.now asking.now) shard quorum.needed replicas.old replicas.new) }
+    ensures ok { IfOk result (λ gave. IsShardRead D.state state.entry.now fates.now asking.now.id (wish_of pick.now asking.now) shard asking.now.quorum.needed asking.now.quorum.majority gave.series gave.whole replicas.old replicas.new) }
+    ensures err { IfErr result (IsUnread D.state state.entry.now fates.now asking.now.id (wish_of pick.now asking.now) shard asking.now.quorum.needed replicas.old replicas.new) }
 {
     let nodes = counted(alloc, &state.place, shard)?;
     let tally = Tally::with_room(alloc, nodes.len())?;
@@ -255,7 +241,6 @@ pub(crate) fn ask_shard<D: Disk>(
         asking,
         pick,
         shard,
-        quorum,
         nodes.as_slice(),
         tally,
     )

@@ -1,10 +1,7 @@
-use Rattle.std.proofs.Common.{◌≡◌, suc, ◌+◌, ◌<◌, ℤ, List, [], ◌∷◌, ◌++◌, length, get_or, map, sym, ap, ◌∙◌, subst, arith}
-use Rattle.std.specs.Prelude.{Some, None, IfOk, Result}
-use Rattle.std.specs.FinMap.{get, get-empty}
+use Rattle.std.proofs.Common.{◌≡◌, suc, ◌+◌, ◌<◌, List, [], ◌∷◌, ◌++◌, length, get_or, map, sym, ap, ◌∙◌, subst, arith}
+use Rattle.std.specs.Prelude.{IfOk, Result}
 use Rattle.std.specs.Result.{result_err}
 use Rattle.std.proofs.lemmas.List.{map-append}
-use Rattle.m3_model.specs.Contents.{key_of}
-use Rattle.m3_model.specs.Keys.{key_cmp}
 use Rattle.m3_model.specs.Reads.{space_picked}
 use Rattle.m3_model.specs.declared.point.Series.{Series}
 use Rattle.m3_model.specs.declared.reason.Reason.{Reason}
@@ -16,7 +13,7 @@ use Rattle.session_net.specs.Reads.{read_of}
 use Rattle.session_net.specs.Runs.{slot_at}
 use Rattle.session_net.proofs.ReadyLemmas.{any_after, there_after}
 use Rattle.session_reads.specs.Gathering.{wish_of, AreBefore, points_said}
-use Rattle.session_reads.proofs.AskLemmas.{content_more, before_more, asked_none, asked_more, always_err, forms_more}
+use Rattle.session_reads.proofs.AskLemmas.{content_none, before_none, forms_none, content_more, before_more, asked_none, asked_more, always_err, forms_more}
 use Rattle.session_reads.proofs.ask.ask_nodes.Goals as goal
 
 pub loop-node-init : goal.loop-node-init
@@ -28,12 +25,9 @@ loop-node-init g c =
       asked = asked_none g.D.Disk.state c.args.fates.now asking.id c.args.shard (read_of asking.id c.args.state.now.rules c.args.state.now.place.version (wish_of c.args.pick.now asking)) c.args.replicas.now;
       answered = c.requires.none_answered;
       refused = c.requires.none_refused;
-      content = record {
-        covers = λ answer m p here. absurd m;
-        nothing_else = λ p here. let none = get-empty {X = ℤ} key_cmp (key_of p) in let bad : None ≡ Some p.v = sym none ∙ ap (λ b. get b (key_of p)) (sym c.requires.nothing) ∙ here in cc;
-      };
-      before = λ answer m. absurd m;
-      forms = λ x m. absurd m;
+      content = content_none (space_picked c.args.pick.now) c.args.into.now.points c.requires.nothing;
+      before = before_none (space_picked c.args.pick.now) asking.to;
+      forms = forms_none;
     }
 
 pub read_by_fate-said-requires-clause-clock : goal.read_by_fate-said-requires-clause-clock

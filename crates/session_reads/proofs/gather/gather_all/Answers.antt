@@ -1,15 +1,13 @@
-use Rattle.std.proofs.Common.{◌≡◌, suc, ◌<◌, ℤ, [], length, sym, ap, ◌∙◌, subst, arith}
-use Rattle.std.specs.Prelude.{◌&&◌, Some, None}
-use Rattle.std.specs.FinMap.{get, get-empty}
+use Rattle.std.proofs.Common.{◌≡◌, suc, ◌<◌, [], length, sym, ap, ◌∙◌, subst, arith}
+use Rattle.std.specs.Prelude.{◌&&◌}
 use Rattle.std.proofs.lemmas.List.{append-nil}
 use Rattle.block_buffer.specs.Held.{Held}
 use Rattle.block_buffer.specs.Joins.{joined}
-use Rattle.m3_model.specs.Contents.{key_of}
-use Rattle.m3_model.specs.Keys.{key_cmp}
 use Rattle.m3_model.specs.Reads.{points_in, space_picked}
 use Rattle.session_net.specs.Reads.{count_from, asked_shards, IsUnfound}
 use Rattle.session_net.specs.declared.session_err.SessionErr.TheVariants as err
 use Rattle.session_reads.specs.Gathering.{wish_of, IsGathered}
+use Rattle.session_reads.proofs.AskLemmas.{nothing_held}
 use Rattle.session_reads.proofs.FetchLemmas.{left_reads, ready_left}
 use Rattle.session_reads.proofs.GatherLemmas.{SoFar, count_in, count_more, count_rest, gap, so_far_none, so_far_more, stopped_past, stopped_here, unread, gathered_all}
 use Rattle.session_reads.proofs.ShardLemmas.{passed_on}
@@ -17,15 +15,15 @@ use Rattle.session_reads.proofs.gather.gather_all.Goals as goal
 
 pub loop-shard-init : goal.loop-shard-init
 loop-shard-init g c =
-    so_far_none g.D.Disk.state c.args.state.now c.args.fates.now c.args.asking.now.id (wish_of c.args.pick.now c.args.asking.now) c.args.quorum.needed c.args.quorum.majority c.args.replicas.now c.new-joined.result.points
-    (λ p h. let none = get-empty {X = ℤ} key_cmp (key_of p) in let bad : None ≡ Some p.v = sym none ∙ ap (λ (b : Held). get b.points (key_of p)) (sym c.new-joined.ensures) ∙ h in cc)
+    so_far_none g.D.Disk.state c.args.state.now c.args.fates.now c.args.asking.now.id (wish_of c.args.pick.now c.args.asking.now) c.args.asking.now.quorum.needed c.args.asking.now.quorum.majority c.args.replicas.now c.new-joined.result.points
+    (nothing_held c.new-joined.result.points (ap (λ (b : Held). b.points) c.new-joined.ensures))
 
 pub ask_shard-requires-clause-ready : goal.ask_shard-requires-clause-ready
 ask_shard-requires-clause-ready g c κs within =
     let state = c.args.state.now in
     let was = c.loop-shard.invariant in
     ready_left g.D.Disk.state state c.args.replicas.now c.loop-shard.replicas [] c.requires.ready
-    (left_reads state c.args.fates.now c.args.asking.now.id (wish_of c.args.pick.now c.args.asking.now) c.args.quorum.needed g.D.Disk.state c.args.replicas.now c.loop-shard.replicas (count_from 0 c.loop-shard.shard) was.reads was.events was.are was.ran)
+    (left_reads state c.args.fates.now c.args.asking.now.id (wish_of c.args.pick.now c.args.asking.now) c.args.asking.now.quorum.needed g.D.Disk.state c.args.replicas.now c.loop-shard.replicas (count_from 0 c.loop-shard.shard) was.reads was.events was.are was.ran)
 
 pub returns-in_err-gave-clause-err : goal.returns-in_err-gave-clause-err
 returns-in_err-gave-clause-err g c =
@@ -34,8 +32,8 @@ returns-in_err-gave-clause-err g c =
     let n = length state.place.shards in
     let below : i < n = omega arith in
     let w = wish_of c.args.pick.now c.args.asking.now in
-    passed_on c.from_residual.result c.in_err-gave.field-0.0 (IsUnfound g.D.Disk.state state c.args.fates.now c.args.asking.now.id w c.args.quorum.needed c.args.replicas.now c.ask_shard.new.replicas) c.from_residual.ensures.1
-    (unread g.D.Disk.state state c.args.fates.now c.args.asking.now.id w c.args.quorum.needed c.args.quorum.majority c.args.replicas.now c.loop-shard.replicas c.ask_shard.new.replicas (count_from 0 i) (count_from (suc i) (gap i n)) c.loop-shard.whole
+    passed_on c.from_residual.result c.in_err-gave.field-0.0 (IsUnfound g.D.Disk.state state c.args.fates.now c.args.asking.now.id w c.args.asking.now.quorum.needed c.args.replicas.now c.ask_shard.new.replicas) c.from_residual.ensures.1
+    (unread g.D.Disk.state state c.args.fates.now c.args.asking.now.id w c.args.asking.now.quorum.needed c.args.asking.now.quorum.majority c.args.replicas.now c.loop-shard.replicas c.ask_shard.new.replicas (count_from 0 i) (count_from (suc i) (gap i n)) c.loop-shard.whole
     c.loop-shard.joined.points i c.in_err-gave.field-0.0 (ap (asked_shards state) c.requires.all.1 ∙ count_rest i n below) c.loop-shard.invariant c.in_err-gave.ensures.err)
 
 pub returns-in_err-join_all-clause-err : goal.returns-in_err-join_all-clause-err
@@ -45,8 +43,8 @@ returns-in_err-join_all-clause-err g c =
     let n = length state.place.shards in
     let below : i < n = omega arith in
     let w = wish_of c.args.pick.now c.args.asking.now in
-    passed_on c.from_residual-in_err-join_all.result err.Memory (IsUnfound g.D.Disk.state state c.args.fates.now c.args.asking.now.id w c.args.quorum.needed c.args.replicas.now c.ask_shard.new.replicas) c.from_residual-in_err-join_all.ensures.1
-    (stopped_past g.D.Disk.state state c.args.fates.now c.args.asking.now.id w c.args.quorum.needed c.args.quorum.majority c.args.replicas.now c.loop-shard.replicas c.ask_shard.new.replicas (count_from 0 i) c.loop-shard.whole c.in_ok-gave.gave.whole
+    passed_on c.from_residual-in_err-join_all.result err.Memory (IsUnfound g.D.Disk.state state c.args.fates.now c.args.asking.now.id w c.args.asking.now.quorum.needed c.args.replicas.now c.ask_shard.new.replicas) c.from_residual-in_err-join_all.ensures.1
+    (stopped_past g.D.Disk.state state c.args.fates.now c.args.asking.now.id w c.args.asking.now.quorum.needed c.args.asking.now.quorum.majority c.args.replicas.now c.loop-shard.replicas c.ask_shard.new.replicas (count_from 0 i) c.loop-shard.whole c.in_ok-gave.gave.whole
     c.loop-shard.joined.points i c.in_ok-gave.gave.series (λ m. let high = (count_in 0 i i m).1 in omega (arith, high)) c.loop-shard.invariant c.in_ok-gave.ensures.ok (count_from (suc i) (gap i n))
     (ap (asked_shards state) c.requires.all.1 ∙ count_rest i n below))
 
@@ -57,9 +55,9 @@ loop-shard-preserved g c =
     let w = wish_of c.args.pick.now c.args.asking.now in
     let had = c.loop-shard.joined.points in
     let is = c.in_ok-join_all.ensures ∙ ap (λ k. joined had (points_in k c.as_slice.result.now)) c.space_of-ns.ensures ∙ ap (λ xs. joined had (points_in (space_picked c.args.pick.now) xs)) c.as_slice.ensures in
-    subst (λ shards. SoFar g.D.Disk.state state c.args.fates.now c.args.asking.now.id w c.args.quorum.needed c.args.quorum.majority c.args.replicas.now c.ask_shard.new.replicas shards (c.loop-shard.whole && c.in_ok-gave.gave.whole) c.join_all.new.into.points)
+    subst (λ shards. SoFar g.D.Disk.state state c.args.fates.now c.args.asking.now.id w c.args.asking.now.quorum.needed c.args.asking.now.quorum.majority c.args.replicas.now c.ask_shard.new.replicas shards (c.loop-shard.whole && c.in_ok-gave.gave.whole) c.join_all.new.into.points)
     (sym (count_more i))
-    (so_far_more g.D.Disk.state state c.args.fates.now c.args.asking.now.id w c.args.quorum.needed c.args.quorum.majority c.args.replicas.now c.loop-shard.replicas c.ask_shard.new.replicas (count_from 0 i) c.loop-shard.whole c.in_ok-gave.gave.whole had i
+    (so_far_more g.D.Disk.state state c.args.fates.now c.args.asking.now.id w c.args.asking.now.quorum.needed c.args.asking.now.quorum.majority c.args.replicas.now c.loop-shard.replicas c.ask_shard.new.replicas (count_from 0 i) c.loop-shard.whole c.in_ok-gave.gave.whole had i
     c.in_ok-gave.gave.series (λ m. let high = (count_in 0 i i m).1 in omega (arith, high)) c.loop-shard.invariant c.in_ok-gave.ensures.ok c.join_all.new.into.points is)
 
 pub returns-in_err-series-clause-err : goal.returns-in_err-series-clause-err
@@ -68,8 +66,8 @@ returns-in_err-series-clause-err g c =
     let i = c.loop-shard.shard in
     let all : length state.place.shards ≡ i = omega arith in
     let w = wish_of c.args.pick.now c.args.asking.now in
-    passed_on c.from_residual-in_err-series.result err.Memory (IsUnfound g.D.Disk.state state c.args.fates.now c.args.asking.now.id w c.args.quorum.needed c.args.replicas.now c.loop-shard.replicas) c.from_residual-in_err-series.ensures.1
-    (stopped_here g.D.Disk.state state c.args.fates.now c.args.asking.now.id w c.args.quorum.needed c.args.quorum.majority c.args.replicas.now c.loop-shard.replicas (count_from 0 i) [] c.loop-shard.whole c.loop-shard.joined.points
+    passed_on c.from_residual-in_err-series.result err.Memory (IsUnfound g.D.Disk.state state c.args.fates.now c.args.asking.now.id w c.args.asking.now.quorum.needed c.args.replicas.now c.loop-shard.replicas) c.from_residual-in_err-series.ensures.1
+    (stopped_here g.D.Disk.state state c.args.fates.now c.args.asking.now.id w c.args.asking.now.quorum.needed c.args.asking.now.quorum.majority c.args.replicas.now c.loop-shard.replicas (count_from 0 i) [] c.loop-shard.whole c.loop-shard.joined.points
     (ap (asked_shards state) c.requires.all.1 ∙ ap (count_from 0) all ∙ sym (append-nil (count_from 0 i))) c.loop-shard.invariant)
 
 pub returns-clause-ok : goal.returns-clause-ok
@@ -78,7 +76,7 @@ returns-clause-ok g c =
     let i = c.loop-shard.shard in
     let all : length state.place.shards ≡ i = omega arith in
     let w = wish_of c.args.pick.now c.args.asking.now in
-    subst (λ shards. IsGathered g.D.Disk.state state c.args.fates.now c.args.asking.now.id w c.args.quorum.needed c.args.quorum.majority shards c.in_ok-series.series c.loop-shard.whole c.args.replicas.now c.loop-shard.replicas)
+    subst (λ shards. IsGathered g.D.Disk.state state c.args.fates.now c.args.asking.now.id w c.args.asking.now.quorum.needed c.args.asking.now.quorum.majority shards c.in_ok-series.series c.loop-shard.whole c.args.replicas.now c.loop-shard.replicas)
     (sym (ap (asked_shards state) c.requires.all.1 ∙ ap (count_from 0) all))
-    (gathered_all g.D.Disk.state state c.args.fates.now c.args.asking.now.id w c.args.quorum.needed c.args.quorum.majority c.args.replicas.now c.loop-shard.replicas (count_from 0 i) c.loop-shard.whole c.loop-shard.joined.points c.space_of-ns.result
+    (gathered_all g.D.Disk.state state c.args.fates.now c.args.asking.now.id w c.args.asking.now.quorum.needed c.args.asking.now.quorum.majority c.args.replicas.now c.loop-shard.replicas (count_from 0 i) c.loop-shard.whole c.loop-shard.joined.points c.space_of-ns.result
     c.in_ok-series.series c.space_of-ns.ensures c.loop-shard.invariant c.in_ok-series.ensures)

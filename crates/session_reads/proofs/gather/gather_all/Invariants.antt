@@ -4,4 +4,4 @@ use Rattle.session_reads.proofs.GatherLemmas.{SoFar}
 use Rattle.session_reads.proofs.gather.gather_all.Given as goal
 
 abbrev pub invariant-loop-shard : goal.invariant-loop-shard
-invariant-loop-shard g l = SoFar g.D.Disk.state l.state l.fates l.asking.id (wish_of l.pick l.asking) l.quorum.needed l.quorum.majority l.fn.replicas l.replicas (count_from 0 l.shard) l.whole l.joined.points
+invariant-loop-shard g l = SoFar g.D.Disk.state l.state l.fates l.asking.id (wish_of l.pick l.asking) l.asking.quorum.needed l.asking.quorum.majority l.fn.replicas l.replicas (count_from 0 l.shard) l.whole l.joined.points

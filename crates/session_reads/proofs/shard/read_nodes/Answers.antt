@@ -27,7 +27,7 @@ returns-in_err-ask_nodes-clause-err g c =
     let state = c.args.state.now in
     let w = wish_of c.args.pick.now asking in
     let asked = c.in_err-ask_nodes.ensures.err in
-    passed_on c.from_residual-in_err-ask_nodes.result err.Memory (IsUnread g.D.Disk.state state c.args.fates.now asking.id w c.args.shard c.args.quorum.needed c.args.replicas.now c.ask_nodes.new.replicas) c.from_residual-in_err-ask_nodes.ensures.1
+    passed_on c.from_residual-in_err-ask_nodes.result err.Memory (IsUnread g.D.Disk.state state c.args.fates.now asking.id w c.args.shard c.args.asking.now.quorum.needed c.args.replicas.now c.ask_nodes.new.replicas) c.from_residual-in_err-ask_nodes.ensures.1
     (inr (half_read g.D.Disk.state state c.args.fates.now asking.id w c.args.shard asked.0 c.args.nodes.now c.args.replicas.now c.start.new.replicas c.ask_nodes.new.replicas asked.1 c.requires.counted
     (c.in_ok-place.ensures.ok).1
     asked.2))
@@ -53,7 +53,7 @@ returns-clause-ok g c =
     (c.in_ok-place.ensures.ok).1
     asked.1
     asked.6 c.ask_nodes.new.into.points asked.4 asked.5 c.space_of-ns.result c.space_of-ns.ensures c.ask_nodes.new.tally.answered.items c.ask_nodes.new.tally.reasons.items asked.2 asked.3 c.in_ok-place.place (c.in_ok-place.ensures.ok).0
-    c.settle.new.replicas c.args.quorum.needed c.args.quorum.majority c.settle.result c.settle.ensures.ok
+    c.settle.new.replicas c.args.asking.now.quorum.needed c.args.asking.now.quorum.majority c.settle.result c.settle.ensures.ok
 
 pub returns-clause-err : goal.returns-clause-err
 returns-clause-err g c =
@@ -65,4 +65,4 @@ returns-clause-err g c =
     (c.in_ok-place.ensures.ok).1
     asked.1
     asked.6 c.ask_nodes.new.into.points asked.4 asked.5 c.space_of-ns.result c.space_of-ns.ensures c.ask_nodes.new.tally.answered.items c.ask_nodes.new.tally.reasons.items asked.2 asked.3 c.in_ok-place.place (c.in_ok-place.ensures.ok).0
-    c.settle.new.replicas c.args.quorum.needed c.args.quorum.majority c.settle.result c.settle.ensures.err
+    c.settle.new.replicas c.args.asking.now.quorum.needed c.args.asking.now.quorum.majority c.settle.result c.settle.ensures.err
