@@ -200,7 +200,7 @@ module _ (start : Option MetaState) (turns : List Turn) (events : List Event) (l
           (lines_leave q i r in_run to there rest (q.lines ++ line ∷ []) (b.line ∷ at.after) (whole ∙ sym (append_assoc q.lines (line ∷ []) (rest ++ b.line ∷ at.after))) (omega (arith, length-append q.lines (line ∷ []))) base)
       by_place q alone sets left in_run from to (before_there e h) = absurd (clash q sets (alone_is turns q b alone at (ap length (sym e))))
       by_place q alone sets left in_run from to (in_other_list e h) = absurd (clash q sets (alone_is turns q b alone at (ap length (sym e))))
-      by_place q alone sets left in_run from to (is_it e) = absurd (clash q sets e)
+      by_place q alone sets left in_run from to (is_it e) = absurd (clash q sets (ap (λ (x : TurnPlace). x.turn) e))
       by_place q alone sets left in_run from to (comes_later e) = let before : (told.spans).to b ≤ (told.spans).from q = (told.tells).order.order b q at in_run e in absurd (omega arith)
 
       by_maker : (q : TurnPlace) → IsAlone turns q → sets_rules q.turn.act q.turn.answer ≡ true → r ≡ rules_left start q → IsTurnPlace turns q × IsWithin told.spans q i → NotAbove r (rules_at start b)

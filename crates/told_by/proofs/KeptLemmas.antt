@@ -301,7 +301,7 @@ module _ (past : List Record) (start : Option MetaState) (turns : List Turn) (ev
             among_sent q.turn p (IsIn-append_right (turns_before past b) b.beside q.turn h)
             (sent_by (rules_at start b).spaces q.turn p sent.was (point_grows (rules_at start q).spaces (rules_at start b).spaces (same_lines_grow start q b e) q.turn.act p sent.of_point))
         by_place q in_run from low sent (is_it e) =
-            absurd (write_reads_not (rules_at start q).spaces (rules_at start b).spaces q.turn.act p (it.asking).read sent.of_point (ap (λ (t : InnerTurn). read_of (rules_at start b).spaces t.act) e ∙ (it.of_turn).of_act))
+            absurd (write_reads_not (rules_at start q).spaces (rules_at start b).spaces q.turn.act p (it.asking).read sent.of_point (ap (λ (x : TurnPlace). read_of (rules_at start b).spaces x.turn.act) e ∙ (it.of_turn).of_act))
         by_place q in_run from low sent (comes_later e) =
             let before : (told.spans).to b ≤ (told.spans).from q = (told.tells).order.order b q at in_run e in absurd (omega arith)
 

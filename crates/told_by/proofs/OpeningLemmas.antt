@@ -173,7 +173,7 @@ module _ {tells : Bool} (start : Option MetaState) (turns : List Turn) (events :
           ∙ seed_set p.turn.act p.turn.answer (seed_from first (inner_turns p.lines)) 0 init.sets
       by_place b at other i low (before_there e h) = absurd (clash b other (alone_is turns p b init.alone at (ap length (sym e))))
       by_place b at other i low (in_other_list e h) = absurd (clash b other (alone_is turns p b init.alone at (ap length (sym e))))
-      by_place b at other i low (is_it e) = absurd (clash b other e)
+      by_place b at other i low (is_it e) = absurd (clash b other (ap (λ (x : TurnPlace). x.turn) e))
       by_place b at other i low (comes_later e) =
           let before : (told.spans).to b ≤ (told.spans).from p = (told.tells).order.order b p at in_run e in absurd (omega (arith, init.from_is))
 
@@ -207,7 +207,7 @@ module _ {tells : Bool} (start : Option MetaState) (turns : List Turn) (events :
       by_turn p in_run init (before_line rest line e h) = subst (λ xs. IsIn (inner_turns xs) p.turn) (sym e) (subst (λ ts. IsIn ts p.turn) (sym (inner-append p.lines (line ∷ rest))) (IsIn-append_right (inner_turns p.lines) (inner_turns (line ∷ rest)) p.turn (IsIn-append_left (joined (lists_of line)) (inner_turns rest) p.turn h)))
       by_turn p in_run init (before_there e h) = absurd (let bad : true ≡ false = sym init.sets ∙ ap (λ (t : InnerTurn). sets_seed t.act t.answer) (alone_is turns p b init.alone at (ap length (sym e))) ∙ other in cc)
       by_turn p in_run init (in_other_list e h) = absurd (let bad : true ≡ false = sym init.sets ∙ ap (λ (t : InnerTurn). sets_seed t.act t.answer) (alone_is turns p b init.alone at (ap length (sym e))) ∙ other in cc)
-      by_turn p in_run init (is_it e) = absurd (let bad : true ≡ false = sym init.sets ∙ ap (λ (t : InnerTurn). sets_seed t.act t.answer) e ∙ other in cc)
+      by_turn p in_run init (is_it e) = absurd (let bad : true ≡ false = sym init.sets ∙ ap (λ (x : TurnPlace). sets_seed x.turn.act x.turn.answer) e ∙ other in cc)
       by_turn p in_run init (comes_later e) = let before : (told.spans).to b ≤ (told.spans).from p = (told.tells).order.order b p at in_run e in absurd (omega (arith, init.from_is))
 
       by_start : (o : Option MetaState) → start ≡ o → HasReplicas (first.place).rf (placement_after (start_placement start) (inner_turns b.lines))

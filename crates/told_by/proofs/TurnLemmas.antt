@@ -145,7 +145,7 @@ pub data Stands (q b : TurnPlace) : Type 0 where
   before_line : (rest : List Turn) (line : Turn) → b.lines ≡ q.lines ++ line ∷ rest → IsIn (joined (lists_of line)) q.turn → Stands q b
   before_there : q.lines ≡ b.lines → IsIn b.earlier q.turn → Stands q b
   in_other_list : q.lines ≡ b.lines → IsIn b.beside q.turn → Stands q b
-  is_it : q.turn ≡ b.turn → Stands q b
+  is_it : q ≡ b → Stands q b
   comes_later : IsEarlier b q → Stands q b
 
 in_list : {X : Type 0} (front : List (List X)) (earlier : List X) (x : X) (later : List X) (back : List (List X)) → IsIn (joined (front ++ (earlier ++ x ∷ later) ∷ back)) x
@@ -170,10 +170,10 @@ in_other_back (f ∷ fq) lq bq (g ∷ fb) lb bb x e lt h =
     in_other_back fq lq bq fb lb bb x tails (omega arith) h
 
 -- in one line
-stands_in_line : (q b : TurnPlace) (line : Turn) (fq fb : List (List InnerTurn)) (lq lb : List InnerTurn) (bq bb : List (List InnerTurn)) → q.lines ≡ b.lines
-    → lists_of line ≡ fq ++ (q.earlier ++ q.turn ∷ lq) ∷ bq → lists_of line ≡ fb ++ (b.earlier ++ b.turn ∷ lb) ∷ bb → b.beside ≡ joined fb ++ joined bb
+stands_in_line : (q b : TurnPlace) (line : Turn) → q.line ≡ b.line → (fq fb : List (List InnerTurn)) (lq lb : List InnerTurn) (bq bb : List (List InnerTurn)) → q.lines ≡ b.lines
+    → lists_of line ≡ fq ++ (q.earlier ++ q.turn ∷ lq) ∷ bq → lists_of line ≡ fb ++ (b.earlier ++ b.turn ∷ lb) ∷ bb → q.beside ≡ joined fq ++ joined bq → b.beside ≡ joined fb ++ joined bb
     → q.client ≡ client_at line.request (length fq) → b.client ≡ client_at line.request (length fb) → Stands q b
-stands_in_line q b line fq fb lq lb bq bb lines ql bl others qc bc =
+stands_in_line q b line same_line_is fq fb lq lb bq bb lines ql bl own_others others qc bc =
     let both = sym ql ∙ bl in
     let here : IsIn (q.earlier ++ q.turn ∷ lq) q.turn = in_cut q.earlier q.turn lq in
     elim (cases_lt (length fq) (length fb)) as (λ _. Stands q b) [
@@ -190,7 +190,10 @@ stands_in_line q b line fq fb lq lb bq bb lines ql bl others qc bc =
                   let r = cut_before q.earlier q.turn lq b.earlier b.turn lb cut.heres earlier in
                   before_there lines (subst (λ xs. IsIn xs q.turn) (sym r.1) (in_cut q.earlier q.turn r.0))
               | inr not_earlier ↦ elim (cases_eq (length b.earlier) (length q.earlier)) as (λ _. Stands q b) [
-                | inl equal ↦ is_it (cut_same q.earlier q.turn lq b.earlier b.turn lb cut.heres (sym equal)).heres
+                | inl equal ↦
+                    let here = cut_same q.earlier q.turn lq b.earlier b.turn lb cut.heres (sym equal) in
+                    let beside : q.beside ≡ b.beside = own_others ∙ ap (λ ls. joined ls ++ joined bq) cut.fronts ∙ ap (λ ls. joined fb ++ joined ls) cut.backs ∙ sym others in
+                    is_it (λ i. record { lines = lines i; line = same_line_is i; client = sym clients i; earlier = here.fronts i; beside = beside i; turn = here.heres i })
                 | inr other ↦ let later : length b.earlier < length q.earlier = omega arith in comes_later (inr (same_line, clients, later))
               ]
             ]
@@ -206,7 +209,7 @@ stands turns q b qa ba =
         | inr ne ↦ let later : length b.lines < length q.lines = omega arith in comes_later (inl later)
         | inl e ↦
             let cut = cut_same q.lines q.line qa.after b.lines b.line ba.after both (sym e) in
-            stands_in_line q b q.line (qa.stands).front (ba.stands).front (qa.stands).later (ba.stands).later (qa.stands).back (ba.stands).back cut.fronts (qa.stands).in_line (ap lists_of cut.heres ∙ (ba.stands).in_line) (ba.stands).others (qa.stands).client_is
+            stands_in_line q b q.line cut.heres (qa.stands).front (ba.stands).front (qa.stands).later (ba.stands).later (qa.stands).back (ba.stands).back cut.fronts (qa.stands).in_line (ap lists_of cut.heres ∙ (ba.stands).in_line) (qa.stands).others (ba.stands).others (qa.stands).client_is
             ((ba.stands).client_is ∙ ap (λ (l : Turn). client_at l.request (length (ba.stands).front)) (sym cut.heres))
       ]
     ]

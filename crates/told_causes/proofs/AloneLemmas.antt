@@ -1,7 +1,6 @@
 -- Turns that are alone in their lines, and the placement that they meet.
-use Rattle.std.proofs.Common.{◌≡◌, ℕ, zero, suc, ◌<◌, ◌≤◌, ◌+◌, ◌-◌, List, [], ◌∷◌, ◌++◌, take, length, refl, sym, ap, ◌∙◌, subst, inl, inr, arith, append-nil, Bool}
-use Rattle.std.specs.Prelude.{Some, None, Option}
-use Rattle.std.proofs.lemmas.Bool.{cases_lt}
+use Rattle.std.proofs.Common.{◌≡◌, ℕ, zero, suc, ◌<◌, ◌≤◌, ◌+◌, List, [], ◌∷◌, ◌++◌, take, length, refl, sym, ap, ◌∙◌, subst, inl, inr, arith, append-nil, Bool}
+use Rattle.std.specs.Prelude.{◌⊎◌, Some, None, Option}
 use Rattle.m3_model.proofs.SplitLemmas.{not_empty}
 use Rattle.m3_model.specs.declared.placement.Placement.{Placement}
 use Rattle.m3_model.specs.declared.rules.MetaState.{MetaState}
@@ -11,18 +10,16 @@ use Rattle.cluster_core.specs.Legal.{Legal}
 use Rattle.cluster_core.specs.Lists.{At}
 use Rattle.cluster_core.specs.declared.event.Event.{Event}
 use Rattle.cluster_core.specs.declared.event.Event.TheVariants as event
-use Rattle.cluster_core.proofs.ListLemmas.{at_some, at_take, at_within, fold_suc, some_same}
+use Rattle.cluster_core.proofs.ListLemmas.{along, at_some, fold_suc, some_same}
 use Rattle.cluster_core.proofs.PlaceLemmas.{place_cases}
-use Rattle.transcripts.specs.Placements.{placement_after, placement_at, start_placement}
+use Rattle.transcripts.specs.Placements.{printed}
 use Rattle.transcripts.specs.Record.{InnerTurn, IsInLine, TurnPlace, IsTurnPlace, client_at, inner_turns, joined, lists_of}
-use Rattle.told_by.specs.Openings.{IsInitOf}
 use Rattle.told_by.specs.Spans.{IsAlone}
 use Rattle.told_by.specs.Told.{ToldBy}
-use Rattle.told_by.proofs.LeaveLemmas.{place_there}
 use Rattle.told_by.proofs.LineLemmas.{line_below, take_all, take_front}
-use Rattle.told_by.proofs.PrintedLemmas.{ends_grow, placements_stand}
+use Rattle.told_by.proofs.PrintedLemmas.{ends_grow}
 use Rattle.told_by.proofs.TurnLemmas.{at_cut, cut_same}
-use Rattle.told_causes.specs.Boot.{HasOneTurn, PlacesAlone}
+use Rattle.told_causes.specs.Boot.{HasOneTurn}
 use Rattle.told_causes.proofs.HaltLemmas.{one_line, opening_low}
 
 -- ---- turns that are alone
@@ -92,68 +89,58 @@ one_alone turns q at one =
     (one.0, one.2, one.3 ∙ ap (λ (u : InnerTurn). (u ∷ []) ∷ []) (sym here.turn))
 
 module _ {tells : Bool} (start : Option MetaState) (turns : List Turn) (events : List Event) (legal : Legal tells events) (told : ToldBy start turns events) where
-  -- a turn in whose line a Place stands is alone in it
-  abbrev pub IsAloneByPlace : TurnPlace → Type 0
-  IsAloneByPlace q = (i : ℕ) (place : Placement) (done : List (ℕ × ℕ)) → told.ends (length q.lines) ≤ i → i < told.ends (suc (length q.lines)) → At events i (event.Place place done) → IsAlone turns q
-
-  pub alone_by_place : PlacesAlone start turns events told → (q : TurnPlace) → IsTurnPlace turns q → IsAloneByPlace q
-  alone_by_place places q at i place done low high there = one_alone turns q at (places (length q.lines) i place done (line_below turns q at) low high there)
-
-  -- no Place stands in the line before such a turn
-  pub no_place_before : (q : TurnPlace) → IsTurnPlace turns q → IsAloneByPlace q → 1 ≤ told.ends (length q.lines) → (i : ℕ) (place : Placement) (done : List (ℕ × ℕ)) → told.ends (length q.lines) ≤ i → i < (told.spans).from q → At events i (event.Place place done) → ⊥
-  no_place_before q at only some zero place done low below there = omega (arith, low, some)
-  no_place_before q at only some (suc zero) place done low below there = legal 1 (event.Place place done) there
-  no_place_before q at only some (suc (suc i)) place done low below there =
-      let late : 2 ≤ suc (suc i) = omega arith in
-      let made = (told.tells).order.made (suc (suc i)) (event.Place place done) (opening_low start (suc (suc i)) late) late there tt in
-      let b = told.makers (suc (suc i)) in
-      let early : length b.lines < length turns = line_below turns b (made.0) in
-      let less : length q.lines < length turns = line_below turns q at in
-      let high : suc (suc i) < told.ends (suc (length q.lines)) = omega (arith, below, (told.tells).order.not_back q at, (told.lines).high q at) in
-      let same = one_line start turns events legal told (suc (suc i)) (length b.lines) (length q.lines) early less (omega (arith, (told.lines).low b made.0, (made.1).0)) (omega (arith, (told.lines).high b made.0, (made.1).1)) low high in
-      let from : (told.spans).from q ≤ suc (suc i) = subst (λ z. (told.spans).from z ≤ suc (suc i)) (alone_place turns q b (only (suc (suc i)) place done low high there) at made.0 same) (made.1).0 in
-      omega (arith, from, below)
-
-  -- so the last Place where it begins is the one before the line
-  pub quiet_line : (q : TurnPlace) → IsTurnPlace turns q → IsAloneByPlace q → 1 ≤ told.ends (length q.lines) → last_place (take ((told.spans).from q) events) ≡ last_place (take (told.ends (length q.lines)) events)
-  quiet_line q at only some =
-      let k = length q.lines in
-      let begins = (told.lines).low q at in
-      let within : (told.spans).from q ≤ length events = omega (arith, (told.tells).order.not_back q at, (told.tells).order.not_above q at) in
-      let whole : told.ends k + ((told.spans).from q - told.ends k) ≡ (told.spans).from q = omega (arith, begins) in
-      subst (λ m. last_place (take m events) ≡ last_place (take (told.ends k) events)) whole
-      (quiet_places events (told.ends k) ((told.spans).from q - told.ends k) (omega (arith, whole, within)) (λ i z done low below e. no_place_before q at only some i z done low (omega (arith, below, whole)) e))
-
   -- the lines before a turn are the first of the run
   pub lines_before : (q : TurnPlace) → IsTurnPlace turns q → take (length q.lines) turns ≡ q.lines
   lines_before q at = ap (take (length q.lines)) at.in_run ∙ take_front q.lines (q.line ∷ at.after) (length q.lines) (omega arith) ∙ take_all q.lines
 
-  -- the `init` that opens the list is alone in the first line
-  no_init : (q : TurnPlace) → IsTurnPlace turns q → length q.lines < length turns → told.ends (length q.lines) ≡ 0 → 0 < (told.spans).from q → (b : TurnPlace) → IsTurnPlace turns b → IsInitOf start turns events told.spans b → ⊥
-  no_init q at less none above b in_run init =
-      let early : length b.lines < length turns = line_below turns b in_run in
-      let same = one_line start turns events legal told 0 (length b.lines) (length q.lines) early less (omega (arith, (told.lines).low b in_run, init.from_is)) (omega (arith, (told.lines).high b in_run, init.to_above)) (omega (arith, none)) (omega (arith, above, (told.tells).order.not_back q at, (told.lines).high q at)) in
-      let is : q ≡ b = alone_place turns b q init.alone in_run at (sym same) in
-      omega (arith, ap (told.spans).from is, init.from_is, above)
+  -- where a turn is alone in its line, it made the Places there
+  pub own_place : (q : TurnPlace) → IsTurnPlace turns q → HasOneTurn turns (length q.lines) → (i : ℕ) (place : Placement) (done : List (ℕ × ℕ)) → told.ends (length q.lines) ≤ i → i < told.ends (suc (length q.lines)) → At events i (event.Place place done)
+      → ((told.spans).from q ≤ i) × ((stood : Placement) × (printed q.turn.answer ≡ Some stood))
+  own_place q at one i place done low high there = by i low high there
+    where
+      less : length q.lines < length turns
+      less = line_below turns q at
 
-  -- where a placement stands when a turn begins, some event stands before its line: the `init` whose Place opens the list is alone
-  pub opened : (q : TurnPlace) → IsTurnPlace turns q → length q.lines < length turns → (place : Placement) → last_place (take ((told.spans).from q) events) ≡ Some place → 1 ≤ told.ends (length q.lines)
-  opened q at less place last =
-      elim (cases_lt 0 (told.ends (length q.lines))) as (λ _. 1 ≤ told.ends (length q.lines)) [
-        | inl some ↦ some
-        | inr none ↦
-            let there = place_there (take ((told.spans).from q) events) place last in
-            let before = at_take events there.0 ((told.spans).from q) (event.Place place there.1) there.2 in
-            let e = at_some events 0 (omega (arith, at_within events there.0 (event.Place place there.1) before.0)) in
-            let b = (told.tells).init.begun (omega (arith, (told.lines).first, ends_grow start turns events told 0 (length q.lines) (omega arith) (omega (arith, less)), none)) e.0 e.1 in
-            absurd (no_init q at less (omega (arith, none)) (omega (arith, before.1)) b.0 b.1 b.2)
-      ]
+      only : IsAlone turns q
+      only = one_alone turns q at one
 
-  -- the placement that stands where such a turn begins is the one before its line
-  pub stands_first : (q : TurnPlace) → IsTurnPlace turns q → IsAloneByPlace q → (place : Placement) → last_place (take ((told.spans).from q) events) ≡ Some place → placement_at start q ≡ Some place
-  stands_first q at only place last =
-      let less : length q.lines < length turns = line_below turns q at in
-      ap (λ ls. placement_after (start_placement start) (inner_turns ls)) (sym (lines_before q at))
-      ∙ sym (placements_stand start turns events legal told (length q.lines) (omega (arith, less)))
-      ∙ sym (quiet_line q at only (opened q at less place last))
-      ∙ last
+      is_it : (i : ℕ) (b : TurnPlace) → b ≡ q → (told.spans).from b ≤ i → (stood : Placement) → printed b.turn.answer ≡ Some stood → ((told.spans).from q ≤ i) × ((stood : Placement) × (printed q.turn.answer ≡ Some stood))
+      is_it i b same from stood prints = (subst (λ (z : TurnPlace). (told.spans).from z ≤ i) same from, (stood, ap (λ (z : TurnPlace). printed z.turn.answer) (sym same) ∙ prints))
+
+      by : (i : ℕ) → told.ends (length q.lines) ≤ i → i < told.ends (suc (length q.lines)) → At events i (event.Place place done) → ((told.spans).from q ≤ i) × ((stood : Placement) × (printed q.turn.answer ≡ Some stood))
+      by zero low high there =
+          let b = (told.tells).init.begun (omega (arith, (told.lines).first, ends_grow start turns events told 0 (length q.lines) (omega arith) (omega (arith, less)), low)) (event.Place place done) there in
+          let init = b.2 in
+          let same = one_line start turns events legal told 0 (length (b.0).lines) (length q.lines) (line_below turns b.0 b.1) less (omega (arith, (told.lines).low b.0 b.1, init.from_is)) (omega (arith, (told.lines).high b.0 b.1, init.to_above)) low high in
+          is_it 0 b.0 (alone_place turns q b.0 only at b.1 same) (omega (arith, init.from_is)) init.place (ap printed init.answered)
+      by (suc zero) low high there = absurd (legal 1 (event.Place place done) there)
+      by (suc (suc i)) low high there =
+          let late : 2 ≤ suc (suc i) = omega arith in
+          let above = opening_low start (suc (suc i)) late in
+          let made = (told.tells).order.made (suc (suc i)) (event.Place place done) above late there tt in
+          let b = told.makers (suc (suc i)) in
+          let prints = (told.tells).makes (suc (suc i)) (event.Place place done) above late there in
+          let same = one_line start turns events legal told (suc (suc i)) (length b.lines) (length q.lines) (line_below turns b made.0) less (omega (arith, (told.lines).low b made.0, (made.1).0)) (omega (arith, (told.lines).high b made.0, (made.1).1)) low high in
+          is_it (suc (suc i)) b (alone_place turns q b only at made.0 same) (made.1).0 prints.stood prints.prints
+
+-- ---- where placements come from
+
+module _ {tells : Bool} (events : List Event) (legal : Legal tells events) where
+  -- the placement stood at the first place, or it is a Place from there on and before the other
+  abbrev pub StandsFrom : ℕ → ℕ → Placement → Type 0
+  StandsFrom j k place = (last_place (take j events) ≡ Some place) ⊎ ((z : ℕ) × (done : List (ℕ × ℕ)) × (j ≤ z) × (z < k) × At events z (event.Place place done))
+
+  stands_longer : (j k : ℕ) (place : Placement) → StandsFrom j k place → StandsFrom j (suc k) place
+  stands_longer j k place (inl before) = inl before
+  stands_longer j k place (inr z) = inr (z.0, z.1, z.2, omega (arith, z.3), z.4)
+
+  pub stands_from : (j k : ℕ) → j ≤ k → k ≤ length events → (place : Placement) → last_place (take k events) ≡ Some place → StandsFrom j k place
+  stands_from j k low high =
+      along events (λ m. (place : Placement) → last_place (take m events) ≡ Some place → StandsFrom j m place) j (λ place last. inl last)
+      (λ m e le there was place last. elim (place_cases (last_place (take m events)) e) as (λ _. StandsFrom j (suc m) place) [
+        | inl same ↦ stands_longer j m place (was place (sym (fold_suc place_after None events m e there ∙ same) ∙ last))
+        | inr placed ↦
+            let it : placed.0 ≡ place = some_same placed.0 place (sym (fold_suc place_after None events m e there ∙ placed.3) ∙ last) in
+            inr (m, placed.1, le, omega arith, subst (λ q. At events m (event.Place q placed.1)) it (there ∙ ap Some placed.2))
+      ])
+      k low high

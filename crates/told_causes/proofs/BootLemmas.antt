@@ -45,13 +45,14 @@ use Rattle.told_by.proofs.LineLemmas.{line_below, take_front}
 use Rattle.told_by.proofs.OpeningLemmas.{first_event}
 use Rattle.told_by.proofs.PrintedLemmas.{after_up, ends_within, placements_stand}
 use Rattle.told_by.proofs.TurnLemmas.{alone_is, at_cut, cut_at, own_list, place_in}
-use Rattle.told_causes.proofs.AloneLemmas.{alone_by_place, alone_turns, lines_before, quiet_line, take_none}
-use Rattle.told_causes.specs.Boot.{BootHasCause, BootIsSaid, IsBootAct, IsKnownSlot, PlacesAlone, WasMember}
+use Rattle.told_causes.proofs.AloneLemmas.{alone_turns, lines_before, own_place, take_none}
+use Rattle.told_causes.proofs.StoodLemmas.{may_at, met}
+use Rattle.told_causes.specs.Boot.{BootHasCause, BootIsSaid, IsBootAct, ArePlacesInOrder, IsKnownSlot, WasMember}
 use Rattle.told_causes.specs.Standing.{IsHaltAct}
 use Rattle.told_causes.proofs.HaltLemmas.{last_name, late_step, one_line, opening_low}
 use Rattle.told_causes.proofs.NameLemmas.{name_is}
 use Rattle.told_causes.proofs.RefusalLemmas.{first_boot, first_down, refused_law}
-use Rattle.told_causes.proofs.WaitLemmas.{EndsWait, MemberAt, and_both, assigned_by, member_at, member_place, or_right, placed, placed_next, restart_waits, waiting, waiting_place, waits_next, waits_on}
+use Rattle.told_causes.proofs.WaitLemmas.{EndsWait, MemberAt, and_both, assigned_by, member_at, member_given, member_place, or_right, placed, placed_next, restart_waits, waiting, waiting_place, waits_next, waits_on}
 
 -- ---- one step
 
@@ -120,27 +121,24 @@ pub record HasBegun (events : List Event) (from to n s : ℕ) (stood : Placement
   pub high : place < to
   pub there : At events place (event.Step n s (call.Begin tenure) answer)
 
--- so a bootstrap that was answered ok begins each slot that it covers and that is a member when its line begins
-pub covered_begun : {tells : Bool} → (start : Option MetaState) (turns : List Turn) (events : List Event) → Legal tells events → (told : ToldBy start turns events) → PlacesAlone start turns events told → (q : TurnPlace) → IsTurnPlace turns q
-    → (n s : ℕ) (name : List ℕ) (stood : Placement) → placement_after (start_placement start) (inner_turns (take (length q.lines) turns)) ≡ Some stood → has_replica (Some stood) s n ≡ true
+-- so a bootstrap that was answered ok begins each slot that it covers and that is a member when it begins
+pub covered_begun : {tells : Bool} → (start : Option MetaState) (turns : List Turn) (events : List Event) → Legal tells events → (told : ToldBy start turns events) → (q : TurnPlace) → IsTurnPlace turns q
+    → (n s : ℕ) (name : List ℕ) (stood : Placement) → last_place (take ((told.spans).from q) events) ≡ Some stood → has_replica (Some stood) s n ≡ true
     → ((i : ℕ) (done : List (ℕ × ℕ)) → At events i (event.Place stood done) → OfNode stood n (λ own. own ≡ name))
     → (node : List ℕ) (asked : Option ℕ) (available : List (ℕ × List ℕ)) (place : Placement) (version : ℕ) → q.turn.act ≡ act.Bootstrap node asked → q.turn.answer ≡ answer.Available available place version → name ≡ node → is_covering s asked ≡ true
     → HasBegun events ((told.spans).from q) ((told.spans).to q) n s stood
-covered_begun start turns events legal told places q at n s name stood stands member names node asked available place version acts answers same covers =
-    let k = length q.lines in
+covered_begun start turns events legal told q at n s name stood last_there member names node asked available place version acts answers same covers =
     let from = (told.spans).from q in
-    let last : last_place (take (told.ends k) events) ≡ Some stood = placements_stand start turns events legal told k (omega (arith, line_below turns q at)) ∙ stands in
-    let there = place_there (take (told.ends k) events) stood last in
-    let at_list = at_take events there.0 (told.ends k) (event.Place stood there.1) there.2 in
-    let last_there : last_place (take from events) ≡ Some stood = quiet_line start turns events legal told q at (alone_by_place start turns events legal told places q at) (omega (arith, at_list.1)) ∙ last in
+    let there = place_there (take from events) stood last_there in
+    let at_list = at_take events there.0 from (event.Place stood there.1) there.2 in
     let own = names there.0 there.1 at_list.0 in
     let slot : IsCoveredSlot (take from events) node asked n s = record { of_node = record { place = stood; last = last_there; named = record { instance_ = own.instance_; stands = own.stands; holds = own.holds ∙ same } }; covers = covers } in
     let hears : HearsBegun (take from events) (InStretch events from ((told.spans).to q)) node asked =
     subst (λ b. HearsBy start (take from events) (InStretch events from ((told.spans).to q)) q (act.Bootstrap node asked) b) answers
     (subst (λ a. HearsBy start (take from events) (InStretch events from ((told.spans).to q)) q a q.turn.answer) acts ((told.tells).hears q at)) in
-    let m = member_at stood s n member in
-    let tenure = (m.assigned).tenure in
-    let given : IsAssigned stood n s tenure = (m.shard, m.there, Any-from_IsIn (λ (a : Assignment). (a.node ≡ n) × (a.tenure ≡ tenure)) m.shard m.assigned m.among (m.of_node, refl)) in
+    let g = member_given stood s n member in
+    let tenure = g.0 in
+    let given = g.1 in
     let step = hears n s tenure slot given in
     let made = step.2 in
     let here = (made.2).1 in
@@ -148,7 +146,7 @@ covered_begun start turns events legal told places q at n s name stood stands me
 
 -- ---- the slot
 
-module _ {tells : Bool} (start : Option MetaState) (turns : List Turn) (events : List Event) (legal : Legal tells events) (told : ToldBy start turns events) (places : PlacesAlone start turns events told) (n s : ℕ) (name : List ℕ) (known : IsKnownSlot start turns events told n s name) where
+module _ {tells : Bool} (start : Option MetaState) (turns : List Turn) (events : List Event) (legal : Legal tells events) (told : ToldBy start turns events) (places : ArePlacesInOrder start turns events told) (n s : ℕ) (name : List ℕ) (known : IsKnownSlot start turns events told n s name) where
   abbrev x : Replica
   x = record { shard = s; node = n; name = name }
 
@@ -289,20 +287,29 @@ module _ {tells : Bool} (start : Option MetaState) (turns : List Turn) (events :
 
   -- ---- begins
 
-  -- a bootstrap of the slot, a member when its line begins, leaves it not at boot
-  boot_clash : (k j : ℕ) → ((i : ℕ) → told.ends k ≤ i → i ≤ j → BootAt i) → (q : TurnPlace) → IsTurnPlace turns q → length q.lines ≡ k → (told.spans).to q ≤ j → is_member x (placed x start turns k) ≡ true
+  -- a bootstrap of the slot, a member where it begins, leaves it not at boot
+  boot_clash : (k j : ℕ) → ((i : ℕ) → told.ends k ≤ i → i ≤ j → BootAt i) → (q : TurnPlace) → IsTurnPlace turns q → length q.lines ≡ k → (told.spans).to q ≤ j → is_member x (placed x start turns k) ≡ true → ((place : Placement) → last_place (take ((told.spans).from q) events) ≡ Some place → has_replica (Some place) s n ≡ true)
       → (node : List ℕ) (asked : Option ℕ) (available : List (ℕ × List ℕ)) (place : Placement) (version : ℕ) → q.turn.act ≡ act.Bootstrap node asked → q.turn.answer ≡ answer.Available available place version → name ≡ node → is_covering s asked ≡ true → ⊥
-  boot_clash k j boots q at line_is finishes member node asked available place version acts answers same covers =
-      let begins_so : IsBootAct q.turn.act = subst IsBootAct (sym acts) tt in
-      let p = member_place (placed x start turns k) s n member in
-      let is_there : has_replica (Some p.0) s n ≡ true = subst (λ o. has_replica o s n ≡ true) p.1 member in
-      let b = covered_begun start turns events legal told places q at n s name p.0 (ap (placed x start turns) line_is ∙ p.1) is_there (λ i done there. known.has_name i p.0 done there is_there) node asked available place version acts answers same covers in
+  boot_clash k j boots q at line_is finishes member members node asked available place version acts answers same covers =
       let begins : told.ends k ≤ (told.spans).from q = omega (arith, (told.lines).low q at, ap told.ends line_is) in
-      let i = b.place in
-      let low = b.low in
-      let high = b.high in
-      by_reply i b.tenure b.answer (inl b.begun) (λ is. known.owned q at p.0 (inl (begins_so, b.last)) b.tenure b.given i (low, high, subst (λ a. At events i (event.Step n s (call.Begin b.tenure) a)) is b.there)) b.there
-      (boots i (omega (arith, begins, low)) (omega (arith, high, finishes))) (boots (suc i) (omega (arith, begins, low)) (omega (arith, high, finishes)))
+      let less : k < length turns = omega (arith, line_below turns q at, line_is) in
+      let was = member_place (placed x start turns k) s n member in
+      let old = place_there (take (told.ends k) events) was.0 (placements_stand start turns events legal told k (omega (arith, less)) ∙ was.1) in
+      let old_at = at_take events old.0 (told.ends k) (event.Place was.0 old.1) old.2 in
+      let first = first_event events legal old.0 (event.Place was.0 old.1) old_at.0 in
+      let p = placed_at events legal first.place [] first.there ((told.spans).from q) (omega (arith, old_at.1, begins)) (omega (arith, (told.tells).order.not_back q at, (told.tells).order.not_above q at)) in
+      let is_there = members p.0 p.1 in
+      let b = covered_begun start turns events legal told q at n s name p.0 p.1 is_there (λ i done there. known.has_name i p.0 done there is_there) node asked available place version acts answers same covers in
+      by_begun p.0 b
+    where
+      by_begun : (stood : Placement) → HasBegun events ((told.spans).from q) ((told.spans).to q) n s stood → ⊥
+      by_begun stood b =
+          let begins : told.ends k ≤ (told.spans).from q = omega (arith, (told.lines).low q at, ap told.ends line_is) in
+          let i = b.place in
+          let low = b.low in
+          let high = b.high in
+          by_reply i b.tenure b.answer (inl b.begun) (λ is. known.owned q at stood (inl (subst IsBootAct (sym acts) tt, b.last)) b.tenure b.given i (low, high, subst (λ a. At events i (event.Step n s (call.Begin b.tenure) a)) is b.there)) b.there
+          (boots i (omega (arith, begins, low)) (omega (arith, high, finishes))) (boots (suc i) (omega (arith, begins, low)) (omega (arith, high, finishes)))
 
   -- a line that prints the run's first placement is an `init`, which began each of its replicas
   init_clash : (k : ℕ) → k < length turns → ((i : ℕ) → told.ends k ≤ i → i ≤ told.ends (suc k) → BootAt i) → placed x start turns k ≡ None → is_member x (placed x start turns (suc k)) ≡ true → ⊥
@@ -388,6 +395,14 @@ module _ {tells : Bool} (start : Option MetaState) (turns : List Turn) (events :
       ∙ or_right _ _ (ap (waits_after x stays (inner_turns (line.0 ∷ []))) waits ∙ waits_on x stays (inner_turns (line.0 ∷ [])) (λ t m h. none line.0 line.1 t (subst (λ ts. IsIn ts t) (append-nil (joined (lists_of line.0))) m) h))
       )
     where
+      -- what stands where a turn of the line begins is what stood before the line, or stands behind it
+      by_met : (q : TurnPlace) → IsTurnPlace turns q → length q.lines ≡ k → is_member x (placed x start turns k) ≡ true → is_member x (placed x start turns (suc k)) ≡ true → (place : Placement) → last_place (take ((told.spans).from q) events) ≡ Some place → has_replica (Some place) s n ≡ true
+      by_met q at line_is before behind place last =
+          elim (met start turns events legal told places k less ((told.spans).from q) (omega (arith, (told.lines).low q at, ap told.ends line_is)) (omega (arith, (told.tells).order.not_back q at, (told.lines).high q at, ap (λ m. told.ends (suc m)) line_is)) place last) as (λ _. has_replica (Some place) s n ≡ true) [
+            | inl is ↦ ap (is_member x) (sym is) ∙ before
+            | inr z ↦ ap (is_member x) (sym z.5) ∙ behind
+          ]
+
       none : (line : Turn) → At turns k line → (t : InnerTurn) → IsIn (joined (lists_of line)) t → EndsWait x (is_member x (placed x start turns k) && is_member x (placed x start turns (suc k))) t → ⊥
       none line there t m h =
           let cut = cut_at turns k line there in
@@ -395,7 +410,8 @@ module _ {tells : Bool} (start : Option MetaState) (turns : List Turn) (events :
           let line_is : length (q.0).lines ≡ k = ap length q.3 ∙ cut.3 in
           let ends = and_both _ _ h.ends in
           let named = and_both (pointwise nat_eq name h.node) (is_covering s h.asked) ends.1 in
-          boot_clash k (told.ends (suc k)) boots q.0 q.1 line_is (omega (arith, (told.lines).high q.0 q.1, ap (λ m. told.ends (suc m)) line_is)) (and_both _ _ ends.0).0 h.node h.asked h.available h.place h.version (ap (λ (u : InnerTurn). u.act) q.2 ∙ h.act_is)
+          let stays = and_both (is_member x (placed x start turns k)) (is_member x (placed x start turns (suc k))) ends.0 in
+          boot_clash k (told.ends (suc k)) boots q.0 q.1 line_is (omega (arith, (told.lines).high q.0 q.1, ap (λ m. told.ends (suc m)) line_is)) stays.0 (by_met q.0 q.1 line_is stays.0 stays.1) h.node h.asked h.available h.place h.version (ap (λ (u : InnerTurn). u.act) q.2 ∙ h.act_is)
           (ap (λ (u : InnerTurn). u.answer) q.2 ∙ h.answered) (name_is name h.node named.0) named.1
   by_line k less boots (inr never) =
       elim (true_or_not (is_member x (placed x start turns (suc k)))) as (λ _. Waits (suc k)) [
@@ -449,6 +465,24 @@ module _ {tells : Bool} (start : Option MetaState) (turns : List Turn) (events :
       front : take (length p.lines) turns ≡ p.lines
       front = lines_before start turns events legal told p at
 
+      -- no Place of the line stands before a turn earlier in its list that prints one
+      by_met : (q : TurnPlace) → IsTurnPlace turns q → length q.lines ≡ length p.lines → (told.spans).to q ≤ (told.spans).from p → is_member x (placed x start turns (length p.lines)) ≡ true
+          → (t : InnerTurn) → IsIn p.earlier t → (next : Placement) → printed t.answer ≡ Some next → (place : Placement) → last_place (take ((told.spans).from q) events) ≡ Some place → has_replica (Some place) s n ≡ true
+      by_met q at_q same before_p member t m next prints place last =
+          let k = length p.lines in
+          let within = (told.tells).order.not_back q at_q in
+          elim (met start turns events legal told places k (line_below turns p at) ((told.spans).from q) (omega (arith, (told.lines).low q at_q, ap told.ends same)) (omega (arith, within, (told.lines).high q at_q, ap (λ m. told.ends (suc m)) same)) place last) as (λ _. has_replica (Some place) s n ≡ true) [
+            | inl is ↦ ap (is_member x) (sym is) ∙ member
+            | inr z ↦
+                let above = z.2 in
+                let below = z.3 in
+                let high_z : z.0 < told.ends (suc k) = omega (arith, below, within, (told.lines).high q at_q, ap (λ m. told.ends (suc m)) same) in
+                elim (may_at start turns events legal told places p at z.0 place z.1 above high_z z.4) as (λ _. has_replica (Some place) s n ≡ true) [
+                  | inl one ↦ absurd (omega (arith, (own_place start turns events legal told p at one z.0 place z.1 above high_z z.4).0, below, within, before_p))
+                  | inr h ↦ absurd (let bad : None ≡ Some next = sym (h.1 t m) ∙ prints in cc)
+                ]
+          ]
+
       -- no bootstrap earlier in its list began the slot, where that is at boot since the line began
       none_earlier : ((m : ℕ) → told.ends (length p.lines) ≤ m → m ≤ i → BootAt m) → (after : Option Placement) (t : InnerTurn) → IsIn p.earlier t → EndsWait x (is_member x (waiting_after x start p.lines).place && is_member x after) t → ⊥
       none_earlier boots after t m h =
@@ -459,7 +493,8 @@ module _ {tells : Bool} (start : Option MetaState) (turns : List Turn) (events :
           let finishes : (told.spans).to q.place ≤ i = omega (arith, before_p, low) in
           let ends = and_both _ _ h.ends in
           let named = and_both (pointwise nat_eq name h.node) (is_covering s h.asked) ends.1 in
-          boot_clash k i boots q.place q.in_run (ap length q.lines_are) finishes (ap (is_member x) (sym before) ∙ (and_both _ _ ends.0).0) h.node h.asked h.available h.place h.version (ap (λ (u : InnerTurn). u.act) q.turn_is ∙ h.act_is)
+          let member : is_member x (placed x start turns k) ≡ true = ap (is_member x) (sym before) ∙ (and_both _ _ ends.0).0 in
+          boot_clash k i boots q.place q.in_run (ap length q.lines_are) finishes member (by_met q.place q.in_run (ap length q.lines_are) before_p member t m h.place (ap printed h.answered)) h.node h.asked h.available h.place h.version (ap (λ (u : InnerTurn). u.act) q.turn_is ∙ h.act_is)
           (ap (λ (u : InnerTurn). u.answer) q.turn_is ∙ h.answered) (name_is name h.node named.0) named.1
 
       by_waits : ((m : ℕ) → told.ends (length p.lines) ≤ m → m ≤ i → BootAt m) → Waits (length p.lines) → waits_at x start p ≡ true

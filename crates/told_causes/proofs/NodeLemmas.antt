@@ -1,6 +1,6 @@
 -- Why a restart and a bootstrap are refused for a disk or for damage.
-use Rattle.std.proofs.Common.{◌≡◌, ℕ, List, take, length, refl, sym, subst, Bool}
-use Rattle.std.specs.Prelude.{None, Some, Option, IsTrue}
+use Rattle.std.proofs.Common.{◌≡◌, ◌≤◌, ℕ, List, take, length, refl, sym, ap, ◌∙◌, subst, arith, Bool}
+use Rattle.std.specs.Prelude.{None, Option}
 use Rattle.m3_model.specs.declared.act.Act.{Act}
 use Rattle.m3_model.specs.declared.act.Act.TheVariants as act
 use Rattle.m3_model.specs.declared.answer.Answer.{Answer}
@@ -10,7 +10,6 @@ use Rattle.m3_model.specs.declared.reason.Reason.TheVariants as reason
 use Rattle.m3_model.specs.declared.placement.Placement.{Placement}
 use Rattle.m3_model.specs.declared.rules.MetaState.{MetaState}
 use Rattle.m3_model.specs.declared.turn.Turn.{Turn}
-use Rattle.cluster_core.specs.Earlier.{last_place}
 use Rattle.cluster_core.specs.Legal.{Legal}
 use Rattle.cluster_core.specs.declared.event.Event.{Event}
 use Rattle.cluster_core.specs.declared.event.Event.TheVariants as event
@@ -19,30 +18,33 @@ use Rattle.cluster_core.specs.declared.event.StepReply.TheVariants as reply
 use Rattle.transcripts.specs.Caused.{HadBefore, InFiles, IsCalled, IsMemberBefore, IsOwn, OnDisk}
 use Rattle.transcripts.specs.Deliveries.{LateMessage}
 use Rattle.transcripts.specs.Faults.{Damaged, Failing, Fault}
-use Rattle.transcripts.specs.Placements.{has_replica, placement_at, printed}
-use Rattle.transcripts.specs.Record.{TurnPlace, IsTurnPlace}
+use Rattle.transcripts.specs.Placements.{has_replica, placement_after, printed, start_placement}
+use Rattle.transcripts.specs.Record.{TurnPlace, IsTurnPlace, inner_turns}
 use Rattle.told_by.specs.Hears.{AnySlot, HasStep, HearsBy, HearsRefused, IsJoinCall, IsMember, IsRestartCall}
 use Rattle.told_by.specs.Makes.{IsNamedLast}
 use Rattle.told_by.specs.Told.{ToldBy}
 use Rattle.told_causes.specs.Calls.{Within}
 use Rattle.told_causes.specs.Faults.{faults_told}
 use Rattle.told_causes.specs.Nodes.{AreReached, NamesReplica, NodeAnswersAreSaid}
-use Rattle.told_causes.specs.Boot.{PlacesAlone}
-use Rattle.told_causes.proofs.AloneLemmas.{alone_by_place, stands_first}
-use Rattle.told_causes.proofs.StoodLemmas.{may_stand}
+use Rattle.told_causes.specs.Boot.{ArePlacesInOrder}
+use Rattle.told_causes.proofs.AloneLemmas.{lines_before}
+use Rattle.told_causes.proofs.StoodLemmas.{had_before, may_stand}
+use Rattle.told_causes.proofs.WaitLemmas.{is_member_of, member_given}
 use Rattle.told_causes.proofs.CallLemmas.{fault_here}
 
-module _ {tells : Bool} (start : Option MetaState) (turns : List Turn) (events : List Event) (legal : Legal tells events) (told : ToldBy start turns events) (places : PlacesAlone start turns events told) (p : TurnPlace) (at : IsTurnPlace turns p) (quiet : printed p.turn.answer ≡ None) where
+module _ {tells : Bool} (start : Option MetaState) (turns : List Turn) (events : List Event) (legal : Legal tells events) (told : ToldBy start turns events) (places : ArePlacesInOrder start turns events told) (p : TurnPlace) (at : IsTurnPlace turns p) (quiet : printed p.turn.answer ≡ None) where
   abbrev faults : List Fault
   faults = faults_told told.ends events (length turns)
 
-  -- the placement that stands where it begins is the one before the line
-  first : (place : Placement) → last_place (take ((told.spans).from p) events) ≡ Some place → placement_at start p ≡ Some place
-  first = stands_first start turns events legal told p at (alone_by_place start turns events legal told places p at)
+  begins : told.ends (length p.lines) ≤ (told.spans).from p
+  begins = (told.lines).low p at
 
-  -- the node is called so in the placement before the line
+  within : (told.spans).from p ≤ (told.spans).to p
+  within = (told.tells).order.not_back p at
+
+  -- the node is called so in the placement that stands where it begins
   called : (node : ℕ) (name : List ℕ) → IsNamedLast (take ((told.spans).from p) events) node name → IsCalled start p name node
-  called node name h = record { place = h.place; stands = may_stand start turns events legal told places p at quiet h.place (first h.place h.last); named = h.named }
+  called node name h = record { place = h.place; stands = may_stand start turns events legal told places p at quiet ((told.spans).from p) begins within h.place h.last; named = h.named }
 
   on_disk : (name : List ℕ) (shard : ℕ) (Kind : StepCall → Type 0) (Reached : Placement → ℕ → Type 0) (Holds : ℕ → Type 0) → ((node : ℕ) → (last : IsNamedLast (take ((told.spans).from p) events) node name) → Reached last.place node → HasStep (Within events told.spans p) Kind node shard (reply.Refused reason.Disk) → Holds node)
       → HearsRefused (take ((told.spans).from p) events) (Within events told.spans p) Reached name shard Kind reason.Disk → OnDisk faults start p Holds name shard
@@ -57,7 +59,10 @@ module _ {tells : Bool} (start : Option MetaState) (turns : List Turn) (events :
 
   -- a member of the placement that stands is one before the line
   member : (name : List ℕ) (shard node : ℕ) → (last : IsNamedLast (take ((told.spans).from p) events) node name) → IsMember shard last.place node → IsMemberBefore start p shard node
-  member name shard node last h = subst (λ o. IsTrue (has_replica o shard node)) (sym (first last.place last.last)) h
+  member name shard node last h =
+      let was = had_before start turns events legal told places p at quiet ((told.spans).from p) begins (omega (arith, within, (told.lines).high p at)) last.place last.last in
+      let given = member_given last.place shard node h in
+      ap (λ o. has_replica o shard node) (ap (λ ls. placement_after (start_placement start) (inner_turns ls)) (sym (lines_before start turns events legal told p at)) ∙ was.2) ∙ is_member_of was.0 shard node given.0 (was.3 node shard given.0 given.1)
 
   in_files : (name : List ℕ) (shard : ℕ) (Kind : StepCall → Type 0) (harm : Harm) → HearsRefused (take ((told.spans).from p) events) (Within events told.spans p) (IsMember shard) name shard Kind (reason.Corrupt harm) → InFiles faults start p (IsMemberBefore start p shard) name shard
   in_files name shard Kind harm h =

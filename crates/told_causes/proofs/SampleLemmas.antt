@@ -1,5 +1,5 @@
 -- The run that hears of a replica which nobody began.
-use Rattle.std.proofs.Common.{◌≡◌, ℕ, zero, suc, ◌+◌, List, [], ◌∷◌, ◌++◌, take, refl, sym, ap, ◌∙◌, subst, inl, inr, arith, true, false}
+use Rattle.std.proofs.Common.{◌≡◌, ℕ, zero, suc, ◌+◌, ◌≤◌, ◌<◌, length, List, [], ◌∷◌, ◌++◌, take, refl, sym, ap, ◌∙◌, subst, inl, inr, arith, true, false}
 use Rattle.std.specs.Prelude.{Some, None, slice_get}
 use Rattle.m3_model.specs.Members.{IsIn}
 use Rattle.m3_model.specs.declared.act.Act.TheVariants as act
@@ -10,6 +10,7 @@ use Rattle.m3_model.specs.declared.reason.Reason.{Reason}
 use Rattle.m3_model.specs.declared.reason.Reason.TheVariants as reason
 use Rattle.transcripts.specs.Fates.{OfNode}
 use Rattle.transcripts.specs.Record.{IsLastTurnPlace, line_of}
+use Rattle.cluster_core.specs.Earlier.{last_place}
 use Rattle.cluster_core.specs.Legal.{Legal, LawfulAt}
 use Rattle.cluster_core.specs.Lists.{At}
 use Rattle.cluster_core.specs.declared.event.Asked.TheVariants as asked
@@ -27,7 +28,7 @@ use Rattle.told_by.proofs.LegalSampleLemmas.{asked_at, lawful_place}
 use Rattle.told_by.proofs.LineLemmas.{line_told, line_told_from, line_told_to, told_found}
 use Rattle.told_by.proofs.OneLemmas.{is_last}
 use Rattle.told_by.proofs.SampleLemmas.{Each, each_at, makes_each, restarts_none}
-use Rattle.told_causes.specs.Boot.{IsKnownSlot, PlacesAlone}
+use Rattle.told_causes.specs.Boot.{ArePlacesInOrder, IsKnownSlot, MayPlace}
 use Rattle.told_causes.specs.Sample.{BootIsHeard, events, found, swept, ticking, turns}
 
 abbrev opening : List Event
@@ -86,10 +87,20 @@ slot told = record {
   owned = λ q at over begins tenure given i here. each_at (λ k x. x ≡ event.Step 0 0 (call.Begin tenure) (reply.Refused reason.NotOwned) → ⊥) 0 events ((λ e. cc), ((λ e. cc), ((λ e. cc), ((λ e. cc), tt)))) i (event.Step 0 0 (call.Begin tenure) (reply.Refused reason.NotOwned)) here.2 refl;
 }
 
--- its one line has one turn
-places : (told : ToldBy (Some found) turns events) → PlacesAlone (Some found) turns events told
-places told zero i p done less low high there = (line_of act.Tick swept, record { act = act.Tick; answer = swept }, refl, refl)
-places told (suc k) i p done less low high there = absurd (omega (arith, less))
+at_first : (i : ℕ) (p : Placement) (done : List (ℕ × ℕ)) → At events i (event.Place p done) → i < 2
+at_first i p done there = let here : 0 + i ≡ i = omega arith in subst (λ k. k < 2) here (each_at (λ k x. x ≡ event.Place p done → k < 2) 0 events ((λ e. omega arith), ((λ e. omega arith), ((λ e. absurd (cc)), ((λ e. absurd (cc)), tt)))) i (event.Place p done) there refl)
+
+-- its one line has one turn, and no Place
+places : (told : ToldBy (Some found) turns events) → ArePlacesInOrder (Some found) turns events told
+places told = record { one = one; may = may }
+  where
+    one : (k i : ℕ) (p : Placement) (done : List (ℕ × ℕ)) → k < length turns → told.ends k ≤ i → i < told.ends (suc k) → At events i (event.Place p done) → last_place (take (told.ends (suc k)) events) ≡ Some p
+    one zero i p done less low high there = absurd (omega (arith, low, (told.lines).first, at_first i p done there))
+    one (suc k) i p done less low high there = absurd (omega (arith, less))
+
+    may : (k i : ℕ) (p : Placement) (done : List (ℕ × ℕ)) → k < length turns → told.ends k ≤ i → i < told.ends (suc k) → At events i (event.Place p done) → MayPlace turns k (take i events) p
+    may zero i p done less low high there = inl (line_of act.Tick swept, record { act = act.Tick; answer = swept }, refl, refl)
+    may (suc k) i p done less low high there = absurd (omega (arith, less))
 
 last : IsLastTurnPlace [] (line_of act.Tick swept) ticking
 last = is_last (Some found) [] opening act.Tick swept more

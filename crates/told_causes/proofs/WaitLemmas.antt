@@ -1,11 +1,13 @@
 -- How a replica waits for a bootstrap, line by line.
-use Rattle.std.proofs.Common.{◌≡◌, ℕ, zero, suc, ◌<◌, List, [], ◌∷◌, take, refl, sym, ap, ◌∙◌, inl, inr, arith, Bool, true, false}
+use Rattle.std.proofs.Common.{◌≡◌, ℕ, zero, suc, ◌<◌, List, [], ◌∷◌, take, refl, sym, ap, ◌∙◌, subst, inl, inr, arith, Bool, true, false}
 use Rattle.std.specs.Prelude.{Option, Some, None, not, nat_eq, ◌&&◌, ◌||◌, slice_index_or}
 use Rattle.std.specs.Cmp.Lexicographic.{pointwise}
-use Rattle.std.proofs.lemmas.Bool.{eqb-true}
+use Rattle.std.specs.List.{Any}
+use Rattle.std.proofs.lemmas.Bool.{eq-eqb, eqb-true}
+use Rattle.std.proofs.lemmas.List.Folds.{list_any-from_Any}
 use Rattle.std.proofs.lemmas.List.Sums.{fold-append}
 use Rattle.m3_model.specs.Members.{IsIn}
-use Rattle.m3_model.proofs.MemberLemmas.{IsIn-map}
+use Rattle.m3_model.proofs.MemberLemmas.{IsIn-map, map-IsIn}
 use Rattle.m3_model.specs.declared.act.Act.{Act}
 use Rattle.m3_model.specs.declared.act.Act.TheVariants as act
 use Rattle.m3_model.specs.declared.answer.Answer.{Answer}
@@ -15,10 +17,13 @@ use Rattle.m3_model.specs.declared.placement.Placement.{Placement}
 use Rattle.m3_model.specs.declared.rules.MetaState.{MetaState}
 use Rattle.m3_model.specs.declared.turn.Turn.{Turn}
 use Rattle.placement_core.specs.Shards.{Shard, nodes_of, shard_at}
+use Rattle.placement_core.proofs.ListLemmas.{Any-from_IsIn, IsIn-from_Any}
 use Rattle.cluster_core.specs.Lists.{At}
+use Rattle.cluster_core.proofs.ListLemmas.{some_same}
 use Rattle.transcripts.specs.Placements.{has_replica, later_placement, placement_after, printed, start_placement}
 use Rattle.transcripts.specs.Record.{InnerTurn, inner_turns}
 use Rattle.transcripts.specs.Waiting.{Replica, Waiting, is_assigned, is_covering, is_member, waiting_after, waiting_by, waits_after, waits_by}
+use Rattle.told_by.specs.Makes.{IsAssigned}
 use Rattle.told_by.proofs.TurnLemmas.{inner-append}
 use Rattle.told_causes.proofs.NameLemmas.{any_found, name_self, take_line}
 
@@ -130,3 +135,31 @@ member_at place s n e =
     let f = any_found (nat_eq n) (nodes_of (shard_at place s)) e in
     let a = IsIn-map (λ (a : Assignment). a.node) (shard_at place s) f.0 f.1 in
     record { shard = shard_at place s; there = shard_there place.shards s a.0 a.1; assigned = a.0; among = a.1; of_node = a.2 ∙ sym (eqb-true n f.0 f.2) }
+
+-- a node with an assignment of the shard has a replica of it
+pub assigned_member : (place : Placement) (s n : ℕ) (a : Assignment) → IsIn (shard_at place s) a → a.node ≡ n → has_replica (Some place) s n ≡ true
+assigned_member place s n a m e =
+    let nodes = nodes_of (shard_at place s) in
+    let among : IsIn nodes n = subst (IsIn nodes) e (map-IsIn (λ (x : Assignment). x.node) (shard_at place s) a m) in
+    list_any-from_Any (nat_eq n) nodes (Any-from_IsIn (λ x. nat_eq n x ≡ true) nodes n among (eq-eqb n n refl))
+
+pub shard_is : (shards : List Shard) (s : ℕ) (shard : Shard) → At shards s shard → slice_index_or shards s [] ≡ shard
+shard_is [] s shard e = cc
+shard_is (x ∷ shards) zero shard e = some_same x shard e
+shard_is (x ∷ shards) (suc s) shard e = shard_is shards s shard e
+
+-- so has one to which the placement gives a tenure
+pub given_member : (place : Placement) (n s : ℕ) (shard : Shard) (Kind : ℕ → Type 0) → At place.shards s shard → Any (λ (a : Assignment). (a.node ≡ n) × Kind a.tenure) shard → has_replica (Some place) s n ≡ true
+given_member place n s shard Kind at any =
+    let a = IsIn-from_Any (λ (a : Assignment). (a.node ≡ n) × Kind a.tenure) shard any in
+    assigned_member place s n a.0 (subst (λ xs. IsIn xs a.0) (sym (shard_is place.shards s shard at)) a.1) (a.2).0
+
+-- a member has a tenure there
+pub member_given : (place : Placement) (s n : ℕ) → has_replica (Some place) s n ≡ true → (tenure : ℕ) × IsAssigned place n s tenure
+member_given place s n e =
+    let m = member_at place s n e in
+    ((m.assigned).tenure, (m.shard, m.there, Any-from_IsIn (λ (a : Assignment). (a.node ≡ n) × (a.tenure ≡ (m.assigned).tenure)) m.shard m.assigned m.among (m.of_node, refl)))
+
+-- and who has one is a member
+pub is_member_of : (place : Placement) (s n tenure : ℕ) → IsAssigned place n s tenure → has_replica (Some place) s n ≡ true
+is_member_of place s n tenure given = given_member place n s given.0 (λ t. t ≡ tenure) given.1 given.2

@@ -1,5 +1,6 @@
 -- Why a replica isn't begun: it waits for a bootstrap since the run opened, since it was assigned, or since its node was restarted.
-use Rattle.std.specs.Prelude.{◌≡◌, ◌⊎◌, ◌≤◌, ◌<◌, ℕ, suc, ⊤, List, [], ◌∷◌, length, take, Option, Some, true, IsTrue, Bool}
+use Rattle.std.specs.Prelude.{◌≡◌, ◌⊎◌, ◌≤◌, ◌<◌, ℕ, suc, ⊤, List, [], ◌∷◌, ◌++◌, length, take, Option, Some, None, true, IsTrue, Bool}
+use Rattle.m3_model.specs.Members.{IsIn}
 use Rattle.m3_model.specs.declared.act.Act.{Act}
 use Rattle.m3_model.specs.declared.act.Act.TheVariants as act
 use Rattle.m3_model.specs.declared.placement.Placement.{Placement}
@@ -33,9 +34,22 @@ IsBootAct _ = ⊥
 abbrev pub HasOneTurn : List Turn → ℕ → Type 0
 HasOneTurn turns k = (line : Turn) × (turn : InnerTurn) × At turns k line × (lists_of line ≡ (turn ∷ []) ∷ [])
 
--- each line with a Place has one turn
-abbrev pub PlacesAlone : (start : Option MetaState) (turns : List Turn) (events : List Event) → ToldBy start turns events → Type 0
-PlacesAlone start turns events told = (k i : ℕ) (place : Placement) (done : List (ℕ × ℕ)) → k < length turns → told.ends k ≤ i → i < told.ends (suc k) → At events i (event.Place place done) → HasOneTurn turns k
+-- each replica of the placement was one of the placement before, with the same tenure
+abbrev pub GivesNone : List Event → Placement → Type 0
+GivesNone past place = (last : Placement) → last_place past ≡ Some last → (n s tenure : ℕ) → IsAssigned place n s tenure → IsAssigned last n s tenure
+
+-- in each list of the line what stands before another turn prints no placement
+abbrev pub PrintsLast : Turn → Type 0
+PrintsLast line = (earlier later : List InnerTurn) (t u : InnerTurn) → IsIn (lists_of line) (earlier ++ t ∷ later) → IsIn earlier u → printed u.answer ≡ None
+
+-- the line has one turn; or the Place gives nobody a shard, and nothing follows in its list a turn that prints a placement
+abbrev pub MayPlace : List Turn → ℕ → List Event → Placement → Type 0
+MayPlace turns k past place = HasOneTurn turns k ⊎ (GivesNone past place × ((line : Turn) × At turns k line × PrintsLast line))
+
+-- a line has one Place at most, which it may make so
+pub record ArePlacesInOrder (start : Option MetaState) (turns : List Turn) (events : List Event) (told : ToldBy start turns events) : Type 0 where
+  pub one : (k i : ℕ) (place : Placement) (done : List (ℕ × ℕ)) → k < length turns → told.ends k ≤ i → i < told.ends (suc k) → At events i (event.Place place done) → last_place (take (told.ends (suc k)) events) ≡ Some place
+  pub may : (k i : ℕ) (place : Placement) (done : List (ℕ × ℕ)) → k < length turns → told.ends k ≤ i → i < told.ends (suc k) → At events i (event.Place place done) → MayPlace turns k (take i events) place
 
 -- the turn begins replicas over this placement: a bootstrap over the one that stands, an `init` over the one that it prints
 abbrev pub BeginsOver : List Event → ℕ → TurnPlace → Placement → Type 0
@@ -59,9 +73,9 @@ pub record WasMember (start : Option MetaState) (p : TurnPlace) (shard node : �
   pub not_later : lines ≤ length p.lines
   pub member : IsTrue (has_replica (placement_after (start_placement start) (inner_turns (take lines p.lines))) shard node)
 
--- what is known of a replica that is asked: lines with a Place have one turn, its slot is known, and it was a member
+-- what is known of a replica that is asked: Places are in order, its slot is known, and it was a member
 pub record IsKnownMember (start : Option MetaState) (turns : List Turn) (events : List Event) (told : ToldBy start turns events) (p : TurnPlace) (shard node : ℕ) (name : List ℕ) : Type 0 where
-  pub places : PlacesAlone start turns events told
+  pub places : ArePlacesInOrder start turns events told
   pub slot : IsKnownSlot start turns events told node shard name
   pub was : WasMember start p shard node
 

@@ -15,7 +15,7 @@ use Rattle.transcripts.specs.Deliveries.{LateMessage}
 use Rattle.transcripts.specs.Record.{TurnPlace, IsTurnPlace}
 use Rattle.told_by.specs.Hears.{HasStep, IsRestartCall}
 use Rattle.told_by.specs.Told.{ToldBy}
-use Rattle.told_causes.specs.Boot.{PlacesAlone}
+use Rattle.told_causes.specs.Boot.{ArePlacesInOrder}
 use Rattle.told_causes.specs.Calls.{Within}
 use Rattle.told_causes.specs.Faults.{faults_told}
 
@@ -31,9 +31,9 @@ abbrev pub AreReached : Option MetaState → (ℕ → Event → Type 0) → Turn
 AreReached start Here p (act.Restart name pick) shard = (node : ℕ) → HasStep Here IsRestartCall node shard (reply.Refused reason.Disk) → HadBefore start p shard node
 AreReached start Here p _ shard = ⊤
 
--- Where lines with a Place have one turn, and a turn answers so of a slot that it reaches, a transcript says why.
+-- Where Places are in order, and a turn answers so of a slot that it reaches, a transcript says why.
 abbrev pub NodeAnswersAreSaid : Bool → Type 0
 NodeAnswersAreSaid tells =
-    (start : Option MetaState) (turns : List Turn) (events : List Event) → Legal tells events → (told : ToldBy start turns events) → PlacesAlone start turns events told → (p : TurnPlace) → IsTurnPlace turns p
+    (start : Option MetaState) (turns : List Turn) (events : List Event) → Legal tells events → (told : ToldBy start turns events) → ArePlacesInOrder start turns events told → (p : TurnPlace) → IsTurnPlace turns p
     → (shard : ℕ) → NamesReplica p.turn.act p.turn.answer shard → AreReached start (Within events told.spans p) p p.turn.act shard
     → (messages : List LateMessage) → IsOwn tells (faults_told told.ends events (length turns)) start messages p p.turn.act p.turn.answer

@@ -25,11 +25,11 @@ use Rattle.cluster_core.specs.declared.event.StepCall.TheVariants as call
 use Rattle.cluster_core.specs.declared.event.StepReply.{StepReply}
 use Rattle.cluster_core.specs.declared.event.StepReply.TheVariants as reply
 use Rattle.cluster_core.specs.declared.replica_state.ReplicaState.{ReplicaState}
-use Rattle.cluster_core.proofs.ListLemmas.{at_append, at_take, at_within, some_same}
+use Rattle.cluster_core.proofs.ListLemmas.{at_append, at_take, at_within}
 use Rattle.cluster_core.proofs.PlaceLemmas.{placed_at}
 use Rattle.cluster_core.proofs.TraceLemmas.{lawful_step, open_begun, replica_own}
 use Rattle.transcripts.specs.Moves.{IsNew, IsUnowned, OwnsNot, is_begun_in, placement_by}
-use Rattle.transcripts.specs.Placements.{MayStand, has_replica, placement_after, placement_at, start_placement}
+use Rattle.transcripts.specs.Placements.{MayStand, has_replica, placement_after, printed, start_placement}
 use Rattle.transcripts.specs.Record.{InnerTurn, TurnPlace, IsTurnPlace, inner_turns, joined, lists_of}
 use Rattle.transcripts.specs.Waiting.{Replica, is_assigned, is_begun_by, is_covering, is_member}
 use Rattle.told_by.specs.Hears.{IsBegun, IsNamedBy}
@@ -39,19 +39,19 @@ use Rattle.told_by.proofs.LineLemmas.{line_below, take_front}
 use Rattle.told_by.proofs.OpeningLemmas.{first_event}
 use Rattle.told_by.proofs.PrintedLemmas.{ends_grow, ends_within, placements_stand}
 use Rattle.told_by.proofs.TurnLemmas.{cut_at, own_list, place_in}
-use Rattle.told_causes.proofs.AloneLemmas.{lines_before}
+use Rattle.told_causes.proofs.AloneLemmas.{stands_from}
 use Rattle.told_causes.proofs.BootLemmas.{HasBegun, covered_begun, true_or_not}
-use Rattle.told_causes.proofs.StoodLemmas.{may_stand, stood}
+use Rattle.told_causes.proofs.StoodLemmas.{back, gives_none, had_before, met}
 use Rattle.told_causes.proofs.HaltLemmas.{late_step, opening_two}
 use Rattle.told_causes.proofs.NameLemmas.{any_found, name_is}
 use Rattle.told_causes.proofs.RefusalLemmas.{first_down, refused_law}
-use Rattle.told_causes.proofs.WaitLemmas.{EndsWait, and_both, assigned_by, member_place}
+use Rattle.told_causes.proofs.WaitLemmas.{EndsWait, and_both, assigned_by, is_member_of, member_given}
 use Rattle.told_moves.specs.Moves.{IsQuiet, IsRefusedAt, NotOwnedIsSaid}
 use Rattle.told_moves.specs.Order.{IsInOrder}
 use Rattle.told_moves.proofs.AskLemmas.{begin_asked}
 use Rattle.told_moves.proofs.ReasonLemmas.{RefusedIn, refused_in}
 use Rattle.told_moves.proofs.SlotLemmas.{EndedAt, IsEnded, Tries, ended_at, owned_began, slot, tried_began}
-use Rattle.told_moves.proofs.TenureLemmas.{GivenAt, given_by, line_low, member_named, member_tenure, name_everywhere, stands_at, stands_from, tenure_grows}
+use Rattle.told_moves.proofs.TenureLemmas.{GivenAt, given_by, line_low, member_named, member_tenure, name_everywhere, stands_at, tenure_grows}
 
 -- ---- turns
 
@@ -125,7 +125,7 @@ module _ {tells : Bool} (start : Option MetaState) (turns : List Turn) (events :
               let is : placed k ≡ Some was = sym (placements_stand start turns events legal told k (omega (arith, high))) ∙ same in
               here was is (ap (is_member x) is ∙ gone)
           | inr z ↦
-              let one = order.one k z.0 was z.1 (omega (arith, high)) z.2 (omega (arith, z.3, before)) z.4 in
+              let one = order.places.one k z.0 was z.1 (omega (arith, high)) z.2 (omega (arith, z.3, before)) z.4 in
               let is : placed (suc k) ≡ Some was = sym (placements_stand start turns events legal told (suc k) high) ∙ one in
               let bad : true ≡ false = sym member ∙ ap (is_member x) is ∙ gone in
               cc
@@ -159,53 +159,65 @@ module _ {tells : Bool} (start : Option MetaState) (turns : List Turn) (events :
       ]
   begin_clash is n s m tenure _ begun there now next none = absurd begun
 
-  -- what a slot tried by a place of a line isn't above the tenure that it had when the line began
-  pub tried_low : (k : ℕ) → k < length turns → (n s m tenure : ℕ) → told.ends k ≤ m → m < told.ends (suc k) → GivenAt events legal n s (told.ends k) tenure → (own : ℕ) → Tries (slot events legal n s m) own → own ≤ tenure
-  tried_low k less n s m tenure low high g own tries =
+  -- what a slot tried by a place of a line isn't above the tenure that it had before in the line
+  pub tried_low : (k : ℕ) → k < length turns → (n s f m tenure : ℕ) → told.ends k ≤ f → f ≤ m → m < told.ends (suc k) → GivenAt events legal n s f tenure → (own : ℕ) → Tries (slot events legal n s m) own → own ≤ tenure
+  tried_low k less n s f m tenure begins low high g own tries =
       let bound = ends_within start turns events told (suc k) less in
       let b = tried_began events legal n s own m (omega (arith, high, bound)) tries in
       let below = b.below in
       let was = begin_given n s b.place own b.answer b.there in
-      elim (cases_lt was.0 (told.ends k)) as (λ _. own ≤ tenure) [
-        | inl lt ↦ tenure_grows events legal n s was.0 (told.ends k) own tenure was.2 (omega (arith, lt)) (omega (arith, low, high, bound)) was.3 g
-        | inr ge ↦ line_low start turns events legal told order k less was.0 n s tenure own ge (omega (arith, was.1, below, high)) g was.3
+      elim (cases_lt was.0 f) as (λ _. own ≤ tenure) [
+        | inl lt ↦ tenure_grows events legal n s was.0 f own tenure was.2 (omega (arith, lt)) (omega (arith, low, high, bound)) was.3 g
+        | inr ge ↦ line_low start turns events legal told order k less f was.0 n s tenure own begins ge (omega (arith, was.1, below, high)) g was.3
       ]
 
   module _ (n s : ℕ) (name : List ℕ) (named : IsNamedBy events n name) where
     abbrev x : Replica
     x = record { shard = s; node = n; name = name }
 
-    -- a bootstrap after the end of the slot's tenure that covers it, a member when its line begins, would have begun it
-    turn_clash : tells ≡ true → (i : ℕ) → i ≤ length events → (e : EndedAt events legal n s i) → (q : TurnPlace) → IsTurnPlace turns q → (k : ℕ) → k < length turns → e.place < told.ends k → length q.lines ≡ k → (told.spans).to q ≤ i → (after : Option Placement)
-        → EndsWait x (is_member x (placed k) && is_member x after) q.turn → ⊥
-    turn_clash is i bound e q at_q k less later line_is finishes after h =
-        let ends = and_both _ _ h.ends in
+    -- a bootstrap after the end of the slot's tenure that covers it, a member where it begins, would have begun it
+    turn_clash : tells ≡ true → (i : ℕ) → i ≤ length events → (e : EndedAt events legal n s i) → (q : TurnPlace) → IsTurnPlace turns q → (k : ℕ) → k < length turns → e.place < told.ends k → length q.lines ≡ k → (told.spans).to q ≤ i → ((place : Placement) → last_place (take ((told.spans).from q) events) ≡ Some place → has_replica (Some place) s n ≡ true)
+        → (stays : Bool) → EndsWait x stays q.turn → ⊥
+    turn_clash is i bound e q at_q k less later line_is finishes members stays h =
+        let begins : told.ends k ≤ (told.spans).from q = omega (arith, (told.lines).low q at_q, ap told.ends line_is) in
+        let first = first_event events legal e.place (event.Step n s call.End reply.Done) e.there in
+        let p = placed_at events legal first.place [] first.there ((told.spans).from q) (omega (arith, later, begins)) (omega (arith, (told.tells).order.not_back q at_q, (told.tells).order.not_above q at_q)) in
+        let ends = and_both stays (pointwise nat_eq name h.node && is_covering s h.asked) h.ends in
         let covers = and_both (pointwise nat_eq name h.node) (is_covering s h.asked) ends.1 in
-        let member = (and_both _ _ ends.0).0 in
-        let p = member_place (placed k) s n member in
-        let is_there : has_replica (Some p.0) s n ≡ true = subst (λ o. has_replica o s n ≡ true) p.1 member in
-        let b = covered_begun start turns events legal told order.places q at_q n s name p.0 (ap placed line_is ∙ p.1) is_there (λ z done here. member_named start turns events legal told order z n s p.0 done name here named is_there)
+        let is_there = members p.0 p.1 in
+        let b = covered_begun start turns events legal told q at_q n s name p.0 p.1 is_there (λ z done here. member_named start turns events legal told order z n s p.0 done name here named is_there)
         h.node h.asked h.available h.place h.version h.act_is h.answered (name_is name h.node covers.0) covers.1 in
-        by_begun b (placements_stand start turns events legal told k (omega (arith, less)) ∙ p.1) (omega (arith, (told.lines).low q at_q, ap told.ends line_is)) finishes (omega (arith, (told.lines).high q at_q, ap (λ j. told.ends (suc j)) line_is))
+        by_begun b begins finishes (omega (arith, (told.lines).high q at_q, ap (λ j. told.ends (suc j)) line_is))
       where
-        by_begun : {from to : ℕ} {stood : Placement} → HasBegun events from to n s stood → last_place (take (told.ends k) events) ≡ Some stood → told.ends k ≤ from → to ≤ i → to ≤ told.ends (suc k) → ⊥
-        by_begun b last begins finishes ends =
+        by_begun : {from to : ℕ} {stood : Placement} → HasBegun events from to n s stood → told.ends k ≤ from → to ≤ i → to ≤ told.ends (suc k) → ⊥
+        by_begun {from} {to} {stood} b begins finishes ends =
             let low = b.low in
             let high = b.high in
             begin_clash is n s b.place b.tenure b.answer b.begun b.there (e.since b.place (omega (arith, later, begins, low)) (omega (arith, high, finishes))) (e.since (suc b.place) (omega (arith, later, begins, low)) (omega (arith, high, finishes)))
-            (tried_low k less n s b.place b.tenure (omega (arith, begins, low)) (omega (arith, high, ends)) (given_by events legal n s (told.ends k) b.tenure _ last b.given))
+            (tried_low k less n s from b.place b.tenure begins low (omega (arith, high, ends)) (given_by events legal n s from b.tenure stood b.last b.given))
 
+    -- so in a line of a member that stays one
     boot_clash : tells ≡ true → (i : ℕ) → i ≤ length events → (e : EndedAt events legal n s i) → (k : ℕ) → k < length turns → e.place < told.ends k → told.ends (suc k) ≤ i → (line : Turn) → At turns k line
         → (t : InnerTurn) → IsIn (inner_turns (line ∷ [])) t → EndsWait x (is_member x (placed k) && is_member x (placed (suc k))) t → ⊥
     boot_clash is i bound e k less later finishes line there t m h =
         let cut = cut_at turns k line there in
         let q = place_in turns cut.0 line cut.1 cut.2 t (subst (λ ts. IsIn ts t) (append-nil (joined (lists_of line))) m) in
         let line_is : length (q.0).lines ≡ k = ap length q.3 ∙ cut.3 in
-        turn_clash is i bound e q.0 q.1 k less later line_is (omega (arith, (told.lines).high q.0 q.1, ap (λ j. told.ends (suc j)) line_is, finishes)) (placed (suc k)) (subst (EndsWait x (is_member x (placed k) && is_member x (placed (suc k)))) (sym q.2) h)
+        turn_clash is i bound e q.0 q.1 k less later line_is (omega (arith, (told.lines).high q.0 q.1, ap (λ j. told.ends (suc j)) line_is, finishes)) (by_met q.0 q.1 line_is) (is_member x (placed k) && is_member x (placed (suc k))) (subst (EndsWait x (is_member x (placed k) && is_member x (placed (suc k)))) (sym q.2) h)
+      where
+        stays : (is_member x (placed k) ≡ true) × (is_member x (placed (suc k)) ≡ true)
+        stays = let ends = and_both (is_member x (placed k) && is_member x (placed (suc k))) (pointwise nat_eq name h.node && is_covering s h.asked) h.ends in and_both (is_member x (placed k)) (is_member x (placed (suc k))) ends.0
+
+        by_met : (q : TurnPlace) → IsTurnPlace turns q → length q.lines ≡ k → (place : Placement) → last_place (take ((told.spans).from q) events) ≡ Some place → has_replica (Some place) s n ≡ true
+        by_met q at line_is place last =
+            elim (met start turns events legal told order.places k less ((told.spans).from q) (omega (arith, (told.lines).low q at, ap told.ends line_is)) (omega (arith, (told.tells).order.not_back q at, (told.lines).high q at, ap (λ j. told.ends (suc j)) line_is)) place last) as (λ _. has_replica (Some place) s n ≡ true) [
+              | inl now ↦ ap (is_member x) (sym now) ∙ stays.0
+              | inr z ↦ ap (is_member x) (sym z.5) ∙ stays.1
+            ]
 
     -- so a member whose tenure ended is new since the line that assigned it
-    is_new : (p : TurnPlace) → IsTurnPlace turns p → (i : ℕ) → (told.spans).from p ≤ i → i ≤ length events → (e : EndedAt events legal n s i) → WasAssigned x e.place (length p.lines) → IsNew tells x start p
-    is_new p at i low bound e w = record {
+    is_new : (p : TurnPlace) → IsTurnPlace turns p → printed p.turn.answer ≡ None → (i : ℕ) → (told.spans).from p ≤ i → i ≤ length events → (e : EndedAt events legal n s i) → WasAssigned x e.place (length p.lines) → IsNew tells x start p
+    is_new p at quiet i low bound e w = record {
       lines = w.line;
       earlier = w.early;
       assigned = let early = w.early in ap (λ o. is_assigned x o (placement_by start p.lines (suc w.line))) (same w.line (omega (arith, early))) ∙ ap (is_assigned x (placed w.line)) (same (suc w.line) early) ∙ w.assigned;
@@ -216,6 +228,19 @@ module _ {tells : Bool} (start : Option MetaState) (turns : List Turn) (events :
         same : (j : ℕ) → j ≤ length p.lines → placement_by start p.lines j ≡ placed j
         same j le = ap (λ ls. placement_after (start_placement start) (inner_turns ls)) (sym (ap (take j) at.in_run ∙ take_front p.lines (p.line ∷ at.after) j le))
 
+        by_met : (q : TurnPlace) → IsTurnPlace turns q → length q.lines ≡ length p.lines → (told.spans).to q ≤ (told.spans).from p → is_member x (placed (length p.lines)) ≡ true
+            → (t : InnerTurn) → IsIn p.earlier t → (next : Placement) → printed t.answer ≡ Some next → (place : Placement) → last_place (take ((told.spans).from q) events) ≡ Some place → has_replica (Some place) s n ≡ true
+        by_met q at_q same_line before_p member t m next prints place last =
+            let k = length p.lines in
+            let within = (told.tells).order.not_back q at_q in
+            elim (met start turns events legal told order.places k (line_below turns p at) ((told.spans).from q) (omega (arith, (told.lines).low q at_q, ap told.ends same_line)) (omega (arith, within, (told.lines).high q at_q, ap (λ j. told.ends (suc j)) same_line)) place last) as (λ _. has_replica (Some place) s n ≡ true) [
+              | inl now ↦ ap (is_member x) (sym now) ∙ member
+              | inr z ↦
+                  let below = z.3 in
+                  let none = (gives_none start turns events legal told order.places p at quiet z.0 place z.1 z.2 (omega (arith, below, within, (told.lines).high q at_q, ap (λ j. told.ends (suc j)) same_line)) z.4).1 t m in
+                  absurd (let bad : None ≡ Some next = sym none ∙ prints in cc)
+            ]
+
         by_earlier : tells ≡ true → (after : Option Placement) → (t : InnerTurn) → IsIn p.earlier t → EndsWait x (is_member x (placement_by start p.lines (length p.lines)) && is_member x after) t → ⊥
         by_earlier is after t m h =
             let k = length p.lines in
@@ -224,8 +249,10 @@ module _ {tells : Bool} (start : Option MetaState) (turns : List Turn) (events :
             let later = w.later in
             let begins : e.place < told.ends k = omega (arith, later, ends_grow start turns events told (suc w.line) k w.early (omega (arith, less))) in
             let finishes = (told.tells).order.order q.place p q.in_run at (inr (ap length q.lines_are, q.client_is, q.earlier)) in
-            turn_clash is i bound e q.place q.in_run k less begins (ap length q.lines_are) (omega (arith, finishes, low)) after
-            (subst (λ (u : InnerTurn). EndsWait x (is_member x (placed k) && is_member x after) u) (sym q.turn_is) (subst (λ o. EndsWait x (is_member x o && is_member x after) t) (same k (omega arith)) h))
+            let stays = is_member x (placement_by start p.lines k) && is_member x after in
+            let ends = and_both stays (pointwise nat_eq name h.node && is_covering s h.asked) h.ends in
+            let member : is_member x (placed k) ≡ true = ap (is_member x) (sym (same k (omega arith))) ∙ (and_both (is_member x (placement_by start p.lines k)) (is_member x after) ends.0).0 in
+            turn_clash is i bound e q.place q.in_run k less begins (ap length q.lines_are) (omega (arith, finishes, low)) (by_met q.place q.in_run (ap length q.lines_are) finishes member t m h.place (ap printed h.answered)) stays (subst (EndsWait x stays) (sym q.turn_is) h)
 
         by_line : tells ≡ true → (k : ℕ) (line : Turn) → w.line < k → At p.lines k line → k < length p.lines → is_begun_in x (placement_by start p.lines k) (placement_by start p.lines (suc k)) (inner_turns (line ∷ [])) ≡ false
         by_line is k line above there early =
@@ -239,12 +266,12 @@ module _ {tells : Bool} (start : Option MetaState) (turns : List Turn) (events :
             ∙ none_begun x (placed k) (placed (suc k)) (inner_turns (line ∷ [])) (λ t m h. boot_clash is i bound e k less begins finishes line here t m h)
 
     -- an open replica without a tenure is of a node that has none of the shard, or is new
-    ended_unowned : (p : TurnPlace) → IsTurnPlace turns p → IsQuiet p → (version i : ℕ) → (told.spans).from p ≤ i → i < (told.spans).to p → (place : Placement) → last_place (take i events) ≡ Some place → placement_at start p ≡ Some place → EndedAt events legal n s i
+    ended_unowned : (p : TurnPlace) → IsTurnPlace turns p → IsQuiet p → (version i : ℕ) → (told.spans).from p ≤ i → i < (told.spans).to p → (place : Placement) → last_place (take i events) ≡ Some place → MayStand start p place → EndedAt events legal n s i
         → OwnsNot start p s n version ⊎ IsNew tells x start p
     ended_unowned p at quiet version i low high place last stands e =
         elim (true_or_not (has_replica (Some place) s n)) as (λ _. OwnsNot start p s n version ⊎ IsNew tells x start p) [
-          | inr gone ↦ inl (record { place = place; may_stand = may_stand start turns events legal told order.places p at quiet.prints_none place stands; not_owned = inl gone })
-          | inl member ↦ inr (is_new p at i low (omega (arith, high, (told.tells).order.not_above p at)) e (by_member member))
+          | inr gone ↦ inl (record { place = place; may_stand = stands; not_owned = inl gone })
+          | inl member ↦ inr (is_new p at quiet.prints_none i low (omega (arith, high, (told.tells).order.not_above p at)) e (by_member member))
         ]
       where
         was : (at_end : Placement) × (last_place (take e.place events) ≡ Some at_end)
@@ -257,21 +284,22 @@ module _ {tells : Bool} (start : Option MetaState) (turns : List Turn) (events :
         by_member member =
             let k = length p.lines in
             let below = e.below in
+            let line_end : i ≤ told.ends (suc k) = omega (arith, high, (told.lines).high p at) in
+            let given = member_given place s n member in
             elim (cases_lt e.place (told.ends k)) as (λ _. WasAssigned x e.place k) [
               | inl lt ↦
-                  let is : placed k ≡ Some place = ap (λ ls. placement_after (start_placement start) (inner_turns ls)) (lines_before start turns events legal told p at) ∙ stands in
-                  assigned_at x e.place was.0 (late_step events legal e.place n s call.End reply.Done e.there) was.1 gone k (omega (arith, line_below turns p at)) lt (ap (is_member x) is ∙ member)
+                  let h = had_before start turns events legal told order.places p at quiet.prints_none i (omega (arith, (told.lines).low p at, low)) line_end place last in
+                  assigned_at x e.place was.0 (late_step events legal e.place n s call.End reply.Done e.there) was.1 gone k (omega (arith, line_below turns p at)) lt (ap (is_member x) h.2 ∙ is_member_of h.0 s n given.0 (h.3 n s given.0 given.1))
               | inr ge ↦
-                  let here = stood start turns events legal told order.places p at quiet.prints_none e.place ge (omega (arith, below, high, (told.lines).high p at)) in
-                  let same : was.0 ≡ place = some_same was.0 place (sym was.1 ∙ here ∙ stands) in
-                  let bad : true ≡ false = sym member ∙ ap (λ q. has_replica (Some q) s n) (sym same) ∙ gone in
+                  let old = back start turns events legal told order.places k (line_below turns p at) (λ z next done above below there. (gives_none start turns events legal told order.places p at quiet.prints_none z next done above below there).0) e.place i ge (omega (arith, below)) line_end was.0 place was.1 last n s given.0 given.1 in
+                  let bad : true ≡ false = sym (is_member_of was.0 s n given.0 old) ∙ gone in
                   cc
             ]
 
   not_owned_at : (p : TurnPlace) → IsTurnPlace turns p → IsQuiet p → (used : Placement) (s n : ℕ) → IsRefusedAt start turns events told p used s n reason.NotOwned → RefusedIn start turns events told p n s used.version reason.NotOwned → IsUnowned tells start p used s n
   not_owned_at p at quiet used s n h r =
       elim r.founds as (λ _. IsUnowned tells start p used s n) [
-        | inr t ↦ inl (above_owns_not p n s used.version t.0 r.at r.place r.bound r.last (may_stand start turns events legal told order.places p at quiet.prints_none r.place r.stands) t.1 t.2)
+        | inr t ↦ inl (above_owns_not p n s used.version t.0 r.at r.place r.bound r.last r.stands t.1 t.2)
         | inl none ↦
             let e = ended_at events legal n s r.at r.bound (record { open_ = r.open_; none = none }) in
             elim (ended_unowned n s h.name (name_everywhere events legal n used h.name h.placed h.named) p at quiet used.version r.at r.low r.high r.place r.last r.stands e) as (λ _. IsUnowned tells start p used s n) [

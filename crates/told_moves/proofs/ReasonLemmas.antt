@@ -25,13 +25,13 @@ use Rattle.cluster_core.specs.declared.event.StepReply.TheVariants as reply
 use Rattle.cluster_core.specs.declared.replica_state.ReplicaState.{ReplicaState}
 use Rattle.cluster_core.proofs.ListLemmas.{some_same}
 use Rattle.cluster_core.proofs.TraceLemmas.{lawful_step}
-use Rattle.transcripts.specs.Placements.{placement_at}
+use Rattle.transcripts.specs.Placements.{MayStand}
 use Rattle.transcripts.specs.Record.{TurnPlace, IsTurnPlace}
 use Rattle.told_by.specs.Told.{ToldBy}
 use Rattle.told_causes.proofs.RefusalLemmas.{or_cases, refused_law}
 use Rattle.told_moves.specs.Moves.{IsAtVersion, IsQuiet, IsRefusedAt}
 use Rattle.told_moves.specs.Order.{IsInOrder}
-use Rattle.told_causes.proofs.StoodLemmas.{stood}
+use Rattle.told_causes.proofs.StoodLemmas.{may_stand}
 use Rattle.told_moves.proofs.TenureLemmas.{stands_at}
 
 -- the reasons that a move of the shard leaves
@@ -135,7 +135,7 @@ pub record RefusedIn (start : Option MetaState) (turns : List Turn) (events : Li
   pub bound : at ≤ length events
   pub place : Placement
   pub last : last_place (take at events) ≡ Some place
-  pub stands : placement_at start p ≡ Some place
+  pub stands : MayStand start p place
   pub open_ : (replica n s (take at events)).standing ≡ standing.Open
   pub founds : FoundsMove (replica n s (take at events)).tenure (replica n s (take at events)).fence version why
 
@@ -150,5 +150,4 @@ refused_in {tells} start turns events legal told order p at quiet used s n why i
     let law = refused_law tells (take i events) n s r h.asked why (lawful_step events legal i n s h.asked (reply.Refused why) there) in
     let move = refused_move r h.asked used.version why h.at_version is (first_is tells (take i events) s r h.asked used.version why h.at_version is law) in
     let place = stands_at start turns events legal told order i n s h.asked (reply.Refused why) there in
-    let line = stood start turns events legal told order.places p at quiet.prints_none i (omega (arith, (told.lines).low p at, low)) (omega (arith, (told.lines).high p at, high)) in
-    record { at = i; low = low; high = high; bound = omega (arith, high, (told.tells).order.not_above p at); place = place.0; last = place.1; stands = sym line ∙ place.1; open_ = move.0; founds = move.1 }
+    record { at = i; low = low; high = high; bound = omega (arith, high, (told.tells).order.not_above p at); place = place.0; last = place.1; stands = may_stand start turns events legal told order.places p at quiet.prints_none i (omega (arith, (told.lines).low p at, low)) (omega (arith, high)) place.0 place.1; open_ = move.0; founds = move.1 }

@@ -15,20 +15,21 @@ use Rattle.cluster_core.specs.declared.event.Event.TheVariants as event
 use Rattle.cluster_core.proofs.ListLemmas.{at_take, at_within, fold_suc, some_same}
 use Rattle.transcripts.specs.Moves.{IsBootstrapFor, IsFencedAbove, IsLeftFence, IsOfMove, IsTakenBy, IsTakenIn, placement_by}
 use Rattle.transcripts.specs.Placements.{placement_after, printed, start_placement}
-use Rattle.transcripts.specs.Record.{InnerTurn, TurnPlace, IsTurnPlace, inner_turns, joined, lists_of}
+use Rattle.transcripts.specs.Record.{TurnPlace, IsTurnPlace, inner_turns, joined, lists_of}
 use Rattle.told_by.specs.Told.{ToldBy}
 use Rattle.told_by.proofs.LeaveLemmas.{place_there}
 use Rattle.told_by.proofs.LineLemmas.{at_front, line_below, take_front}
 use Rattle.told_by.proofs.PrintedLemmas.{ends_within, greatest_so_far, placements_stand}
 use Rattle.told_by.proofs.TurnLemmas.{at_cut, cut_before, flat_map-IsIn, in_cut, in_its_line, stands, before_line, before_there, in_other_list, is_it, comes_later}
 use Rattle.told_causes.specs.Boot.{IsBootAct}
-use Rattle.told_causes.proofs.StoodLemmas.{may_stand, stood}
+use Rattle.told_causes.proofs.AloneLemmas.{stands_from}
+use Rattle.told_causes.proofs.StoodLemmas.{may_stand}
 use Rattle.told_moves.specs.Moves.{IsPlaced, IsQuiet, StaleIsSaid}
 use Rattle.told_moves.specs.Order.{IsInOrder, IsInitAct, OpensWithin}
 use Rattle.told_moves.proofs.AskLemmas.{IsBootOf, IsMoveAsk}
 use Rattle.told_moves.proofs.FenceLemmas.{MovesBefore, fence_source}
 use Rattle.told_moves.proofs.ReasonLemmas.{RefusedIn, refused_in}
-use Rattle.told_moves.proofs.TenureLemmas.{assigned_low, assigned_so, stands_from}
+use Rattle.told_moves.proofs.TenureLemmas.{assigned_low, assigned_so}
 
 -- ---- turns
 
@@ -47,7 +48,7 @@ module _ (start : Option MetaState) (turns : List Turn) (events : List Event) (l
         | before_line rest line lines among ↦ inl (omega (arith, ap length lines, length-append q.lines (line ∷ rest)))
         | before_there lines among ↦ inr (ap length lines, IsIn-append_left p.earlier p.beside q.turn among)
         | in_other_list lines among ↦ inr (ap length lines, IsIn-append_right p.earlier p.beside q.turn among)
-        | is_it same ↦ absurd (quiet.begins_none (subst (λ (t : InnerTurn). IsBootAct t.act) same boots))
+        | is_it same ↦ absurd (quiet.begins_none (subst (λ (x : TurnPlace). IsBootAct x.turn.act) same boots))
         | comes_later later ↦ absurd (omega (arith, (told.tells).order.order p q at at_q later, begins))
       ]
 
@@ -69,7 +70,7 @@ module _ (start : Option MetaState) (turns : List Turn) (events : List Event) (l
           | inl same ↦ inl (ap (λ ls. placement_after (start_placement start) (inner_turns ls)) (sym (front n (omega (arith, early)))) ∙ sym (placements_stand start turns events legal told n (omega (arith, less))) ∙ same)
           | inr z ↦
               inr (ap (λ ls. placement_after (start_placement start) (inner_turns ls)) (sym (front (suc n) early)) ∙ sym (placements_stand start turns events legal told (suc n) less)
-              ∙ order.one n z.0 place z.1 less z.2 (omega (arith, z.3, high)) z.4)
+              ∙ order.places.one n z.0 place z.1 less z.2 (omega (arith, z.3, high)) z.4)
         ];
       }
 
@@ -89,8 +90,7 @@ module _ (start : Option MetaState) (turns : List Turn) (events : List Event) (l
           | inl lt ↦ inl (taken_in p at ask.q ask.in_run lt k (ask.within).0 (omega (arith, (ask.within).1, (told.lines).high ask.q ask.in_run)) ask.place ask.last)
           | inr line ↦
               let begins : told.ends (length p.lines) ≤ k = omega (arith, (told.lines).low ask.q ask.in_run, ap told.ends line.0, (ask.within).0) in
-              let stands_so = stood start turns events legal told order.places p at quiet.prints_none k begins (omega (arith, high, (told.lines).high p at)) in
-              inr (line.1, may_stand start turns events legal told order.places p at quiet.prints_none ask.place (sym stands_so ∙ ask.last))
+              inr (line.1, may_stand start turns events legal told order.places p at quiet.prints_none k begins (omega (arith, high)) ask.place ask.last)
         ];
         asks = record { instance_ = named.instance_; stands = named.stands; holds = subst (IsBootstrapFor s (named.instance_).name) (sym boot.act_is) (sym named.holds, boot.covers) };
       }
@@ -137,7 +137,7 @@ module _ (start : Option MetaState) (turns : List Turn) (events : List Event) (l
       record {
         above = above;
         place = h.place;
-        may_stand = may_stand start turns events legal told order.places p at quiet.prints_none h.place h.stands;
+        may_stand = h.stands;
         not_above = cause_low p at n s fence h.at h.high h.place h.last source;
         cause = elim source as (λ _. IsLeftFence start fence ⊎ IsOfMove start p s fence) [ inl left ↦ inl left | inr m ↦ inr (move_cause p at quiet used placed n s fence h.at above h.high m) ];
       }

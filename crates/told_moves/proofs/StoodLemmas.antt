@@ -1,5 +1,5 @@
 -- The placements that a transcript knows by a line, or by a turn.
-use Rattle.std.proofs.Common.{◌≡◌, ℕ, zero, suc, ◌<◌, ◌≤◌, List, [], ◌∷◌, ◌++◌, take, length, refl, sym, ap, ◌∙◌, subst, inl, inr, arith, Bool}
+use Rattle.std.proofs.Common.{◌≡◌, ℕ, zero, suc, ◌<◌, ◌≤◌, List, [], ◌∷◌, take, length, refl, sym, ap, ◌∙◌, subst, inl, inr, arith, Bool}
 use Rattle.std.specs.Prelude.{Some, None, Option}
 use Rattle.std.proofs.lemmas.Bool.{cases_lt}
 use Rattle.m3_model.specs.Members.{IsIn}
@@ -11,17 +11,14 @@ use Rattle.cluster_core.specs.Lists.{At}
 use Rattle.cluster_core.specs.declared.event.Event.{Event}
 use Rattle.cluster_core.specs.declared.event.Event.TheVariants as event
 use Rattle.cluster_core.proofs.ListLemmas.{at_same, at_some}
-use Rattle.transcripts.specs.Placements.{placements, printed, start_placement}
-use Rattle.transcripts.specs.Record.{TurnPlace, IsTurnPlace, inner_turns}
+use Rattle.transcripts.specs.Placements.{placements, start_placement}
+use Rattle.transcripts.specs.Record.{inner_turns}
 use Rattle.transcripts.proofs.PlacementLemmas.{after_from, known_first, known_more, known_printed}
 use Rattle.told_by.specs.Openings.{opening_length}
 use Rattle.told_by.specs.Told.{ToldBy}
-use Rattle.told_by.proofs.LineLemmas.{line_below}
 use Rattle.told_by.proofs.PrintedLemmas.{placements_stand}
 use Rattle.told_by.proofs.TurnLemmas.{inner-append}
-use Rattle.told_causes.proofs.AloneLemmas.{lines_before}
 use Rattle.told_causes.proofs.NameLemmas.{take_line}
-use Rattle.told_causes.proofs.StoodLemmas.{no_place}
 use Rattle.told_moves.specs.Order.{IsInOrder}
 
 -- ---- the list
@@ -46,19 +43,9 @@ module _ {tells : Bool} (start : Option MetaState) (turns : List Turn) (events :
             subst (λ ts. IsIn (placements start ts) place) (sym (ap inner_turns (take_line turns k line.0 line.1) ∙ inner-append (take k turns) (line.0 ∷ [])))
             (known_more start (inner_turns (take k turns)) (inner_turns (line.0 ∷ [])) place (known_before k (omega (arith, high)) z place done there lt))
         | inr ge ↦
-            let last = order.one k z place done (omega (arith, high)) ge before there in
+            let last = order.places.one k z place done (omega (arith, high)) ge before there in
             elim (after_from (inner_turns (take (suc k) turns)) (start_placement start) place (sym (placements_stand start turns events legal told (suc k) high) ∙ last)) as (λ _. IsIn (placements start (inner_turns (take (suc k) turns))) place) [
               | inl found ↦ known_first start (inner_turns (take (suc k) turns)) place found
               | inr t ↦ known_printed start (inner_turns (take (suc k) turns)) t.0 place t.1 t.2
             ]
-      ]
-
-  -- a Place before a turn that prints nothing is known at it
-  pub known_place : (p : TurnPlace) → IsTurnPlace turns p → printed p.turn.answer ≡ None → (z : ℕ) (place : Placement) (done : List (ℕ × ℕ)) → At events z (event.Place place done) → z < told.ends (suc (length p.lines)) → IsIn (placements start (inner_turns p.lines ++ (p.earlier ++ p.beside))) place
-  known_place p at quiet z place done there before =
-      let k = length p.lines in
-      let less : k < length turns = line_below turns p at in
-      elim (cases_lt z (told.ends k)) as (λ _. IsIn (placements start (inner_turns p.lines ++ (p.earlier ++ p.beside))) place) [
-        | inl lt ↦ known_more start (inner_turns p.lines) (p.earlier ++ p.beside) place (subst (λ ls. IsIn (placements start (inner_turns ls)) place) (lines_before start turns events legal told p at) (known_before k (omega (arith, less)) z place done there lt))
-        | inr ge ↦ absurd (no_place start turns events legal told order.places p at quiet z place done ge before there)
       ]

@@ -1,6 +1,6 @@
 -- The tenures by which placements give a slot: they never fall, and each begin is by the one of the placement that stands.
 use Rattle.std.proofs.Common.{◌≡◌, ℕ, zero, suc, ◌<◌, ◌≤◌, List, [], ◌∷◌, take, map, length, refl, sym, ap, ◌∙◌, subst, inl, inr, arith, true, Bool}
-use Rattle.std.specs.Prelude.{◌⊎◌, Some, None, Option, slice_get, slice_index_or}
+use Rattle.std.specs.Prelude.{◌⊎◌, Some, None, Option, slice_get}
 use Rattle.std.proofs.lemmas.Bool.{cases_lt}
 use Rattle.m3_model.proofs.MemberLemmas.{IsIn-append_cases, IsIn-map, map-IsIn}
 use Rattle.m3_model.specs.Members.{IsIn}
@@ -35,8 +35,9 @@ use Rattle.told_by.specs.Told.{ToldBy}
 use Rattle.told_by.proofs.LeaveLemmas.{place_there}
 use Rattle.told_by.proofs.OpeningLemmas.{FirstEvent, first_event}
 use Rattle.told_by.proofs.PrintedLemmas.{ends_within}
+use Rattle.told_causes.proofs.AloneLemmas.{stands_from}
 use Rattle.told_causes.proofs.HaltLemmas.{late_step}
-use Rattle.told_causes.proofs.WaitLemmas.{member_at}
+use Rattle.told_causes.proofs.WaitLemmas.{member_at, shard_is}
 use Rattle.told_moves.specs.Moves.{IsPlaced}
 use Rattle.told_moves.specs.Order.{IsInOrder}
 
@@ -85,11 +86,6 @@ step_had version old next None x s m =
 step_had version old next (Some to) x s m = inl (settled_had (s.2).from to old next x (s.2).next_is m)
 
 -- ---- the shard of a placement
-
-pub shard_is : (shards : List Shard) (s : ℕ) (shard : Shard) → At shards s shard → slice_index_or shards s [] ≡ shard
-shard_is [] s shard e = cc
-shard_is (x ∷ shards) zero shard e = some_same x shard e
-shard_is (x ∷ shards) (suc s) shard e = shard_is shards s shard e
 
 -- the placement gives the node the shard so
 pub assignment_of : (place : Placement) (s n tenure : ℕ) (Kind : ℕ → Type 0) (shard : Shard) → At place.shards s shard → HasTenure shard n tenure → Kind tenure → HasAssignment place s n Kind
@@ -226,25 +222,6 @@ module _ {tells : Bool} (events : List Event) (legal : Legal tells events) where
         | inr ge ↦ same_name n placed.place_at i place other placed.done done named.instance_ own placed.there there ge named.stands stands ∙ named.holds
       ]
 
-  -- the placement stood at the first place, or it is a Place from there on and before the other
-  abbrev pub StandsFrom : ℕ → ℕ → Placement → Type 0
-  StandsFrom j k place = (last_place (take j events) ≡ Some place) ⊎ ((z : ℕ) × (done : List (ℕ × ℕ)) × (j ≤ z) × (z < k) × At events z (event.Place place done))
-
-  stands_longer : (j k : ℕ) (place : Placement) → StandsFrom j k place → StandsFrom j (suc k) place
-  stands_longer j k place (inl before) = inl before
-  stands_longer j k place (inr z) = inr (z.0, z.1, z.2, omega (arith, z.3), z.4)
-
-  pub stands_from : (j k : ℕ) → j ≤ k → k ≤ length events → (place : Placement) → last_place (take k events) ≡ Some place → StandsFrom j k place
-  stands_from j k low high =
-      along events (λ m. (place : Placement) → last_place (take m events) ≡ Some place → StandsFrom j m place) j (λ place last. inl last)
-      (λ m e le there was place last. elim (place_cases (last_place (take m events)) e) as (λ _. StandsFrom j (suc m) place) [
-        | inl same ↦ stands_longer j m place (was place (sym (fold_suc place_after None events m e there ∙ same) ∙ last))
-        | inr placed ↦
-            let it : placed.0 ≡ place = some_same placed.0 place (sym (fold_suc place_after None events m e there ∙ placed.3) ∙ last) in
-            inr (m, placed.1, le, omega arith, subst (λ q. At events m (event.Place q placed.1)) it (there ∙ ap Some placed.2))
-      ])
-      k low high
-
 -- ---- a list in order
 
 module _ {tells : Bool} (start : Option MetaState) (turns : List Turn) (events : List Event) (legal : Legal tells events) (told : ToldBy start turns events) (order : IsInOrder start turns events told) where
@@ -256,42 +233,42 @@ module _ {tells : Bool} (start : Option MetaState) (turns : List Turn) (events :
       let p = placed_at events legal first.place [] first.there i (omega (arith, late)) (omega (arith, at_within events i (event.Step n s c a) there)) in
       (p.0, p.1)
 
-  -- a node that has a shard when a line begins has it with no higher tenure within the line, which has one Place at most
-  pub line_low : (k : ℕ) → k < length turns → (i n s was is : ℕ) → told.ends k ≤ i → i ≤ told.ends (suc k) → GivenAt events legal n s (told.ends k) was → GivenAt events legal n s i is → is ≤ was
-  line_low k less i n s was is low high g h =
-      elim (stands_from events legal (told.ends k) i low (omega (arith, high, bound)) (h.is).place (h.is).last) as (λ _. is ≤ was) [
-        | inl same ↦ tenure_grows events legal n s (told.ends k) (told.ends k) is was some (omega arith) (omega (arith, low, high, bound)) (record { version = h.version; shard = h.shard; is = record { place = (h.is).place; last = same; version_is = (h.is).version_is; shard_is = (h.is).shard_is }; has = h.has }) g
+  -- a node that has a shard has it with no higher tenure further on in the line, which has one Place at most
+  pub line_low : (k : ℕ) → k < length turns → (f i n s was is : ℕ) → told.ends k ≤ f → f ≤ i → i ≤ told.ends (suc k) → GivenAt events legal n s f was → GivenAt events legal n s i is → is ≤ was
+  line_low k less f i n s was is begins low high g h =
+      elim (stands_from events legal (f) i low (omega (arith, high, bound)) (h.is).place (h.is).last) as (λ _. is ≤ was) [
+        | inl same ↦ tenure_grows events legal n s (f) (f) is was some (omega arith) (omega (arith, low, high, bound)) (record { version = h.version; shard = h.shard; is = record { place = (h.is).place; last = same; version_is = (h.is).version_is; shard_is = (h.is).shard_is }; has = h.has }) g
         | inr z ↦ by_place z.0 z.1 z.2 z.3 z.4
       ]
     where
       bound : told.ends (suc k) ≤ length events
       bound = ends_within start turns events told (suc k) less
 
-      some : 1 ≤ told.ends k
-      some = let there = place_there (take (told.ends k) events) (g.is).place (g.is).last in omega (arith, (at_take events there.0 (told.ends k) (event.Place (g.is).place there.1) there.2).1)
+      some : 1 ≤ f
+      some = let there = place_there (take (f) events) (g.is).place (g.is).last in omega (arith, (at_take events there.0 (f) (event.Place (g.is).place there.1) there.2).1)
 
       by_step : (done : Option ℕ) → IsShardStep ((h.is).place).version g.shard h.shard done → is ≤ was
       by_step done step =
           elim (step_had ((h.is).place).version g.shard h.shard done (h.has).assigned step (h.has).among) as (λ _. is ≤ was) [
             | inl had ↦
-                let first = first_of events legal (told.ends k) some (omega (arith, low, high, bound)) in
-                let sound = at_sound events legal first.place [] first.there s (told.ends k) g.version g.shard some (omega (arith, low, high, bound)) g.is in
+                let first = first_of events legal (f) some (omega (arith, low, high, bound)) in
+                let sound = at_sound events legal first.place [] first.there s (f) g.version g.shard some (omega (arith, low, high, bound)) g.is in
                 let it : had.assigned ≡ (g.has).assigned = same_node g.shard had.assigned (g.has).assigned sound.distinct had.among (g.has).among (had.of_node ∙ (h.has).of_node ∙ sym (g.has).of_node) in
                 omega (arith, ap (λ (z : Assignment). z.tenure) it, had.tenure_is, (h.has).tenure_is, (g.has).tenure_is)
             | inr new ↦ absurd (new.free (subst (IsIn (nodes_of g.shard)) ((g.has).of_node ∙ sym (h.has).of_node) (map-IsIn (λ (a : Assignment). a.node) g.shard (g.has).assigned (g.has).among)))
           ]
 
-      by_place : (z : ℕ) (done : List (ℕ × ℕ)) → told.ends k ≤ z → z < i → At events z (event.Place (h.is).place done) → is ≤ was
+      by_place : (z : ℕ) (done : List (ℕ × ℕ)) → f ≤ z → z < i → At events z (event.Place (h.is).place done) → is ≤ was
       by_place zero done above below there = absurd (omega (arith, above, some))
       by_place (suc z) done above below there =
           let law = lawful_place events legal z (h.is).place done there in
-          elim (stands_from events legal (told.ends k) (suc z) above (omega (arith, below, high, bound)) law.last law.last_is) as (λ _. is ≤ was) [
+          elim (stands_from events legal (f) (suc z) above (omega (arith, below, high, bound)) law.last law.last_is) as (λ _. is ≤ was) [
             | inl same ↦
                 let it : law.last ≡ (g.is).place = some_same law.last (g.is).place (sym same ∙ (g.is).last) in
                 by_step (done_at s done) ((law.step).each s g.shard h.shard (subst (λ q. At q.shards s g.shard) (sym it) (g.is).shard_is) (h.is).shard_is)
             | inr y ↦
-                let one = order.one k y.0 law.last y.1 less y.2 (omega (arith, y.3, below, high)) y.4 in
-                let other = order.one k (suc z) (h.is).place done less above (omega (arith, below, high)) there in
+                let one = order.places.one k y.0 law.last y.1 less (omega (arith, begins, y.2)) (omega (arith, y.3, below, high)) y.4 in
+                let other = order.places.one k (suc z) (h.is).place done less (omega (arith, begins, above)) (omega (arith, below, high)) there in
                 let it : law.last ≡ (h.is).place = some_same law.last (h.is).place (sym one ∙ other) in
                 absurd (omega (arith, (law.step).version, ap (λ (q : Placement). q.version) it))
           ]

@@ -1,5 +1,5 @@
 -- How a cluster that serves its lines one after the other makes its list, beside what tells of its turns; and what a run finds on its disks.
-use Rattle.std.specs.Prelude.{◌≡◌, ◌⊎◌, ◌≤◌, ◌<◌, ℕ, ⊤, List, [], length, suc, take, Option, Some, true, false}
+use Rattle.std.specs.Prelude.{◌≡◌, ◌⊎◌, ℕ, ⊤, List, [], take, Option, Some, true, false}
 use Rattle.m3_model.specs.declared.act.Act.{Act}
 use Rattle.m3_model.specs.declared.act.Act.TheVariants as act
 use Rattle.m3_model.specs.declared.placement.Placement.{Placement}
@@ -20,20 +20,19 @@ use Rattle.transcripts.specs.Placements.{has_replica, printed}
 use Rattle.transcripts.specs.Record.{TurnPlace, IsTurnPlace}
 use Rattle.told_by.specs.Openings.{sets_seed}
 use Rattle.told_by.specs.Told.{ToldBy}
-use Rattle.told_causes.specs.Boot.{PlacesAlone}
+use Rattle.told_causes.specs.Boot.{ArePlacesInOrder}
 
 -- the act makes the first placement
 abbrev pub IsInitAct : Act → Type 0
 IsInitAct (act.Init rf shards seed nodes) = ⊤
 IsInitAct _ = ⊥
 
--- a line with a Place has one turn, and one Place at most; an `init` that prints a placement is answered ok; each Place is a lawful placement; a tenure ends
+-- a line has one Place at most, which it may make so; an `init` that prints a placement is answered ok; each Place is a lawful placement; a tenure ends
 -- where the placement that stands has no replica of the slot
 pub record IsInOrder (start : Option MetaState) (turns : List Turn) (events : List Event) (told : ToldBy start turns events) : Type 0 where
-  pub places : PlacesAlone start turns events told
+  pub places : ArePlacesInOrder start turns events told
   pub inits : (q : TurnPlace) → IsTurnPlace turns q → IsInitAct q.turn.act → (place : Placement) → printed q.turn.answer ≡ Some place → sets_seed q.turn.act q.turn.answer ≡ true
   pub lawful : (i : ℕ) (place : Placement) (done : List (ℕ × ℕ)) → At events i (event.Place place done) → IsLawful place
-  pub one : (k i : ℕ) (place : Placement) (done : List (ℕ × ℕ)) → k < length turns → told.ends k ≤ i → i < told.ends (suc k) → At events i (event.Place place done) → last_place (take (told.ends (suc k)) events) ≡ Some place
   pub ends : (i node shard : ℕ) (a : StepReply) → At events i (event.Step node shard call.End a) → (place : Placement) → last_place (take i events) ≡ Some place → has_replica (Some place) shard node ≡ false
 
 -- the fence with which a slot first begins is its tenure, or isn't above the version that the run found

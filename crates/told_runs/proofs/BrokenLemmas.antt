@@ -10,7 +10,7 @@ use Rattle.told_by.specs.Sample.{events as short_events, fetched, turns as short
 use Rattle.told_by.proofs.OneLemmas.{is_last}
 use Rattle.told_causes.proofs.AloneLemmas.{only_cut}
 use Rattle.told_runs.specs.Answers.{IsAnswered, IsDecidedBy}
-use Rattle.told_runs.specs.Broken.{DeliversAgain, IsNeverServed, PlacesBeside, TakesElsewhere, UndueOrder}
+use Rattle.told_runs.specs.Broken.{DeliversAgain, IsNeverServed, GivesBeside, TakesElsewhere, UndueOrder}
 
 pub never_again : IsNeverServed DeliversAgain
 never_again tells untaken now was past start turns events line more adds serves d =
@@ -19,13 +19,16 @@ never_again tells untaken now was past start turns events line more adds serves 
 pub never_elsewhere : IsNeverServed TakesElsewhere
 never_elsewhere tells untaken now was past start turns events line more adds serves t = t.elsewhere ((serves.answers).untaken_are t.fault t.among).1
 
-pub never_beside : IsNeverServed PlacesBeside
+pub never_beside : IsNeverServed GivesBeside
 never_beside tells untaken now was past start turns events line more adds serves b =
-    let stands = (b.here).stands in
-    let one = (serves.order).places b.place_at b.place b.done b.made in
-    let only = only_cut one.0 stands.front (b.q).earlier (b.q).turn stands.later stands.back (sym one.1 ∙ ap lists_of (sym (b.here).line_is) ∙ stands.in_line) in
-    let nobody : (b.q).beside ≡ [] = stands.others ∙ (λ i. joined (only.0 i) ++ joined (only.2 i)) in
-    subst (λ ts. IsIn ts b.other) nobody b.beside
+    elim ((serves.order).may b.place_at b.place b.done b.made) as (λ _. ⊥) [ inl one ↦ by_one one.0 one.1 | inr h ↦ b.new (h.0 b.last b.last_is b.node b.shard b.tenure b.given) ]
+  where
+    by_one : (t : InnerTurn) → lists_of line ≡ (t ∷ []) ∷ [] → ⊥
+    by_one t alone =
+        let stands = (b.here).stands in
+        let only = only_cut t stands.front (b.q).earlier (b.q).turn stands.later stands.back (sym alone ∙ ap lists_of (sym (b.here).line_is) ∙ stands.in_line) in
+        let nobody : (b.q).beside ≡ [] = stands.others ∙ (λ i. joined (only.0 i) ++ joined (only.2 i)) in
+        subst (λ ts. IsIn ts b.other) nobody b.beside
 
 pub never_order : UndueOrder
 never_order tells untaken now was past more adds serves = by ((serves.answers).each own (is_last None short_turns short_events fetched answer.Order more))

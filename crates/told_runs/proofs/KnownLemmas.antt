@@ -80,13 +80,9 @@ module _ {tells : Bool} (start : Option MetaState) (turns : List Turn) (events :
     -- it was a member after so many lines
     was_member : (place : Placement) (shard node : ℕ) → IsSlotAt place shard node → WasMember start p shard node
     was_member place shard node slot =
-        let k = slot.known in
-        let front : take k.lines turns ≡ take k.lines p.lines = ap (take k.lines) at.in_run ∙ take_front p.lines (p.line ∷ at.after) k.lines k.not_later in
-        record {
-          lines = k.lines;
-          not_later = k.not_later;
-          member = ap (λ o. has_replica o shard node) (ap (λ ls. placement_after (start_placement start) (inner_turns ls)) (sym front) ∙ k.stood) ∙ slot.member;
-        }
+        let w = (slot.known).members shard node slot.member in
+        let front : take w.0 turns ≡ take w.0 p.lines = ap (take w.0) at.in_run ∙ take_front p.lines (p.line ∷ at.after) w.0 w.1 in
+        record { lines = w.0; not_later = w.1; member = ap (λ o. has_replica o shard node) (ap (λ ls. placement_after (start_placement start) (inner_turns ls)) (sym front)) ∙ w.2 }
 
     known_member : tells ≡ true → (place : Placement) (shard node : ℕ) (slot : IsSlotAt place shard node) → (name : List ℕ) → IsNamedBy events node name → IsKnownMember start turns events told p shard node name
     known_member is place shard node slot name everywhere = record {
@@ -184,9 +180,8 @@ module _ {tells : Bool} (start : Option MetaState) (turns : List Turn) (events :
           let q = m.place in
           let calls : IsTrue (is_call q.turn.act) = call_is q.turn.act late.call late.of_call in
           let k = used_known start turns events legal told order q made.0 (silent q made.0 calls) (late.call).version m.used late.may_use in
-          let not_later = k.not_later in
           record {
-            known = record { lines = k.lines; not_later = omega (arith, not_later, made.1); stood = k.stood; place_at = k.place_at; done = k.done; there = k.there; before = k.before };
+            known = record { place_at = k.place_at; done = k.done; there = k.there; members = λ s n member. let w = k.members s n member in (w.0, omega (arith, w.1, made.1), w.2) };
             member = subst (λ s. has_replica (Some m.used) s m.node ≡ true) (sym to) late.member;
           }
         where

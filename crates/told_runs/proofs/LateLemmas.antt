@@ -200,7 +200,7 @@ module _ {tells : Bool} (now was : TurnPlace → List LateMessage) (lines : List
   serves short last inits answers bound = record {
     order = record {
       halts = only (λ q. IsHaltAct q.turn.act → lists_of (line_of a b) ≡ (q.turn ∷ []) ∷ []) lines a b (λ halts. refl);
-      places = λ i p done added. (record { act = a; answer = b }, refl);
+      may = λ i p done added. inl (record { act = a; answer = b }, refl);
       inits = only (λ q. IsInitAct q.turn.act → (p : Placement) → printed q.turn.answer ≡ Some p → sets_seed q.turn.act q.turn.answer ≡ true) lines a b (λ is p prints. inits is);
       adds = record {
         lawful = λ i p done added. subst IsLawful (one_place i p done (short i (event.Place p done) added.1)) lawful_place;

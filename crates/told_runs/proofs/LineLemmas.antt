@@ -46,7 +46,7 @@ use Rattle.told_by.proofs.OneLemmas.{each}
 use Rattle.told_by.proofs.PrintedLemmas.{ends_within}
 use Rattle.told_by.proofs.SampleLemmas.{each_at}
 use Rattle.told_by.proofs.TurnLemmas.{at_cut}
-use Rattle.told_causes.specs.Boot.{HasOneTurn}
+use Rattle.told_causes.specs.Boot.{GivesNone, MayPlace}
 use Rattle.told_causes.specs.Standing.{HaltsAlone, IsHaltAct}
 use Rattle.told_moves.specs.Order.{IsInOrder, OpensWithin}
 use Rattle.told_runs.specs.Answers.{AreAnswered, Delivers, HearsOf, IsAnswered, IsDecidedBy, IsOfKind}
@@ -112,11 +112,11 @@ module _ {tells : Bool} (past : List Record) (start : Option MetaState) (turns :
   ends_now k is = ap (λ m. after.ends (suc m)) is ∙ line_told_last start turns events line more told adds
 
   -- a Place of an old line, or of the new one
-  each_place : (P : ℕ → Placement → Type 0) → ((k i : ℕ) (place : Placement) (done : List (ℕ × ℕ)) → k < length turns → told.ends k ≤ i → i < told.ends (suc k) → At events i (event.Place place done) → P k place)
-      → ((i : ℕ) (place : Placement) (done : List (ℕ × ℕ)) → Adds events more i (event.Place place done) → P (length turns) place)
-      → (k i : ℕ) (place : Placement) (done : List (ℕ × ℕ)) → k < length long → after.ends k ≤ i → i < after.ends (suc k) → At all i (event.Place place done) → P k place
+  each_place : (P : ℕ → ℕ → Placement → Type 0) → ((k i : ℕ) (place : Placement) (done : List (ℕ × ℕ)) → k < length turns → told.ends k ≤ i → i < told.ends (suc k) → At events i (event.Place place done) → P k i place)
+      → ((i : ℕ) (place : Placement) (done : List (ℕ × ℕ)) → Adds events more i (event.Place place done) → P (length turns) i place)
+      → (k i : ℕ) (place : Placement) (done : List (ℕ × ℕ)) → k < length long → after.ends k ≤ i → i < after.ends (suc k) → At all i (event.Place place done) → P k i place
   each_place P old new k i place done less low high there =
-      elim (cases_lt k (length turns)) as (λ _. P k place) [
+      elim (cases_lt k (length turns)) as (λ _. P k i place) [
         | inl lt ↦
             let ends_so = ends_were (suc k) lt in
             let bound = ends_within start turns events told (suc k) lt in
@@ -124,20 +124,29 @@ module _ {tells : Bool} (past : List Record) (start : Option MetaState) (turns :
         | inr ge ↦
             let is : k ≡ length turns = omega (arith, ge, less, length-append turns (line ∷ [])) in
             let begins : length events ≤ i = omega (arith, low, ap after.ends is, ends_were (length turns) (omega arith), (told.lines).last) in
-            subst (λ m. P m place) (sym is) (new i place done (begins, there))
+            subst (λ m. P m i place) (sym is) (new i place done (begins, there))
       ]
 
   order_on : IsInOrder start long all after
   order_on = record {
-    places = each_place (λ k place. HasOneTurn long k)
-        (λ k i place done old low high there. let one = (served.order).places k i place done old low high there in (one.0, one.1, at_append turns (line ∷ []) k one.0 one.2, one.3))
-        (λ i place done new. let one = (serves.order).places i place done new in (line, one.0, at_cut turns line [], one.1));
+    places = record {
+      one = each_place (λ k i place. last_place (take (after.ends (suc k)) all) ≡ Some place)
+          (λ k i place done old low high there.
+          ap (λ n. last_place (take n all)) (ends_were (suc k) old) ∙ ap last_place (front (told.ends (suc k)) (ends_within start turns events told (suc k) old)) ∙ ((served.order).places).one k i place done old low high there)
+          (λ i place done new. ap (λ n. last_place (take n all)) (ends_now (length turns) refl) ∙ ap last_place (take_all all) ∙ ((serves.order).adds).one i place done new);
+      may = each_place (λ k i place. MayPlace long k (take i all) place)
+          (λ k i place done old low high there.
+          elim (((served.order).places).may k i place done old low high there) as (λ _. MayPlace long k (take i all) place) [
+            | inl one ↦ inl (one.0, one.1, at_append turns (line ∷ []) k one.0 one.2, one.3)
+            | inr h ↦ inr (subst (λ es. GivesNone es place) (sym (front i (let w = at_within events i (event.Place place done) there in omega (arith, w)))) h.0, ((h.1).0, at_append turns (line ∷ []) k (h.1).0 (h.1).1, (h.1).2))
+          ])
+          (λ i place done new. elim ((serves.order).may i place done new) as (λ _. MayPlace long (length turns) (take i all) place) [
+            | inl one ↦ inl (line, one.0, at_cut turns line [], one.1)
+            | inr h ↦ inr (h.0, (line, at_cut turns line [], h.1))
+          ]);
+    };
     inits = λ q at is place prints. elim (which q at) as (λ _. sets_seed q.turn.act q.turn.answer ≡ true) [ inl k ↦ (served.order).inits q k is place prints | inr k ↦ (serves.order).inits q k is place prints ];
     lawful = λ i place done there. elim (event_cases i (event.Place place done) there) as (λ _. IsLawful place) [ inl old ↦ (served.order).lawful i place done old.1 | inr new ↦ ((serves.order).adds).lawful i place done new ];
-    one = each_place (λ k place. last_place (take (after.ends (suc k)) all) ≡ Some place)
-        (λ k i place done old low high there.
-        ap (λ n. last_place (take n all)) (ends_were (suc k) old) ∙ ap last_place (front (told.ends (suc k)) (ends_within start turns events told (suc k) old)) ∙ (served.order).one k i place done old low high there)
-        (λ i place done new. ap (λ n. last_place (take n all)) (ends_now (length turns) refl) ∙ ap last_place (take_all all) ∙ ((serves.order).adds).one i place done new);
     ends = λ i n s a there place last. elim (event_cases i (event.Step n s call.End a) there) as (λ _. has_replica (Some place) s n ≡ false) [
       | inl old ↦ (served.order).ends i n s a old.1 place (ap last_place (sym (front i (omega (arith, old.0)))) ∙ last)
       | inr new ↦ ((serves.order).adds).ends i n s a new place last
@@ -275,7 +284,7 @@ module _ (tells : Bool) (past : List Record) (start : Option MetaState) (turns :
   serves_so adds from to one = record {
     order = record {
       halts = each_turn (λ q. IsHaltAct q.turn.act → lists_of (line_of a b) ≡ (q.turn ∷ []) ∷ []) (λ halts. refl);
-      places = λ i place done adds. (own.turn, refl);
+      may = λ i place done adds. inl (own.turn, refl);
       inits = each_turn (λ q. PrintsByInit q.turn.act q.turn.answer) one.inits;
       adds = one.adds;
     };
@@ -327,10 +336,9 @@ served_first past unanswered = (
   told_at_first,
   record {
     order = record {
-      places = λ k i place done less. absurd (omega (arith, less));
+      places = record { one = λ k i place done less. absurd (omega (arith, less)); may = λ k i place done less. absurd (omega (arith, less)) };
       inits = λ q at. absurd (no_place q at);
       lawful = λ i place done there. absurd (nothing_at i (event.Place place done) there);
-      one = λ k i place done less. absurd (omega (arith, less));
       ends = λ i n s a there. absurd (nothing_at i (event.Step n s call.End a) there);
     };
     halts = λ q at. absurd (no_place q at);
@@ -349,10 +357,9 @@ served_afresh past state unanswered lawful = (
   told_found state,
   record {
     order = record {
-      places = λ k i place done less. absurd (omega (arith, less));
+      places = record { one = λ k i place done less. absurd (omega (arith, less)); may = λ k i place done less. absurd (omega (arith, less)) };
       inits = λ q at. absurd (no_place q at);
       lawful = λ i place done there. each_at (λ k x. x ≡ event.Place place done → IsLawful place) 0 opening ((λ e. let same : state.place ≡ place = cc in subst IsLawful same lawful), ((λ e. cc), tt)) i (event.Place place done) there refl;
-      one = λ k i place done less. absurd (omega (arith, less));
       ends = λ i n s a there. absurd (no_step i n s call.End a there);
     };
     halts = λ q at. absurd (no_place q at);

@@ -1,14 +1,11 @@
 -- Slots that are called had a replica: a Place gave them one before.
 use Rattle.std.proofs.Common.{◌≡◌, ℕ, zero, suc, ◌<◌, ◌≤◌, List, ◌∷◌, take, length, refl, sym, ap, ◌∙◌, subst, inl, inr, arith, Bool, true}
-use Rattle.std.specs.Prelude.{◌⊎◌, ⊤, Any, Some, None, Option, nat_eq}
+use Rattle.std.specs.Prelude.{◌⊎◌, ⊤, Some, None, Option}
 use Rattle.std.specs.Option.{option_or}
-use Rattle.std.proofs.lemmas.Bool.{cases_lt, eq-eqb}
-use Rattle.std.proofs.lemmas.List.Folds.{list_any-from_Any}
-use Rattle.m3_model.proofs.MemberLemmas.{map-IsIn}
+use Rattle.std.proofs.lemmas.Bool.{cases_lt}
 use Rattle.m3_model.specs.Members.{IsIn}
 use Rattle.m3_model.specs.declared.act.Act.{Act}
 use Rattle.m3_model.specs.declared.act.Act.TheVariants as act
-use Rattle.m3_model.specs.declared.placement.Assignment.{Assignment}
 use Rattle.m3_model.specs.declared.placement.Placement.{Placement}
 use Rattle.m3_model.specs.declared.reason.Damage.{Damage as Harm}
 use Rattle.m3_model.specs.declared.reason.Reason.TheVariants as reason
@@ -16,10 +13,9 @@ use Rattle.m3_model.specs.declared.replica.Standing.{Standing}
 use Rattle.m3_model.specs.declared.replica.Standing.TheVariants as standing
 use Rattle.m3_model.specs.declared.rules.MetaState.{MetaState}
 use Rattle.m3_model.specs.declared.turn.Turn.{Turn}
-use Rattle.placement_core.specs.Shards.{Shard, is_available, nodes_of, shard_at}
+use Rattle.placement_core.specs.Shards.{is_available, shard_at}
 use Rattle.placement_core.proofs.HolderLemmas.{chosen_node}
-use Rattle.placement_core.proofs.ListLemmas.{Any-from_IsIn, IsIn-from_Any}
-use Rattle.cluster_core.specs.Earlier.{HasTenure, GivesTenure}
+use Rattle.cluster_core.specs.Earlier.{HasTenure, GivesTenure, place_after}
 use Rattle.cluster_core.specs.Legal.{Legal}
 use Rattle.cluster_core.specs.Lists.{At}
 use Rattle.cluster_core.specs.Refusals.{first_refusal, outdated, outside, reads_files, shut, unowned, untenured, uses_disk}
@@ -33,7 +29,7 @@ use Rattle.cluster_core.specs.declared.event.StepCall.TheVariants as call
 use Rattle.cluster_core.specs.declared.event.StepReply.{StepReply}
 use Rattle.cluster_core.specs.declared.event.StepReply.TheVariants as reply
 use Rattle.cluster_core.specs.declared.replica_state.ReplicaState.{ReplicaState}
-use Rattle.cluster_core.proofs.ListLemmas.{any_at, at_some, at_take, at_within, some_same}
+use Rattle.cluster_core.proofs.ListLemmas.{any_at, at_some, at_take, at_within, fold_suc, some_same}
 use Rattle.cluster_core.proofs.TraceLemmas.{lawful_step, replica_suc, step_cases}
 use Rattle.transcripts.specs.Caused.{HadBefore}
 use Rattle.transcripts.specs.Faults.{Fault}
@@ -50,29 +46,16 @@ use Rattle.told_causes.proofs.FaultLemmas.{faults_steps}
 use Rattle.told_causes.proofs.HaltLemmas.{late_step, opening_low}
 use Rattle.told_causes.proofs.RefusalLemmas.{refused_law}
 use Rattle.told_causes.proofs.RunLemmas.{open_by}
-use Rattle.told_causes.proofs.StoodLemmas.{no_place}
+use Rattle.told_causes.proofs.StoodLemmas.{had_before as slot_before}
+use Rattle.told_causes.proofs.WaitLemmas.{assigned_member, given_member as given_here, is_member_of, member_given}
 use Rattle.told_moves.specs.Order.{IsInOrder}
 use Rattle.told_moves.proofs.StoodLemmas.{known_before}
 use Rattle.told_moves.proofs.AskLemmas.{begin_asked}
-use Rattle.told_moves.proofs.TenureLemmas.{shard_is}
 
 -- ---- members
 
--- a node with an assignment of the shard has a replica of it
-pub assigned_member : (place : Placement) (s n : ℕ) (a : Assignment) → IsIn (shard_at place s) a → a.node ≡ n → has_replica (Some place) s n ≡ true
-assigned_member place s n a m e =
-    let nodes = nodes_of (shard_at place s) in
-    let among : IsIn nodes n = subst (IsIn nodes) e (map-IsIn (λ (x : Assignment). x.node) (shard_at place s) a m) in
-    list_any-from_Any (nat_eq n) nodes (Any-from_IsIn (λ x. nat_eq n x ≡ true) nodes n among (eq-eqb n n refl))
-
 pub counted_member : (place : Placement) (s n : ℕ) → IsCounted place s n → has_replica (Some place) s n ≡ true
 counted_member place s n m = let a = chosen_node is_available (shard_at place s) n m in assigned_member place s n a.0 a.1 a.2
-
--- so has one to which a Place gives a tenure
-assigned_so : (place : Placement) (n s : ℕ) (shard : Shard) (Kind : ℕ → Type 0) → At place.shards s shard → Any (λ (a : Assignment). (a.node ≡ n) × Kind a.tenure) shard → has_replica (Some place) s n ≡ true
-assigned_so place n s shard Kind at any =
-    let a = IsIn-from_Any (λ (a : Assignment). (a.node ≡ n) × Kind a.tenure) shard any in
-    assigned_member place s n a.0 (subst (λ xs. IsIn xs a.0) (sym (shard_is place.shards s shard at)) a.1) (a.2).0
 
 -- A Place before an event gives the slot a replica.
 pub record HasMember (events : List Event) (i n s : ℕ) : Type 0 where
@@ -94,7 +77,7 @@ given_member events i n s tenure given =
     by : (z : ℕ) (e : Event) → At (take i events) z e → GivesTenure n s tenure e → HasMember events i n s
     by z (event.Place place done) at gives =
         let there = at_take events z i (event.Place place done) at in
-        record { place_at = z; place = place; done = done; there = there.0; before = there.1; member = assigned_so place n s gives.0 (λ t. t ≡ tenure) gives.1 gives.2 }
+        record { place_at = z; place = place; done = done; there = there.0; before = there.1; member = given_here place n s gives.0 (λ t. t ≡ tenure) gives.1 gives.2 }
     by z _ at gives = absurd gives
 
 -- ---- why a replica is open
@@ -143,7 +126,7 @@ module _ {tells : Bool} (start : Option MetaState) (turns : List Turn) (events :
       let place = place_there (take asked.0 events) ask.place ask.last in
       let at = at_take events place.0 asked.0 (event.Place ask.place place.1) place.2 in
       let given = ask.assigned in
-      record { place_at = place.0; place = ask.place; done = place.1; there = at.0; before = omega (arith, at.1, asked.1); member = assigned_so ask.place n s given.0 (λ t. t ≡ tenure) given.1 given.2 }
+      record { place_at = place.0; place = ask.place; done = place.1; there = at.0; before = omega (arith, at.1, asked.1); member = given_here ask.place n s given.0 (λ t. t ≡ tenure) given.1 given.2 }
 
   -- so is an open one
   open_member : (n s j : ℕ) → j ≤ length events → (replica n s (take j events)).standing ≡ standing.Open → HasMember events j n s
@@ -258,5 +241,14 @@ module _ {tells : Bool} (start : Option MetaState) (turns : List Turn) (events :
               known = subst (λ ls. IsIn (placements start (inner_turns ls)) h.place) (lines_before start turns events legal told p at) (known_before start turns events legal told order (length p.lines) (omega (arith, less)) h.place_at h.place h.done h.there lt);
               member = h.member;
             }
-        | inr ge ↦ absurd (no_place start turns events legal told order.places p at quiet h.place_at h.place h.done ge (omega (arith, early, high)) h.there)
+        | inr ge ↦
+            let was = slot_before start turns events legal told order.places p at quiet (suc h.place_at) (omega (arith, ge)) (omega (arith, early, high)) h.place (fold_suc place_after None events h.place_at (event.Place h.place h.done) h.there) in
+            let given = member_given h.place s n h.member in
+            let old = place_there (take (told.ends (length p.lines)) events) was.0 was.1 in
+            let old_at = at_take events old.0 (told.ends (length p.lines)) (event.Place was.0 old.1) old.2 in
+            record {
+              place = was.0;
+              known = subst (λ ls. IsIn (placements start (inner_turns ls)) was.0) (lines_before start turns events legal told p at) (known_before start turns events legal told order (length p.lines) (omega (arith, less)) old.0 was.0 old.1 old_at.0 old_at.1);
+              member = is_member_of was.0 s n given.0 (was.3 n s given.0 given.1);
+            }
       ]

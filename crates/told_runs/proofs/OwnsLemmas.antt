@@ -25,7 +25,6 @@ use Rattle.told_by.proofs.LeaveLemmas.{place_there}
 use Rattle.told_by.proofs.LineLemmas.{line_below}
 use Rattle.told_by.proofs.PrintedLemmas.{ends_within}
 use Rattle.told_causes.specs.Boot.{IsBootAct, OwnsWhereBegun}
-use Rattle.told_causes.proofs.AloneLemmas.{alone_by_place, opened, quiet_line}
 use Rattle.told_causes.proofs.RefusalLemmas.{refused_law}
 use Rattle.told_moves.specs.Order.{IsInOrder}
 use Rattle.told_runs.specs.Laws.{OwnsFiles}
@@ -53,10 +52,8 @@ module _ (start : Option MetaState) (turns : List Turn) (events : List Event) (l
   by_boot q at boots place last n s tenure given i here =
       let k = length q.lines in
       let less : k < length turns = line_below turns q at in
-      let some = opened start turns events legal told q at less place last in
-      let stands = sym (quiet_line start turns events legal told q at (alone_by_place start turns events legal told order.places q at) some) ∙ last in
-      owned_begin n s i tenure here.2
-      (tried_low start turns events legal told order k less n s i tenure (omega (arith, here.0, (told.lines).low q at)) (omega (arith, here.1, (told.lines).high q at)) (given_by events legal n s (told.ends k) tenure place stands given))
+      let from = (told.spans).from q in
+      owned_begin n s i tenure here.2 (tried_low start turns events legal told order k less n s from i tenure ((told.lines).low q at) here.0 (omega (arith, here.1, (told.lines).high q at)) (given_by events legal n s from tenure place last given))
 
   -- over the placement that an `init` prints
   by_init : (q : TurnPlace) → IsTurnPlace turns q → sets_seed q.turn.act q.turn.answer ≡ true → (place : Placement) → printed q.turn.answer ≡ Some place → (n s tenure : ℕ) → IsAssigned place n s tenure
@@ -69,7 +66,7 @@ module _ (start : Option MetaState) (turns : List Turn) (events : List Event) (l
       let low : told.ends k ≤ 0 = omega (arith, (told.lines).low q at, init.from_is) in
       let high : i < told.ends (suc k) = omega (arith, here.1, (told.lines).high q at) in
       let bound = ends_within start turns events told (suc k) less in
-      let last = order.one k 0 init.place [] less low (omega (arith, high)) init.placed in
+      let last = order.places.one k 0 init.place [] less low (omega (arith, high)) init.placed in
       owned_begin n s i tenure here.2 (λ own tries.
       let b = tried_began events legal n s own i (omega (arith, high, bound)) tries in
       let below = b.below in
@@ -82,7 +79,7 @@ module _ (start : Option MetaState) (turns : List Turn) (events : List Event) (l
       by_given own z before some g low high less {first} last same bound =
           let stood = place_there (take z events) (g.is).place (g.is).last in
           let there = at_take events stood.0 z (event.Place (g.is).place stood.1) stood.2 in
-          let one = order.one (length q.lines) stood.0 (g.is).place stood.1 less (omega (arith, low)) (omega (arith, there.1, before)) there.0 in
+          let one = order.places.one (length q.lines) stood.0 (g.is).place stood.1 less (omega (arith, low)) (omega (arith, there.1, before)) there.0 in
           let is : (g.is).place ≡ place = some_same (g.is).place first (sym one ∙ last) ∙ same in
           tenure_grows events legal n s z z own tenure some (omega arith) (omega (arith, before, bound)) g (given_by events legal n s z tenure place ((g.is).last ∙ ap Some is) given)
 

@@ -1,5 +1,5 @@
 -- The short run is served so.
-use Rattle.std.proofs.Common.{◌≡◌, ◌≤◌, ◌+◌, ◌*◌, ◌-◌, ℕ, zero, suc, false, List, [], ◌∷◌, ◌++◌, take, length, refl, sym, ap, ◌∙◌, subst, inl, inr, arith, Bool}
+use Rattle.std.proofs.Common.{◌≡◌, ◌≤◌, ◌<◌, ◌+◌, ◌*◌, ◌-◌, ℕ, zero, suc, false, List, [], ◌∷◌, ◌++◌, take, length, refl, sym, ap, ◌∙◌, subst, inl, inr, arith, Bool}
 use Rattle.std.specs.Prelude.{Some, None, slice_get}
 use Rattle.std.proofs.Common.{append-nil}
 use Rattle.std.specs.Ordering.{is_gt}
@@ -40,7 +40,7 @@ use Rattle.told_by.proofs.SampleLemmas.{each_at, sample_told}
 use Rattle.told_by.proofs.TurnLemmas.{in_cut}
 use Rattle.told_causes.proofs.AloneLemmas.{quiet_places}
 use Rattle.told_causes.proofs.KnownLemmas.{never_refused, one_place}
-use Rattle.told_causes.specs.Boot.{PlacesAlone}
+use Rattle.told_causes.specs.Boot.{MayPlace}
 use Rattle.told_moves.specs.Order.{IsInOrder, OpensWithin}
 use Rattle.told_runs.specs.Answers.{AreAnswered, Delivers, IsAnswered}
 use Rattle.told_runs.specs.Bounds.{IsBounded, writes_taken}
@@ -93,20 +93,22 @@ began_so i n s tenure fence points there =
     i (event.Step n s (call.Begin tenure) (reply.Began fence points)) there refl
 
 -- each of its lines has one turn
-places : PlacesAlone None turns events sample_told
-places zero i p done less low high there = (line_of begun placed, record { act = begun; answer = placed }, refl, refl)
-places (suc zero) i p done less low high there = (line_of spaced answer.Done, record { act = spaced; answer = answer.Done }, refl, refl)
-places (suc (suc zero)) i p done less low high there = (line_of written (answer.Acks (0 ∷ [])), record { act = written; answer = answer.Acks (0 ∷ []) }, refl, refl)
-places (suc (suc (suc zero))) i p done less low high there = (line_of fetched found, record { act = fetched; answer = found }, refl, refl)
-places (suc (suc (suc (suc k)))) i p done less low high there = absurd (omega (arith, less))
+may : (k i : ℕ) (p : Placement) (done : List (ℕ × ℕ)) → k < length turns → sample_told.ends k ≤ i → i < sample_told.ends (suc k) → At events i (event.Place p done) → MayPlace turns k (take i events) p
+may zero i p done less low high there = inl (line_of begun placed, record { act = begun; answer = placed }, refl, refl)
+may (suc zero) i p done less low high there = inl (line_of spaced answer.Done, record { act = spaced; answer = answer.Done }, refl, refl)
+may (suc (suc zero)) i p done less low high there = inl (line_of written (answer.Acks (0 ∷ [])), record { act = written; answer = answer.Acks (0 ∷ []) }, refl, refl)
+may (suc (suc (suc zero))) i p done less low high there = inl (line_of fetched found, record { act = fetched; answer = found }, refl, refl)
+may (suc (suc (suc (suc k)))) i p done less low high there = absurd (omega (arith, less))
 
 order : IsInOrder None turns events sample_told
 order = record {
-  places = places;
+  places = record {
+    one = λ k i other done less low high there.
+        stands (sample_told.ends (suc k)) (omega (arith, high)) (ends_within None turns events sample_told (suc k) less) ∙ ap Some (one_place i other done there);
+    may = may;
+  };
   inits = each_turn _ (λ h p e. refl) (λ h. absurd h) (λ h. absurd h) (λ h. absurd h);
   lawful = λ i other done there. subst IsLawful (one_place i other done there) lawful_place;
-  one = λ k i other done less low high there.
-      stands (sample_told.ends (suc k)) (omega (arith, high)) (ends_within None turns events sample_told (suc k) less) ∙ ap Some (one_place i other done there);
   ends = λ i n s a there stood last. absurd (never_ends i n s a there);
 }
 

@@ -1,5 +1,5 @@
--- The placement that a call uses: where it stands in the list, and after which lines it stood.
-use Rattle.std.proofs.Common.{◌≡◌, ℕ, zero, suc, ◌<◌, ◌≤◌, List, [], ◌∷◌, ◌++◌, take, length, refl, sym, ap, ◌∙◌, subst, inl, inr, arith, Bool}
+-- The placement that a call uses: where it stands in the list, and after which lines its replicas were members.
+use Rattle.std.proofs.Common.{◌≡◌, ℕ, zero, suc, ◌<◌, ◌≤◌, List, [], ◌∷◌, ◌++◌, take, length, refl, sym, ap, ◌∙◌, subst, inl, inr, arith, Bool, true}
 use Rattle.std.specs.Prelude.{◌⊎◌, Some, None, Option}
 use Rattle.std.proofs.lemmas.Bool.{cases_lt}
 use Rattle.m3_model.proofs.MemberLemmas.{IsIn-append_cases, IsIn-append_left, IsIn-append_right, IsIn-filter_map}
@@ -7,21 +7,23 @@ use Rattle.m3_model.specs.Members.{IsIn}
 use Rattle.m3_model.specs.declared.placement.Placement.{Placement}
 use Rattle.m3_model.specs.declared.rules.MetaState.{MetaState}
 use Rattle.m3_model.specs.declared.turn.Turn.{Turn}
+use Rattle.cluster_core.specs.Earlier.{place_after}
 use Rattle.cluster_core.specs.Legal.{Legal}
 use Rattle.cluster_core.specs.Lists.{At}
 use Rattle.cluster_core.specs.declared.event.Event.{Event}
 use Rattle.cluster_core.specs.declared.event.Event.TheVariants as event
-use Rattle.cluster_core.proofs.ListLemmas.{some_same}
-use Rattle.transcripts.specs.Placements.{MayStand, MayUse, placement_after, placements, printed, start_placement}
-use Rattle.transcripts.specs.Record.{AreSomeOf, InnerTurn, TurnPlace, IsTurnPlace, inner_turns, joined, lists_of}
+use Rattle.cluster_core.proofs.ListLemmas.{fold_suc, some_same}
+use Rattle.transcripts.specs.Placements.{MayStand, MayUse, has_replica, placement_after, placements, printed, start_placement}
+use Rattle.transcripts.specs.Record.{AreSomeOf, InnerTurn, TurnPlace, IsTurnPlace, inner_turns}
 use Rattle.transcripts.proofs.PlacementLemmas.{after_from}
 use Rattle.told_by.specs.Openings.{opening_length}
 use Rattle.told_by.specs.Told.{ToldBy}
 use Rattle.told_by.proofs.LineLemmas.{line_below}
 use Rattle.told_by.proofs.PrintedLemmas.{ends_grow, placements_stand}
-use Rattle.told_by.proofs.TurnLemmas.{earlier_line, flat_map-IsIn, in_cut, place_in}
+use Rattle.told_by.proofs.TurnLemmas.{earlier_line, place_in}
 use Rattle.told_causes.proofs.AloneLemmas.{take_none}
-use Rattle.told_causes.proofs.StoodLemmas.{printed_before}
+use Rattle.told_causes.proofs.StoodLemmas.{had_before, in_line, printed_in}
+use Rattle.told_causes.proofs.WaitLemmas.{is_member_of, member_given}
 use Rattle.told_moves.specs.Order.{IsInOrder}
 
 -- some of a list are among it
@@ -32,38 +34,16 @@ some_in (x ∷ xs) (y ∷ ys) t (inl both) (inl same) = inl (sym both.0 ∙ same
 some_in (x ∷ xs) (y ∷ ys) t (inl both) (inr m) = inr (some_in xs ys t both.1 m)
 some_in (x ∷ xs) (y ∷ ys) t (inr later) m = inr (some_in (x ∷ xs) ys t later m)
 
--- a turn earlier in the list, or in another list, is one of its line
-in_line : (p : TurnPlace) (turns : List Turn) → IsTurnPlace turns p → (t : InnerTurn) → IsIn (p.earlier ++ p.beside) t → IsIn (joined (lists_of p.line)) t
-in_line p turns at t m =
-    let s = at.stands in
-    let own = p.earlier ++ p.turn ∷ s.later in
-    let here : (list : List InnerTurn) → IsIn (s.front ++ own ∷ s.back) list → IsIn list t → IsIn (joined (lists_of p.line)) t = λ list there k. subst (λ lists. IsIn (joined lists) t) (sym s.in_line) (flat_map-IsIn (λ (l : List InnerTurn). l) (s.front ++ own ∷ s.back) list t there k) in
-    elim (IsIn-append_cases p.earlier p.beside t m) as (λ _. IsIn (joined (lists_of p.line)) t) [
-      | inl earlier ↦ here own (in_cut s.front own s.back) (IsIn-append_left p.earlier (p.turn ∷ s.later) t earlier)
-      | inr beside ↦
-          elim (IsIn-append_cases (joined s.front) (joined s.back) t (subst (λ ts. IsIn ts t) s.others beside)) as (λ _. IsIn (joined (lists_of p.line)) t) [
-            | inl front ↦ subst (λ lists. IsIn (joined lists) t) (sym s.in_line) (among_front s.front (own ∷ s.back) t front)
-            | inr back ↦ subst (λ lists. IsIn (joined lists) t) (sym s.in_line) (among_back s.front own s.back t back)
-          ]
-    ]
-  where
-    among_front : (xs ys : List (List InnerTurn)) (t : InnerTurn) → IsIn (joined xs) t → IsIn (joined (xs ++ ys)) t
-    among_front [] ys t m = absurd m
-    among_front (x ∷ xs) ys t m = elim (IsIn-append_cases x (joined xs) t m) as (λ _. IsIn (x ++ joined (xs ++ ys)) t) [ inl own ↦ IsIn-append_left x (joined (xs ++ ys)) t own | inr other ↦ IsIn-append_right x (joined (xs ++ ys)) t (among_front xs ys t other) ]
+-- the slot was a member after so many lines, no more than these
+abbrev pub WasMemberBy : Option MetaState → List Turn → ℕ → ℕ → ℕ → Type 0
+WasMemberBy start turns most s n = (lines : ℕ) × (lines ≤ most) × (has_replica (placement_after (start_placement start) (inner_turns (take lines turns))) s n ≡ true)
 
-    among_back : (xs : List (List InnerTurn)) (own : List InnerTurn) (ys : List (List InnerTurn)) (t : InnerTurn) → IsIn (joined ys) t → IsIn (joined (xs ++ own ∷ ys)) t
-    among_back [] own ys t m = IsIn-append_right own (joined ys) t m
-    among_back (x ∷ xs) own ys t m = IsIn-append_right x (joined (xs ++ own ∷ ys)) t (among_back xs own ys t m)
-
--- A placement that is known at a turn: it stood after so many lines, and stands in the list before the next.
+-- A placement that is known at a turn: it is a Place, and each of its replicas was a member after some lines before the turn's.
 pub record IsKnownPlace (start : Option MetaState) (turns : List Turn) (events : List Event) (told : ToldBy start turns events) (p : TurnPlace) (place : Placement) : Type 0 where
-  pub lines : ℕ
-  pub not_later : lines ≤ length p.lines
-  pub stood : placement_after (start_placement start) (inner_turns (take lines turns)) ≡ Some place
   pub place_at : ℕ
   pub done : List (ℕ × ℕ)
   pub there : At events place_at (event.Place place done)
-  pub before : place_at < told.ends lines
+  pub members : (s n : ℕ) → has_replica (Some place) s n ≡ true → WasMemberBy start turns (length p.lines) s n
 
 module _ {tells : Bool} (start : Option MetaState) (turns : List Turn) (events : List Event) (legal : Legal tells events) (told : ToldBy start turns events) (order : IsInOrder start turns events told) where
   -- the line of a place in the list, or the opening
@@ -83,15 +63,7 @@ module _ {tells : Bool} (start : Option MetaState) (turns : List Turn) (events :
 
   -- the placement that was found
   found_known : (p : TurnPlace) (state : MetaState) → start ≡ Some state → IsKnownPlace start turns events told p state.place
-  found_known p state is = record {
-    lines = 0;
-    not_later = omega arith;
-    stood = first_stood state is;
-    place_at = 0;
-    done = [];
-    there = (told.opened state is).placed;
-    before = omega (arith, (told.lines).first, ap opening_length is);
-  }
+  found_known p state is = record { place_at = 0; done = []; there = (told.opened state is).placed; members = λ s n member. (0, omega arith, ap (λ o. has_replica o s n) (first_stood state is) ∙ member) }
 
   -- a Place before a line
   listed_known : (p : TurnPlace) → length p.lines ≤ length turns → (z : ℕ) (place : Placement) (done : List (ℕ × ℕ)) → At events z (event.Place place done) → z < told.ends (length p.lines) → IsKnownPlace start turns events told p place
@@ -99,15 +71,9 @@ module _ {tells : Bool} (start : Option MetaState) (turns : List Turn) (events :
       elim (line_of_place (length p.lines) z high before) as (λ _. IsKnownPlace start turns events told p place) [
         | inl opening ↦ by_start start refl opening
         | inr line ↦
-            record {
-              lines = suc line.0;
-              not_later = omega (arith, line.1);
-              stood = sym (placements_stand start turns events legal told (suc line.0) (omega (arith, line.1, high))) ∙ order.one line.0 z place done (omega (arith, line.1, high)) line.2 line.3 there;
-              place_at = z;
-              done = done;
-              there = there;
-              before = line.3;
-            }
+            let stood : placement_after (start_placement start) (inner_turns (take (suc line.0) turns)) ≡ Some place =
+            sym (placements_stand start turns events legal told (suc line.0) (omega (arith, line.1, high))) ∙ order.places.one line.0 z place done (omega (arith, line.1, high)) line.2 line.3 there in
+            record { place_at = z; done = done; there = there; members = λ s n member. (suc line.0, omega (arith, line.1), ap (λ o. has_replica o s n) stood ∙ member) }
       ]
     where
       by_start : (o : Option MetaState) → start ≡ o → z < told.ends 0 → IsKnownPlace start turns events told p place
@@ -132,14 +98,31 @@ module _ {tells : Bool} (start : Option MetaState) (turns : List Turn) (events :
         listed_known p (omega (arith, less)) h.place_at place h.done h.there
         (omega (arith, h.in_time, (told.lines).high q.place q.in_run, ends_grow start turns events told (suc (length (q.place).lines)) (length p.lines) (omega (arith, q.earlier)) (omega (arith, less))))
 
-    -- so is one that another turn of its own line printed
+    -- so is a Place by the end of its own line, which gives nobody a shard
+    known_here : (z : ℕ) (place : Placement) (done : List (ℕ × ℕ)) → At events z (event.Place place done) → z < told.ends (suc (length p.lines)) → IsKnownPlace start turns events told p place
+    known_here z place done there high =
+        let k = length p.lines in
+        let less : k < length turns = line_below turns p at in
+        elim (cases_lt z (told.ends k)) as (λ _. IsKnownPlace start turns events told p place) [
+          | inl lt ↦ listed_known p (omega (arith, less)) z place done there lt
+          | inr ge ↦
+              let h = had_before start turns events legal told order.places p at quiet (suc z) (omega (arith, ge)) high place (fold_suc place_after None events z (event.Place place done) there) in
+              record {
+                place_at = z;
+                done = done;
+                there = there;
+                members = λ s n member. let given = member_given place s n member in (k, omega arith, ap (λ o. has_replica o s n) h.2 ∙ is_member_of h.0 s n given.0 (h.3 n s given.0 given.1));
+              }
+        ]
+
+    -- one that another turn of its own line printed
     known_beside : (t : InnerTurn) (place : Placement) → IsIn (p.earlier ++ p.beside) t → printed t.answer ≡ Some place → IsKnownPlace start turns events told p place
     known_beside t place m prints =
         let q = place_in turns p.lines p.line at.after at.in_run t (in_line p turns at t m) in
         let prints_q : printed (q.0).turn.answer ≡ Some place = ap (λ (u : InnerTurn). printed u.answer) q.2 ∙ prints in
         let less : length p.lines < length turns = line_below turns p at in
-        let z = printed_before start turns events legal told order.places p at quiet q.0 q.1 (ap length q.3) place prints_q in
-        listed_known p (omega (arith, less)) z.0 place z.1 z.2 z.3
+        let z = printed_in start turns events legal told order.places p at quiet q.0 q.1 (ap length q.3) place prints_q in
+        known_here z.0 place z.1 z.2 z.3
 
     by_turn : (t : InnerTurn) (place : Placement) → IsIn (inner_turns p.lines ++ (p.earlier ++ p.beside)) t → printed t.answer ≡ Some place → IsKnownPlace start turns events told p place
     by_turn t place m prints =

@@ -30,6 +30,7 @@ use Rattle.told_by.specs.Lines.{place_after}
 use Rattle.told_by.specs.Openings.{sets_seed}
 use Rattle.told_by.specs.Spans.{Spans}
 use Rattle.told_by.specs.Told.{TellsLine, ToldBy}
+use Rattle.told_causes.specs.Boot.{GivesNone, PrintsLast}
 use Rattle.told_causes.specs.Standing.{IsHaltAct}
 use Rattle.told_moves.specs.Order.{IsInitAct}
 use Rattle.told_runs.specs.Answers.{Delivers, HearsOf, IsAnswered}
@@ -52,10 +53,14 @@ pub record AddsInOrder (events more : List Event) : Type 0 where
 abbrev pub PrintsByInit : Act → Answer → Type 0
 PrintsByInit a b = IsInitAct a → (place : Placement) → printed b ≡ Some place → sets_seed a b ≡ true
 
--- The line is served in order: one that stops or restarts a node, or adds a Place, has one turn.
+-- the line has one turn; or the Place gives nobody a shard, and nothing follows in its list a turn that prints a placement
+abbrev pub MayAdd : Turn → List Event → Placement → Type 0
+MayAdd line past place = ((turn : InnerTurn) × (lists_of line ≡ (turn ∷ []) ∷ [])) ⊎ (GivesNone past place × PrintsLast line)
+
+-- The line is served in order: one that stops or restarts a node has one turn, and it may add the Place that it adds.
 pub record IsNextInOrder (turns : List Turn) (events : List Event) (line : Turn) (more : List Event) : Type 0 where
   pub halts : (q : TurnPlace) → IsLastTurnPlace turns line q → IsHaltAct q.turn.act → lists_of line ≡ (q.turn ∷ []) ∷ []
-  pub places : (i : ℕ) (place : Placement) (done : List (ℕ × ℕ)) → Adds events more i (event.Place place done) → (turn : InnerTurn) × (lists_of line ≡ (turn ∷ []) ∷ [])
+  pub may : (i : ℕ) (place : Placement) (done : List (ℕ × ℕ)) → Adds events more i (event.Place place done) → MayAdd line (take i (events ++ more)) place
   pub inits : (q : TurnPlace) → IsLastTurnPlace turns line q → PrintsByInit q.turn.act q.turn.answer
   pub adds : AddsInOrder events more
 

@@ -1,6 +1,6 @@
 //! What is known of a run that is told goes on line by line.
 ghost use Rattle.std.specs.Prelude.{Bool};
-ghost use Rattle.told_runs.specs.Broken.{PlacesBeside, DeliversAgain, IsNeverServed, TakesElsewhere, UndueOrder};
+ghost use Rattle.told_runs.specs.Broken.{GivesBeside, DeliversAgain, IsNeverServed, TakesElsewhere, UndueOrder};
 ghost use Rattle.told_runs.specs.Lines.{IsServedAfresh, IsServedAtFirst, IsServedLineByLine, KindServes};
 ghost use Rattle.told_by.specs.Lines.{ClockLine, InitLine, PlainLine, ReadLine, WriteLine};
 
@@ -22,10 +22,11 @@ pub fn lines_serve()
 {}
 
 /// Broken lines aren't served: one that delivers a late message again, one that tells of a disk that couldn't be taken in
-/// another line, a Place in a line where turns stand beside each other, and a read that is refused for its order after its namespace was made.
+/// another line, a Place that gives a node a shard in a line where turns stand beside each other, and a read that is
+/// refused for its order after its namespace was made.
 pub fn broken_lines_are_refused()
     ensures again { IsNeverServed DeliversAgain }
     ensures elsewhere { IsNeverServed TakesElsewhere }
-    ensures beside { IsNeverServed PlacesBeside }
+    ensures beside { IsNeverServed GivesBeside }
     ensures order { UndueOrder }
 {}
