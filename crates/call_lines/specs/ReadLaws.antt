@@ -1,0 +1,60 @@
+-- What reads leave of the list tells of their turns.
+use Rattle.std.specs.Prelude.{◌≡◌, ◌⊎◌, ℕ, List, [], ◌++◌, Option, Some, Bool}
+use Rattle.m3_model.specs.Levels.{needed_read}
+use Rattle.m3_model.specs.Reads.{read_of}
+use Rattle.m3_model.specs.declared.act.Act.{Act}
+use Rattle.m3_model.specs.declared.act.ReadLevel.{ReadLevel}
+use Rattle.m3_model.specs.declared.answer.Answer.TheVariants as answer
+use Rattle.m3_model.specs.declared.point.Series.{Series}
+use Rattle.m3_model.specs.declared.reason.Reason.{Reason}
+use Rattle.m3_model.specs.declared.rules.MetaState.{MetaState}
+use Rattle.m3_model.specs.declared.turn.Turn.{Turn}
+use Rattle.m3_outside.specs.DiskState.{DiskState}
+use Rattle.m3_outside.specs.declared.disk.Disk.{Ghosts}
+use Rattle.cluster_core.specs.Legal.{Legal}
+use Rattle.cluster_core.specs.declared.event.Event.{Event}
+use Rattle.replica_calls.specs.declared.call_id.CallId.{CallId}
+use Rattle.session_net.specs.Reads.{IsCutShort, IsFirstShort, IsFound, IsFull, IsStopped, Wish}
+use Rattle.session_net.specs.Ready.{IsReady}
+use Rattle.session_net.specs.declared.net.Net.{Net}
+use Rattle.told_by.specs.Lines.{ReadLine}
+use Rattle.transcripts.specs.Calls.{call_of}
+use Rattle.call_lines.specs.Laws.{LeavesLine}
+use Rattle.call_lines.specs.Left.{IsLeftBy, IsNextCall, MayUseIt}
+
+-- the next turn is a read of what this wish wants, made as this call where calls may be made
+pub record IsRead {D : Type 0} {ghosts : Ghosts D} (start : Option MetaState) (turns : List Turn) (net : Net D ghosts) (id : CallId) (a : Act) (w : Wish) (level : ReadLevel) : Type 0 where
+  pub left : IsLeftBy start turns net
+  pub ready : IsReady net.state net.replicas net.bag
+  pub next : IsNextCall turns id
+  pub name : Option (List ℕ)
+  pub version : Option ℕ
+  pub of_call : call_of a ≡ Some (record { id = name; version = version; needed = needed_read level })
+  pub uses : MayUseIt version net.state.place
+  pub of_act : read_of net.state.rules.spaces a ≡ Some (record { pick = w.pick; from = w.from; to = w.to; level = level })
+
+-- one that was answered tells of its line
+abbrev pub FoundTells : {D : Type 0} {ghosts : Ghosts D} → (D → DiskState) → Net D ghosts → Type 0
+FoundTells {D} {ghosts} state old =
+    (tells : Bool) (start : Option MetaState) (turns : List Turn) (new : Net D ghosts) (id : CallId) (a : Act) (w : Wish) (level : ReadLevel) (series : List Series) (short : Bool)
+    → IsRead start turns old id a w level → Legal tells new.replicas.events → IsFound state old id w level series short new → LeavesLine ReadLine start turns [] old a (answer.Found series short) new
+
+-- so does one that too few answered
+abbrev pub FirstShortTells : {D : Type 0} {ghosts : Ghosts D} → (D → DiskState) → Net D ghosts → Type 0
+FirstShortTells {D} {ghosts} state old =
+    (tells : Bool) (start : Option MetaState) (turns : List Turn) (new : Net D ghosts) (id : CallId) (a : Act) (w : Wish) (level : ReadLevel) (shard needed got : ℕ) (reasons : List (ℕ × Reason))
+    → IsRead start turns old id a w level → Legal tells new.replicas.events → IsFirstShort state old.state old.fates id w (needed_read level old.state.place.rf) old.replicas new.replicas shard needed got reasons
+    → LeavesLine ReadLine start turns [] old a (answer.Consistency got needed reasons shard) new
+
+-- and one that ended early for want of memory, between two shards or within one
+abbrev pub EndedTells : {D : Type 0} {ghosts : Ghosts D} → (D → DiskState) → Net D ghosts → Type 0
+EndedTells {D} {ghosts} state old =
+    (start : Option MetaState) (turns : List Turn) (new : Net D ghosts) (id : CallId) (a : Act) (w : Wish) (level : ReadLevel) → IsRead start turns old id a w level
+    → IsStopped state old.state old.fates id w (needed_read level old.state.place.rf) old.replicas new.replicas ⊎ IsCutShort state old.state old.fates id w (needed_read level old.state.place.rf) old.replicas new.replicas
+    → LeavesLine ReadLine start turns [] old a answer.Memory new
+
+-- One for which the list had no room tells of its line too.
+abbrev pub FullTells : {D : Type 0} {ghosts : Ghosts D} → (D → DiskState) → Net D ghosts → Type 0
+FullTells {D} {ghosts} state old =
+    (start : Option MetaState) (turns : List Turn) (new : Net D ghosts) (id : CallId) (a : Act) (w : Wish) (level : ReadLevel) → IsRead start turns old id a w level
+    → IsFull state old.state old.fates id w (needed_read level old.state.place.rf) old.replicas new.replicas → (more : List Event) × (new.replicas.events ≡ old.replicas.events ++ more) × ReadLine start turns old.replicas.events a answer.Full more
