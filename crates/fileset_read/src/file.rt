@@ -1,0 +1,48 @@
+ghost use Rattle.std.specs.Prelude.{◌≡◌, true, ℕ, List, length, take, Some, IfOk, IsErrOf, option_map};
+ghost use Rattle.std.specs.FinMap.{get};
+ghost use Rattle.m3_outside.specs.Causes.{CountsFaults};
+ghost use Rattle.m3_outside.specs.DiskState.{DiskState, Told};
+ghost use Rattle.m3_outside.specs.DiskCalls.{LeavesFiles};
+ghost use Rattle.m3_outside.specs.declared.disk_err.DiskErr.TheVariants.{Failed as DiskFailed, Memory as WantOfMemory};
+
+use m3_model::seq::Seq;
+use m3_outside::disk::Disk;
+use m3_outside::disk_err::DiskErr;
+use m3_outside::file_name::FileName;
+use std::alloc::Global;
+
+// The bytes of a file of this size.
+fn read_sized<D: Disk>(
+    alloc: Global,
+    disk: &mut D,
+    name: FileName,
+    size: u64,
+) -> Result<Seq<u8>, DiskErr>
+    requires { Told (D.state disk.old) (λ files. option_map length (get files name) ≡ Some size) }
+    ensures leaves { LeavesFiles (IsErrOf result DiskFailed) (D.state disk.old) (D.state disk.new) }
+    ensures ok { (D.state disk.old).tells ≡ true → IfOk result (λ bytes. (file : List ℕ) → get (D.state disk.old).files name ≡ Some file → bytes ≡ take size file) }
+{
+    let mut bytes = vec![in alloc; 0u8; size as usize]?;
+    disk.read(name, 0, &mut bytes)?;
+    Ok(Seq::from_vec(bytes))
+}
+
+/// The bytes of a file, and none where there is no such file.
+///
+/// # Errors
+///
+/// A fault, by which the disk's count rose in this call. Want of memory. After either the files, and what a stop leaves of
+/// them, are as they were.
+pub(crate) fn read_file<D: Disk>(
+    alloc: Global,
+    disk: &mut D,
+    name: FileName,
+) -> Result<Option<Seq<u8>>, DiskErr>
+    ensures leaves { LeavesFiles (IsErrOf result DiskFailed) (D.state disk.old) (D.state disk.new) }
+    ensures ok { (D.state disk.old).tells ≡ true → IfOk result (λ found. found ≡ get (D.state disk.old).files name) }
+{
+    let Some(size) = disk.size(name)? else {
+        return Ok(None);
+    };
+    Ok(Some(read_sized(alloc, disk, name, size)?))
+}

@@ -1,0 +1,28 @@
+use m3_model::memory::Memory;
+use m3_outside::disk_err::DiskErr;
+use m3_outside::file_name::FileName;
+
+/// Why a volume isn't read.
+#[derive(Clone, Copy, Debug, PartialEq, Eq)]
+pub enum FileErr {
+    /// The disk failed. Its count of faults rose in that call.
+    Disk,
+    /// Want of memory.
+    Memory,
+    /// The file isn't that of a volume.
+    Form { file: FileName },
+}
+
+impl From<DiskErr> for FileErr {
+    ghost use Rattle.std.specs.Prelude.{◌≡◌};
+    ghost use Rattle.fileset_read.specs.Volumes.{of_disk};
+
+    ghost from_gives = { λ d e. e ≡ of_disk d };
+
+    fn from(e: DiskErr) -> FileErr {
+        match e {
+            DiskErr::Failed => FileErr::Disk,
+            DiskErr::Memory => FileErr::Memory,
+        }
+    }
+}

@@ -1,0 +1,12 @@
+//! Volumes read: all series of one, or the series of one identifier.
+#![tactic(auto)]
+
+mod file;
+mod file_err;
+mod row_at;
+mod row_err;
+mod series;
+mod volume;
+
+pub use file_err::FileErr;
+pub use volume::{row, rows};
