@@ -1,3 +1,4 @@
 pub mod RowLemmas
 pub mod LeftLemmas
 pub mod FileLemmas
+pub mod NameLemmas

@@ -1,12 +1,13 @@
 -- Volumes that are there, and why one isn't read.
-use Rattle.std.specs.Prelude.{⊤, List}
+use Rattle.std.specs.Prelude.{⊤, Bool, ◌&&◌, List}
+use Rattle.std.specs.FinMap.{get}
 use Rattle.m3_model.specs.declared.point.Series.{Series}
 use Rattle.m3_outside.specs.Files.{Files}
 use Rattle.m3_outside.specs.declared.file_name.FileName.{FileName}
 use Rattle.m3_outside.specs.declared.disk_err.DiskErr.{DiskErr}
 use Rattle.m3_outside.specs.declared.disk_err.DiskErr.TheVariants as disk
 use Rattle.wire_bytes.specs.Volumes.{VolumeHead}
-use Rattle.shard_files.specs.Parts.{VolumeHolds}
+use Rattle.shard_files.specs.Parts.{VolumeHolds, is_open, is_volume_checkpoint}
 use Rattle.fileset_read.specs.declared.row_err.RowErr.{RowErr}
 use Rattle.fileset_read.specs.declared.row_err.RowErr.TheVariants as errors
 use Rattle.fileset_read.specs.declared.file_err.FileErr.{FileErr}
@@ -16,6 +17,10 @@ use Rattle.fileset_read.specs.declared.file_err.FileErr.TheVariants as failures
 pub record IsThere (v : VolumeHead) (files : Files) : Type 0 where
   pub rows : List Series
   pub holds : VolumeHolds v rows files
+
+-- the name is that of the checkpoint of a volume that counts
+abbrev pub is_counted : Files → FileName → Bool
+is_counted files name = is_volume_checkpoint name && is_open (get files name)
 
 abbrev pub of_disk : DiskErr → FileErr
 of_disk disk.Failed = failures.Disk
