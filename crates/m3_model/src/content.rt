@@ -9,9 +9,9 @@ ghost use Rattle.m3_model.specs.Contents.{raised, is_higher, key_of, timed, rang
 
 use crate::memory::Memory;
 use crate::point::{Key, Point};
-use crate::raise::raise_entry;
 use crate::seq::Seq;
 use crate::text::Text;
+use raised_entries::raise_entry;
 use std::alloc::Global;
 use std::collections::BTreeMap;
 use std::marker::Model;

@@ -9,7 +9,6 @@ pub mod limits;
 pub mod memory;
 pub mod placement;
 pub mod point;
-pub mod raise;
 pub mod reason;
 pub mod replica;
 pub mod rules;

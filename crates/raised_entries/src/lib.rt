@@ -1,7 +1,10 @@
+//! Entries of an ordered map, of which the higher value stays at each key.
+#![tactic(auto)]
+
 ghost use Rattle.std.specs.Prelude.{◌≡◌, IfOk, IfErr, OnErr, MatchBool};
 ghost use Rattle.std.specs.FinMap.{find};
 ghost use Rattle.std.specs.BTreeMap.{insert_entry};
-ghost use Rattle.m3_model.specs.Contents.{is_higher};
+ghost use Rattle.raised_entries.specs.Higher.{is_higher};
 
 use std::collections::BTreeMap;
 
