@@ -13,16 +13,17 @@ ghost use Rattle.m3_model.specs.Keys.{key_cmp};
 ghost use Rattle.m3_model.specs.Contents.{higher, is_higher};
 ghost use Rattle.block_buffer.specs.SeriesKeys.{key_at};
 ghost use Rattle.block_buffer.specs.Points.{slot_at, value_of, series_points, points_of};
-ghost use Rattle.block_buffer.specs.Held.{without, has_ended, has_expired, is_in_block};
+ghost use Rattle.block_buffer.specs.Held.{without, has_expired, is_in_block};
 
 use crate::series_buffer::SeriesBuffer;
 use crate::series_key::SeriesKey;
 use m3_model::duplicate::Duplicate;
 use m3_model::memory::Memory;
 use m3_model::point::Series;
-use m3_model::rules::{Rules, Space};
+use m3_model::rules::Rules;
 use m3_model::seq::Seq;
 use m3_model::text::Text;
+use retention::{last_expired, space_of};
 use std::alloc::Global;
 use std::collections::{BTreeMap, BTreeSet};
 use std::marker::Model;
@@ -227,30 +228,6 @@ impl AllSeries {
             count = count.saturating_add(expired_in(rules, series, buffer));
         }
         count
-    }
-}
-
-// The namespace at this place, if it is there.
-fn space_of(rules: &Rules, ns: u8) -> Option<&Space>
-    ensures { option_copied result ≡ slice_get rules.entry.now.spaces ns }
-{
-    rules.spaces.as_slice().get(ns as usize)
-}
-
-// The last time of the namespace whose retention has ended, if there is one.
-fn last_expired(rules: &Rules, ns: u8) -> Option<u64>
-    ensures none { result ≡ None → (t : ℕ) → has_ended (slice_get rules.entry.now.spaces ns) rules.entry.now.now t ≡ false }
-    ensures some { IfSome result (λ last. (t : ℕ) → has_ended (slice_get rules.entry.now.spaces ns) rules.entry.now.now t ≡ nat_le t last) }
-{
-    match space_of(rules, ns) {
-        Some(space) => {
-            if space.retention <= rules.now {
-                Some(rules.now - space.retention)
-            } else {
-                None
-            }
-        }
-        None => None,
     }
 }
 
