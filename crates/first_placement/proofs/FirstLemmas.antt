@@ -15,7 +15,8 @@ use Rattle.m3_model.specs.declared.placement.Instance.{Instance}
 use Rattle.m3_model.specs.declared.limits.TheConstants.{MOST_SHARDS}
 use Rattle.placement_core.specs.Shards.{Shard, is_staying}
 use Rattle.placement_plan.specs.Nodes.{Has, serves, load}
-use Rattle.placement_plan.specs.Choices.{group_of, IsLeastLoaded}
+use Rattle.isolation_groups.specs.Groups.{group_of}
+use Rattle.placement_plan.specs.Choices.{IsLeastLoaded}
 use Rattle.placement_plan.specs.Loads.{AreLoads, IsRaised}
 use Rattle.placement_plan.specs.First.{MayHold, first_at, IsPlaced, IsPlacedShard, HasGroups}
 use Rattle.placement_plan.proofs.PlaceLemmas.{push_cases}

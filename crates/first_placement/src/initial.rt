@@ -5,16 +5,17 @@ ghost use Rattle.m3_model.specs.declared.limits.TheConstants.{MOST_REPLICAS, MOS
 ghost use Rattle.placement_plan.specs.First.{first_instances, IsFirstPlacement, MayHold, IsPlacedShard, IsInitial, HasGroups, IsShort, RefusesInitial};
 ghost use Rattle.placement_core.specs.Shards.{Shard};
 ghost use Rattle.placement_core.specs.Lawful.{IsLawful};
-ghost use Rattle.placement_plan.specs.Choices.{group_of, IsLeastLoaded};
+ghost use Rattle.isolation_groups.specs.Groups.{group_of};
+ghost use Rattle.placement_plan.specs.Choices.{IsLeastLoaded};
 ghost use Rattle.placement_plan.specs.Loads.{AreLoads, IsRaised};
 
+use isolation_groups::group_of;
 use m3_model::memory::Memory;
 use m3_model::placement::{Assignment, Instance, Placement, ShardState};
 use m3_model::seq::Seq;
 use m3_model::text::Text;
 use placement_plan::choice::better;
 use placement_plan::loads::loads_of;
-use placement_plan::nodes::group_of;
 use placement_plan::plan_err::PlaceErr;
 use std::alloc::Global;
 

@@ -20,7 +20,8 @@ use Rattle.m3_model.specs.Hash.{murmur3, shard_of}
 use Rattle.m3_model.specs.Members.{IsIn}
 use Rattle.transcripts.specs.Placements.{counted_nodes, IsCounted}
 use Rattle.placement_core.specs.Shards.{Shard}
-use Rattle.placement_plan.specs.Choices.{group_of, taking_cmp}
+use Rattle.isolation_groups.specs.Groups.{group_of}
+use Rattle.placement_plan.specs.Choices.{taking_cmp}
 use Rattle.placement_plan.specs.First.{IsInitial, IsPlacedShard, IsPlaced, first_at, first_instances}
 use Rattle.placement_plan.specs.Nodes.{load}
 use Rattle.transcripts.specs.Deliveries.{LateMessage}

@@ -14,7 +14,7 @@ use Rattle.m3_model.specs.declared.placement.Instance.{Instance}
 use Rattle.m3_model.specs.declared.placement.Placement.{Placement}
 use Rattle.placement_core.specs.Shards.{Shard, is_holder, is_staying}
 use Rattle.placement_core.proofs.OrderLemmas.{ascends-from_at, ascends-filter, ascends-map, at_in, names_at}
-use Rattle.placement_plan.specs.Choices.{group_of}
+use Rattle.isolation_groups.specs.Groups.{group_of}
 use Rattle.placement_plan.proofs.PlaceLemmas.{in_at}
 use Rattle.placement_plan.proofs.SpreadLemmas.{group_is, ListedAt}
 use Rattle.placement_plan.proofs.PlanLemmas.{AreNodes}

@@ -9,7 +9,7 @@ use Rattle.placement_core.specs.Shards.{Shard, is_holder, is_staying}
 use Rattle.placement_core.proofs.ListLemmas.{filter-IsIn}
 use Rattle.placement_core.proofs.HolderLemmas.{the_joining, is_moving}
 use Rattle.placement_plan.specs.Nodes.{load}
-use Rattle.placement_plan.specs.Choices.{group_of}
+use Rattle.isolation_groups.specs.Groups.{group_of}
 use Rattle.placement_plan.specs.Additions.{MayGive, Rebalances, after_move}
 use Rattle.placement_plan.specs.Laws.{InitialIsLawful, AdditionEnds, OneJoins, GroupsDiffer}
 use Rattle.placement_plan.proofs.SpreadLemmas.{group_is}

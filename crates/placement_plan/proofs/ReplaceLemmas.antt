@@ -12,7 +12,8 @@ use Rattle.placement_core.specs.Steps.{KeepsNames, IsStep, IsShardStep}
 use Rattle.placement_core.proofs.ListLemmas.{same_at}
 use Rattle.placement_core.proofs.OrderLemmas.{at_in}
 use Rattle.placement_plan.specs.Nodes.{Has, Joins, fresh_node}
-use Rattle.placement_plan.specs.Choices.{IsFree, MayTake}
+use Rattle.isolation_groups.specs.Groups.{IsFree}
+use Rattle.placement_plan.specs.Choices.{MayTake}
 use Rattle.placement_plan.specs.Plans.{MovesTo, MayReplace, IsReplacement}
 use Rattle.placement_plan.proofs.SpreadLemmas.{IsKept, spread_kept, moved_spread, group_is}
 use Rattle.placement_plan.proofs.ShardLemmas.{steady_of, moved_step}

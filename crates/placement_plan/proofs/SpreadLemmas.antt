@@ -18,7 +18,8 @@ use Rattle.placement_core.proofs.ListLemmas.{IsIn-filter, chosen, filter-IsIn, f
 use Rattle.placement_core.proofs.OrderLemmas.{ascends-filter, ascends-map, names_at}
 use Rattle.placement_core.proofs.HolderLemmas.{holds_of, same_node, the_joining, is_moving}
 use Rattle.placement_core.proofs.ChangeLemmas.{ascends-push, turned_cases, turned_node, settled_was}
-use Rattle.placement_plan.specs.Choices.{group_of, MayTake, moved}
+use Rattle.isolation_groups.specs.Groups.{group_of}
+use Rattle.placement_plan.specs.Choices.{MayTake, moved}
 
 -- ---- lists in order
 

@@ -1,25 +1,15 @@
 -- Which node takes a shard.
-use Rattle.std.specs.Prelude.{◌≡◌, ◌≢◌, ℕ, List, [], ◌++◌, ◌∷◌, map, Some, true, false, slice_get}
-use Rattle.std.specs.Option.{option_map_or}
+use Rattle.std.specs.Prelude.{◌≡◌, ℕ, List, [], ◌++◌, ◌∷◌, map, Some, true, false, slice_get}
 use Rattle.std.specs.Ordering.{nat_cmp, is_gt, on, then_cmp}
 use Rattle.std.specs.Cmp.Lexicographic.{slice_cmp}
 use Rattle.std.specs.declared.cmp.Ordering.{Ordering}
-use Rattle.m3_model.specs.Members.{IsIn}
 use Rattle.m3_model.specs.declared.placement.ShardState.TheVariants.{Initializing, Leaving}
-use Rattle.m3_model.specs.declared.placement.Assignment.{Assignment}
 use Rattle.m3_model.specs.declared.placement.Instance.{Instance}
 use Rattle.placement_core.specs.Shards.{Shard}
 use Rattle.placement_core.specs.NodeNames.{name_of}
 use Rattle.placement_core.specs.Steps.{turned}
+use Rattle.isolation_groups.specs.Groups.{IsFree}
 use Rattle.placement_plan.specs.Nodes.{Has}
-
--- the isolation group of the node, empty where there is none
-abbrev pub group_of : List Instance → ℕ → List ℕ
-group_of instances node = option_map_or (λ instance. instance.group) (slice_get instances node) []
-
--- no other replica of the shard than that of the source is in the group
-abbrev pub IsFree : List Instance → Shard → ℕ → List ℕ → Type 0
-IsFree instances shard from group = (a : Assignment) → IsIn shard a → a.node ≢ from → group_of instances a.node ≢ group
 
 -- the node may take the shard from the source: it is listed and not drained, doesn't have the shard, and its group is free
 pub record MayTake (instances : List Instance) (shard : Shard) (from node : ℕ) : Type 0 where

@@ -9,7 +9,8 @@ use Rattle.m3_model.specs.declared.placement.Placement.{Placement}
 use Rattle.placement_core.specs.Lawful.{IsApart}
 use Rattle.placement_core.specs.Shards.{Shard}
 use Rattle.placement_plan.specs.Nodes.{load}
-use Rattle.placement_plan.specs.Choices.{group_of, IsLeastLoaded}
+use Rattle.isolation_groups.specs.Groups.{group_of}
+use Rattle.placement_plan.specs.Choices.{IsLeastLoaded}
 use Rattle.placement_plan.specs.declared.plan_err.PlaceErr.{PlaceErr}
 use Rattle.placement_plan.specs.declared.plan_err.PlaceErr.TheVariants.{Group, Memory}
 

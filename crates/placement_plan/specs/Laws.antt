@@ -11,7 +11,7 @@ use Rattle.placement_core.specs.Shards.{Shard}
 use Rattle.placement_core.specs.Lawful.{IsLawful}
 use Rattle.placement_core.specs.Steps.{IsStep, IsDoneList}
 use Rattle.placement_plan.specs.Nodes.{load}
-use Rattle.placement_plan.specs.Choices.{group_of}
+use Rattle.isolation_groups.specs.Groups.{group_of}
 use Rattle.placement_plan.specs.Plans.{IsAvailable, IsCancel, IsRemoval, IsDrain, IsReplacement}
 use Rattle.placement_plan.specs.Additions.{IsAddition, MayGive}
 

@@ -10,7 +10,8 @@ use Rattle.placement_core.specs.Shards.{Shard, is_steady}
 use Rattle.placement_core.specs.Lawful.{IsJoiningFrom}
 use Rattle.placement_core.specs.Steps.{IsCancelOf, Ends, done_at}
 use Rattle.placement_plan.specs.Nodes.{Lists, IsNewName, Has, load, CanHave, Joins}
-use Rattle.placement_plan.specs.Choices.{IsFree, MayTake, IsLeastLoaded, moved}
+use Rattle.isolation_groups.specs.Groups.{IsFree}
+use Rattle.placement_plan.specs.Choices.{MayTake, IsLeastLoaded, moved}
 
 -- as many elements, each of which is made of the one in its place
 pub record MakesAll {X : Type 0} (Made : ℕ → X → X → Type 0) (old next : List X) : Type 0 where

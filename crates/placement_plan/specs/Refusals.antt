@@ -9,7 +9,8 @@ use Rattle.m3_model.specs.declared.placement.ShardState.TheVariants.{Initializin
 use Rattle.m3_model.specs.declared.limits.TheConstants.{MOST_NODES}
 use Rattle.placement_core.specs.Shards.{Shard, is_steady}
 use Rattle.placement_plan.specs.Nodes.{Lists, IsNewName, Has, IsFirst}
-use Rattle.placement_plan.specs.Choices.{IsFree, MayTake}
+use Rattle.isolation_groups.specs.Groups.{IsFree}
+use Rattle.placement_plan.specs.Choices.{MayTake}
 use Rattle.placement_plan.specs.Plans.{IsReady, HasRoom}
 use Rattle.placement_plan.specs.declared.plan_err.PlaceErr.{PlaceErr}
 use Rattle.placement_plan.specs.declared.plan_err.PlaceErr.TheVariants.{Busy, Group, Unknown, Exists, Limit, Memory}

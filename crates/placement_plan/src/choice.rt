@@ -6,8 +6,8 @@ ghost use Rattle.placement_core.specs.NodeNames.{name_of};
 ghost use Rattle.placement_plan.specs.Choices.{MayTake, IsLeastLoaded, taking_cmp};
 
 use crate::nodes::name_of;
-use crate::readiness::is_free;
 use crate::shards::has_node;
+use isolation_groups::is_free;
 use m3_model::placement::{Assignment, Instance};
 use std::cmp::Ordering;
 

@@ -6,7 +6,6 @@ ghost use Rattle.m3_model.specs.declared.placement.Instance.{Instance as Node};
 ghost use Rattle.m3_model.specs.declared.limits.TheConstants.{MOST_NODES};
 ghost use Rattle.placement_core.specs.NodeNames.{name_of};
 ghost use Rattle.placement_plan.specs.Nodes.{Lists, IsNamed, IsNewName, CanHave, Joins};
-ghost use Rattle.placement_plan.specs.Choices.{group_of};
 ghost use Rattle.placement_plan.specs.Plans.{HasRoom};
 ghost use Rattle.placement_plan.specs.Refusals.{IsPastLimit};
 
@@ -86,16 +85,6 @@ pub fn joined(
         next.push(joining)?;
     }
     Ok(Seq::from_vec(next))
-}
-
-/// The isolation group of the node of this number, empty where no instance has it.
-pub fn group_of(instances: &[Instance], node: u8) -> &str
-    ensures { result.now ≡ group_of instances.now node }
-{
-    match instances.get(node as usize) {
-        None => "",
-        Some(instance) => instance.group.as_str(),
-    }
 }
 
 /// The name of the node of this number, empty where no instance has it.

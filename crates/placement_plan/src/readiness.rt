@@ -1,5 +1,5 @@
 //! What is in the way of a move.
-ghost use Rattle.std.specs.Prelude.{◌≡◌, ◌≢◌, ◌≤◌, ◌↔◌, ℕ, false, All, IfSome, IfNone, IsTrue, length};
+ghost use Rattle.std.specs.Prelude.{◌≡◌, ◌≢◌, ◌≤◌, ◌↔◌, ℕ, false, IfSome, IfNone, IsTrue, length};
 ghost use Rattle.m3_model.specs.Members.{IsIn};
 ghost use Rattle.m3_model.specs.declared.placement.Assignment.{Assignment as Replica};
 ghost use Rattle.m3_model.specs.declared.placement.ShardState.TheVariants.{Initializing};
@@ -7,12 +7,12 @@ ghost use Rattle.m3_model.specs.declared.limits.TheConstants.{MOST_SHARDS};
 ghost use Rattle.placement_core.specs.Shards.{Shard, is_steady};
 ghost use Rattle.placement_core.specs.Lawful.{IsShard};
 ghost use Rattle.placement_plan.specs.Nodes.{Has, IsFirst};
-ghost use Rattle.placement_plan.specs.Choices.{group_of, IsFree};
+ghost use Rattle.isolation_groups.specs.Groups.{IsFree};
 ghost use Rattle.placement_plan.specs.Plans.{IsReady};
 ghost use Rattle.placement_plan.specs.Refusals.{IsBusy, IsInitializing};
 
-use crate::nodes::group_of;
 use crate::shards::has_node;
+use isolation_groups::is_free;
 use m3_model::placement::{Assignment, Instance, ShardState};
 use m3_model::seq::Seq;
 
@@ -56,25 +56,6 @@ pub fn first_busy(shards: &[Seq<Assignment>], node: u8) -> Option<(u32, u8)>
         }
     }
     None
-}
-
-fn is_beside(instances: &[Instance], assignment: &Assignment, from: u8, group: &str) -> bool
-    ensures { IsTrue result ↔ (assignment.now.node ≢ from → group_of instances.now assignment.now.node ≢ group.now) }
-{
-    assignment.node == from || group_of(instances, assignment.node) != group
-}
-
-fn are_beside(instances: &[Instance], shard: &[Assignment], from: u8, group: &str) -> bool
-    ensures { IsTrue result ↔ All (λ a. a.node ≢ from → group_of instances.now a.node ≢ group.now) shard.now }
-{
-    shard.iter().all(|a| is_beside(instances, a, from, group))
-}
-
-/// Whether no other replica of the shard than that of the source is in the group.
-pub fn is_free(instances: &[Instance], shard: &[Assignment], from: u8, group: &str) -> bool
-    ensures { IsTrue result ↔ IsFree instances.now shard.now from group.now }
-{
-    are_beside(instances, shard, from, group)
 }
 
 fn is_taken(instances: &[Instance], shard: &Seq<Assignment>, node: u8, group: &str) -> bool

@@ -2,7 +2,8 @@ use Rattle.std.proofs.Common.{◌≢◌, ◌<◌, ◌+◌, ℕ, subst, sym, arit
 use Rattle.m3_model.specs.declared.placement.Assignment.{Assignment}
 use Rattle.placement_core.proofs.StepLemmas.{no_true}
 use Rattle.placement_core.proofs.ListLemmas.{each-from_All, All-from_each}
-use Rattle.placement_plan.specs.Choices.{group_of, taking_cmp}
+use Rattle.isolation_groups.specs.Groups.{group_of}
+use Rattle.placement_plan.specs.Choices.{taking_cmp}
 use Rattle.placement_plan.specs.First.{MayHold}
 use Rattle.placement_plan.proofs.ChoiceLemmas.{BestBelow, best_within, best_found, best_none, best_takes, best_skip, taking_total}
 use Rattle.first_placement.proofs.initial.holder.Goals as goal

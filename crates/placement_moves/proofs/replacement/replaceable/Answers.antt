@@ -6,7 +6,7 @@ use Rattle.m3_model.specs.Members.{IsIn}
 use Rattle.placement_core.specs.NodeNames.{is_listed}
 use Rattle.placement_core.specs.Shards.{Shard}
 use Rattle.placement_plan.specs.Nodes.{Lists, IsFirst, Has, CanHave}
-use Rattle.placement_plan.specs.Choices.{IsFree}
+use Rattle.isolation_groups.specs.Groups.{IsFree}
 use Rattle.placement_plan.specs.Plans.{IsReady, HasRoom}
 use Rattle.placement_plan.specs.Refusals.{IsBusy, IsPastLimit}
 use Rattle.placement_plan.proofs.NodeLemmas.{lists_found, limit_refuses_replace}

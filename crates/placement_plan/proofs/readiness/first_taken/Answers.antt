@@ -3,7 +3,7 @@ use Rattle.placement_core.specs.Shards.{Shard}
 use Rattle.placement_core.proofs.ListLemmas.{at_index}
 use Rattle.placement_core.proofs.StepLemmas.{no_true}
 use Rattle.placement_plan.specs.Nodes.{Has}
-use Rattle.placement_plan.specs.Choices.{IsFree}
+use Rattle.isolation_groups.specs.Groups.{IsFree}
 use Rattle.placement_plan.proofs.PlaceLemmas.{none_all, none_more}
 use Rattle.placement_plan.proofs.readiness.first_taken.Goals as goal
 

@@ -1,5 +1,5 @@
 use Rattle.placement_plan.specs.Nodes.{Has}
-use Rattle.placement_plan.specs.Choices.{IsFree}
+use Rattle.isolation_groups.specs.Groups.{IsFree}
 use Rattle.placement_plan.proofs.PlaceLemmas.{NoneBelow}
 use Rattle.placement_plan.proofs.readiness.first_taken.Given as goal
 

@@ -1,8 +1,8 @@
 use Rattle.std.proofs.Common.{◌≢◌}
 use Rattle.m3_model.specs.declared.placement.Assignment.{Assignment}
 use Rattle.placement_core.proofs.ListLemmas.{each-from_All, All-from_each}
-use Rattle.placement_plan.specs.Choices.{group_of}
-use Rattle.placement_plan.proofs.readiness.is_free.Goals as goal
+use Rattle.isolation_groups.specs.Groups.{group_of}
+use Rattle.isolation_groups.proofs.is_free.Goals as goal
 
 pub returns : goal.returns
 returns c =
