@@ -30,7 +30,7 @@ use past_events::earlier::{are_counted, has_put, has_shard, last_clock, last_pla
 use past_events::joins::has_joined;
 use placement_core::ascending::ascend;
 use placement_core::lawful::is_lawful;
-use placement_core::step::is_step;
+use placement_steps::step::is_step;
 use std::alloc::Global;
 
 fn is_prefix(first: &[Space], whole: &[Space]) -> bool

@@ -1,4 +1,4 @@
-//! What a placement is, who serves a shard in it, and which placement may follow another.
+//! What a placement is, who serves a shard in it, and laws of the steps from one to another.
 #![tactic(auto)]
 
 pub mod ascending;
@@ -6,5 +6,3 @@ pub mod lawful;
 pub mod laws;
 mod names;
 pub mod replicas;
-mod shard_step;
-pub mod step;

@@ -4,7 +4,7 @@ use m3_model::seq::Seq;
 use m3_model::text::Text;
 use placement_core::lawful::is_lawful;
 use placement_core::replicas::{counted, former, members};
-use placement_core::step::is_step;
+use placement_steps::step::is_step;
 use std::alloc::Global;
 use std::test::Fail;
 

@@ -2,7 +2,7 @@ use Rattle.std.proofs.Common.{◌≡◌, ◌<◌, ℕ, length, slice_get, Some, 
 use Rattle.placement_core.specs.Shards.{Shard}
 use Rattle.placement_core.specs.Steps.{IsShardStep, done_at}
 use Rattle.placement_core.proofs.DoneLemmas.{Cursor}
-use Rattle.placement_core.proofs.step.are_shard_steps.Given as goal
+use Rattle.placement_steps.proofs.step.are_shard_steps.Given as goal
 
 -- the shards so far step, and the pairs that are left are those of the others
 abbrev pub invariant-loop-number : goal.invariant-loop-number

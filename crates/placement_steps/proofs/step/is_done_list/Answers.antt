@@ -2,8 +2,8 @@ use Rattle.std.proofs.Common.{inl, inr, refl, false}
 use Rattle.placement_core.specs.Steps.{IsDoneList}
 use Rattle.placement_core.proofs.StepLemmas.{no_true}
 use Rattle.placement_core.proofs.DoneLemmas.{done_step, done_refused}
-use Rattle.placement_core.proofs.step.is_done_list.Goals as goal
-use Rattle.placement_core.proofs.step.is_done_list.Goals.{then-shard-least-via-then-shard-least, then-shard-least-via-else-shard-least+then-shards-shard}
+use Rattle.placement_steps.proofs.step.is_done_list.Goals as goal
+use Rattle.placement_steps.proofs.step.is_done_list.Goals.{then-shard-least-via-then-shard-least, then-shard-least-via-else-shard-least+then-shards-shard}
 
 pub returns-then-shard-least : goal.returns-then-shard-least
 returns-then-shard-least c =

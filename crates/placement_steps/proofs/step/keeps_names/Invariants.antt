@@ -1,6 +1,6 @@
 use Rattle.std.proofs.Common.{◌≡◌, ◌<◌, ℕ, slice_get, Some}
 use Rattle.m3_model.specs.declared.placement.Instance.{Instance}
-use Rattle.placement_core.proofs.step.keeps_names.Given as goal
+use Rattle.placement_steps.proofs.step.keeps_names.Given as goal
 
 -- each node so far has its place and its name again
 abbrev pub invariant-loop-place : goal.invariant-loop-place

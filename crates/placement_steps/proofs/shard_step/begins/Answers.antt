@@ -3,7 +3,7 @@ use Rattle.m3_model.specs.declared.placement.Assignment.{Assignment}
 use Rattle.m3_model.specs.declared.placement.ShardState.TheVariants.{Initializing}
 use Rattle.placement_core.proofs.ListLemmas.{last_of}
 use Rattle.placement_core.proofs.StepLemmas.{begins_decided}
-use Rattle.placement_core.proofs.shard_step.begins.Goals as goal
+use Rattle.placement_steps.proofs.shard_step.begins.Goals as goal
 
 -- the assignment of zeros, which stands where a list has ended
 abbrev blank : Assignment

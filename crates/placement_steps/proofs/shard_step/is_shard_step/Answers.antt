@@ -2,8 +2,8 @@ use Rattle.std.proofs.Common.{subst, sym, IsTrue, Option, ℕ}
 use Rattle.placement_core.specs.Steps.{IsShardStep, IsEndOf, Ends}
 use Rattle.placement_core.proofs.ListLemmas.{IsIn-from_Any, Any-from_IsIn}
 use Rattle.placement_core.proofs.StepLemmas.{step_decided}
-use Rattle.placement_core.proofs.shard_step.is_shard_step.Goals as goal
-use Rattle.placement_core.proofs.shard_step.is_shard_step.Goals.{then-are_same, else-are_same}
+use Rattle.placement_steps.proofs.shard_step.is_shard_step.Goals as goal
+use Rattle.placement_steps.proofs.shard_step.is_shard_step.Goals.{then-are_same, else-are_same}
 
 pub returns-in-Some : goal.returns-in-Some
 returns-in-Some c =

@@ -1,0 +1,5 @@
+//! Which placement may follow another, decided.
+#![tactic(auto)]
+
+mod shard_step;
+pub mod step;
