@@ -16,7 +16,7 @@ use Rattle.tag_index.specs.declared.entry.Entry.{Entry}
 use Rattle.tag_index.specs.Links.{link_of, is_linked}
 use Rattle.tag_index.specs.Listed.{Listed, IsAt, IsPresent, HasTagAt, AreDistinct}
 use Rattle.tag_index.specs.Sound.{listed, IsSound}
-use Rattle.tag_index.proofs.LinkLemmas.{link_names, names_link}
+use Rattle.tag_links.proofs.LinkLemmas.{link_names, names_link}
 use Rattle.tag_index.proofs.SlotLemmas.{get-listed, entries-listed}
 use Rattle.tag_index.proofs.SoundLemmas.{Numbers, Linked}
 

@@ -7,7 +7,7 @@ use Rattle.std.proofs.lemmas.Bool.{eqb-true, eq-eqb}
 use Rattle.tag_index.specs.declared.entry.Entry.{Entry}
 use Rattle.tag_index.specs.Links.{Link, is_link_of, is_linked}
 use Rattle.tag_index.specs.Sound.{IsSound}
-use Rattle.tag_index.proofs.LinkLemmas.{other_ordinal, or_false, and_true}
+use Rattle.tag_links.proofs.LinkLemmas.{other_ordinal, or_false, and_true}
 
 abbrev pub Numbers : Type 0
 Numbers = List ℕ → Option ℕ

@@ -11,7 +11,6 @@ ghost use Rattle.tag_index.specs.Links.{Link, is_link_of, is_linked_in};
 ghost use Rattle.tag_index.specs.Listed.{id_at, IsAt, IsPresent, HasTagAt, AreDistinct, IsAdded, IsFound};
 
 use crate::entry::Entry;
-use crate::links::{Links, link, linked, unlink};
 use indexmap::IndexMap;
 use m3_model::duplicate::Duplicate;
 use m3_model::memory::Memory;
@@ -20,6 +19,7 @@ use m3_model::text::Text;
 use slab::Slab;
 use std::alloc::Global;
 use std::marker::Model;
+use tag_links::{Links, link, linked, unlink};
 
 /// Series by ordinals and by tags. Contracts see the finite map from the ordinals of the series present to their
 /// identifiers and tags; no two of them have the same identifier.

@@ -9,6 +9,5 @@
 mod entry;
 mod index;
 pub mod laws;
-mod links;
 
 pub use index::Index;

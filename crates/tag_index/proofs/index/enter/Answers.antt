@@ -1,6 +1,6 @@
 use Rattle.std.proofs.Common.{◌∙◌, ◌&&◌, ap, not}
 use Rattle.tag_index.specs.Links.{is_link_of, is_linked_in}
-use Rattle.tag_index.proofs.LinkLemmas.{rolled_back}
+use Rattle.tag_links.proofs.LinkLemmas.{rolled_back}
 use Rattle.tag_index.proofs.index.enter.Goals as goal
 
 pub returns-in-Err-clause-unlinked : goal.returns-in-Err-clause-unlinked

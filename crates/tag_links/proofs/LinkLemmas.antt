@@ -6,7 +6,7 @@ use Rattle.std.proofs.lemmas.Slice.Eq.{bytes_eq-Decides}
 use Rattle.std.proofs.lemmas.Bool.{eqb-true, eq-eqb}
 use Rattle.m3_model.specs.Members.{IsIn}
 use Rattle.m3_model.proofs.RangeLemmas.{both_true}
-use Rattle.tag_index.specs.Links.{Link, link_of, is_same, is_link_of}
+use Rattle.tag_links.specs.Links.{Link, link_of, is_same, is_link_of}
 
 abbrev pub Pair : Type 0
 Pair = List ℕ × List ℕ

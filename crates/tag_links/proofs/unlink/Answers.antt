@@ -1,8 +1,8 @@
 use Rattle.std.proofs.Common.{◌||◌, ◌&&◌, ◌∙◌, ◌∷◌, [], ap, sym, not, take, get_or}
 use Rattle.std.proofs.lemmas.List.{take_more}
-use Rattle.tag_index.specs.Links.{is_link_of, is_linked_in}
-use Rattle.tag_index.proofs.LinkLemmas.{is_link_of-append, unlinked_more}
-use Rattle.tag_index.proofs.links.unlink.Goals as goal
+use Rattle.tag_links.specs.Links.{is_link_of, is_linked_in}
+use Rattle.tag_links.proofs.LinkLemmas.{is_link_of-append, unlinked_more}
+use Rattle.tag_links.proofs.unlink.Goals as goal
 
 pub loop-tag-preserved : goal.loop-tag-preserved
 loop-tag-preserved c q =

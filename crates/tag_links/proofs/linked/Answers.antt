@@ -2,9 +2,9 @@ use Rattle.std.proofs.Common.{◌∙◌, ◌<◌, ◌↔◌, ap, sym, subst, IsT
 use Rattle.std.proofs.lemmas.Result.{IfOk-weaker}
 use Rattle.m3_model.specs.Ascends.{Ascends}
 use Rattle.m3_model.specs.Members.{IsIn}
-use Rattle.tag_index.specs.Links.{is_in, link_of, is_linked_in}
-use Rattle.tag_index.proofs.PostingLemmas.{ordinals_ascend, found_ordinal, ordinal_found}
-use Rattle.tag_index.proofs.links.linked.Goals as goal
+use Rattle.tag_links.specs.Links.{is_in, link_of, is_linked_in}
+use Rattle.tag_links.proofs.PostingLemmas.{ordinals_ascend, found_ordinal, ordinal_found}
+use Rattle.tag_links.proofs.linked.Goals as goal
 
 pub returns-in-Some-clause-ascends : goal.returns-in-Some-clause-ascends
 returns-in-Some-clause-ascends c =

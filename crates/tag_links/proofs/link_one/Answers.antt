@@ -3,10 +3,10 @@ use Rattle.std.specs.Prelude.{nat_eq, string_bytes}
 use Rattle.std.specs.HashMap.{get_by_text}
 use Rattle.std.specs.Str.{bytes_eq}
 use Rattle.std.proofs.lemmas.Map.Text.{hash_map_updates_text}
-use Rattle.tag_index.specs.Links.{is_in, value_at, link_of, is_same, is_linked_in}
-use Rattle.tag_index.proofs.KeyLemmas.{IsPut, more_there, same_there, put_same, none_at_all, at_error}
-use Rattle.tag_index.proofs.LinkLemmas.{or_false}
-use Rattle.tag_index.proofs.links.link_one.Goals as goal
+use Rattle.tag_links.specs.Links.{is_in, value_at, link_of, is_same, is_linked_in}
+use Rattle.tag_links.proofs.KeyLemmas.{IsPut, more_there, same_there, put_same, none_at_all, at_error}
+use Rattle.tag_links.proofs.LinkLemmas.{or_false}
+use Rattle.tag_links.proofs.link_one.Goals as goal
 
 pub returns-in_err-link_value-in-Some-clause-err : goal.returns-in_err-link_value-in-Some-clause-err
 returns-in_err-link_value-in-Some-clause-err c =

@@ -1,8 +1,8 @@
 use Rattle.std.proofs.Common.{◌||◌, ◌∙◌, ◌∷◌, [], ap, sym, take, get_or}
 use Rattle.std.proofs.lemmas.List.{take_more}
-use Rattle.tag_index.specs.Links.{is_link_of, is_linked_in}
-use Rattle.tag_index.proofs.LinkLemmas.{none_taken, or_false, is_link_of-append, linked_more}
-use Rattle.tag_index.proofs.links.link.Goals as goal
+use Rattle.tag_links.specs.Links.{is_link_of, is_linked_in}
+use Rattle.tag_links.proofs.LinkLemmas.{none_taken, or_false, is_link_of-append, linked_more}
+use Rattle.tag_links.proofs.link.Goals as goal
 
 pub returns-in_err-link_one-clause-kept : goal.returns-in_err-link_one-clause-kept
 returns-in_err-link_one-clause-kept c q none =

@@ -1,10 +1,13 @@
+//! Links from tags to the ordinals of series.
+#![tactic(auto)]
+
 ghost use Rattle.std.specs.Prelude.{◌≡◌, ◌||◌, ◌&&◌, ◌<◌, ◌↔◌, ℕ, List, [], ◌∷◌, not, false, nat_eq, option_copied, IfOk, OnOk, OnErr, IsTrue};
 ghost use Rattle.std.specs.BTreeSet.{IsOrdered};
 ghost use Rattle.std.specs.Ordering.{nat_cmp};
 ghost use Rattle.std.specs.Str.{bytes_eq};
 ghost use Rattle.m3_model.specs.Ascends.{Ascends};
 ghost use Rattle.m3_model.specs.Members.{IsIn};
-ghost use Rattle.tag_index.specs.Links.{Link, link_of, is_link_of, is_in, is_under, linked_at, is_linked_in};
+ghost use Rattle.tag_links.specs.Links.{Link, link_of, is_link_of, is_in, is_under, linked_at, is_linked_in};
 
 use indexmap::IndexMap;
 use m3_model::memory::Memory;
@@ -15,8 +18,8 @@ use std::collections::BTreeSet;
 // The ordinals of the series with each value of one name.
 type Values = IndexMap<String, BTreeSet<u32>>;
 
-// The ordinals of the series with each tag, by its name and then by its value. A tag that no series has stands nowhere.
-pub(crate) type Links = IndexMap<String, Values>;
+/// The ordinals of the series with each tag, by its name and then by its value. A tag that no series has stands nowhere.
+pub type Links = IndexMap<String, Values>;
 
 // Puts the ordinal under the value. Want of memory changes nothing.
 fn link_value(values: &mut Values, alloc: Global, value: &str, ordinal: u32) -> Result<(), Memory>
@@ -60,8 +63,8 @@ fn link_one(
     Ok(())
 }
 
-// Links the tags to the ordinal. Want of memory leaves some of them linked.
-pub(crate) fn link(
+/// Links the tags to the ordinal. Want of memory leaves some of them linked.
+pub fn link(
     links: &mut Links,
     alloc: Global,
     tags: &[(Text, Text)],
@@ -101,9 +104,9 @@ fn unlink_one(links: &mut Links, tag: &(Text, Text), ordinal: u32)
     }
 }
 
-// Takes the links of the tags to the ordinal out, each in constant expected time and the logarithm of its posting's
-// length. Takes no memory.
-pub(crate) fn unlink(links: &mut Links, tags: &[(Text, Text)], ordinal: u32)
+/// Takes the links of the tags to the ordinal out, each in constant expected time and the logarithm of its posting's
+/// length. Takes no memory.
+pub fn unlink(links: &mut Links, tags: &[(Text, Text)], ordinal: u32)
     ensures { (q : Link) → is_linked_in links.new q ≡ (is_linked_in links.old q && not (is_link_of tags.now ordinal q)) }
 {
     for tag in tags {
@@ -128,13 +131,8 @@ fn listed(ordinals: &BTreeSet<u32>, alloc: Global) -> Result<Vec<u32>, Memory>
     Ok(items)
 }
 
-// The ordinals to which the tag is linked, ascending.
-pub(crate) fn linked(
-    links: &Links,
-    alloc: Global,
-    name: &str,
-    value: &str,
-) -> Result<Vec<u32>, Memory>
+/// The ordinals to which the tag is linked, ascending.
+pub fn linked(links: &Links, alloc: Global, name: &str, value: &str) -> Result<Vec<u32>, Memory>
     ensures ascends { IfOk result (λ v. Ascends ◌<◌ v.items) }
     ensures exact { IfOk result (λ v. (o : ℕ) → IsIn v.items o ↔ IsTrue (is_linked_in links.now (link_of o (name.now, value.now)))) }
 {

@@ -3,10 +3,10 @@ use Rattle.std.specs.Prelude.{nat_eq}
 use Rattle.std.specs.HashMap.{get_by_text}
 use Rattle.std.specs.Str.{bytes_eq}
 use Rattle.std.proofs.lemmas.Map.Text.{hash_map_updates_text}
-use Rattle.tag_index.specs.Links.{is_in, value_at, link_of, is_same, is_linked_in}
-use Rattle.tag_index.proofs.KeyLemmas.{IsPut, less_there, put_twice, none_at_all}
-use Rattle.tag_index.proofs.LinkLemmas.{or_false}
-use Rattle.tag_index.proofs.links.unlink_one.Goals as goal
+use Rattle.tag_links.specs.Links.{is_in, value_at, link_of, is_same, is_linked_in}
+use Rattle.tag_links.proofs.KeyLemmas.{IsPut, less_there, put_twice, none_at_all}
+use Rattle.tag_links.proofs.LinkLemmas.{or_false}
+use Rattle.tag_links.proofs.unlink_one.Goals as goal
 
 pub returns-then-is_empty : goal.returns-then-is_empty
 returns-then-is_empty c q =

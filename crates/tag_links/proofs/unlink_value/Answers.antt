@@ -2,9 +2,9 @@ use Rattle.std.proofs.Common.{◌∙◌, ◌&&◌, ap, sym, not, rules, Some, No
 use Rattle.std.specs.Prelude.{nat_eq}
 use Rattle.std.specs.HashMap.{get_by_text}
 use Rattle.std.proofs.lemmas.Map.Text.{hash_map_updates_text}
-use Rattle.tag_index.specs.Links.{is_in}
-use Rattle.tag_index.proofs.KeyLemmas.{IsPut, less_there, put_twice, taken_from, none_in}
-use Rattle.tag_index.proofs.links.unlink_value.Goals as goal
+use Rattle.tag_links.specs.Links.{is_in}
+use Rattle.tag_links.proofs.KeyLemmas.{IsPut, less_there, put_twice, taken_from, none_in}
+use Rattle.tag_links.proofs.unlink_value.Goals as goal
 
 pub returns-then-is_empty : goal.returns-then-is_empty
 returns-then-is_empty c v o =

@@ -5,9 +5,9 @@ use Rattle.std.specs.List.{list_any}
 use Rattle.std.specs.Ordering.{nat_cmp}
 use Rattle.std.specs.HashMap.{get_by_text}
 use Rattle.std.proofs.lemmas.Map.Text.{hash_map_updates_text}
-use Rattle.tag_index.specs.Links.{is_in}
-use Rattle.tag_index.proofs.KeyLemmas.{IsPut, more_there, same_there, put_same, put_in, none_in, at_error}
-use Rattle.tag_index.proofs.links.link_value.Goals as goal
+use Rattle.tag_links.specs.Links.{is_in}
+use Rattle.tag_links.proofs.KeyLemmas.{IsPut, more_there, same_there, put_same, put_in, none_in, at_error}
+use Rattle.tag_links.proofs.link_value.Goals as goal
 
 pub returns-in_err-insert-in-Some-clause-err : goal.returns-in_err-insert-in-Some-clause-err
 returns-in_err-insert-in-Some-clause-err c =
