@@ -11,16 +11,16 @@ use Rattle.m3_outside.specs.Causes.{CountsFaults}
 use Rattle.m3_outside.specs.Files.{name_cmp, Files, Stays, DoneOrNot, IsPresent, IsInside, files_with_zeros}
 use Rattle.m3_outside.specs.DiskState.{IsEmpty, StepOf, Becomes}
 use Rattle.m3_outside.specs.DiskCalls.{ChangesFiles, Creates, Writes, Syncs, Removes, Restarts}
-use Rattle.mem_disk.specs.declared.content.Content.{Content}
-use Rattle.mem_disk.specs.declared.pending.PendingWrite.{PendingWrite}
-use Rattle.mem_disk.specs.Picks.{picked_files}
-use Rattle.mem_disk.specs.Contents.{AllFit, IsInBoth, content_after_create, content_after_write, content_after_failed_write, content_after_sync, content_after_remove, content_after_restart}
-use Rattle.mem_disk.specs.Images.{MayLeave, ImagesOf, IsSound, disk_state}
+use Rattle.disk_content.specs.declared.content.Content.{Content}
+use Rattle.disk_content.specs.declared.pending.PendingWrite.{PendingWrite}
+use Rattle.disk_content.specs.Picks.{picked_files}
+use Rattle.disk_content.specs.Contents.{AllFit, IsInBoth, content_after_create, content_after_write, content_after_failed_write, content_after_sync, content_after_remove, content_after_restart}
+use Rattle.disk_content.specs.Images.{MayLeave, ImagesOf, IsSound, disk_state}
 use Rattle.mem_disk.proofs.PastLemmas.{SameImages, same_itself, same_back, image_as, elapses_push, elapses_same, counts_as}
-use Rattle.mem_disk.proofs.WriteLemmas.{torn_image, fits_synced, wrote_seen, torn_not}
-use Rattle.mem_disk.proofs.SyncLemmas.{in_both, image_here, image_synced}
-use Rattle.mem_disk.proofs.NameLemmas.{image_made, image_gone}
-use Rattle.mem_disk.proofs.RestartLemmas.{picked_is_image, only_image}
+use Rattle.disk_content.proofs.WriteLemmas.{torn_image, fits_synced, wrote_seen, torn_not}
+use Rattle.disk_content.proofs.SyncLemmas.{in_both, image_here, image_synced}
+use Rattle.disk_content.proofs.NameLemmas.{image_made, image_gone}
+use Rattle.disk_content.proofs.RestartLemmas.{picked_is_image, only_image}
 
 step_from : {step : Files → Files → Type 0} (c d : Content) → SameImages c d → (files : Files) → StepOf step (ImagesOf c) files → StepOf step (ImagesOf d) files
 step_from c d same files step = record { before = step.before; was = image_as c d same step.before step.was; stepped = step.stepped }

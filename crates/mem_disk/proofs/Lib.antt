@@ -1,13 +1,3 @@
-pub mod TableLemmas
-pub mod BufferLemmas
-pub mod FitLemmas
-pub mod PickLemmas
-pub mod CoverLemmas
 pub mod PastLemmas
-pub mod WriteLemmas
-pub mod SyncLemmas
-pub mod SettleLemmas
-pub mod NameLemmas
-pub mod RestartLemmas
 pub mod DiskLemmas
 pub mod PlaceLemmas

@@ -6,9 +6,9 @@ use Rattle.m3_outside.specs.Causes.{CountsFaults}
 use Rattle.m3_outside.specs.Files.{Files, Stays}
 use Rattle.m3_outside.specs.DiskState.{StepOf, Elapses}
 use Rattle.m3_outside.specs.DiskCalls.{LeavesFiles}
-use Rattle.mem_disk.specs.declared.content.Content.{Content}
-use Rattle.mem_disk.specs.declared.pending.PendingWrite.{PendingWrite}
-use Rattle.mem_disk.specs.Images.{MayLeave, ImagesOf, HadBeen, SinceOf, disk_state}
+use Rattle.disk_content.specs.declared.content.Content.{Content}
+use Rattle.disk_content.specs.declared.pending.PendingWrite.{PendingWrite}
+use Rattle.disk_content.specs.Images.{MayLeave, ImagesOf, HadBeen, SinceOf, disk_state}
 
 -- what a stop may leave of them is the same
 pub record SameImages (c d : Content) : Type 0 where

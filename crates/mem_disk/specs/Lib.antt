@@ -1,9 +1,4 @@
-pub mod Tables
-pub mod Writes
 pub mod Calls
-pub mod Picks
-pub mod Contents
-pub mod Images
 pub mod Parts
 pub mod Places
 pub mod Slots

@@ -1,9 +1,9 @@
 ghost use Rattle.std.specs.Prelude.{◌≡◌, ◌≤◌, ◌+◌, vec_len, vec_capacity, OnOk};
 ghost use Rattle.std.specs.FinMap as finite;
-ghost use Rattle.mem_disk.specs.Images.{IsSound, IsSound-prop};
+ghost use Rattle.disk_content.specs.Images.{IsSound, IsSound-prop};
 
-use crate::content::Content;
 use crate::schedule::Schedule;
+use disk_content::content::Content;
 use m3_model::memory::Memory;
 use m3_outside::disk::Disk;
 use m3_outside::disk_err::DiskErr;
@@ -77,8 +77,8 @@ impl Disk for MemDisk {
     ghost use Rattle.m3_outside.specs.DiskState.{Told};
     ghost use Rattle.m3_outside.specs.DiskCalls.{Reserves, Creates, Writes, Syncs, Reads, Sizes, Removes, Lists, Restarts};
     ghost use Rattle.mem_disk.specs.Calls.{is_fault, CountsCall, CountsRestart};
-    ghost use Rattle.mem_disk.specs.Contents.{content_after_create, content_after_write, content_after_failed_write, content_after_sync, content_after_remove, content_after_restart};
-    ghost use Rattle.mem_disk.specs.Images.{disk_state, lawful as lawful_state};
+    ghost use Rattle.disk_content.specs.Contents.{content_after_create, content_after_write, content_after_failed_write, content_after_sync, content_after_remove, content_after_restart};
+    ghost use Rattle.disk_content.specs.Images.{disk_state, lawful as lawful_state};
     ghost use Rattle.mem_disk.specs.Parts.{content_of, calls_of, state_of, SameContent};
 
     ghost state = { λ d. disk_state d.now d.past.items d.schedule.faults };

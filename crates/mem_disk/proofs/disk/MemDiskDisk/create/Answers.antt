@@ -1,9 +1,9 @@
 use Rattle.std.proofs.Common.{◌++◌, ◌∷◌, [], refl, arith, sym, ap, subst, ◌∙◌}
-use Rattle.mem_disk.specs.declared.content.Content.{Content}
-use Rattle.mem_disk.specs.Writes.{Pending}
-use Rattle.mem_disk.specs.Images.{IsSound}
+use Rattle.disk_content.specs.declared.content.Content.{Content}
+use Rattle.disk_content.specs.Writes.{Pending}
+use Rattle.disk_content.specs.Images.{IsSound}
 use Rattle.mem_disk.proofs.PastLemmas.{same_itself, counts_as}
-use Rattle.mem_disk.proofs.NameLemmas.{sound_made}
+use Rattle.disk_content.proofs.NameLemmas.{sound_made}
 use Rattle.mem_disk.proofs.DiskLemmas.{is_memory, changes_not, created, sound_wider}
 use Rattle.mem_disk.proofs.disk.MemDiskDisk.create.Goals as goal
 

@@ -1,6 +1,6 @@
 use Rattle.std.proofs.Common.{refl, sym, ap, ◌∙◌, arith, length, take, drop, List, ℕ}
 use Rattle.mem_disk.proofs.PastLemmas.{leaves_files, same_itself, counts_as}
-use Rattle.mem_disk.proofs.TableLemmas.{same_found}
+use Rattle.disk_content.proofs.TableLemmas.{same_found}
 use Rattle.mem_disk.proofs.disk.MemDiskDisk.read.Goals as goal
 
 pub returns-then-next_fails-clause-disk : goal.returns-then-next_fails-clause-disk

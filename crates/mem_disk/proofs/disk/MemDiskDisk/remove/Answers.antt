@@ -1,9 +1,9 @@
 use Rattle.std.proofs.Common.{refl, arith, sym, subst}
-use Rattle.mem_disk.specs.Images.{IsSound}
-use Rattle.mem_disk.specs.Contents.{IsInBoth}
+use Rattle.disk_content.specs.Images.{IsSound}
+use Rattle.disk_content.specs.Contents.{IsInBoth}
 use Rattle.mem_disk.proofs.PastLemmas.{same_itself, counts_as}
-use Rattle.mem_disk.proofs.SyncLemmas.{in_both}
-use Rattle.mem_disk.proofs.NameLemmas.{sound_gone}
+use Rattle.disk_content.proofs.SyncLemmas.{in_both}
+use Rattle.disk_content.proofs.NameLemmas.{sound_gone}
 use Rattle.mem_disk.proofs.DiskLemmas.{changes_not, removed}
 use Rattle.mem_disk.proofs.disk.MemDiskDisk.remove.Goals as goal
 

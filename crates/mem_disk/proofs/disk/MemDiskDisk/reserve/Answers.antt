@@ -1,5 +1,5 @@
 use Rattle.std.proofs.Common.{refl, arith, ap}
-use Rattle.mem_disk.specs.Writes.{Pending}
+use Rattle.disk_content.specs.Writes.{Pending}
 use Rattle.mem_disk.proofs.DiskLemmas.{is_memory}
 use Rattle.mem_disk.proofs.PastLemmas.{leaves_files, same_itself, counts_as}
 use Rattle.mem_disk.proofs.disk.MemDiskDisk.reserve.Goals as goal

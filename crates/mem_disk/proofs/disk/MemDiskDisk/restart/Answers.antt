@@ -1,9 +1,9 @@
 use Rattle.std.proofs.Common.{◌++◌, ◌∷◌, [], refl, sym, ap, subst, ◌∙◌}
 use Rattle.m3_outside.specs.Causes.{CountsFaults}
 use Rattle.mem_disk.specs.Calls.{Calls}
-use Rattle.mem_disk.specs.Images.{IsSound}
+use Rattle.disk_content.specs.Images.{IsSound}
 use Rattle.mem_disk.proofs.PastLemmas.{counts_as}
-use Rattle.mem_disk.proofs.RestartLemmas.{sound_restart}
+use Rattle.disk_content.proofs.RestartLemmas.{sound_restart}
 use Rattle.mem_disk.proofs.DiskLemmas.{is_memory, restarted, not_restarted}
 use Rattle.mem_disk.proofs.disk.MemDiskDisk.restart.Goals as goal
 

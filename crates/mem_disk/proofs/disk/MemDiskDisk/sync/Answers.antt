@@ -1,7 +1,7 @@
 use Rattle.std.proofs.Common.{refl, sym, subst}
-use Rattle.mem_disk.specs.Images.{IsSound}
+use Rattle.disk_content.specs.Images.{IsSound}
 use Rattle.mem_disk.proofs.PastLemmas.{counts_as}
-use Rattle.mem_disk.proofs.SyncLemmas.{in_both, sound_sync}
+use Rattle.disk_content.proofs.SyncLemmas.{in_both, sound_sync}
 use Rattle.mem_disk.proofs.DiskLemmas.{not_synced, synced}
 use Rattle.mem_disk.proofs.disk.MemDiskDisk.sync.Goals as goal
 

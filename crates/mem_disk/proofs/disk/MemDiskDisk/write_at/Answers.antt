@@ -1,8 +1,8 @@
 use Rattle.std.proofs.Common.{◌≡◌, refl, sym, ap, subst, length}
-use Rattle.mem_disk.specs.Contents.{content_after_failed_write, content_after_write}
-use Rattle.mem_disk.specs.Images.{IsSound}
+use Rattle.disk_content.specs.Contents.{content_after_failed_write, content_after_write}
+use Rattle.disk_content.specs.Images.{IsSound}
 use Rattle.mem_disk.proofs.PastLemmas.{counts_as}
-use Rattle.mem_disk.proofs.WriteLemmas.{sound_failed_write, sound_write, fits_widest}
+use Rattle.disk_content.proofs.WriteLemmas.{sound_failed_write, sound_write, fits_widest}
 use Rattle.mem_disk.proofs.DiskLemmas.{wrote, failed_write}
 use Rattle.mem_disk.proofs.disk.MemDiskDisk.write_at.Goals as goal
 

@@ -1,0 +1,10 @@
+pub mod TableLemmas
+pub mod BufferLemmas
+pub mod FitLemmas
+pub mod PickLemmas
+pub mod CoverLemmas
+pub mod WriteLemmas
+pub mod SyncLemmas
+pub mod SettleLemmas
+pub mod NameLemmas
+pub mod RestartLemmas

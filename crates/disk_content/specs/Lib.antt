@@ -1,0 +1,5 @@
+pub mod Tables
+pub mod Writes
+pub mod Picks
+pub mod Contents
+pub mod Images

@@ -1,6 +1,0 @@
-use Rattle.std.proofs.Common.{sym, ◌∙◌}
-use Rattle.mem_disk.proofs.TableLemmas.{get_of}
-use Rattle.mem_disk.proofs.file_table.FileTable.get.Goals as goal
-
-pub returns : goal.returns
-returns c = rw (← c.self.view_is) (c.get.ensures.value ∙ sym (get_of c.self.inside.map.entries c.args.name))
