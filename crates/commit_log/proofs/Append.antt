@@ -8,7 +8,7 @@ use Rattle.m3_outside.specs.Files.{Files, Torn, Wrote, Stays, IsInside, IsPresen
 use Rattle.m3_outside.specs.DiskState.{DiskState, StepOf, Elapses}
 use Rattle.commit_log.specs.Segment.{segment, written, chunk_bytes, MayAdd, Adds, IsAtRest, IsReady, OthersStay}
 use Rattle.m3_outside.proofs.Names.{get_apart}
-use Rattle.commit_log.proofs.Shapes.{closed, begun, gated, run1, run2, run3, run4, run5, may, done, wrote_field, wrote_body, wrote_gate, length-closed}
+use Rattle.log_chunks.proofs.Shapes.{closed, begun, gated, run1, run2, run3, run4, run5, may, done, wrote_field, wrote_body, wrote_gate, length-closed}
 
 abbrev zeros : ℕ → List ℕ
 zeros k = replicate k 0

@@ -1,9 +1,5 @@
-pub mod Shapes
 pub mod Append
 pub mod Begin
-pub mod Chunks
-pub mod LawLemmas
-pub mod Fronts
 pub mod Leaves
 pub mod FileFronts
 pub mod Numbers

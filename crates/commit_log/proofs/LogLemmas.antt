@@ -15,8 +15,8 @@ use Rattle.commit_log.specs.Segment.{segment, written, Reads, HasChunks, OthersS
 use Rattle.commit_log.specs.LogEnd.{NoneAbove, MayBegin}
 use Rattle.commit_log.specs.Contents.{numbers, PartsHold, HasDamage}
 use Rattle.commit_log.specs.LogLaws.{NothingBehindGate, NumbersAreThere, LogIsOne, DamagedIsNone, ReaderFindsLog, IsLog, AppendGrowsLog, BeginLeavesLog}
-use Rattle.commit_log.proofs.LawLemmas.{one_reading}
-use Rattle.commit_log.proofs.Shapes.{reads_written, zeros_end}
+use Rattle.log_chunks.proofs.LawLemmas.{one_reading}
+use Rattle.log_chunks.proofs.Shapes.{reads_written, zeros_end}
 use Rattle.commit_log.proofs.Numbers.{in_there, there_in, ascend, same_members}
 use Rattle.commit_log.proofs.Parts.{Parted, parts_split, parts_same, parts_more, parts_one, has_one}
 

@@ -6,7 +6,7 @@ use Rattle.m3_model.specs.Members.{IsIn}
 use Rattle.m3_outside.specs.Files.{Files}
 use Rattle.commit_log.specs.Segment.{segment, Reads, HasChunks}
 use Rattle.commit_log.specs.Contents.{PartsHold}
-use Rattle.commit_log.proofs.LawLemmas.{one_reading}
+use Rattle.log_chunks.proofs.LawLemmas.{one_reading}
 
 -- the segments of both lists
 pub parts_join : (ns ms : List ℕ) (files : Files) (fs bs : List (List ℕ)) → PartsHold ns files fs → PartsHold ms files bs → PartsHold (ns ++ ms) files (fs ++ bs)

@@ -2,38 +2,12 @@
 use Rattle.std.specs.Prelude.{◌≡◌, ⊤, ℕ, ◌+◌, ◌<◌, ◌↔◌, List, ◌++◌, length, take, Bool, IsTrue}
 use Rattle.m3_model.specs.declared.limits.TheConstants.{SEGMENT_BYTES}
 use Rattle.m3_outside.specs.Files.{Files}
-use Rattle.wire_bytes.specs.Fields.{Stands, Begins, StopsAt}
-use Rattle.commit_log.specs.Segment.{chunk_bytes, Reads, IsSegment}
+use Rattle.wire_bytes.specs.Fields.{StopsAt}
+use Rattle.commit_log.specs.Segment.{Reads, IsSegment}
+pub use Rattle.log_chunks.specs.Places.{ChunkStands, EndStands, BadStands, IsNext}
 use Rattle.commit_log.specs.Contents.{PartsHold, FirstDamaged}
-use Rattle.commit_log.specs.declared.chunk_read.ChunkAt.{ChunkAt}
-use Rattle.commit_log.specs.declared.chunk_read.ChunkAt.TheVariants as found
 use Rattle.commit_log.specs.declared.log_err.LogErr.{LogErr}
 use Rattle.commit_log.specs.declared.log_err.LogErr.TheVariants as errors
-
--- a whole chunk stands at the place, its payload from the one place to the other
-pub record ChunkStands (bytes : List ℕ) (at from next : ℕ) : Type 0 where
-  pub payload : List ℕ
-  pub behind : from ≡ at + 5
-  pub stands : Stands (chunk_bytes payload) bytes at next
-  pub named : Stands payload bytes from next
-
--- Behind these chunks no other one stands, and some segment begins with all these bytes. Where they are as many as a segment has, they are one.
-pub record EndStands (chunks : List (List ℕ)) (bytes : List ℕ) (at : ℕ) : Type 0 where
-  pub none : (from next : ℕ) → ¬ (ChunkStands bytes at from next)
-  pub fits : Begins IsSegment bytes
-  pub ends : length bytes ≡ SEGMENT_BYTES → Reads chunks bytes
-
--- no chunk stands at the place, and no segment goes on with the byte at the other one
-pub record BadStands (bytes : List ℕ) (at place : ℕ) : Type 0 where
-  pub none : (from next : ℕ) → ¬ (ChunkStands bytes at from next)
-  pub within : place < length bytes
-  pub stops : StopsAt IsSegment bytes place
-
--- what stands behind these chunks in the first bytes of a segment
-abbrev pub IsNext : List (List ℕ) → List ℕ → ℕ → ChunkAt → Type 0
-IsNext chunks bytes at (found.Chunk from next) = ChunkStands bytes at from next
-IsNext chunks bytes at found.End = EndStands chunks bytes at
-IsNext chunks bytes at (found.Bad place) = BadStands bytes at place
 
 -- the file's first bytes, at most as many as a segment has, and whether it has just so many
 pub record IsFront (front : List ℕ) (whole : Bool) (file : List ℕ) : Type 0 where

@@ -5,15 +5,10 @@ ghost use Rattle.m3_outside.specs.DiskState.{DiskState, Elapses, StepOf};
 ghost use Rattle.commit_log.specs.Segment.{segment, MayAdd, Adds, OthersStay, IsReady, IsKept};
 
 use byteorder::{BigEndian, ByteOrder};
+use log_chunks::{HEAD_BYTES, OPEN};
 use m3_outside::disk::Disk;
 use m3_outside::failed::Failed;
 use m3_outside::file_name::FileName;
-
-/// The bytes of a chunk's gate and length.
-pub(crate) const HEAD_BYTES: u64 = 5;
-
-/// An open gate.
-pub(crate) const OPEN: u8 = 1;
 
 /// The file of the segment of this number.
 pub(crate) fn segment_name(number: u64) -> FileName

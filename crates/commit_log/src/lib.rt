@@ -2,7 +2,6 @@
 #![tactic(auto)]
 
 mod chunk;
-mod chunk_read;
 mod cut;
 mod file;
 pub mod laws;
@@ -11,9 +10,9 @@ mod log_err;
 mod read;
 mod segment;
 
-pub use chunk_read::{ChunkAt, get_chunk};
 pub use cut::cut_before;
 pub use file::{Front, read_front};
 pub use log::Log;
+pub use log_chunks::{ChunkAt, get_chunk};
 pub use log_err::LogErr;
 pub use read::{Found, Segments, list_segments, read_all};

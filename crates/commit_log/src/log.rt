@@ -8,7 +8,8 @@ ghost use Rattle.m3_outside.specs.declared.disk_err.DiskErr.TheVariants.{Failed 
 ghost use Rattle.commit_log.specs.Segment.{segment, MayAdd, Adds, OthersStay};
 ghost use Rattle.commit_log.specs.LogEnd.{NoneFrom, Stands, IsReadyFor, MayBegin, BeganOrNot};
 
-use crate::chunk::{HEAD_BYTES, put_chunk, segment_name};
+use crate::chunk::{put_chunk, segment_name};
+use log_chunks::HEAD_BYTES;
 use m3_model::limits::{NUMBER_END, SEGMENT_BYTES};
 use m3_outside::disk::Disk;
 use m3_outside::disk_err::DiskErr;

@@ -3,9 +3,9 @@ ghost use Rattle.m3_model.specs.declared.limits.TheConstants.{SEGMENT_BYTES};
 ghost use Rattle.commit_log.specs.Reading.{IsFront, ReadsMore, MayBreak};
 ghost use Rattle.commit_log.specs.declared.log_err.LogErr.TheVariants as errors;
 
-use crate::chunk_read::{ChunkAt, get_chunk};
 use crate::file::Front;
 use crate::log_err::LogErr;
+use log_chunks::{ChunkAt, get_chunk};
 use m3_model::seq::Seq;
 use std::alloc::Global;
 

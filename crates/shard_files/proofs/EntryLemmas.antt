@@ -8,7 +8,7 @@ use Rattle.commit_log.specs.Segment.{segment, MayAdd, Adds}
 use Rattle.commit_log.specs.LogEnd.{NoneAbove, NoneFrom, MayBegin}
 use Rattle.commit_log.specs.Contents.{numbers, PartsHold}
 use Rattle.commit_log.proofs.Numbers.{in_there, there_in}
-use Rattle.commit_log.proofs.Shapes.{zeros_end}
+use Rattle.log_chunks.proofs.Shapes.{zeros_end}
 use Rattle.std.specs.FinMap.{get}
 use Rattle.std.proofs.lemmas.List.{length-replicate}
 use Rattle.std.proofs.lemmas.Bool.{cases_eq}

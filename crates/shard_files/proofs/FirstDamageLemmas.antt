@@ -12,7 +12,7 @@ use Rattle.m3_outside.specs.declared.file_name.FileName.{FileName}
 use Rattle.m3_outside.specs.Files.{Files}
 use Rattle.commit_log.specs.Contents.{numbers, PartsHold}
 use Rattle.commit_log.specs.Segment.{segment, chunk_bytes, written, IsEnd, Reads, HasChunks}
-use Rattle.commit_log.proofs.LawLemmas.{same_chunk, no_chunk, chunk_long}
+use Rattle.log_chunks.proofs.LawLemmas.{same_chunk, no_chunk, chunk_long}
 use Rattle.wire_bytes.specs.Volumes.{VolumeHead, Part, Info, Summaries, Index, Data, Bloom, Digests, Checkpoint, part_bytes, digests_bytes, info_bytes, summaries_bytes, index_bytes, data_bytes, bloom_bytes, count_of, checkpoint_bytes}
 use Rattle.wire_bytes.specs.Snapshots.{Snapshot, snapshot_bytes}
 use Rattle.wire_bytes.specs.Entries.{AnEntry}

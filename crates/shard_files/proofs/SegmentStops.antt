@@ -12,9 +12,9 @@ use Rattle.wire_bytes.proofs.FieldLemmas.{begins_take}
 use Rattle.wire_bytes.proofs.StopLemmas.{stops_one}
 use Rattle.commit_log.specs.Segment.{chunk_bytes, written, IsSegment}
 use Rattle.commit_log.specs.Reading.{ChunkStands, IsFront}
-use Rattle.commit_log.proofs.Chunks.{written_push}
-use Rattle.commit_log.proofs.Fronts.{length_chunk, chunk_push, chunks_fit}
-use Rattle.commit_log.proofs.LawLemmas.{same_chunk}
+use Rattle.log_chunks.proofs.Chunks.{written_push}
+use Rattle.log_chunks.proofs.Fronts.{length_chunk, chunk_push, chunks_fit}
+use Rattle.log_chunks.proofs.LawLemmas.{same_chunk}
 use Rattle.shard_files.specs.declared.entries.LogEntry.{LogEntry}
 use Rattle.shard_files.specs.declared.entries.EntryErr.{EntryErr}
 use Rattle.shard_files.specs.declared.entries.EntryErr.TheVariants as refused

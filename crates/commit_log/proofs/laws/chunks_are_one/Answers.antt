@@ -1,4 +1,4 @@
-use Rattle.commit_log.proofs.LawLemmas.{one_reading}
+use Rattle.log_chunks.proofs.LawLemmas.{one_reading}
 use Rattle.commit_log.proofs.laws.chunks_are_one.Goals as goal
 
 pub returns : goal.returns

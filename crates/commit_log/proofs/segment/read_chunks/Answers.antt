@@ -2,7 +2,7 @@ use Rattle.std.proofs.Common.{◌<◌, ℕ, List, [], ◌∷◌, ◌++◌, lengt
 use Rattle.wire_bytes.specs.Fields.{StopsAt}
 use Rattle.commit_log.specs.Segment.{IsSegment}
 use Rattle.commit_log.specs.Reading.{IsNext, IsFront}
-use Rattle.commit_log.proofs.Fronts.{chunk_push, payload_is, end_stands}
+use Rattle.log_chunks.proofs.Fronts.{chunk_push, payload_is, end_stands}
 use Rattle.commit_log.proofs.FileFronts.{front_bad, front_ends, front_whole}
 use Rattle.commit_log.proofs.segment.read_chunks.Goals as goal
 

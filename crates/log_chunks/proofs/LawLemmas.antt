@@ -3,7 +3,7 @@ use Rattle.std.proofs.Common.{◌≡◌, inl, inr, ℕ, suc, ◌+◌, ◌^◌, �
 use Rattle.std.proofs.lemmas.List.{take_at, drop_at}
 use Rattle.byteorder.specs.Endian.{big_bytes, big_from}
 use Rattle.byteorder.specs.Numbers.{big_number-reads_back}
-use Rattle.commit_log.specs.Segment.{chunk_bytes, IsEnd, Reads}
+use Rattle.log_chunks.specs.Segment.{chunk_bytes, IsEnd, Reads}
 
 -- a chunk at the head of bytes that reach to a segment's end has a length that its field can say
 head_same : (x y : ℕ) (r s : List ℕ) → x ∷ r ≡ y ∷ s → (x ≡ y) × (r ≡ s)

@@ -10,7 +10,7 @@ use Rattle.m3_outside.proofs.Names.{get_here, get_apart, insert_over}
 use Rattle.m3_outside.proofs.Patches.{patched_parts}
 use Rattle.m3_outside.proofs.Moments.{elapses_as, elapses_then}
 use Rattle.byteorder.specs.Endian.{big_bytes}
-use Rattle.commit_log.specs.Segment.{chunk_bytes, written, Reads, HasChunks, MayAdd, Adds}
+use Rattle.log_chunks.specs.Segment.{chunk_bytes, written, Reads, HasChunks, MayAdd, Adds}
 
 -- old with another file there
 pub record Over (name : FileName) (P : List ℕ → Type 0) (old new : Files) : Type 0 where

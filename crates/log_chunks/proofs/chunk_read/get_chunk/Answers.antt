@@ -1,9 +1,9 @@
 use Rattle.std.proofs.Common.{◌-◌, ◌+◌, arith, subst}
 use Rattle.wire_bytes.specs.Fields.{IsFault}
 use Rattle.wire_bytes.specs.Numbers.{ANumber}
-use Rattle.commit_log.proofs.Fronts.{nothing_left, few_left, shut_gate, short_length, short_payload, whole_chunk, bad_length}
-use Rattle.commit_log.proofs.chunk_read.get_chunk.Goals as goal
-use Rattle.commit_log.proofs.chunk_read.get_chunk.Goals.{then-at-bytes-via-then-at-bytes, then-at-bytes-via-else-at-bytes+then-bytes-at-ne-OPEN, then-at-bytes-via-else-at-bytes+else-bytes-at-ne-OPEN+then-segment-at}
+use Rattle.log_chunks.proofs.Fronts.{nothing_left, few_left, shut_gate, short_length, short_payload, whole_chunk, bad_length}
+use Rattle.log_chunks.proofs.chunk_read.get_chunk.Goals as goal
+use Rattle.log_chunks.proofs.chunk_read.get_chunk.Goals.{then-at-bytes-via-then-at-bytes, then-at-bytes-via-else-at-bytes+then-bytes-at-ne-OPEN, then-at-bytes-via-else-at-bytes+else-bytes-at-ne-OPEN+then-segment-at}
 
 pub returns-then-at-bytes : goal.returns-then-at-bytes
 returns-then-at-bytes c = λ cs done.

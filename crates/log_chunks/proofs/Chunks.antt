@@ -1,8 +1,8 @@
 -- A segment that is read chunk by chunk.
 use Rattle.std.proofs.Common.{◌≡◌, inr, ℕ, ◌+◌, ◌<◌, List, [], ◌∷◌, ◌++◌, length, take, drop, sym, ap, subst, ◌∙◌, arith, append_assoc}
 use Rattle.std.proofs.lemmas.List.{append-nil, take-append-drop, take-take, drop-take}
-use Rattle.commit_log.specs.Segment.{chunk_bytes, written, IsEnd, Reads}
-use Rattle.commit_log.proofs.Shapes.{reads_written}
+use Rattle.log_chunks.specs.Segment.{chunk_bytes, written, IsEnd, Reads}
+use Rattle.log_chunks.proofs.Shapes.{reads_written}
 
 -- an end
 pub end_few : (d : List ℕ) → length d < 5 → IsEnd d

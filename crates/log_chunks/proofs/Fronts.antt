@@ -6,13 +6,13 @@ use Rattle.byteorder.specs.Endian.{big_bytes}
 use Rattle.wire_bytes.specs.Fields.{Stands, Begins, GoesOn, Misfits}
 use Rattle.wire_bytes.specs.Numbers.{ANumber}
 use Rattle.wire_bytes.proofs.FieldLemmas.{front_of, begins_take}
-use Rattle.commit_log.specs.Segment.{chunk_bytes, written, IsEnd, Reads, IsSegment}
-use Rattle.commit_log.specs.declared.chunk_read.ChunkAt.{ChunkAt}
-use Rattle.commit_log.specs.declared.chunk_read.ChunkAt.TheVariants as found
-use Rattle.commit_log.specs.Reading.{ChunkStands, EndStands, BadStands, IsNext}
-use Rattle.commit_log.proofs.Chunks.{cut_at, end_few, reads_all, take_sum, written_push}
-use Rattle.commit_log.proofs.LawLemmas.{both_parts, same_length, same_chunk, no_chunk, chunk_long}
-use Rattle.commit_log.proofs.Shapes.{reads_written, zeros_end}
+use Rattle.log_chunks.specs.Segment.{chunk_bytes, written, IsEnd, Reads, IsSegment}
+use Rattle.log_chunks.specs.declared.chunk_read.ChunkAt.{ChunkAt}
+use Rattle.log_chunks.specs.declared.chunk_read.ChunkAt.TheVariants as found
+use Rattle.log_chunks.specs.Places.{ChunkStands, EndStands, BadStands, IsNext}
+use Rattle.log_chunks.proofs.Chunks.{cut_at, end_few, reads_all, take_sum, written_push}
+use Rattle.log_chunks.proofs.LawLemmas.{both_parts, same_length, same_chunk, no_chunk, chunk_long}
+use Rattle.log_chunks.proofs.Shapes.{reads_written, zeros_end}
 
 pub length_chunk : (c : List ℕ) → length (chunk_bytes c) ≡ 5 + length c
 length_chunk c = omega (arith, length-append (big_bytes 4 (length c)) c)

@@ -1,9 +1,9 @@
 ghost use Rattle.std.specs.Prelude.{◌≡◌, ℕ, ◌≤◌, List, length, take};
 ghost use Rattle.m3_model.specs.declared.limits.TheConstants.{SEGMENT_BYTES};
-ghost use Rattle.commit_log.specs.Segment.{written};
-ghost use Rattle.commit_log.specs.Reading.{IsNext};
+ghost use Rattle.log_chunks.specs.Segment.{written};
+ghost use Rattle.log_chunks.specs.Places.{IsNext};
 
-use crate::chunk::{HEAD_BYTES, OPEN};
+use crate::head::{HEAD_BYTES, OPEN};
 use m3_model::limits::SEGMENT_BYTES;
 use wire_bytes::{WireErr, get_between};
 

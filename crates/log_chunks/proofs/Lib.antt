@@ -1,0 +1,4 @@
+pub mod Shapes
+pub mod Chunks
+pub mod LawLemmas
+pub mod Fronts

@@ -1,0 +1,8 @@
+//! Chunks in the bytes of a log's segment, and what stands at a place there.
+#![tactic(auto)]
+
+mod chunk_read;
+mod head;
+
+pub use chunk_read::{ChunkAt, get_chunk};
+pub use head::{HEAD_BYTES, OPEN};
