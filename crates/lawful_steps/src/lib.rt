@@ -1,6 +1,5 @@
 //! Whether a step of a replica is lawful, by its state and by the events before it.
 #![tactic(auto)]
 
-mod answers;
 mod refusals;
 pub mod rows;

@@ -1,10 +1,12 @@
-//! Whether a replica may show such an answer.
+//! Whether a replica may show such an answer: what a read finds, and pages.
+#![tactic(auto)]
+
 ghost use Rattle.std.specs.Prelude.{◌≡◌, ◌↔◌, IsTrue, IfOk};
 ghost use Rattle.std.specs.List.{All};
 ghost use Rattle.m3_model.specs.Contents.{key_of};
 ghost use Rattle.m3_model.specs.Members.{IsIn};
 ghost use Rattle.cluster_core.specs.Answers.{IsWanted, IsFound, AsksFor, IsPast, IsUpTo, GoesOn, IsPage};
-ghost use Rattle.lawful_steps.specs.Shows.{IsAnswered, IsPaged};
+ghost use Rattle.lawful_answers.specs.Shows.{IsAnswered, IsPaged};
 
 use cluster_core::event::StepCall;
 use cluster_core::replica_state::ReplicaState;
