@@ -15,4 +15,4 @@ pub use file::{Front, read_front};
 pub use log::Log;
 pub use log_chunks::{ChunkAt, get_chunk};
 pub use log_err::LogErr;
-pub use read::{Found, Segments, list_segments, read_all};
+pub use read::{Found, Segments, list_segments, next_after, read_all};

@@ -1,4 +1,4 @@
-ghost use Rattle.std.specs.Prelude.{◌≡◌, ◌<◌, ◌≤◌, ℕ, true, ◌↔◌, IsTrue, IfOk, OnOk, IfErr, IfSome, IsErr, IsErrOf};
+ghost use Rattle.std.specs.Prelude.{◌≡◌, ◌<◌, ◌≤◌, ℕ, true, ◌↔◌, IsTrue, IfOk, OnOk, IfErr, IfSome, IfNone, IsErr, IsErrOf};
 ghost use Rattle.m3_model.specs.declared.limits.TheConstants.{NUMBER_END};
 ghost use Rattle.m3_outside.specs.Causes.{CountsFaults};
 ghost use Rattle.m3_outside.specs.DiskState.{DiskState, Told};
@@ -50,10 +50,12 @@ pub(crate) fn segment_numbers<D: Disk>(alloc: Global, disk: &mut D) -> Result<Ve
     Ok(segments.map(|name| name.number).collect(alloc)?)
 }
 
-// One above all of these numbers, or 1 where there are none. None where that isn't below the limit.
-fn next_after(numbers: &[u64]) -> Option<u64>
+/// One above all of these numbers, or 1 where there are none. `None` exactly where that would be `NUMBER_END` or a higher one.
+/// Takes no memory.
+pub fn next_after(numbers: &[u64]) -> Option<u64>
     ensures next { IfSome result (λ next. next ≡ contents.next_after numbers.now) }
     ensures limit { IfSome result (λ next. next < NUMBER_END) }
+    ensures full { IfNone result (NUMBER_END ≤ contents.next_after numbers.now) }
 {
     let mut next = 1;
     for number in numbers {

@@ -1,4 +1,4 @@
-ghost use Rattle.std.specs.Prelude.{◌≡◌, ◌<◌, ◌≤◌, true, map, IfOk, IfSome, IsErr, IsErrOf};
+ghost use Rattle.std.specs.Prelude.{◌≡◌, ◌<◌, true, map, IfOk, IsErrOf};
 ghost use Rattle.m3_model.specs.declared.limits.TheConstants.{NUMBER_END};
 ghost use Rattle.m3_outside.specs.DiskState.{DiskState};
 ghost use Rattle.m3_outside.specs.DiskCalls.{LeavesFiles};
@@ -7,7 +7,7 @@ ghost use Rattle.commit_log.specs.Contents as contents;
 ghost use Rattle.shard_files.specs.Steps as steps;
 ghost use Rattle.shard_files.specs.Steps.{next_volume};
 
-use m3_model::limits::NUMBER_END;
+use commit_log::next_after;
 use m3_outside::disk::Disk;
 use m3_outside::disk_err::DiskErr;
 use m3_outside::file_name::FileName;
@@ -37,21 +37,6 @@ fn volume_numbers<D: Disk>(
         .copied()
         .filter(|name| is_part(ns, start, *name));
     Ok(parts.map(|name| name.number).collect(alloc)?)
-}
-
-// One above all of these numbers, or 1 where there are none. None where that isn't below the limit.
-fn next_after(numbers: &[u64]) -> Option<u64>
-    ensures next { IfSome result (λ next. next ≡ contents.next_after numbers.now) }
-    ensures limit { IfSome result (λ next. next < NUMBER_END) }
-{
-    let mut next = 1;
-    for number in numbers {
-        if *number >= NUMBER_END - 1 {
-            return None;
-        }
-        next = next.max(*number + 1);
-    }
-    Some(next)
 }
 
 /// The number for the next volume of this namespace and this start. Where that would be `NUMBER_END` or a higher one, memory is

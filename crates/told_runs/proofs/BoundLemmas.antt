@@ -5,13 +5,14 @@ use Rattle.std.specs.List.{flat_map}
 use Rattle.std.proofs.Math.Nat.{add-mul, mul-add, mul-le-mul_left}
 use Rattle.std.proofs.lemmas.Grind.{flat_map-append}
 use Rattle.std.proofs.lemmas.List.Sums.{sum_by-append}
-use Rattle.m3_model.specs.declared.limits.TheConstants.{MOST_EVENTS, MOST_REQUEST_EVENTS}
+use Rattle.m3_model.specs.declared.limits.TheConstants.{MOST_REQUEST_EVENTS}
 use Rattle.m3_model.specs.declared.turn.Turn.{Turn}
 use Rattle.cluster_core.specs.Lists.{At}
 use Rattle.cluster_core.proofs.ListLemmas.{at_some}
 use Rattle.transcripts.specs.Caused.{MayBeFull, acts_in, acts_taken, is_write}
 use Rattle.transcripts.specs.Record.{Record, TurnPlace, acts_of}
 use Rattle.told_causes.proofs.NameLemmas.{take_line}
+use Rattle.told_runs.specs.Answers.{MayLackRoom}
 use Rattle.told_runs.specs.Bounds.{IsBounded, writes_taken}
 
 -- what one more line adds
@@ -46,24 +47,23 @@ module _ (past : List Record) (turns : List Turn) (ends : ℕ → ℕ) (bounded 
       subst (λ n. ends (suc k) ≤ 2 + (MOST_REQUEST_EVENTS * n) * (most + 1)) (sym acts)
       (one_more (ends k) (ends (suc k)) MOST_REQUEST_EVENTS (length (acts_in (take k turns))) (length (acts_in (line.0 ∷ []))) (writes_taken past (take (suc k) turns)) most (events_within k most (omega (arith, high)) (omega (arith, grows, low))) (bounded k line.0 line.1) low)
 
--- one request more than were taken has room for the two events that open a list
-room_for_two : (requests writes : ℕ) → 2 + (MOST_REQUEST_EVENTS * requests) * (writes + 1) ≤ (MOST_REQUEST_EVENTS * (requests + 1)) * (writes + 1)
-room_for_two requests writes =
+-- what one request more than were taken may add
+room_for_one : (requests writes : ℕ) → (MOST_REQUEST_EVENTS * requests) * (writes + 1) + MOST_REQUEST_EVENTS ≤ (MOST_REQUEST_EVENTS * (requests + 1)) * (writes + 1)
+room_for_one requests writes =
     let split : (MOST_REQUEST_EVENTS * (requests + 1)) * (writes + 1) ≡ (MOST_REQUEST_EVENTS * requests) * (writes + 1) + (MOST_REQUEST_EVENTS * 1) * (writes + 1) =
     ap (λ x. x * (writes + 1)) (mul-add MOST_REQUEST_EVENTS requests 1) ∙ add-mul (MOST_REQUEST_EVENTS * requests) (MOST_REQUEST_EVENTS * 1) (writes + 1) in
     let one : 1 ≤ writes + 1 = omega arith in
     let some : (MOST_REQUEST_EVENTS * 1) * 1 ≤ (MOST_REQUEST_EVENTS * 1) * (writes + 1) = mul-le-mul_left (MOST_REQUEST_EVENTS * 1) one in
-    let two : 2 ≤ (MOST_REQUEST_EVENTS * 1) * 1 = omega arith in
-    omega (arith, split, some, two)
+    omega (arith, split, some)
 
--- where the list was full by the end of a turn's line, so many requests and writes were taken
+-- where the list may have lacked room by the end of a turn's line, so many requests and writes were taken
 pub full_by_many : (past : List Record) (turns : List Turn) (ends : ℕ → ℕ) → IsBounded past turns ends → ends 0 ≤ 2 → (p : TurnPlace) → take (suc (length p.lines)) turns ≡ p.lines ++ p.line ∷ [] → length p.lines < length turns
-    → (end : ℕ) → end ≤ ends (suc (length p.lines)) → MOST_EVENTS ≤ end → MayBeFull past p
+    → (end : ℕ) → end ≤ ends (suc (length p.lines)) → MayLackRoom end → MayBeFull past p
 full_by_many past turns ends bounded first p lines less end high full =
     let here = p.lines ++ p.line ∷ [] in
     let writes = writes_taken past here in
     let within : ends (suc (length p.lines)) ≤ 2 + (MOST_REQUEST_EVENTS * length (acts_in here)) * (writes + 1) =
     subst (λ ls. ends (suc (length p.lines)) ≤ 2 + (MOST_REQUEST_EVENTS * length (acts_in ls)) * (writes + 1)) lines
     (events_within past turns ends bounded first (suc (length p.lines)) writes less (subst (λ ls. writes_taken past ls ≤ writes) (sym lines) (omega arith))) in
-    let room = room_for_two (length (acts_in here)) writes in
+    let room = room_for_one (length (acts_in here)) writes in
     record { requests = length (acts_in here); requests_are = refl; writes = writes; writes_are = refl; many = omega (arith, within, room, high, full) }

@@ -1,13 +1,13 @@
 -- What a cluster's own look-ups decide of its answers, beside what its events tell: refusals that are due, answers of the act's own kind, the first placement,
 -- and which disks couldn't be taken.
-use Rattle.std.specs.Prelude.{◌≡◌, ◌⊎◌, ◌≤◌, ℕ, ⊤, List, ◌∷◌, ◌++◌, Option, Some, None, ◌<◌, length}
+use Rattle.std.specs.Prelude.{◌≡◌, ◌⊎◌, ◌+◌, ◌≤◌, ℕ, ⊤, List, ◌∷◌, ◌++◌, Option, Some, None, ◌<◌, length}
 use Rattle.m3_model.specs.Ascends.{Ascends}
 use Rattle.m3_model.specs.Members.{IsIn}
 use Rattle.m3_model.specs.declared.act.Act.{Act}
 use Rattle.m3_model.specs.declared.act.Act.TheVariants as act
 use Rattle.m3_model.specs.declared.answer.Answer.{Answer}
 use Rattle.m3_model.specs.declared.answer.Answer.TheVariants as answer
-use Rattle.m3_model.specs.declared.limits.TheConstants.{MOST_EVENTS}
+use Rattle.m3_model.specs.declared.limits.TheConstants.{MOST_EVENTS, MOST_REQUEST_EVENTS}
 use Rattle.m3_model.specs.declared.rules.MetaState.{MetaState}
 use Rattle.m3_model.specs.declared.turn.Turn.{Turn}
 use Rattle.placement_plan.specs.First.{IsInitial}
@@ -51,9 +51,13 @@ IsDecidedBy taking start p None = IsOfKind taking start p p.turn.act p.turn.answ
 abbrev pub IsDecided : List Fault → Option MetaState → TurnPlace → Type 0
 IsDecided taking start p = (turns : List InnerTurn) × IsAfter p turns × IsDecidedBy taking start p (refusal_after start p turns)
 
--- an answer for want of memory, one where the list was full by the end of the turn, or one that is decided
+-- a list of so many events may lack room for what one more request adds
+abbrev pub MayLackRoom : ℕ → Type 0
+MayLackRoom end = MOST_EVENTS + 2 ≤ end + MOST_REQUEST_EVENTS
+
+-- an answer for want of memory, one where the list may have lacked room by the end of the turn, or one that is decided
 abbrev pub IsAnswered : List Fault → Option MetaState → ℕ → TurnPlace → Type 0
-IsAnswered taking start end p = (p.turn.answer ≡ answer.Memory) ⊎ (((p.turn.answer ≡ answer.Full) × (MOST_EVENTS ≤ end)) ⊎ IsDecided taking start p)
+IsAnswered taking start end p = (p.turn.answer ≡ answer.Memory) ⊎ (((p.turn.answer ≡ answer.Full) × MayLackRoom end) ⊎ IsDecided taking start p)
 
 -- where the answer has outcomes, they are heard of these late messages, in the order in which they were made late
 abbrev pub HearsOf : Option MetaState → (ℕ → Event → Type 0) → TurnPlace → List LateMessage → Answer → Type 0
