@@ -1,0 +1,80 @@
+//! The texts of replies to writes and to reads: compact JSON with its keys in ascending order, and no newline.
+ghost use Rattle.std.specs.Prelude.{◌≡◌, ◌≤◌, ◌++◌, [], Some, IfOk, OnOk, string_bytes};
+ghost use Rattle.json.specs.Lex.{tokens};
+ghost use Rattle.json.specs.Print.{print};
+ghost use Rattle.serde_json.specs.Data.{depth};
+ghost use Rattle.serde_json.specs.Read.{read, max_depth};
+ghost use Rattle.serde_json.specs.Written.{compact_text};
+ghost use Rattle.reply_values.specs.Json.{object_of};
+ghost use Rattle.reply_texts.specs.Tokens.{tokens_of, Reads};
+ghost use Rattle.reply_texts.specs.Texts.{acks_fields, found_fields};
+
+use crate::tokens::{put_list, write_flag};
+use json::Writer;
+use m3_model::placement::Instance;
+use m3_model::point::Series;
+use std::alloc::{AllocError, Global};
+
+// Room for a reply to a write.
+const ROOM: usize = 128;
+
+fn write_acks(acks: &[u8], instances: &[Instance], out: &mut Writer) -> Result<(), AllocError>
+    ensures tokens { OnOk result (out.new.tokens ≡ out.old.tokens ++ tokens_of (object_of (acks_fields instances.now acks.now))) }
+    ensures reads { OnOk result (Reads (object_of (acks_fields instances.now acks.now))) }
+    ensures before { out.new.before ≡ out.old.before }
+{
+    out.begin_object()?;
+    put_list("acks", acks, instances, out)?;
+    write_flag("ok", true, out)?;
+    out.end_object()
+}
+
+fn write_found(
+    series: &[Series],
+    short: bool,
+    instances: &[Instance],
+    out: &mut Writer,
+) -> Result<(), AllocError>
+    ensures tokens { OnOk result (out.new.tokens ≡ out.old.tokens ++ tokens_of (object_of (found_fields series.now short))) }
+    ensures reads { OnOk result (Reads (object_of (found_fields series.now short))) }
+    ensures before { out.new.before ≡ out.old.before }
+{
+    out.begin_object()?;
+    write_flag("ok", true, out)?;
+    put_list("series", series, instances, out)?;
+    write_flag("short", short, out)?;
+    out.end_object()
+}
+
+fn text_of(out: Writer) -> String
+    requires whole { out.before ≡ [] }
+    ensures text { string_bytes result ≡ print out.tokens }
+    ensures tokens { tokens (string_bytes result) ≡ out.tokens }
+{
+    String::from_utf8(out.into_inner()).unwrap()
+}
+
+/// These nodes took a write.
+pub fn acks_text(alloc: Global, instances: &[Instance], acks: &[u8]) -> Result<String, AllocError>
+    ensures text { IfOk result (λ text. string_bytes text ≡ compact_text (object_of (acks_fields instances.now acks.now))) }
+    ensures reads_back { IfOk result (λ text. depth (object_of (acks_fields instances.now acks.now)) ≤ max_depth → read (string_bytes text) ≡ Some (object_of (acks_fields instances.now acks.now))) }
+{
+    let mut out = Writer::new(Vec::with_capacity(alloc, ROOM)?);
+    write_acks(acks, instances, &mut out)?;
+    Ok(text_of(out))
+}
+
+/// These series were read.
+pub fn found_text(
+    alloc: Global,
+    instances: &[Instance],
+    series: &[Series],
+    short: bool,
+) -> Result<String, AllocError>
+    ensures text { IfOk result (λ text. string_bytes text ≡ compact_text (object_of (found_fields series.now short))) }
+    ensures reads_back { IfOk result (λ text. depth (object_of (found_fields series.now short)) ≤ max_depth → read (string_bytes text) ≡ Some (object_of (found_fields series.now short))) }
+{
+    let mut out = Writer::new(Vec::with_capacity(alloc, ROOM)?);
+    write_found(series, short, instances, &mut out)?;
+    Ok(text_of(out))
+}
