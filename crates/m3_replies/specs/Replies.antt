@@ -1,6 +1,6 @@
 -- The texts of replies.
-use Rattle.std.specs.Prelude.{ℕ, List, [], ◌∷◌, true, Option, codes}
-use Rattle.serde_json.specs.Data.{Data, boolean}
+use Rattle.std.specs.Prelude.{ℕ, List, [], ◌∷◌, Option, codes}
+use Rattle.serde_json.specs.Data.{Data}
 use Rattle.serde_json.specs.Written.{compact_text}
 use Rattle.m3_model.specs.declared.answer.Answer.{Answer}
 use Rattle.m3_model.specs.declared.answer.Answer.TheVariants as answer
@@ -10,24 +10,20 @@ use Rattle.m3_model.specs.declared.turn.Reply.{Reply}
 use Rattle.m3_model.specs.declared.turn.Reply.TheVariants as reply
 use Rattle.reply_values.specs.Json.{object_of, list_of, natural}
 use Rattle.reply_values.specs.Refusals.{plain_fields, unknown_fields, limit_fields, clock_fields, replica_fields, group_fields, state_fields, corrupt_fields}
-use Rattle.reply_items.specs.Names.{instances_of, node_data}
+use Rattle.reply_items.specs.Names.{instances_of}
 use Rattle.reply_items.specs.Outcomes.{outcome_data, merged_data, swept_data, failed_data}
 use Rattle.reply_items.specs.Placements.{placement_data}
 use Rattle.reply_items.specs.Repairs.{repair_data}
-use Rattle.reply_items.specs.Series.{series_data}
+use Rattle.reply_texts.specs.Texts.{ok_field, acks_fields, found_fields}
 use Rattle.m3_replies.specs.Shortfalls.{quorum_fields}
 use Rattle.reply_items.specs.Statuses.{status_data}
-
--- the field that says that a request was served
-abbrev pub ok_field : List ℕ × Data
-ok_field = (codes "ok", boolean true)
 
 -- the fields of the answer to one request, in the order of their keys
 abbrev pub answer_fields : List Instance → Answer → List (List ℕ × Data)
 answer_fields instances answer.Done = ok_field ∷ []
 answer_fields instances (answer.Placed placement version) = ok_field ∷ (codes "placement", placement_data placement) ∷ (codes "version", natural version) ∷ []
-answer_fields instances (answer.Acks acks) = (codes "acks", list_of (node_data instances) acks) ∷ ok_field ∷ []
-answer_fields instances (answer.Found series short) = ok_field ∷ (codes "series", list_of series_data series) ∷ (codes "short", boolean short) ∷ []
+answer_fields instances (answer.Acks acks) = acks_fields instances acks
+answer_fields instances (answer.Found series short) = found_fields series short
 answer_fields instances (answer.Outcomes outcomes) = ok_field ∷ (codes "outcomes", list_of (outcome_data instances) outcomes) ∷ []
 answer_fields instances (answer.Available available placement version) =
     (codes "available", list_of (merged_data instances) available) ∷ ok_field ∷ (codes "placement", placement_data placement) ∷ (codes "version", natural version) ∷ []

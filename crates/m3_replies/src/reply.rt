@@ -1,7 +1,8 @@
-ghost use Rattle.std.specs.Prelude.{◌≡◌, IfOk, Some};
+ghost use Rattle.std.specs.Prelude.{◌≡◌, IfOk, Some, string_bytes};
 ghost use Rattle.std.specs.Option.{option_copied};
 ghost use Rattle.serde_json.specs.Read.{read};
 ghost use Rattle.serde_json.specs.View.{view};
+ghost use Rattle.serde_json.specs.Written.{compact_text};
 ghost use Rattle.reply_items.specs.Names.{instances_of};
 ghost use Rattle.reply_values.specs.Json.{list_of};
 ghost use Rattle.m3_replies.specs.Replies.{answer_data, answers_data, reply_data, reply_text};
@@ -18,6 +19,7 @@ use m3_model::seq::Seq;
 use m3_model::text::Text;
 use m3_model::turn::Reply;
 use reply_items::names::instances_of;
+use reply_texts::texts::{acks_text, found_text};
 use reply_values::fields::{put_bool, put_value};
 use reply_values::refusal::{
     clock_value, corrupt_value, group_value, limit_value, plain_value, replica_value, state_value,
@@ -147,6 +149,28 @@ fn reply_value(alloc: Global, instances: &[Instance], reply: &Reply) -> Result<V
     }
 }
 
+fn built_text(alloc: Global, instances: &[Instance], reply: &Reply) -> Result<String, AllocError>
+    ensures text { IfOk result (λ text. string_bytes text ≡ compact_text (reply_data instances.now reply.now)) }
+    ensures reads_back { IfOk result (λ text. read (string_bytes text) ≡ Some (reply_data instances.now reply.now)) }
+{
+    let value = reply_value(alloc, instances, reply)?;
+    value.to_string(alloc)
+}
+
+// What most replies are is written at once; of another one a value is built first.
+fn text_of(alloc: Global, instances: &[Instance], reply: &Reply) -> Result<String, AllocError>
+    ensures text { IfOk result (λ text. string_bytes text ≡ compact_text (reply_data instances.now reply.now)) }
+    ensures reads_back { IfOk result (λ text. read (string_bytes text) ≡ Some (reply_data instances.now reply.now)) }
+{
+    match reply {
+        Reply::One(Answer::Acks { acks }) => acks_text(alloc, instances, acks.as_slice()),
+        Reply::One(Answer::Found { series, short }) => {
+            found_text(alloc, instances, series.as_slice(), *short)
+        }
+        _ => built_text(alloc, instances, reply),
+    }
+}
+
 /// The line of a reply: compact JSON with its keys in ascending order, and no newline.
 ///
 /// Nodes that the reply has as numbers get their names from the placement's instances, and empty
@@ -155,7 +179,6 @@ pub fn print_reply(alloc: Global, reply: &Reply, place: Option<&Placement>) -> R
     ensures text { IfOk result (λ text. text ≡ reply_text (option_copied place.entry) reply.now) }
     ensures reads_back { IfOk result (λ text. read text ≡ Some (reply_data (instances_of (option_copied place.entry)) reply.now)) }
 {
-    let value = reply_value(alloc, instances_of(place), reply)?;
-    let text = value.to_string(alloc)?;
+    let text = text_of(alloc, instances_of(place), reply)?;
     Ok(Text::from_string(text))
 }
