@@ -1,0 +1,8 @@
+//! A cluster that stands: what its calls meet, and what it answers of namespaces, of the moment and of clients' calls.
+#![tactic(auto)]
+
+pub mod calls;
+mod clock;
+pub mod members;
+pub mod rules;
+mod spaces;

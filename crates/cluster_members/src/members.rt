@@ -1,0 +1,20 @@
+ghost use Rattle.std.specs.Prelude.{◌≡◌, ◌≤◌, ◌<◌, ◌*◌, length};
+ghost use Rattle.m3_model.specs.declared.limits.TheConstants.{MOST_NAMESPACES, MOST_NODES, MOST_SHARDS, TIME_END};
+
+use m3_outside::disk::Disk;
+use replica_calls::slot::Slot;
+use session_net::net::Net;
+
+/// A cluster that stands: what its calls meet, the slots that have a replica by shard, and which of its nodes are stopped.
+#[derive(Drop)]
+pub struct Members<D: Disk> {
+    pub net: Net<D>,
+    pub slots: Vec<Slot>,
+    /// By the number of the node.
+    pub stopped: Vec<bool>,
+    ghost few: { length net.state.rules.spaces ≤ MOST_NAMESPACES },
+    ghost moment: { net.state.rules.now < TIME_END },
+    ghost few_nodes: { length net.state.place.instances ≤ MOST_NODES },
+    ghost few_slots: { length slots.items ≤ MOST_NODES * MOST_SHARDS },
+    ghost one_each: { length stopped.items ≡ length net.state.place.instances },
+}
