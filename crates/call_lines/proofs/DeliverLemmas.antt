@@ -228,7 +228,7 @@ module _ (tells : Bool) (events puts : List Event) (rules : Rules) (legal : Lega
 delivered_plain : (outcomes : List (ℕ × ℕ × Option Reason)) → IsPlain act.Deliver (answer.Outcomes outcomes)
 delivered_plain outcomes = record { no_acks = λ nodes e. cc; not_unmet = λ h. h; no_found = refl; no_rules = refl; no_seed = refl }
 
-prints_none : (turns : List Turn) (events : List Event) (b : Answer) → printed b ≡ None → PrintsPlace turns events b
+pub prints_none : (turns : List Turn) (events : List Event) (b : Answer) → printed b ≡ None → PrintsPlace turns events b
 prints_none turns events b none = record {
   is_place = λ place e. absurd (let bad : None ≡ Some place = sym none ∙ e in cc);
   not_earlier = λ p at was is e f. absurd (let bad : None ≡ Some is = sym none ∙ f in cc);
@@ -330,10 +330,10 @@ hears_nothing start events Here p _ answer.Memory h = tt
 hears_nothing start events Here p _ answer.Full h = tt
 hears_nothing start events Here p a _ h = absurd h
 
-none_behind : (events : List Event) (i : ℕ) (e : Event) → length events ≤ i → At (events ++ []) i e → ⊥
+pub none_behind : (events : List Event) (i : ℕ) (e : Event) → length events ≤ i → At (events ++ []) i e → ⊥
 none_behind events i e le at = let m : IsIn [] e = among_back events [] i e at le in m
 
-nothing_at : (i : ℕ) (e : Event) → At [] i e → ⊥
+pub nothing_at : (i : ℕ) (e : Event) → At [] i e → ⊥
 nothing_at i e at = at_in [] i e at
 
 gives_no_boot : (b : Answer) → IsGivenUp b → (available : List (ℕ × List ℕ)) (place : Placement) (version : ℕ) → b ≡ answer.Available available place version → ⊥

@@ -1,6 +1,6 @@
 -- The fields are what the turns left, one turn on.
 use Rattle.std.proofs.Common.{◌≡◌, ℕ, zero, suc, ◌≤◌, List, [], ◌∷◌, ◌++◌, drop, take, map, length, refl, sym, ap, subst, ◌∙◌, inl, inr, arith, Bool, true, false, cond, append_assoc}
-use Rattle.std.specs.Prelude.{◌⊎◌, Option, Some, IsTrue, filter, nat_eq}
+use Rattle.std.specs.Prelude.{◌⊎◌, Option, Some, None, IsTrue, filter, nat_eq}
 use Rattle.std.proofs.lemmas.Grind.{fold-append}
 use Rattle.std.proofs.lemmas.List.{append-nil, take-map}
 use Rattle.m3_model.specs.Ascends.{Ascends}
@@ -17,6 +17,7 @@ use Rattle.m3_model.specs.declared.placement.Placement.{Placement}
 use Rattle.m3_model.specs.declared.point.Point.{Point}
 use Rattle.m3_model.specs.declared.rules.MetaState.{MetaState}
 use Rattle.m3_model.specs.declared.rules.Rules.{Rules}
+use Rattle.m3_model.specs.declared.turn.Reply.TheVariants as reply
 use Rattle.m3_model.specs.declared.turn.Request.TheVariants as request
 use Rattle.m3_model.specs.declared.turn.Turn.{Turn}
 use Rattle.m3_model.proofs.MemberLemmas.{IsIn-append_cases, IsIn-map, map-IsIn}
@@ -33,7 +34,7 @@ use Rattle.session_net.specs.declared.net.Net.{Net}
 use Rattle.told_by.specs.Lines.{place_after}
 use Rattle.told_by.proofs.LineLemmas.{line_below, place_last, place_stays}
 use Rattle.told_by.proofs.OneLemmas.{is_last}
-use Rattle.told_by.proofs.RuleLemmas.{after_lines}
+use Rattle.told_by.proofs.RuleLemmas.{Grows, after_grows, after_lines, point_grows}
 use Rattle.told_by.proofs.TurnLemmas.{inner-append}
 use Rattle.transcripts.specs.Calls.{call_of}
 use Rattle.transcripts.specs.Deliveries.{IsLateBefore, LateMessage, delivers_nothing, shard_of_message}
@@ -41,7 +42,7 @@ use Rattle.transcripts.specs.Fates.{calls_in, client_acts, fates_set, fate_in, n
 use Rattle.transcripts.specs.Placements.{has_replica, later_placement, placement_after, printed, seed_after, seed_by, start_placement}
 use Rattle.transcripts.specs.Points.{point_of, was_sent}
 use Rattle.transcripts.specs.Record.{IsTurnPlace, inner_turns, line_of}
-use Rattle.transcripts.specs.Rules.{rules_after, start_rules}
+use Rattle.transcripts.specs.Rules.{rules_after, rules_by, start_rules}
 use Rattle.call_lines.specs.Keeps.{FieldsStay, LeftAsBefore, LeftByDelivery, LeftByWrite, SetsNothing}
 use Rattle.call_lines.specs.Laws.{IsWrite}
 use Rattle.call_lines.specs.Left.{AreHeldBack, FareAsSet, HoldsBack, IsHeldBack, IsLeftBy}
@@ -52,54 +53,43 @@ use Rattle.call_lines.proofs.WriteLemmas.{fate_here, may_use, number_here}
 
 -- ---- one turn on
 
-module _ (start : Option MetaState) (turns : List Turn) (a : Act) (b : Answer) (sets : SetsNothing a b) where
+-- behind an earlier place, one line more
+drop_on : {X : Type 0} (k : ℕ) (xs : List X) (x y : X) → IsIn (drop k (xs ++ x ∷ [])) y → IsIn (drop k xs) y ⊎ (x ≡ y)
+drop_on zero xs x y i = elim (IsIn-append_cases xs (x ∷ []) y i) as (λ _. IsIn xs y ⊎ (x ≡ y)) [ inl before ↦ inl before | inr last ↦ elim last as (λ _. IsIn xs y ⊎ (x ≡ y)) [ inl same ↦ inr same | inr none ↦ absurd none ] ]
+drop_on {X} (suc k) [] x y i = absurd (none_left k i)
+  where
+    none_left : (k : ℕ) → IsIn (drop k []) y → ⊥
+    none_left zero i = i
+    none_left (suc k) i = i
+drop_on (suc k) (z ∷ xs) x y i = drop_on k xs x y i
+
+module _ (start : Option MetaState) (turns : List Turn) (a : Act) (b : Answer) where
   abbrev pub longer : List Turn
   longer = turns ++ line_of a b ∷ []
 
-  pub rules_on : rules_after (start_rules start) (inner_turns longer) ≡ rules_after (start_rules start) (inner_turns turns)
-  rules_on = after_lines (start_rules start) turns (line_of a b ∷ []) ∙ sets.rules (rules_after (start_rules start) (inner_turns turns))
+  pub rules_next : rules_after (start_rules start) (inner_turns longer) ≡ rules_by a b (rules_after (start_rules start) (inner_turns turns))
+  rules_next = after_lines (start_rules start) turns (line_of a b ∷ [])
 
-  place_on : placement_after (start_placement start) (inner_turns longer) ≡ placement_after (start_placement start) (inner_turns turns)
-  place_on =
+  pub place_next : printed b ≡ None → placement_after (start_placement start) (inner_turns longer) ≡ placement_after (start_placement start) (inner_turns turns)
+  place_next none =
       ap (placement_after (start_placement start)) (inner-append turns (line_of a b ∷ [])) ∙ fold-append (λ p turn. later_placement (printed turn.answer) p) (start_placement start) (inner_turns turns) (inner_turns (line_of a b ∷ []))
-      ∙ ap (λ o. later_placement o (placement_after (start_placement start) (inner_turns turns))) sets.place
+      ∙ ap (λ o. later_placement o (placement_after (start_placement start) (inner_turns turns))) none
 
-  pub seed_on : seed_after start (inner_turns longer) ≡ seed_after start (inner_turns turns)
-  seed_on = ap (seed_after start) (inner-append turns (line_of a b ∷ [])) ∙ fold-append (λ seed turn. seed_by turn.act turn.answer seed) (seed_after start []) (inner_turns turns) (inner_turns (line_of a b ∷ [])) ∙ sets.seed (seed_after start (inner_turns turns))
+  pub seed_next : seed_after start (inner_turns longer) ≡ seed_by a b (seed_after start (inner_turns turns))
+  seed_next = ap (seed_after start) (inner-append turns (line_of a b ∷ [])) ∙ fold-append (λ seed turn. seed_by turn.act turn.answer seed) (seed_after start []) (inner_turns turns) (inner_turns (line_of a b ∷ []))
 
-  fates_on : (numbering_after 0 longer).fates ≡ (numbering_after 0 turns).fates
-  fates_on =
-      ap (λ n. n.fates) (fold-append (λ before line. numbering_by (fates_set line.request line.reply) (calls_in (client_acts 0 line.request)) before) (record { fates = []; calls = 0 }) turns (line_of a b ∷ []))
-      ∙ ap (λ o. (numbering_by o (calls_in (client_acts 0 (request.One a))) (numbering_after 0 turns)).fates) sets.fates
+  pub numbering_next : numbering_after 0 longer ≡ numbering_by (fates_set (request.One a) (reply.One b)) (calls_in (client_acts 0 (request.One a))) (numbering_after 0 turns)
+  numbering_next = fold-append (λ before line. numbering_by (fates_set line.request line.reply) (calls_in (client_acts 0 line.request)) before) (record { fates = []; calls = 0 }) turns (line_of a b ∷ [])
 
-  -- all but the bag
-  pub left_on : {D : Type 0} {ghosts : Ghosts D} (old new : Net D ghosts) → IsLeftBy start turns old → FieldsStay old new → HoldsBack start longer new.bag → IsLeftBy start longer new
-  left_on {D} {ghosts} old new left stay late = record {
-    rules = rules_on ∙ left.rules ∙ ap (λ s. s.rules) (sym stay.state);
-    place = place_on ∙ left.place ∙ ap (λ s. Some s.place) (sym stay.state);
-    seed = seed_on ∙ left.seed ∙ ap (λ s. s.seed) (sym stay.state);
-    fates = subst (λ s. FareAsSet longer s.place new.fates) (sym stay.state) (subst (FareAsSet longer old.state.place) (sym stay.fates) (λ client call node own stands. left.fates client call node own stands ∙ ap (λ list. fate_in list client call own.name) (sym fates_on)));
-    late = late;
-  }
-
-  -- behind an earlier place, one line more
-  drop_on : {X : Type 0} (k : ℕ) (xs : List X) (x y : X) → IsIn (drop k (xs ++ x ∷ [])) y → IsIn (drop k xs) y ⊎ (x ≡ y)
-  drop_on zero xs x y i = elim (IsIn-append_cases xs (x ∷ []) y i) as (λ _. IsIn xs y ⊎ (x ≡ y)) [ inl before ↦ inl before | inr last ↦ elim last as (λ _. IsIn xs y ⊎ (x ≡ y)) [ inl same ↦ inr same | inr none ↦ absurd none ] ]
-  drop_on (suc k) [] x y i = absurd (none_left k i)
-    where
-      none_left : (k : ℕ) → IsIn (drop k []) y → ⊥
-      none_left zero i = i
-      none_left (suc k) i = i
-  drop_on (suc k) (z ∷ xs) x y i = drop_on k xs x y i
-
+  -- a late message stays late while none are delivered
   module _ (quiet : IsTrue (delivers_nothing (line_of a b))) where
-    -- a late message stays late while none are delivered
     held_on : (message : LateMessage) (late : LateWrite) → IsHeldBack start turns message late → IsHeldBack start longer message late
     held_on message late h = record {
       made = place_stays turns (line_of a b) message.place h.made;
       is_late = (let was = h.is_late in record {
         made = inl (place_stays turns (line_of a b) message.place h.made);
-        of_act = ap (λ (r : Rules). point_of r.spaces message.place.turn.act) rules_on ∙ was.of_act;
+        of_act = point_grows (rules_after (start_rules start) (inner_turns turns)).spaces (rules_after (start_rules start) (inner_turns longer)).spaces
+            (subst (λ (r : Rules). Grows (rules_after (start_rules start) (inner_turns turns)).spaces r.spaces) (sym rules_next) (after_grows (rules_after (start_rules start) (inner_turns turns)) (inner_turns (line_of a b ∷ [])))) message.place.turn.act message.point was.of_act;
         was_sent = was.was_sent;
         call = was.call;
         of_call = was.of_call;
@@ -125,9 +115,34 @@ module _ (start : Option MetaState) (turns : List Turn) (a : Act) (b : Answer) (
     all_held_on [] (late ∷ bag) h = absurd h
     all_held_on (message ∷ messages) [] h = absurd h
 
+    -- so all are held back that were
+    pub holds_on : (bag : List LateWrite) → HoldsBack start turns bag → HoldsBack start longer bag
+    holds_on bag h = record { messages = h.messages; in_order = h.in_order; held = all_held_on h.messages bag h.held }
+
+module _ (start : Option MetaState) (turns : List Turn) (a : Act) (b : Answer) (sets : SetsNothing a b) where
+  pub rules_on : rules_after (start_rules start) (inner_turns (longer start turns a b)) ≡ rules_after (start_rules start) (inner_turns turns)
+  rules_on = rules_next start turns a b ∙ sets.rules (rules_after (start_rules start) (inner_turns turns))
+
+  pub seed_on : seed_after start (inner_turns (longer start turns a b)) ≡ seed_after start (inner_turns turns)
+  seed_on = seed_next start turns a b ∙ sets.seed (seed_after start (inner_turns turns))
+
+  pub fates_on : (numbering_after 0 (longer start turns a b)).fates ≡ (numbering_after 0 turns).fates
+  fates_on = ap (λ n. n.fates) (numbering_next start turns a b) ∙ ap (λ o. (numbering_by o (calls_in (client_acts 0 (request.One a))) (numbering_after 0 turns)).fates) sets.fates
+
+  -- all but the bag
+  pub left_on : {D : Type 0} {ghosts : Ghosts D} (old new : Net D ghosts) → IsLeftBy start turns old → FieldsStay old new → HoldsBack start (longer start turns a b) new.bag → IsLeftBy start (longer start turns a b) new
+  left_on {D} {ghosts} old new left stay late = record {
+    rules = rules_on ∙ left.rules ∙ ap (λ s. s.rules) (sym stay.state);
+    place = place_next start turns a b sets.place ∙ left.place ∙ ap (λ s. Some s.place) (sym stay.state);
+    seed = seed_on ∙ left.seed ∙ ap (λ s. s.seed) (sym stay.state);
+    fates = subst (λ s. FareAsSet (longer start turns a b) s.place new.fates) (sym stay.state)
+        (subst (FareAsSet (longer start turns a b) old.state.place) (sym stay.fates) (λ client call node own stands. left.fates client call node own stands ∙ ap (λ list. fate_in list client call own.name) (sym fates_on)));
+    late = late;
+  }
+
 pub left_as_before : {D : Type 0} {ghosts : Ghosts D} (old : Net D ghosts) → LeftAsBefore old
 left_as_before {D} {ghosts} old start turns new a b left stay sets quiet same = left_on start turns a b sets old new left stay
-    (subst (HoldsBack start (turns ++ line_of a b ∷ [])) (sym same) (record { messages = (left.late).messages; in_order = (left.late).in_order; held = all_held_on start turns a b sets quiet (left.late).messages old.bag (left.late).held }))
+    (subst (HoldsBack start (turns ++ line_of a b ∷ [])) (sym same) (holds_on start turns a b quiet old.bag left.late))
 
 pub left_by_delivery : {D : Type 0} {ghosts : Ghosts D} (old : Net D ghosts) → LeftByDelivery old
 left_by_delivery {D} {ghosts} old start turns new a b left stay sets none = left_on start turns a b sets old new left stay (subst (HoldsBack start (turns ++ line_of a b ∷ [])) (sym none) (record { messages = []; in_order = tt; held = tt }))
@@ -228,7 +243,7 @@ module _ {D : Type 0} {ghosts : Ghosts D} (start : Option MetaState) (turns : Li
           may_use = may_use start turns old id w.left w.next a b w.version w.uses;
           member = subst (λ s. IsTrue (has_replica (Some place) s n)) to_shard (node_replica place shard n m);
           late = record { instance_ = own.0; stands = own.1; holds = sym (fate_here start turns old id w.left w.next a b n own.0 own.1) ∙ late_by (fate_to old.fates id n) late };
-          not_yet = λ line i. elim (drop_on start turns a b sets (suc (length turns)) turns (line_of a b) line i) as (λ _. IsTrue (delivers_nothing line)) [
+          not_yet = λ line i. elim (drop_on (suc (length turns)) turns (line_of a b) line i) as (λ _. IsTrue (delivers_nothing line)) [
             | inl none ↦ absurd (none_behind (suc (length turns)) turns (omega arith) line none)
             | inr same ↦ subst (λ l. IsTrue (delivers_nothing l)) same quiet
           ];
@@ -251,7 +266,7 @@ module _ {D : Type 0} {ghosts : Ghosts D} (start : Option MetaState) (turns : Li
       let some = filled_with old.bag (map late_one late_nodes) in
       let first = take some.0 late_nodes in
       let messages = (w.left.late).messages in
-      let was = all_held_on start turns a b sets quiet messages old.bag (w.left.late).held in
+      let was = all_held_on start turns a b quiet messages old.bag (w.left.late).held in
       let ordered : Ascends (IsNamedBelow place) nodes = ascends-map (IsNamedBelow place) (λ (x : Assignment). x.node) (take k members) (ascends_take (λ (x y : Assignment). IsNamedBelow place x.node y.node) k members (are.by_name (w.ready).lawful)) in
       let members_in : (n : ℕ) → IsIn nodes n → IsIn (nodes_of (shard_at place shard)) n = λ n m.
       let x = IsIn-map (λ (y : Assignment). y.node) (take k members) n m in

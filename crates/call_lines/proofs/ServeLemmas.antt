@@ -4,12 +4,12 @@ use Rattle.std.specs.Prelude.{◌⊎◌, Option, if◌then◌else◌}
 use Rattle.std.proofs.lemmas.List.{append-nil}
 use Rattle.std.proofs.lemmas.List.Sorted.{length_permutation}
 use Rattle.std.proofs.Math.Nat.{mul-le-mul_left}
-use Rattle.std.proofs.lemmas.Bool.{le-ltb, lt-ltb}
+use Rattle.std.proofs.lemmas.Bool.{cases_lt, le-ltb, lt-ltb}
 use Rattle.m3_model.specs.Members.{IsIn}
 use Rattle.m3_model.specs.declared.act.Act.{Act}
 use Rattle.m3_model.specs.declared.answer.Answer.{Answer}
 use Rattle.m3_model.specs.declared.answer.Answer.TheVariants as answer
-use Rattle.m3_model.specs.declared.limits.TheConstants.{MOST_REQUEST_EVENTS}
+use Rattle.m3_model.specs.declared.limits.TheConstants.{MOST_EVENTS, MOST_REQUEST_EVENTS}
 use Rattle.m3_model.specs.declared.placement.Placement.{Placement}
 use Rattle.m3_model.specs.declared.reason.Reason.TheVariants as reason
 use Rattle.m3_model.specs.declared.rules.MetaState.{MetaState}
@@ -27,7 +27,8 @@ use Rattle.told_by.specs.Hears.{InStretch}
 use Rattle.told_by.specs.Lines.{place_after}
 use Rattle.told_by.proofs.LineLemmas.{line_below}
 use Rattle.told_by.proofs.OneLemmas.{among_back}
-use Rattle.told_runs.specs.Answers.{HearsOf, IsAnswered, IsDecidedBy, IsOfKind}
+use Rattle.replica_calls.specs.Calls.{HasRoom}
+use Rattle.told_runs.specs.Answers.{HearsOf, IsAnswered, IsDecidedBy, IsOfKind, MayLackRoom}
 use Rattle.told_runs.specs.Bounds.{writes_taken}
 use Rattle.told_runs.specs.Lines.{AddsInOrder, OpensNext, PrintsByInit, ServesOne, delivered_on}
 use Rattle.transcripts.specs.Caused.{acts_in}
@@ -49,6 +50,14 @@ few_members place lawful s members same = let long = length_permutation (shard_a
         let there = at_in place.shards s (shard_at place s) (shard_there place.shards s a (subst (λ xs. IsIn xs a) (sym is) (inl refl))) in
         let rf = (lawful.limits).few_replicas in
         elim (lawful.shards (shard_at place s) there).replicas as (λ _. length (shard_at place s) ≤ 6) [ inl steady ↦ (let many = steady.1 in omega (arith, many, rf)) | inr moving ↦ (let many = moving.1 in omega (arith, many, rf)) ]
+
+-- where the list has no room for so few more events, it may lack room for a request
+pub may_lack : (n : ℕ) (events : List Event) → n + 2 ≤ MOST_REQUEST_EVENTS → ¬ HasRoom n events → MayLackRoom (length events)
+may_lack n events few none =
+    elim (cases_lt MOST_EVENTS (length events + n)) as (λ _. MayLackRoom (length events)) [
+      | inl over ↦ omega (arith, over, few)
+      | inr fits ↦ absurd (none (omega (arith, fits)))
+    ]
 
 -- ---- late messages
 

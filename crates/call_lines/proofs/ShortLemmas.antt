@@ -26,9 +26,9 @@ use Rattle.cluster_core.proofs.ListLemmas.{at_append, at_in, some_same}
 use Rattle.placement_core.specs.Shards.{counted, shard_at}
 use Rattle.replica_calls.specs.declared.call_id.CallId.{CallId}
 use Rattle.session_net.specs.Outcomes.{answering}
-use Rattle.session_net.specs.Reads.{ShardRead, Wish, asked_shards, read_of as read_call, start_of, told_in}
+use Rattle.session_net.specs.Reads.{ShardRead, Wish, asked_shards, most_added, read_of as read_call, start_of, told_in}
 use Rattle.session_net.specs.declared.net.Net.{Net}
-use Rattle.told_runs.specs.Answers.{HearsOf, IsOfKind}
+use Rattle.told_runs.specs.Answers.{HearsOf, IsOfKind, MayLackRoom}
 use Rattle.told_by.specs.Hears.{HearsBy, HearsShard, InStretch}
 use Rattle.told_by.specs.Lines.{IsCutShort, ReadLine, place_after}
 use Rattle.told_by.specs.Makes.{MayMake}
@@ -45,6 +45,7 @@ use Rattle.session_net.specs.Reads.{IsStopped, WereRead, IsCutShort as IsCut}
 use Rattle.m3_model.proofs.MemberLemmas.{IsIn-append_left, IsIn-append_right}
 use Rattle.call_lines.specs.ReadLaws.{EndedTells, FullTells}
 use Rattle.call_lines.specs.Laws.{IsGivenUp}
+use Rattle.call_lines.proofs.ServeLemmas.{delivered_so, may_lack, serves_so}
 use Rattle.call_lines.proofs.DeliverLemmas.{finds_nothing, gives_no_acks, hears_nothing, prints_nothing}
 
 -- ---- some first ones
@@ -208,6 +209,25 @@ pub ended_tells : {D : Type 0} {ghosts : Ghosts D} (state : D → DiskState) (ol
 ended_tells {D} {ghosts} state old start turns new id a w level r (inl h) = stopped state start turns old new id a w level r h
 ended_tells {D} {ghosts} state old start turns new id a w level r (inr h) = cut_short state start turns old new id a w level r h
 
+-- before a shard for which the list has no room
 pub full_tells : {D : Type 0} {ghosts : Ghosts D} (state : D → DiskState) (old : Net D ghosts) → FullTells state old
 full_tells {D} {ghosts} state old start turns new id a w level r h =
-    (h.events ++ [], (h.ran).grew ∙ ap (λ es. old.replicas.events ++ es) (sym (append-nil h.events)), stopped_line state start turns old new id a w level r answer.Full tt h.before (h.here ∷ h.after) h.reads h.events h.were)
+    let events = old.replicas.events in
+    let more = h.events ++ [] in
+    let grew : new.replicas.events ≡ events ++ more = (h.ran).grew ∙ ap (λ es. events ++ es) (sym (append-nil h.events)) in
+    let is_calm = calm start turns old id a w level r answer.Full h.reads h.before h.events [] (h.were).are (λ e m. absurd m) in
+    let fits : length more ≤ MOST_REQUEST_EVENTS =
+    (let few = few_read start turns old id a w level r answer.Full h.reads h.before (length events) h.events (h.were).are in
+    let most = few_shards start turns old id a w level r answer.Full in
+    let parts : length (asked_shards old.state w.pick) ≡ length h.before + length (h.here ∷ h.after) = ap length (h.were).asked ∙ length-append h.before (h.here ∷ h.after) in
+    let long = length-append h.events [] in
+    omega (arith, few, most, parts, long)) in
+    let six = few_nodes start turns old id a w level r answer.Full h.here h.nodes (h.counted).same in
+    let lacks : MayLackRoom (length (events ++ more)) = subst (λ es. MayLackRoom (length es)) grew (may_lack (most_added h.nodes) new.replicas.events (omega (arith, six)) h.no_room) in
+    record {
+      more = more;
+      grew = grew;
+      line = stopped_line state start turns old new id a w level r answer.Full tt h.before (h.here ∷ h.after) h.reads h.events h.were;
+      serves = serves_so start turns events a answer.Full more is_calm fits (λ is place e. absurd (let bad : None ≡ Some place = e in cc)) [] tt (λ x m. absurd m) (inr (inl (refl, lacks)));
+      delivered = delivered_so turns a answer.Full [] (λ x m. absurd m);
+    }

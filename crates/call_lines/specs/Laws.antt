@@ -58,6 +58,14 @@ pub record LeavesLine {D : Type 0} {ghosts : Ghosts D} (Line : Kind) (start : Op
   pub serves : IsNotRefused start turns a b → (tells : Bool) (was : TurnPlace → List LateMessage) (past : List Record) → WereDelivered turns was → ServesOne tells [] messages was past start turns old.replicas.events a b more
   pub delivered : (was : TurnPlace → List LateMessage) → WereDelivered turns was → WereDelivered (turns ++ line_of a b ∷ []) (delivered_on turns was (λ p. messages))
 
+-- The same of a line that is served whatever refusal is due: where the one that is due was answered, or where there was no room.
+pub record LeavesServed (Line : Kind) (start : Option MetaState) (turns : List Turn) (messages : List LateMessage) (events : List Event) (a : Act) (b : Answer) (later : List Event) : Type 0 where
+  pub more : List Event
+  pub grew : later ≡ events ++ more
+  pub line : Line start turns events a b more
+  pub serves : (tells : Bool) (was : TurnPlace → List LateMessage) (past : List Record) → WereDelivered turns was → ServesOne tells [] messages was past start turns events a b more
+  pub delivered : (was : TurnPlace → List LateMessage) → WereDelivered turns was → WereDelivered (turns ++ line_of a b ∷ []) (delivered_on turns was (λ p. messages))
+
 -- ---- writes
 
 -- the next turn is a write of this point, made as this call where calls may be made

@@ -1,5 +1,6 @@
 -- What the turns of a run leave of the fields by which calls of clients go. No machine is in it.
-use Rattle.std.specs.Prelude.{◌≡◌, ◌<◌, ℕ, ⊤, List, [], ◌∷◌, length, Option, Some, None, false, slice_get}
+use Rattle.std.specs.Prelude.{◌≡◌, ◌≢◌, ◌<◌, ℕ, ⊤, List, [], ◌∷◌, length, Option, Some, None, Bool, false, slice_get}
+use Rattle.std.specs.FinMap as finite
 use Rattle.m3_model.specs.Ascends.{Ascends}
 use Rattle.m3_model.specs.Members.{IsIn}
 use Rattle.m3_model.specs.declared.act.Act.TheVariants as act
@@ -11,11 +12,13 @@ use Rattle.m3_model.specs.declared.turn.Turn.{Turn}
 use Rattle.m3_outside.specs.declared.disk.Disk.{Ghosts}
 use Rattle.net_plan.specs.Fates.{FateMap, fate_of}
 use Rattle.net_plan.specs.declared.late_write.LateWrite.{LateWrite}
+use Rattle.replica_calls.specs.Calls.{Tracked}
 use Rattle.replica_calls.specs.declared.call_id.CallId.{CallId}
+use Rattle.replica_calls.specs.declared.slot.Slot.{Slot}
 use Rattle.session_net.specs.declared.net.Net.{Net}
 use Rattle.told_by.specs.Lines.{place_after}
 use Rattle.transcripts.specs.Deliveries.{LateMessage, IsLateBefore, IsLateMessage, delivers_nothing, shard_of_message}
-use Rattle.transcripts.specs.Fates.{call_number, fate_in, numbering_after}
+use Rattle.transcripts.specs.Fates.{call_number, fate_in, is_stopped, numbering_after}
 use Rattle.transcripts.specs.Placements.{placement_after, seed_after, start_placement}
 use Rattle.transcripts.specs.Record.{TurnPlace, IsTurnPlace, inner_turns}
 use Rattle.transcripts.specs.Rules.{rules_after, start_rules}
@@ -67,6 +70,17 @@ pub record IsLeftBy {D : Type 0} {ghosts : Ghosts D} (start : Option MetaState) 
   pub seed : seed_after start (inner_turns turns) ≡ net.state.seed
   pub fates : FareAsSet turns net.state.place net.fates
   pub late : HoldsBack start turns net.bag
+
+-- ---- nodes and slots
+
+-- the flag of each node of the placement tells whether the turns left it stopped
+abbrev pub AreStoppedBy : List Turn → Placement → List Bool → Type 0
+AreStoppedBy turns place flags = (node : ℕ) (own : Instance) → slice_get place.instances node ≡ Some own → slice_get flags node ≡ Some (is_stopped (inner_turns turns) own.name)
+
+-- these are the slots that have a replica
+pub record AreSlots {D : Type 0} (slots : List Slot) (replicas : Tracked D) : Type 0 where
+  pub there : (s : Slot) → IsIn slots s → finite.get replicas.members s ≢ None
+  pub all : (s : Slot) → finite.get replicas.members s ≢ None → IsIn slots s
 
 -- ---- what was delivered
 

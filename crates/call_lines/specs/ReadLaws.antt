@@ -1,5 +1,5 @@
 -- What reads leave of the list tells of their turns.
-use Rattle.std.specs.Prelude.{◌≡◌, ◌⊎◌, ℕ, List, [], ◌++◌, Option, Some, Bool}
+use Rattle.std.specs.Prelude.{◌≡◌, ◌⊎◌, ℕ, List, [], Option, Some, Bool}
 use Rattle.m3_model.specs.Levels.{needed_read}
 use Rattle.m3_model.specs.Reads.{read_of}
 use Rattle.m3_model.specs.declared.act.Act.{Act}
@@ -12,14 +12,13 @@ use Rattle.m3_model.specs.declared.turn.Turn.{Turn}
 use Rattle.m3_outside.specs.DiskState.{DiskState}
 use Rattle.m3_outside.specs.declared.disk.Disk.{Ghosts}
 use Rattle.cluster_core.specs.Legal.{Legal}
-use Rattle.cluster_core.specs.declared.event.Event.{Event}
 use Rattle.replica_calls.specs.declared.call_id.CallId.{CallId}
 use Rattle.session_net.specs.Reads.{IsCutShort, IsFirstShort, IsFound, IsFull, IsStopped, Wish}
 use Rattle.session_net.specs.Ready.{IsReady}
 use Rattle.session_net.specs.declared.net.Net.{Net}
 use Rattle.told_by.specs.Lines.{ReadLine}
 use Rattle.transcripts.specs.Calls.{call_of}
-use Rattle.call_lines.specs.Laws.{LeavesLine}
+use Rattle.call_lines.specs.Laws.{LeavesLine, LeavesServed}
 use Rattle.call_lines.specs.Left.{IsLeftBy, IsNextCall, MayUseIt}
 
 -- the next turn is a read of what this wish wants, made as this call where calls may be made
@@ -53,8 +52,8 @@ EndedTells {D} {ghosts} state old =
     → IsStopped state old.state old.fates id w (needed_read level old.state.place.rf) old.replicas new.replicas ⊎ IsCutShort state old.state old.fates id w (needed_read level old.state.place.rf) old.replicas new.replicas
     → LeavesLine ReadLine start turns [] old a answer.Memory new
 
--- One for which the list had no room tells of its line too.
+-- One for which the list had no room tells of its line too, which is served.
 abbrev pub FullTells : {D : Type 0} {ghosts : Ghosts D} → (D → DiskState) → Net D ghosts → Type 0
 FullTells {D} {ghosts} state old =
     (start : Option MetaState) (turns : List Turn) (new : Net D ghosts) (id : CallId) (a : Act) (w : Wish) (level : ReadLevel) → IsRead start turns old id a w level
-    → IsFull state old.state old.fates id w (needed_read level old.state.place.rf) old.replicas new.replicas → (more : List Event) × (new.replicas.events ≡ old.replicas.events ++ more) × ReadLine start turns old.replicas.events a answer.Full more
+    → IsFull state old.state old.fates id w (needed_read level old.state.place.rf) old.replicas new.replicas → LeavesServed ReadLine start turns [] old.replicas.events a answer.Full new.replicas.events

@@ -28,7 +28,7 @@ pub fn nothing_tells()
 {}
 
 /// A read that begins so leaves events that tell of its line: where it was answered, where too few answered it, where it
-/// ended early for want of memory, and where the list had no room.
+/// ended early for want of memory, and where the list had no room, in which the line is served.
 pub fn reads_tell<D: Disk>(net: &Net<D>)
     ensures found { FoundTells D.state net.now }
     ensures first_short { FirstShortTells D.state net.now }

@@ -1,0 +1,4 @@
+pub mod Due
+pub mod Names
+pub mod Quiet
+pub mod Laws
