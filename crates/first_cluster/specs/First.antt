@@ -1,0 +1,78 @@
+-- What a cluster begins with, and what `init` answers where it makes none.
+use Rattle.std.specs.Prelude.{◌≡◌, ℕ, ⊤, List, [], ◌∷◌, length, Some, false, replicate, slice_get}
+use Rattle.std.specs.FinMap.{empty}
+use Rattle.m3_model.specs.Members.{IsIn}
+use Rattle.m3_model.specs.declared.answer.Answer.{Answer}
+use Rattle.m3_model.specs.declared.answer.Answer.TheVariants as answer
+use Rattle.m3_model.specs.declared.placement.Instance.{Instance}
+use Rattle.m3_model.specs.declared.placement.Placement.{Placement}
+use Rattle.m3_model.specs.declared.rules.MetaState.{MetaState}
+use Rattle.m3_outside.specs.Causes.{Rose}
+use Rattle.m3_outside.specs.Depots.{Depot}
+use Rattle.m3_outside.specs.DiskState.{DiskState}
+use Rattle.m3_outside.specs.declared.disk.Disk.{Ghosts}
+use Rattle.net_plan.specs.Fates.{fates_of}
+use Rattle.placement_core.specs.Lawful.{IsLawful}
+use Rattle.placement_plan.specs.First.{IsFirstPlacement, IsInitial}
+use Rattle.cluster_core.specs.declared.event.Event.{Event}
+use Rattle.cluster_core.specs.declared.event.Event.TheVariants as event
+use Rattle.replica_calls.specs.declared.slot.Slot.{Slot}
+use Rattle.session_net.specs.Runs.{slot_at}
+use Rattle.cluster_members.specs.declared.members.Members.{Members}
+use Rattle.first_cluster.specs.Lending.{AreOpened, HasReturned}
+use Rattle.first_cluster.specs.Slots.{slots_in, slots_of, starts_of}
+use Rattle.first_cluster.specs.declared.plan.Plan.{Plan}
+
+-- the events that open a list: its placement and its rules
+abbrev pub opening_of : MetaState → List Event
+opening_of state = event.Place state.place [] ∷ event.Clock state.rules ∷ []
+
+-- the plan of a cluster on these nodes
+pub record IsPlan (rf shards seed : ℕ) (nodes : List (List ℕ × List ℕ)) (plan : Plan) : Type 0 where
+  pub initial : IsInitial rf shards nodes plan.state.place
+  pub place : IsFirstPlacement rf shards nodes plan.state.place
+  pub lawful : IsLawful plan.state.place
+  pub rules : plan.state.rules ≡ record { now = 0; spaces = [] }
+  pub seed_is : plan.state.seed ≡ seed
+  pub starts : plan.starts.items ≡ starts_of plan.state.place
+  pub slots : plan.slots.items ≡ slots_in plan.starts.items
+  pub bag : plan.bag ≡ []
+  pub stopped : plan.stopped.items ≡ replicate (length plan.state.place.instances) false
+  pub printed : plan.printed ≡ plan.state.place
+
+-- the cluster that `init` makes of these nodes: at moment 0 without namespaces, with a replica over the disk of each slot, begun behind the events that open the
+-- list; nothing is lost or late, and each node runs
+pub record IsFirst {D : Type 0} {G : Ghosts D} (state : D → DiskState) (rf shards seed : ℕ) (nodes : List (List ℕ × List ℕ)) (old new : Depot D) (m : Members D G) : Type 0 where
+  pub initial : IsInitial rf shards nodes m.net.state.place
+  pub place : IsFirstPlacement rf shards nodes m.net.state.place
+  pub lawful : IsLawful m.net.state.place
+  pub rules : m.net.state.rules ≡ record { now = 0; spaces = [] }
+  pub seed_is : m.net.state.seed ≡ seed
+  pub slots : m.slots.items ≡ slots_of m.net.state.place
+  pub opened : AreOpened state m.slots.items (starts_of m.net.state.place) (opening_of m.net.state) old new m.net.replicas
+  pub fates : m.net.fates ≡ fates_of []
+  pub bag : m.net.bag ≡ []
+  pub stopped : m.stopped.items ≡ replicate (length m.net.state.place.instances) false
+
+-- a disk of one of the placement's slots couldn't be taken
+pub record IsUntaken {D : Type 0} (rf shards seed : ℕ) (nodes : List (List ℕ × List ℕ)) (name : List ℕ) (shard : ℕ) (old new : Depot D) : Type 0 where
+  pub place : Placement
+  pub first : IsFirstPlacement rf shards nodes place
+  pub node : ℕ
+  pub instance_ : Instance
+  pub named : slice_get place.instances node ≡ Some instance_
+  pub name_is : name ≡ instance_.name
+  pub of_slot : IsIn (slots_of place) (slot_at node shard)
+  pub rose : Rose old.faults new.faults
+
+-- the disk of the slot couldn't be taken; or there is no memory to say so
+abbrev pub IsDiskAnswer : Placement → Slot → Answer → Type 0
+IsDiskAnswer place slot (answer.Disk name shard) = (shard ≡ slot.shard) × ((instance_ : Instance) × (slice_get place.instances slot.node ≡ Some instance_) × (name ≡ instance_.name))
+IsDiskAnswer place slot answer.Memory = ⊤
+IsDiskAnswer place slot _ = ⊥
+
+-- `init` is refused, and no disk is out
+abbrev pub IsRefusedInit : {D : Type 0} → (D → DiskState) → ℕ → ℕ → ℕ → List (List ℕ × List ℕ) → Depot D → Depot D → Answer → Type 0
+IsRefusedInit state rf shards seed nodes old new (answer.Disk name shard) = IsUntaken rf shards seed nodes name shard old new × HasReturned state old empty new
+IsRefusedInit state rf shards seed nodes old new answer.Memory = HasReturned state old empty new
+IsRefusedInit state rf shards seed nodes old new _ = ⊥

@@ -1,0 +1,87 @@
+//! What a cluster begins with.
+ghost use Rattle.std.specs.Prelude.{◌≡◌, ◌≢◌, ◌<◌, length, IfOk, IfErr, IsTrue};
+ghost use Rattle.m3_model.specs.Limits.{IsInit};
+ghost use Rattle.m3_model.specs.NotYet.{fills_its_nodes};
+ghost use Rattle.m3_outside.specs.Slots.{Out};
+ghost use Rattle.m3_outside.specs.declared.slot.Slot.{Slot as Place};
+ghost use Rattle.session_net.specs.Ready.{IsReady};
+ghost use Rattle.first_cluster.specs.Depots.{AreOut, depot_by};
+ghost use Rattle.first_cluster.specs.First.{IsFirst, IsDiskAnswer, IsRefusedInit};
+
+use crate::lending::opened;
+use crate::plan::planned;
+use crate::unopened::Unopened;
+use cluster_members::members::Members;
+use m3_model::answer::Answer;
+use m3_model::duplicate::Duplicate;
+use m3_model::placement::Placement;
+use m3_model::seq::Seq;
+use m3_model::text::Text;
+use m3_outside::disk::Disk;
+use m3_outside::disks::Disks;
+use net_plan::fates::Fates;
+use replica_calls::slot::Slot;
+use session_net::net::Net;
+use std::alloc::Global;
+
+// That the disk of the slot couldn't be taken.
+fn untaken(alloc: Global, place: &Placement, slot: Slot) -> Answer
+    requires { slot.node < length place.now.instances }
+    ensures { IsDiskAnswer place.now slot result }
+{
+    let instance = &place.instances.as_slice()[slot.node as usize];
+    match instance.name.copy(alloc) {
+        Ok(node) => Answer::Disk {
+            node,
+            shard: slot.shard,
+        },
+        Err(_) => Answer::Memory,
+    }
+}
+
+/// The cluster that `init` makes: each shard on the nodes that its plan names, with a replica on each over the disk of its slot,
+/// and the list of events opened by its placement and by the rules of moment 0; and a copy of its placement. Each replica is
+/// begun with the tenure that the placement gives it; one that refuses that stays, closed. All memory but what the machines take
+/// is there before any disk is taken.
+///
+/// # Errors
+///
+/// The answer: a disk that couldn't be taken, or want of memory. No disk is out then.
+pub fn first_members<D: Disk, X: Disks<D = D>>(
+    alloc: Global,
+    disks: &mut X,
+    rf: u32,
+    shards: u32,
+    seed: u32,
+    nodes: Seq<(Text, Text)>,
+) -> Result<(Members<D>, Placement), Answer>
+    requires limits { IsInit rf shards seed nodes }
+    requires apart { IsTrue (fills_its_nodes rf nodes) }
+    requires free { (place : Place) → X.held disks.old place ≢ Out }
+    ensures members { IfOk result (λ made. IsFirst D.state rf shards seed nodes (depot_by X.held X.counted X.all_faults disks.old) (depot_by X.held X.counted X.all_faults disks.new) made.0) }
+    ensures ready { IfOk result (λ made. IsReady made.0.net.state made.0.net.replicas made.0.net.bag) }
+    ensures owned { IfOk result (λ made. AreOut made.0.slots.items made.0.net.replicas.members (X.held disks.new)) }
+    ensures placement { IfOk result (λ made. made.1 ≡ made.0.net.state.place) }
+    ensures refused { IfErr result (IsRefusedInit D.state rf shards seed nodes (depot_by X.held X.counted X.all_faults disks.old) (depot_by X.held X.counted X.all_faults disks.new)) }
+{
+    let Ok(plan) = planned(alloc, rf, shards, seed, nodes) else {
+        return Err(Answer::Memory);
+    };
+    let replicas = match opened(alloc, disks, &plan) {
+        Ok(replicas) => replicas,
+        Err(Unopened::Disk(slot)) => return Err(untaken(alloc, &plan.state.place, slot)),
+        Err(Unopened::Memory) => return Err(Answer::Memory),
+    };
+    let net = Net {
+        state: plan.state,
+        replicas,
+        fates: Fates::empty(alloc),
+        bag: plan.bag,
+    };
+    let members = Members {
+        net,
+        slots: plan.slots,
+        stopped: plan.stopped,
+    };
+    Ok((members, plan.printed))
+}

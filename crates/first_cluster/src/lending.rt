@@ -1,0 +1,177 @@
+//! Replicas over the disks of their slots, and the disks given back.
+ghost use Rattle.std.specs.Prelude.{◌≡◌, ◌≢◌, ◌≤◌, ◌*◌, ℕ, Some, length, IfOk, OnOk, IfErr};
+ghost use Rattle.std.specs.FinMap as finite;
+ghost use Rattle.m3_model.specs.Members.{IsIn};
+ghost use Rattle.m3_outside.specs.Slots.{Out};
+ghost use Rattle.placement_core.specs.Lawful.{IsLawful};
+ghost use Rattle.cluster_core.specs.Earlier.{HasTenure};
+ghost use Rattle.cluster_core.specs.Replicas.{replica, fresh};
+ghost use Rattle.replica_calls.specs.Calls.{HasRoom};
+ghost use Rattle.replica_calls.specs.declared.member.Member.{Member as Replica};
+ghost use Rattle.replica_calls.specs.declared.slot.Slot.{Slot as AtSlot};
+ghost use Rattle.first_cluster.specs.Depots.{depot_by, place_of_slot};
+ghost use Rattle.first_cluster.specs.First.{opening_of};
+ghost use Rattle.first_cluster.specs.Lending.{IsFree, IsTaken, KeepsOthers, HasTaken, MayHaveTaken, AreOpened, IsUnopened, HasGivenBack, first_tenure};
+ghost use Rattle.first_cluster.specs.Slots.{AreApart, slots_in, starts_of};
+ghost use Rattle.first_cluster.specs.declared.start.Start.{Start as AtStart};
+
+use crate::begins::begin_all;
+use crate::plan::Plan;
+use crate::start::Start;
+use crate::unopened::Unopened;
+use event_trail::trail::Trail;
+use m3_model::memory::Memory;
+use m3_model::rules::MetaState;
+use m3_outside::disk::Disk;
+use m3_outside::disk_err::DiskErr;
+use m3_outside::disks::Disks;
+use m3_outside::slot::Slot as Place;
+use replica_calls::member::Member;
+use replica_calls::replicas::Replicas;
+use replica_calls::slot::Slot;
+use std::alloc::Global;
+
+// The place of a slot's disk.
+fn place_of(slot: Slot) -> Place
+    ensures { result ≡ place_of_slot slot }
+{
+    Place {
+        node: slot.node,
+        shard: slot.shard,
+    }
+}
+
+// The disk of a replica that is let go.
+fn disk_of<D: Disk>(member: Member<D>) -> D
+    ensures { result ≡ member.machine.disk }
+{
+    let Member { machine, .. } = member;
+    machine.into_disk()
+}
+
+// Takes the disk of a slot and puts a replica over it there. Refused: the disk wasn't taken, or is back.
+fn take_one<D: Disk, X: Disks<D = D>>(
+    alloc: Global,
+    disks: &mut X,
+    slot: Slot,
+    replicas: &mut Replicas<D>,
+) -> Result<(), Unopened>
+    requires free { IsFree (X.held disks.old) replicas.old.members slot }
+    requires new { replica slot.node slot.shard replicas.old.events ≡ fresh }
+    ensures taken { IsTaken D.state slot (depot_by X.held X.counted X.all_faults disks.old) (depot_by X.held X.counted X.all_faults disks.new) replicas.new.members result }
+    ensures others { KeepsOthers slot (depot_by X.held X.counted X.all_faults disks.old) replicas.old.members (depot_by X.held X.counted X.all_faults disks.new) replicas.new.members }
+    ensures list { replicas.new.events ≡ replicas.old.events }
+{
+    let disk = match disks.take(place_of(slot)) {
+        Ok(disk) => disk,
+        Err(DiskErr::Failed) => return Err(Unopened::Disk(slot)),
+        Err(DiskErr::Memory) => return Err(Unopened::Memory),
+    };
+    match replicas.insert(alloc, slot, disk) {
+        Ok(()) => Ok(()),
+        Err(back) => {
+            disks.give(place_of(slot), back);
+            Err(Unopened::Memory)
+        }
+    }
+}
+
+// Takes the disk of each of the slots and puts a replica over it there. It ends with the first that is refused.
+fn take_all<D: Disk, X: Disks<D = D>>(
+    alloc: Global,
+    disks: &mut X,
+    slots: &[Slot],
+    replicas: &mut Replicas<D>,
+) -> Result<(), Unopened>
+    requires apart { AreApart slots.now }
+    requires none { replicas.old.members ≡ finite.empty }
+    requires new { (n s : ℕ) → replica n s replicas.old.events ≡ fresh }
+    requires free { (s : AtSlot) → X.held disks.old (place_of_slot s) ≢ Out }
+    ensures ok { OnOk result (HasTaken D.state slots.now (depot_by X.held X.counted X.all_faults disks.old) replicas.new.members (depot_by X.held X.counted X.all_faults disks.new)) }
+    ensures err { IfErr result (MayHaveTaken D.state slots.now (depot_by X.held X.counted X.all_faults disks.old) replicas.new.members (depot_by X.held X.counted X.all_faults disks.new)) }
+    ensures list { replicas.new.events ≡ replicas.old.events }
+{
+    for slot in slots {
+        take_one(alloc, disks, *slot, replicas)?;
+    }
+    Ok(())
+}
+
+/// Gives the disks of all replicas at the slots back, and lets these go. The list of events stays.
+pub fn give_all<D: Disk, X: Disks<D = D>>(disks: &mut X, slots: &[Slot], replicas: &mut Replicas<D>)
+    requires { (s : AtSlot) (m : Replica D) → finite.get replicas.old.members s ≡ Some m → X.held disks.old (place_of_slot s) ≡ Out }
+    ensures given { HasGivenBack D.state slots.now (depot_by X.held X.counted X.all_faults disks.old) replicas.old.members (depot_by X.held X.counted X.all_faults disks.new) replicas.new.members }
+    ensures list { replicas.new.events ≡ replicas.old.events }
+{
+    for slot in slots {
+        match replicas.take(*slot) {
+            Some(member) => disks.give(place_of(*slot), disk_of(member)),
+            None => {}
+        }
+    }
+}
+
+// Takes the disks of the slots and begins the replicas over them.
+fn open_all<D: Disk, X: Disks<D = D>>(
+    alloc: Global,
+    disks: &mut X,
+    slots: &[Slot],
+    starts: &[Start],
+    replicas: &mut Replicas<D>,
+) -> Result<(), Unopened>
+    requires apart { AreApart slots.now }
+    requires slots { slots.now ≡ slots_in starts.now }
+    requires first { (s : AtStart) → IsIn starts.now s → s.tenure ≡ first_tenure }
+    requires tenures { (s : AtStart) → IsIn starts.now s → HasTenure replicas.old.events s.slot.node s.slot.shard s.tenure }
+    requires room { HasRoom (2 * length starts.now) replicas.old.events }
+    requires none { replicas.old.members ≡ finite.empty }
+    requires new { (n s : ℕ) → replica n s replicas.old.events ≡ fresh }
+    requires free { (s : AtSlot) → X.held disks.old (place_of_slot s) ≢ Out }
+    ensures ok { OnOk result (AreOpened D.state slots.now starts.now replicas.old.events (depot_by X.held X.counted X.all_faults disks.old) (depot_by X.held X.counted X.all_faults disks.new) replicas.new) }
+    ensures err { IfErr result (MayHaveTaken D.state slots.now (depot_by X.held X.counted X.all_faults disks.old) replicas.new.members (depot_by X.held X.counted X.all_faults disks.new)) }
+{
+    take_all(alloc, disks, slots, replicas)?;
+    match begin_all(replicas, starts) {
+        Ok(()) => Ok(()),
+        Err(_) => Err(Unopened::Memory),
+    }
+}
+
+// No replicas yet, and the list that such a cluster opens.
+fn listed<D: Disk>(alloc: Global, state: &MetaState) -> Result<Replicas<D>, Memory>
+    requires { IsLawful state.now.place }
+    ensures { IfOk result (λ replicas. replicas ≡ record { members = finite.empty; events = opening_of state.now }) }
+{
+    let trail = Trail::new(alloc, &state.place, &state.rules)?;
+    Ok(Replicas::new(alloc, trail))
+}
+
+// Replicas over the disks of the plan's slots, begun for the first time behind the events that open the list. One that refuses
+// that for another reason than want of memory stays, closed. Refused: a slot whose disk couldn't be taken, by a fault of the
+// disks' own, or want of memory; no disk is out then.
+pub(crate) fn opened<D: Disk, X: Disks<D = D>>(
+    alloc: Global,
+    disks: &mut X,
+    plan: &Plan,
+) -> Result<Replicas<D>, Unopened>
+    requires lawful { IsLawful plan.now.state.place }
+    requires starts { plan.now.starts.items ≡ starts_of plan.now.state.place }
+    requires slots { plan.now.slots.items ≡ slots_in plan.now.starts.items }
+    requires first { (s : AtStart) → IsIn (starts_of plan.now.state.place) s → s.tenure ≡ first_tenure }
+    requires few { length (starts_of plan.now.state.place) ≤ 1024 }
+    requires free { (s : AtSlot) → X.held disks.old (place_of_slot s) ≢ Out }
+    ensures ok { IfOk result (AreOpened D.state plan.now.slots.items plan.now.starts.items (opening_of plan.now.state) (depot_by X.held X.counted X.all_faults disks.old) (depot_by X.held X.counted X.all_faults disks.new)) }
+    ensures err { IfErr result (IsUnopened D.state plan.now.slots.items (depot_by X.held X.counted X.all_faults disks.old) (depot_by X.held X.counted X.all_faults disks.new)) }
+{
+    let Ok(mut replicas) = listed(alloc, &plan.state) else {
+        return Err(Unopened::Memory);
+    };
+    let slots = plan.slots.as_slice();
+    match open_all(alloc, disks, slots, plan.starts.as_slice(), &mut replicas) {
+        Ok(()) => Ok(replicas),
+        Err(why) => {
+            give_all(disks, slots, &mut replicas);
+            Err(why)
+        }
+    }
+}

@@ -1,0 +1,11 @@
+//! What a cluster begins with: replicas are made over the disks of its slots and begun, behind the events that open the run's list; and
+//! the disks are given back.
+#![tactic(auto)]
+
+mod begins;
+pub mod first;
+pub mod laws;
+pub mod lending;
+mod plan;
+pub mod start;
+mod unopened;

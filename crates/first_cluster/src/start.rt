@@ -1,0 +1,8 @@
+use replica_calls::slot::Slot;
+
+/// The slot of a replica, with the tenure with which it begins.
+#[derive(Clone, Copy)]
+pub struct Start {
+    pub slot: Slot,
+    pub tenure: u64,
+}

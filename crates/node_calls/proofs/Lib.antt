@@ -1,0 +1,8 @@
+pub mod BeginLemmas
+pub mod ListLemmas
+pub mod NodeActs
+pub mod NodeLemmas
+pub mod ResultLemmas
+pub mod RowLemmas
+pub mod RunLemmas
+pub mod SameMembers

@@ -1,0 +1,8 @@
+use Rattle.std.proofs.Common.{take}
+use Rattle.std.specs.List.{flat_map}
+use Rattle.session_net.specs.Runs.{Ran}
+use Rattle.node_calls.specs.Halts.{slots_of_node, restart_at}
+use Rattle.node_calls.proofs.halts.restart_all.Given as goal
+
+abbrev pub invariant-loop-slot : goal.invariant-loop-slot
+invariant-loop-slot g l = Ran g.D.Disk.state l.fn.replicas (flat_map restart_at (slots_of_node l.node (take l.slot-index l.slots))) l.replicas

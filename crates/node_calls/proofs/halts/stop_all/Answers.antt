@@ -1,0 +1,49 @@
+use Rattle.std.proofs.Common.{◌+◌, refl, subst, sym, take}
+use Rattle.std.specs.List.{flat_map}
+use Rattle.std.specs.Prelude.{nat_eq}
+use Rattle.std.proofs.lemmas.Bool.{eq-eqb, ne_eqb}
+use Rattle.std.proofs.lemmas.List.{take_all}
+use Rattle.placement_core.proofs.ListLemmas.{IsIn-from_index}
+use Rattle.replica_calls.specs.declared.slot.Slot.{Slot}
+use Rattle.session_net.specs.Runs.{Ran}
+use Rattle.session_net.proofs.ReadyLemmas.{there_after}
+use Rattle.session_net.proofs.RunLemmas.{ran_nothing}
+use Rattle.node_calls.specs.Halts.{slots_of_node, stop_at}
+use Rattle.node_calls.proofs.ListLemmas.{filter_no}
+use Rattle.node_calls.proofs.RunLemmas.{ran_more, room_here}
+use Rattle.node_calls.proofs.halts.stop_all.Goals as goal
+use Rattle.node_calls.proofs.halts.stop_all.Goals.{then-slot-node, else-slot-node}
+
+pub loop-slot-init : goal.loop-slot-init
+loop-slot-init g c = ran_nothing g.D.Disk.state c.args.replicas.now
+
+pub stop_one-requires-clause-there : goal.stop_one-requires-clause-there
+stop_one-requires-clause-there g c κs within =
+    let i = c.loop-slot.slot-index in
+    there_after g.D.Disk.state c.args.replicas.now c.loop-slot.replicas (flat_map stop_at (slots_of_node c.args.node (take i c.args.slots.now))) _ c.loop-slot.invariant (c.requires.manned _ (IsIn-from_index c.args.slots.now i _ c.loop-slot-test.true))
+
+pub stop_one-requires-clause-room : goal.stop_one-requires-clause-room
+stop_one-requires-clause-room g c κs within =
+    let i = c.loop-slot.slot-index in
+    room_here g.D.Disk.state stop_at (λ s. refl) (λ (s : Slot). nat_eq s.node c.args.node) c.args.slots.now i _ c.args.replicas.now c.loop-slot.replicas c.loop-slot-test.true c.loop-slot.invariant c.requires.room
+    (eq-eqb _ c.args.node c.if-slot-node.true)
+
+pub loop-slot-preserved : goal.loop-slot-preserved
+loop-slot-preserved g c =
+    let i = c.loop-slot.slot-index in
+    let slots = c.args.slots.now in
+    let node = c.args.node in
+    elim c.if-slot-node.branch [
+      | then-slot-node w ↦
+          subst (Ran g.D.Disk.state c.args.replicas.now (flat_map stop_at (slots_of_node node (take (i + 1) slots)))) (sym w.replicas-is)
+          (ran_more g.D.Disk.state stop_at (λ s. refl) (λ (s : Slot). nat_eq s.node node) slots i _ c.args.replicas.now c.loop-slot.replicas c.loop-slot-test.true c.loop-slot.invariant w.stop_one.new.replicas
+          (eq-eqb _ node w.if-slot-node.true) w.stop_one.ensures)
+      | else-slot-node w ↦
+          subst (Ran g.D.Disk.state c.args.replicas.now (flat_map stop_at (slots_of_node node (take (i + 1) slots)))) (sym w.replicas-is)
+          (subst (λ xs. Ran g.D.Disk.state c.args.replicas.now (flat_map stop_at xs) c.loop-slot.replicas)
+          (sym (filter_no (λ (s : Slot). nat_eq s.node node) slots i _ c.loop-slot-test.true (ne_eqb _ node w.if-slot-node.false))) c.loop-slot.invariant)
+    ]
+
+pub returns : goal.returns
+returns g c =
+    subst (λ slots. Ran g.D.Disk.state c.args.replicas.now (flat_map stop_at (slots_of_node c.args.node slots)) c.loop-slot.replicas) (take_all c.loop-slot.slot-index c.args.slots.now c.loop-slot-test.false) c.loop-slot.invariant

@@ -1,0 +1,5 @@
+use Rattle.node_calls.specs.Nodes.{AreNumbered}
+use Rattle.node_calls.proofs.nodes.resolved.Given as goal
+
+abbrev pub invariant-loop-client : goal.invariant-loop-client
+invariant-loop-client l = AreNumbered l.instances l.yielded l.numbered.items

@@ -1,0 +1,4 @@
+pub mod Halts
+pub mod Begins
+pub mod Nodes
+pub mod Boots

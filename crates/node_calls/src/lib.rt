@@ -1,0 +1,8 @@
+//! What befalls the nodes of a cluster that stands, and the messages to them: each call adds its events to the list of the run.
+#![tactic(auto)]
+
+mod begins;
+pub mod boots;
+mod halts;
+pub mod nodes;
+mod refused;
