@@ -1,0 +1,4 @@
+pub mod BeginEvents
+pub mod InitLemmas
+pub mod StandLemmas
+pub mod UntakenLemmas

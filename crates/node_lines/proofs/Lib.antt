@@ -1,0 +1,8 @@
+pub mod GrowLemmas
+pub mod StandLemmas
+pub mod HaltLemmas
+pub mod OpenLemmas
+pub mod LeftLemmas
+pub mod BootLemmas
+pub mod BootLines
+pub mod BootTells

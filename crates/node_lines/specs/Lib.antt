@@ -1,0 +1,4 @@
+pub mod Stands
+pub mod Opens
+pub mod Laws
+pub mod Keeps

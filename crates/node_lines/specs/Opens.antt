@@ -1,0 +1,46 @@
+-- With what slots first begin: what is so of the disks of slots that never began, so that no first begin is refused as not owned, nor leaves a higher fence.
+use Rattle.std.specs.Prelude.{◌≡◌, ◌⊎◌, ◌≤◌, ℕ, List, [], Option, Some, Bool, true}
+use Rattle.std.specs.FinMap as finite
+use Rattle.m3_model.specs.Members.{IsIn}
+use Rattle.m3_model.specs.declared.placement.Placement.{Placement}
+use Rattle.m3_model.specs.declared.point.Point.{Point}
+use Rattle.m3_model.specs.declared.rules.MetaState.{MetaState}
+use Rattle.m3_outside.specs.Depots.{TellAll}
+use Rattle.m3_outside.specs.DiskState.{DiskState, EachImage, IsLawful}
+use Rattle.m3_outside.specs.Files.{Files}
+use Rattle.shard_files.specs.Held.{Held}
+use Rattle.cluster_core.specs.Earlier.{last_place}
+use Rattle.cluster_core.specs.Replicas.{replica}
+use Rattle.cluster_core.specs.declared.event.Event.{Event}
+use Rattle.replica_calls.specs.Calls.{AreMembersOf, Tracked}
+use Rattle.replica_calls.specs.declared.member.Member.{Member}
+use Rattle.replica_calls.specs.declared.slot.Slot.{Slot}
+use Rattle.told_by.specs.Makes.{IsAssigned}
+use Rattle.transcripts.specs.Moves.{IsLeftFence}
+
+-- the placement that stands gives the node the shard with this tenure
+abbrev pub IsGivenNow : List Event → ℕ → ℕ → ℕ → Type 0
+IsGivenNow events n s tenure = (place : Placement) × (last_place events ≡ Some place) × IsAssigned place n s tenure
+
+-- the files are sound, their tenure isn't above this one, and their fence isn't but where an earlier run may have left it
+pub record IsLow (start : Option MetaState) (tenure : ℕ) (files : Files) : Type 0 where
+  pub points : List Point
+  pub held_tenure : ℕ
+  pub fence : ℕ
+  pub held : Held points held_tenure fence files
+  pub not_higher : held_tenure ≤ tenure
+  pub fenced : (fence ≤ tenure) ⊎ IsLeftFence start fence
+
+-- Of each slot that never began: the files over which its machine was made are low for the tenure that the placement gives it, and no tenure above this one was
+-- tried there. A slot of which no replica ever began is one that a fault or damage kept from it at `init`, or that an earlier run left.
+pub record OpensLow {D : Type 0} (state : D → DiskState) (start : Option MetaState) (replicas : Tracked D) : Type 0 where
+  pub files : (s : Slot) (m : Member D) → finite.get replicas.members s ≡ Some m → (replica s.node s.shard replicas.events).begun ≡ []
+      → (tenure : ℕ) → IsGivenNow replicas.events s.node s.shard tenure → EachImage (state (m.first).value) (IsLow start tenure)
+  pub tried : (n s own : ℕ) → (replica n s replicas.events).begun ≡ [] → IsIn (replica n s replicas.events).tried own → (tenure : ℕ) → IsGivenNow replicas.events n s tenure → own ≤ tenure
+
+-- what is known of disks, and of the machines over them; where the disks tell, slots open low
+pub record MayBegin {D : Type 0} (state : D → DiskState) (tells : Bool) (start : Option MetaState) (replicas : Tracked D) : Type 0 where
+  pub disks : (d : D) → IsLawful (state d)
+  pub tell : tells ≡ true → TellAll state
+  pub members : AreMembersOf state replicas
+  pub low : tells ≡ true → OpensLow state start replicas
