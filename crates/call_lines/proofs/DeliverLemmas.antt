@@ -235,7 +235,7 @@ prints_none turns events b none = record {
 }
 
 pub delivered_tells : {D : Type 0} {ghosts : Ghosts D} (state : D → DiskState) (old : Net D ghosts) → DeliveredTells state old
-delivered_tells {D} {ghosts} state old tells start turns new outcomes left ready small legal h =
+delivered_tells {D} {ghosts} state old tells start turns new outcomes left ready legal h =
     let b : Answer = answer.Outcomes outcomes in
     let rules = old.state.rules in
     let events = old.replicas.events in
@@ -272,7 +272,7 @@ delivered_tells {D} {ghosts} state old tells start turns new outcomes left ready
         prints = prints_none turns all b refl;
         ends = λ available boot x m. let bad : answer.Outcomes outcomes ≡ answer.Available available boot.place boot.version = boot.answered in cc;
       };
-      serves = λ none. serves_so start turns events act.Deliver b h.puts (λ e m. calm_late start turns rules e (each e m)) (let low = few_puts rules old.bag h.deliveries h.puts delivered in omega (arith, low, small)) (λ is. absurd is) messages ((left.late).in_order, outcomes_heard)
+      serves = λ none. serves_so start turns events act.Deliver b h.puts (λ e m. calm_late start turns rules e (each e m)) (let low = few_puts rules old.bag h.deliveries h.puts delivered in let small = h.few in omega (arith, low, small)) (λ is. absurd is) messages ((left.late).in_order, outcomes_heard)
           (held_one start turns messages old.bag held) (answered start turns events act.Deliver b h.puts (λ e m. calm_late start turns rules e (each e m)) (inr tt) none);
       delivered = delivered_so turns act.Deliver b messages (λ m i. let late = held_one start turns messages old.bag held m i in (line_below turns m.place (late.1).made, refl));
     }

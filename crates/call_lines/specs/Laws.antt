@@ -1,11 +1,10 @@
 -- What calls of clients leave of the list tells of their turns.
-use Rattle.std.specs.Prelude.{◌≡◌, ◌≤◌, ℕ, ℤ, ⊤, List, [], ◌∷◌, ◌++◌, length, Option, Some, None, Bool}
+use Rattle.std.specs.Prelude.{◌≡◌, ℕ, ℤ, ⊤, List, [], ◌∷◌, ◌++◌, Option, Some, None, Bool}
 use Rattle.m3_model.specs.declared.act.Act.{Act}
 use Rattle.m3_model.specs.declared.act.Act.TheVariants as act
 use Rattle.m3_model.specs.declared.act.WriteLevel.{WriteLevel}
 use Rattle.m3_model.specs.declared.answer.Answer.{Answer}
 use Rattle.m3_model.specs.declared.answer.Answer.TheVariants as answer
-use Rattle.m3_model.specs.declared.limits.TheConstants.{MOST_LATE_WRITES}
 use Rattle.m3_model.specs.declared.point.Point.{Point}
 use Rattle.m3_model.specs.declared.reason.Reason.{Reason}
 use Rattle.m3_model.specs.declared.rules.MetaState.{MetaState}
@@ -106,7 +105,7 @@ UnsentTells {D} {ghosts} state old =
 abbrev pub DeliveredTells : {D : Type 0} {ghosts : Ghosts D} → (D → DiskState) → Net D ghosts → Type 0
 DeliveredTells {D} {ghosts} state old =
     (tells : Bool) (start : Option MetaState) (turns : List Turn) (new : Net D ghosts) (outcomes : List (ℕ × ℕ × Option Reason))
-    → (left : IsLeftBy start turns old) → IsReady old.state old.replicas old.bag → length old.bag ≤ MOST_LATE_WRITES → Legal tells new.replicas.events → IsDelivered state old outcomes new
+    → (left : IsLeftBy start turns old) → IsReady old.state old.replicas old.bag → Legal tells new.replicas.events → IsDelivered state old outcomes new
     → LeavesLine PlainLine start turns (left.late).messages old act.Deliver (answer.Outcomes outcomes) new
 
 -- ---- calls that were refused before any event

@@ -2,7 +2,6 @@ pub mod WrittenLemmas
 pub mod CauseLemmas
 pub mod LineLemmas
 pub mod FaultLemmas
-pub mod CountLemmas
 pub mod PromiseLemmas
 pub mod FreshLemmas
 pub mod ExchangeLemmas

@@ -3,17 +3,18 @@ use Rattle.std.proofs.Common.{◌≡◌, ℕ, ◌+◌, ◌<◌, ◌≤◌, List,
 use Rattle.m3_model.specs.declared.limits.TheConstants.{INPUT_END}
 use Rattle.std.specs.Prelude.{Option, Some, None}
 use Rattle.std.specs.Io.KnownBytes.{Appends, Consumes, IsAtEnd}
-use Rattle.m3_outside.specs.DiskState.{DiskState}
+use Rattle.m3_outside.specs.DiskState.{DiskState, IsLawful}
 use Rattle.m3_outside.specs.declared.disk.Disk.{Ghosts}
 use Rattle.m3_model.proofs.SplitLemmas.{not_empty}
 use Rattle.m3_outside.specs.Depots.{Depot}
+use Rattle.cluster_tracks.specs.Ends.{AreGivenBack}
 use Rattle.m3_program.specs.declared.status.Status.{Status}
 use Rattle.m3_program.specs.declared.status.Status.TheVariants as status
 use Rattle.m3_program.specs.Causes.{EndsStep}
 use Rattle.m3_program.specs.Faults.{Counts, counts_of}
 use Rattle.m3_program.specs.Runs.{AreWholeLines, HasRun, lines_of}
 use Rattle.m3_program.specs.Streams.{Stage, IsFresh, StreamState, TakesOn, Cuts, Halted, Finished, HasServed}
-use Rattle.m3_program.proofs.PromiseLemmas.{IsClosed, causes_closed, causes_nothing, kept_closed, kept_nothing, promised}
+use Rattle.m3_program.proofs.PromiseLemmas.{causes_closed, causes_nothing, kept_closed, kept_nothing, promised}
 use Rattle.m3_program.proofs.StreamLemmas.{halted_of, stream_begins, stream_course}
 
 -- these bytes were read, these are left, and these were written after what stood there
@@ -215,10 +216,10 @@ step_told state first now status.Memory a b x y u v k input before left written 
 step_told state first now _ a b x y u v k input before left written fault h = absurd k
 
 -- the disks are given back
-pub told_closes : {D : Type 0} {G : Ghosts D} (state : D → DiskState) (first : Depot D) (mid : Stage D G) (last : Counts) (s : Status) → IsClosed state mid last
+pub told_closes : {D : Type 0} {G : Ghosts D} (state : D → DiskState) → ((d : D) → IsLawful (state d)) → (first : Depot D) (mid : Stage D G) (last : Counts) (s : Status) → AreGivenBack state mid.depot mid.cluster.members last.all last.of_disk
     → (input before : List ℕ) (left written : Option (List ℕ)) → Told state first mid s input before left written
     → (rest told : List ℕ) × (left ≡ Some rest) × (written ≡ Some (before ++ told)) × HasRun state first last [] None s input rest told
-told_closes state first mid last s closed input before left written (rest, told, l, w, run) = (
+told_closes state lawful first mid last s back input before left written (rest, told, l, w, run) = (
   rest,
   told,
   l,
@@ -226,6 +227,6 @@ told_closes state first mid last s closed input before left written (rest, told,
   record {
     ran = run.ran;
     kept = λ empty. kept_closed state first mid run.ran.course.exchanges run.ran.course.unanswered (run.promises true (λ e. empty));
-    causes = λ tells empty. causes_closed state tells first mid last run.ran.course.exchanges run.ran.course.unanswered closed (run.promises tells empty);
+    causes = λ tells empty. causes_closed state lawful tells first mid last run.ran.course.exchanges run.ran.course.unanswered back (run.promises tells empty);
   },
 )

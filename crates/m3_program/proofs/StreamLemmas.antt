@@ -218,7 +218,7 @@ cuts_after state a b c line line2 piece piece2 more text part f g = λ first tak
 pub stream_begins : {D : Type 0} {G : Ghosts D} (state : D → DiskState) (now : Stage D G) → IsFresh state now.cluster → StreamState state now.depot [] [] now []
 stream_begins state now fresh = record {
   exchanges = [];
-  progress = record { each = λ before x after e. absurd (not_empty before x after e); place = sym fresh.no_place; serves = λ tells empty. fresh.serves tells now.depot empty };
+  progress = record { each = λ before x after e. absurd (not_empty before x after e); tracks = λ tells empty. fresh.tracks tells now.depot empty };
   read = refl;
   whole = λ x m. absurd m;
   no_end = λ m. m;

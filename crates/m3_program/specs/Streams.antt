@@ -9,9 +9,9 @@ use Rattle.m3_outside.specs.Slots.{Held}
 use Rattle.m3_outside.specs.declared.slot.Slot.{Slot}
 use Rattle.m3_json.specs.Requests.{LineMeans}
 use Rattle.m3_outside.specs.Depots.{Depot}
-use Rattle.m3_cluster.specs.declared.cluster.Cluster.{Cluster}
-use Rattle.m3_cluster.specs.Serves.{Serves, place_of}
-use Rattle.m3_program.specs.Exchanges.{Exchange, Outcome, AreExchanges, known_place, turns_of, replies_text}
+use Rattle.served_cluster.specs.declared.cluster.Cluster.{Cluster}
+use Rattle.served_cluster.specs.Owned.{TracksTurns}
+use Rattle.m3_program.specs.Exchanges.{Exchange, Outcome, AreExchanges, turns_of, replies_text}
 use Rattle.m3_program.specs.Faults.{AreEmpty, one_for}
 use Rattle.m3_program.specs.Runs.{Course, IsCutOff, Ran, TakesLines, lines_text}
 use Rattle.m3_program.specs.declared.status.Status.{Status}
@@ -26,22 +26,20 @@ pub record Stage (D : Type 0) (G : Ghosts D) : Type 0 where
 abbrev pub stage : {D : Type 0} {G : Ghosts D} → Cluster D G → (Slot → Held D) → (Slot → ℕ) → ℕ → Stage D G
 stage cluster held counted faults = record { cluster = cluster; depot = record { held = held; counted = counted; faults = faults } }
 
--- no request was served yet: no placement was printed, and nothing was to be kept or caused
+-- no request was served yet, so that there are no turns to be tracked
 pub record IsFresh {D : Type 0} {G : Ghosts D} (state : D → DiskState) (c : Cluster D G) : Type 0 where
-  pub no_place : place_of c ≡ None
-  pub serves : (tells : Bool) (first : Depot D) → (tells ≡ true → AreEmpty state first.held) → Serves state tells first first [] c
+  pub tracks : (tells : Bool) (first : Depot D) → (tells ≡ true → AreEmpty state first.held) → TracksTurns state tells first first [] c
 
 -- the exchanges so far, and how the run stands after them
 pub record Progress {D : Type 0} {G : Ghosts D} (state : D → DiskState) (first : Depot D) (xs : List Exchange) (now : Stage D G) : Type 0 where
   pub each : AreExchanges None xs
-  pub place : known_place None (turns_of xs) ≡ place_of now.cluster
-  pub serves : (tells : Bool) → (tells ≡ true → AreEmpty state first.held) → Serves state tells first now.depot (turns_of xs) now.cluster
+  pub tracks : (tells : Bool) → (tells ≡ true → AreEmpty state first.held) → TracksTurns state tells first now.depot (turns_of xs) now.cluster
 
 -- the turns of these exchanges were served, and one more at most, of the request that was taken and got no reply
 pub record IsServed {D : Type 0} {G : Ghosts D} (state : D → DiskState) (tells : Bool) (first : Depot D) (now : Stage D G) (xs : List Exchange) (unanswered : Option Request) : Type 0 where
   pub more : List Turn
   pub few : length more ≤ one_for unanswered
-  pub serves : Serves state tells first now.depot (turns_of xs ++ more) now.cluster
+  pub tracks : TracksTurns state tells first now.depot (turns_of xs ++ more) now.cluster
 
 -- so it is over any disks, and more where they tell and were empty
 abbrev pub PromisesSo : {D : Type 0} {G : Ghosts D} → (D → DiskState) → Depot D → Stage D G → List Exchange → Option Request → Type 0

@@ -1,11 +1,10 @@
 ghost use Rattle.std.specs.Prelude.{◌≡◌, Option, IfOk, OnErr};
 ghost use Rattle.std.specs.Option.{option_copied};
-ghost use Rattle.m3_cluster.specs.Depots.{OwnsDisks};
+ghost use Rattle.served_cluster.specs.Owned.{MayServe};
 ghost use Rattle.m3_program.specs.Exchanges.{is_blank, reply_line};
 ghost use Rattle.m3_program.specs.Streams.{Advances, Drops, stage};
 
 use line_fields::fault::LineErr;
-use m3_cluster::cluster::Cluster;
 use m3_json::lines::read_line;
 use m3_model::answer::Answer;
 use m3_model::memory::Memory;
@@ -13,6 +12,7 @@ use m3_model::placement::Placement;
 use m3_model::turn::Reply;
 use m3_outside::disks::Disks;
 use m3_replies::print_reply;
+use served_cluster::cluster::Cluster;
 use std::alloc::Global;
 
 fn is_blank(line: &[u8]) -> bool
@@ -39,12 +39,12 @@ pub fn answer_line<X: Disks>(
     disks: &mut X,
     line: &[u8],
 ) -> Result<Vec<u8>, Memory>
-    requires owned { OwnsDisks cluster.old (X.held disks.old) }
+    requires owned { MayServe cluster.old (X.held disks.old) }
     ensures ok { IfOk result (λ text. Advances X.D.state (stage cluster.old (X.held disks.old) (X.counted disks.old) (X.all_faults disks.old)) line.now text.items
         (stage cluster.new (X.held disks.new) (X.counted disks.new) (X.all_faults disks.new))) }
     ensures err { OnErr result (Drops X.D.state (stage cluster.old (X.held disks.old) (X.counted disks.old) (X.all_faults disks.old)) line.now
         (stage cluster.new (X.held disks.new) (X.counted disks.new) (X.all_faults disks.new))) }
-    ensures owned { OwnsDisks cluster.new (X.held disks.new) }
+    ensures owned { MayServe cluster.new (X.held disks.new) }
 {
     if is_blank(line) {
         return Ok(Vec::new(alloc));

@@ -1,15 +1,15 @@
 ghost use Rattle.std.specs.Prelude.{◌≤◌, ℕ, List, [], ◌∷◌, ◌++◌, OnOk, OnErr, IfErr};
 ghost use Rattle.std.specs.Io.KnownBytes.{Appends};
-ghost use Rattle.m3_cluster.specs.Depots.{OwnsDisks};
+ghost use Rattle.served_cluster.specs.Owned.{MayServe};
 ghost use Rattle.m3_program.specs.Streams.{NoNewline, TakesOn, Cuts, stage};
 ghost use Rattle.m3_program.specs.Causes.{EndsLine};
 
 use crate::output::serve_line;
 use crate::status::Status;
-use m3_cluster::cluster::Cluster;
 use m3_outside::disks::Disks;
 use m3_outside::sink::Sink;
 use memchr::memchr;
+use served_cluster::cluster::Cluster;
 use std::alloc::Global;
 
 /// Takes the rest of a line, up to its newline: `line` is what was taken of it before.
@@ -22,14 +22,14 @@ fn serve_rest<K: Sink, X: Disks>(
     rest: &[u8],
 ) -> Result<(), Status>
     requires whole { NoNewline rest.now }
-    requires owned { OwnsDisks cluster.old (X.held disks.old) }
+    requires owned { MayServe cluster.old (X.held disks.old) }
     ensures ok { OnOk result ((text : List ℕ) × Appends (K.written out.old) (K.written out.new) text
         × TakesOn X.D.state (stage cluster.old (X.held disks.old) (X.counted disks.old) (X.all_faults disks.old)) line.old.items (rest.now ++ 10 ∷ []) text
         (stage cluster.new (X.held disks.new) (X.counted disks.new) (X.all_faults disks.new)) line.new.items) }
     ensures err { OnErr result ((part : List ℕ) × Appends (K.written out.old) (K.written out.new) part
         × Cuts X.D.state (stage cluster.old (X.held disks.old) (X.counted disks.old) (X.all_faults disks.old)) line.old.items (rest.now ++ 10 ∷ []) part
         (stage cluster.new (X.held disks.new) (X.counted disks.new) (X.all_faults disks.new))) }
-    ensures owned { OwnsDisks cluster.new (X.held disks.new) }
+    ensures owned { MayServe cluster.new (X.held disks.new) }
     ensures later { (K.faulted out.old ≤ K.faulted out.new) × (K.stalled out.old ≤ K.stalled out.new) }
     ensures cause { IfErr result (λ s. EndsLine s (K.faulted out.old) (K.faulted out.new) (K.stalled out.old) (K.stalled out.new)) }
 {
@@ -58,14 +58,14 @@ pub fn serve_piece<K: Sink, X: Disks>(
     line: &mut Vec<u8>,
     piece: &[u8],
 ) -> Result<(), Status>
-    requires owned { OwnsDisks cluster.old (X.held disks.old) }
+    requires owned { MayServe cluster.old (X.held disks.old) }
     ensures ok { OnOk result ((text : List ℕ) × Appends (K.written out.old) (K.written out.new) text
         × TakesOn X.D.state (stage cluster.old (X.held disks.old) (X.counted disks.old) (X.all_faults disks.old)) line.old.items piece.now text
         (stage cluster.new (X.held disks.new) (X.counted disks.new) (X.all_faults disks.new)) line.new.items) }
     ensures err { OnErr result ((part : List ℕ) × Appends (K.written out.old) (K.written out.new) part
         × Cuts X.D.state (stage cluster.old (X.held disks.old) (X.counted disks.old) (X.all_faults disks.old)) line.old.items piece.now part
         (stage cluster.new (X.held disks.new) (X.counted disks.new) (X.all_faults disks.new))) }
-    ensures owned { OwnsDisks cluster.new (X.held disks.new) }
+    ensures owned { MayServe cluster.new (X.held disks.new) }
     ensures later { (K.faulted out.old ≤ K.faulted out.new) × (K.stalled out.old ≤ K.stalled out.new) }
     ensures cause { IfErr result (λ s. EndsLine s (K.faulted out.old) (K.faulted out.new) (K.stalled out.old) (K.stalled out.new)) }
 {

@@ -1,14 +1,14 @@
 ghost use Rattle.std.specs.Prelude.{◌≤◌, ℕ, List, take, OnOk, OnErr, IfErr};
 ghost use Rattle.std.specs.Io.KnownBytes.{Appends};
-ghost use Rattle.m3_cluster.specs.Depots.{OwnsDisks};
+ghost use Rattle.served_cluster.specs.Owned.{MayServe};
 ghost use Rattle.m3_program.specs.Streams.{Advances, Halts, stage};
 ghost use Rattle.m3_program.specs.Causes.{EndsLine};
 
 use crate::exchange::answer_line;
 use crate::status::Status;
-use m3_cluster::cluster::Cluster;
 use m3_outside::disks::Disks;
 use m3_outside::sink::Sink;
+use served_cluster::cluster::Cluster;
 use std::alloc::Global;
 
 /// Writes all of the bytes, or a front of them.
@@ -41,14 +41,14 @@ pub fn serve_line<K: Sink, X: Disks>(
     out: &mut K,
     line: &[u8],
 ) -> Result<(), Status>
-    requires owned { OwnsDisks cluster.old (X.held disks.old) }
+    requires owned { MayServe cluster.old (X.held disks.old) }
     ensures ok { OnOk result ((text : List ℕ) × Appends (K.written out.old) (K.written out.new) text
         × Advances X.D.state (stage cluster.old (X.held disks.old) (X.counted disks.old) (X.all_faults disks.old)) line.now text
         (stage cluster.new (X.held disks.new) (X.counted disks.new) (X.all_faults disks.new))) }
     ensures err { OnErr result ((part : List ℕ) × Appends (K.written out.old) (K.written out.new) part
         × Halts X.D.state (stage cluster.old (X.held disks.old) (X.counted disks.old) (X.all_faults disks.old)) line.now part
         (stage cluster.new (X.held disks.new) (X.counted disks.new) (X.all_faults disks.new))) }
-    ensures owned { OwnsDisks cluster.new (X.held disks.new) }
+    ensures owned { MayServe cluster.new (X.held disks.new) }
     ensures later { (K.faulted out.old ≤ K.faulted out.new) × (K.stalled out.old ≤ K.stalled out.new) }
     ensures cause { IfErr result (λ s. EndsLine s (K.faulted out.old) (K.faulted out.new) (K.stalled out.old) (K.stalled out.new)) }
 {

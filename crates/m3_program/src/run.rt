@@ -4,7 +4,7 @@ ghost use Rattle.m3_model.specs.declared.limits.TheConstants.{INPUT_END};
 ghost use Rattle.m3_outside.specs.Slots.{Out};
 ghost use Rattle.m3_outside.specs.declared.slot.Slot.{Slot};
 ghost use Rattle.m3_outside.specs.Depots.{Depot};
-ghost use Rattle.m3_cluster.specs.Depots.{OwnsDisks};
+ghost use Rattle.served_cluster.specs.Owned.{MayServe};
 ghost use Rattle.m3_program.specs.Words.{is_run};
 ghost use Rattle.m3_program.specs.Streams.{StreamState, TakesOn, Cuts, Halted, Finished, HasServed, IsFresh, stage};
 ghost use Rattle.m3_program.specs.Causes.{EndsLine, EndsStep, EndsRun};
@@ -15,11 +15,11 @@ use crate::input::serve_piece;
 use crate::output::serve_line;
 use crate::status::Status;
 use crate::words::is_run;
-use m3_cluster::cluster::Cluster;
 use m3_model::limits::INPUT_END;
 use m3_outside::disks::Disks;
 use m3_outside::sink::Sink;
 use m3_outside::source::Source;
+use served_cluster::cluster::Cluster;
 use std::alloc::Global;
 
 /// How much is taken at once.
@@ -35,7 +35,7 @@ fn serve_read<S: Source, K: Sink, X: Disks>(
     out: &mut K,
     buf: &mut [u8],
 ) -> Result<usize, Status>
-    requires owned { OwnsDisks cluster.old (X.held disks.old) }
+    requires owned { MayServe cluster.old (X.held disks.old) }
     ensures ok { IfOk result (λ n. (piece text : List ℕ) × Consumes (S.left source.old) (S.left source.new) piece × (length piece ≡ n) × (n ≤ length buf.old)
         × Appends (K.written out.old) (K.written out.new) text
         × TakesOn X.D.state (stage cluster.old (X.held disks.old) (X.counted disks.old) (X.all_faults disks.old)) line.old.items piece text
@@ -48,7 +48,7 @@ fn serve_read<S: Source, K: Sink, X: Disks>(
     ensures at_fault { IsErrOf result status.ReadFault → Consumes (S.left source.old) (S.left source.new) [] × Appends (K.written out.old) (K.written out.new) []
         × TakesOn X.D.state (stage cluster.old (X.held disks.old) (X.counted disks.old) (X.all_faults disks.old)) line.old.items [] []
         (stage cluster.new (X.held disks.new) (X.counted disks.new) (X.all_faults disks.new)) line.new.items }
-    ensures owned { OwnsDisks cluster.new (X.held disks.new) }
+    ensures owned { MayServe cluster.new (X.held disks.new) }
     ensures later { (S.faulted source.old ≤ S.faulted source.new) × (K.faulted out.old ≤ K.faulted out.new) × (K.stalled out.old ≤ K.stalled out.new) }
     ensures cause { IfErr result (λ s. EndsStep s (S.faulted source.old) (S.faulted source.new) (K.faulted out.old) (K.faulted out.new) (K.stalled out.old) (K.stalled out.new)) }
 {
@@ -69,14 +69,14 @@ fn serve_last<K: Sink, X: Disks>(
     out: &mut K,
     line: &[u8],
 ) -> Result<(), Status>
-    requires owned { OwnsDisks cluster.old (X.held disks.old) }
+    requires owned { MayServe cluster.old (X.held disks.old) }
     ensures ok { OnOk result ((text : List ℕ) × Appends (K.written out.old) (K.written out.new) text
         × ((first : Depot X.D) (taken told : List ℕ) → StreamState X.D.state first taken told (stage cluster.old (X.held disks.old) (X.counted disks.old) (X.all_faults disks.old)) line.now
         → Finished X.D.state first (stage cluster.new (X.held disks.new) (X.counted disks.new) (X.all_faults disks.new)) taken (told ++ text))) }
     ensures err { OnErr result ((part : List ℕ) × Appends (K.written out.old) (K.written out.new) part
         × ((first : Depot X.D) (taken told : List ℕ) → StreamState X.D.state first taken told (stage cluster.old (X.held disks.old) (X.counted disks.old) (X.all_faults disks.old)) line.now
         → Halted X.D.state first (stage cluster.new (X.held disks.new) (X.counted disks.new) (X.all_faults disks.new)) taken taken (told ++ part))) }
-    ensures owned { OwnsDisks cluster.new (X.held disks.new) }
+    ensures owned { MayServe cluster.new (X.held disks.new) }
     ensures later { (K.faulted out.old ≤ K.faulted out.new) × (K.stalled out.old ≤ K.stalled out.new) }
     ensures cause { IfErr result (λ s. EndsLine s (K.faulted out.old) (K.faulted out.new) (K.stalled out.old) (K.stalled out.new)) }
 {
@@ -106,12 +106,12 @@ fn serve_all<S: Source, K: Sink, X: Disks>(
     out: &mut K,
 ) -> Status
     requires fresh { IsFresh X.D.state cluster.old }
-    requires owned { OwnsDisks cluster.old (X.held disks.old) }
+    requires owned { MayServe cluster.old (X.held disks.old) }
     ensures told { (input before : List ℕ) → S.left source.old ≡ Some input → K.written out.old ≡ Some before
         → (left written : List ℕ) × (S.left source.new ≡ Some left) × (K.written out.new ≡ Some (before ++ written))
         × HasServed X.D.state (record { held = X.held disks.old; counted = X.counted disks.old; faults = X.all_faults disks.old })
         (stage cluster.new (X.held disks.new) (X.counted disks.new) (X.all_faults disks.new)) result input left written }
-    ensures owned { OwnsDisks cluster.new (X.held disks.new) }
+    ensures owned { MayServe cluster.new (X.held disks.new) }
     ensures cause { EndsRun true result (S.faulted source.old) (S.faulted source.new) (K.faulted out.old) (K.faulted out.new) (K.stalled out.old) (K.stalled out.new) }
 {
     let mut line = Vec::new(alloc);

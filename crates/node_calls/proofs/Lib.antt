@@ -1,7 +1,6 @@
 pub mod BeginLemmas
 pub mod ListLemmas
 pub mod NodeActs
-pub mod NodeLemmas
 pub mod ResultLemmas
 pub mod RowLemmas
 pub mod RunLemmas

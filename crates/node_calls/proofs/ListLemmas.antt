@@ -1,6 +1,6 @@
--- Lists as loops go over them: those that pass a test, and what each of them brings.
-use Rattle.std.proofs.Common.{◌≡◌, ◌<◌, ◌≤◌, ◌+◌, ◌*◌, ℕ, zero, suc, List, [], ◌∷◌, ◌++◌, length, take, drop, get_or, refl, sym, ap, ◌∙◌, subst, arith, Bool, true, false, cond, inl, inr, length-append}
-use Rattle.std.specs.Prelude.{filter}
+-- Lists as loops go over them: those that pass a test, and what each of them brings; and lists with one element set.
+use Rattle.std.proofs.Common.{◌≡◌, ◌≢◌, ◌<◌, ◌≤◌, ◌+◌, ◌*◌, ℕ, zero, suc, List, [], ◌∷◌, ◌++◌, length, take, drop, get_or, refl, sym, ap, ◌∙◌, subst, arith, Bool, true, false, cond, inl, inr, length-append}
+use Rattle.std.specs.Prelude.{Some, filter, slice_get, slice_set}
 use Rattle.std.specs.List.{flat_map}
 use Rattle.std.proofs.lemmas.Grind.{flat_map-append}
 use Rattle.std.proofs.lemmas.List.{append-nil}
@@ -76,3 +76,18 @@ count_yes f xs i d count next low e is more =
 
 pub count_no : {X : Type 0} (f : X → Bool) (xs : List X) (i : ℕ) (d : X) (count : ℕ) → i < length xs → f (get_or xs i d) ≡ false → count ≡ length (filter f (take i xs)) → count ≡ length (filter f (take (i + 1) xs))
 count_no f xs i d count low e is = is ∙ ap length (sym (filter_no f xs i d low e))
+
+-- ---- lists with one element set
+
+pub set_here : {X : Type 0} (xs : List X) (i : ℕ) (x y : X) → slice_get xs i ≡ Some y → slice_get (slice_set xs i x) i ≡ Some x
+set_here [] i x y e = cc
+set_here (z ∷ xs) zero x y e = refl
+set_here (z ∷ xs) (suc i) x y e = set_here xs i x y e
+
+pub set_elsewhere : {X : Type 0} (xs : List X) (i j : ℕ) (x : X) → j ≢ i → slice_get (slice_set xs i x) j ≡ slice_get xs j
+set_elsewhere [] zero j x other = refl
+set_elsewhere [] (suc i) j x other = refl
+set_elsewhere (z ∷ xs) zero zero x other = absurd (other refl)
+set_elsewhere (z ∷ xs) zero (suc j) x other = refl
+set_elsewhere (z ∷ xs) (suc i) zero x other = refl
+set_elsewhere (z ∷ xs) (suc i) (suc j) x other = set_elsewhere xs i j x (λ e. other (ap suc e))

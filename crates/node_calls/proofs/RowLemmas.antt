@@ -11,7 +11,7 @@ use Rattle.m3_model.specs.declared.act.Fate.{Fate}
 use Rattle.m3_model.specs.declared.placement.Instance.{Instance}
 use Rattle.net_plan.specs.Fates.{Item, key_of, IsFatesRow}
 use Rattle.net_plan.specs.declared.fate_key.FateKey.{FateKey}
-use Rattle.node_calls.specs.Nodes.{node_named, AreNumbered, first_missing}
+use Rattle.cluster_members.specs.Names.{AreNumbered, first_missing, node_named}
 
 -- a fate as a request gives it, with its node by name
 abbrev pub Fated : Type 0

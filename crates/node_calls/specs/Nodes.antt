@@ -1,7 +1,6 @@
 -- What befalls nodes, and messages to them.
-use Rattle.std.specs.Prelude.{◌≡◌, ℕ, ◌*◌, ◌<◌, ◌≤◌, List, [], ◌∷◌, ◌++◌, length, Option, Some, None, Bool, true, false, Result, Ok, Err, nat_eq, slice_get, slice_set, ◌&&◌, ◌⊎◌, ⊤, decimal}
-use Rattle.std.specs.Cmp.Lexicographic.{pointwise}
-use Rattle.std.specs.List.{flat_map, position}
+use Rattle.std.specs.Prelude.{◌≡◌, ℕ, ◌*◌, ◌<◌, ◌≤◌, List, [], ◌++◌, length, Option, Some, None, Bool, true, false, Result, Ok, Err, slice_get, slice_set, ◌⊎◌, ⊤, decimal}
+use Rattle.std.specs.List.{flat_map}
 use Rattle.m3_outside.specs.declared.disk.Disk.{Ghosts}
 use Rattle.m3_model.specs.declared.act.Fate.{Fate}
 use Rattle.m3_model.specs.declared.answer.Answer.{Answer}
@@ -16,31 +15,12 @@ use Rattle.replica_calls.specs.Calls.{HasRoom}
 use Rattle.session_net.specs.Deliveries as late
 use Rattle.session_net.specs.Runs.{Ran}
 use Rattle.session_net.specs.declared.session_err.SessionErr.TheVariants as err
+use Rattle.cluster_members.specs.Names.{AreNumbered, first_missing, node_named}
 use Rattle.cluster_members.specs.declared.members.Members.{Members}
 use Rattle.node_calls.specs.Begins.{AreBegun, IsUnbegun, assigned_all}
 use Rattle.node_calls.specs.Halts.{IsUnrestarted, restart_at, slots_of_node, stop_at}
 
--- the number of the first listed node of this name
-abbrev pub node_named : List ℕ → List Instance → Option ℕ
-node_named name instances = position (λ (node : Instance). node.listed && pointwise nat_eq name node.name) instances
-
 -- ---- fates
-
--- the same messages and fates, with the numbers of the nodes in place of their names
-abbrev pub AreNumbered : List Instance → List (ℕ × ℕ × List ℕ × Fate) → List Item → Type 0
-AreNumbered instances [] [] = ⊤
-AreNumbered instances (fate ∷ list) (item ∷ items) =
-    (item.0 ≡ fate.0) × (item.1 ≡ fate.1) × (node_named fate.2 instances ≡ Some item.2) × (item.3 ≡ fate.3) × AreNumbered instances list items
-AreNumbered instances _ _ = ⊥
-
--- the first name that no listed node has
-abbrev pub first_missing : List Instance → List (ℕ × ℕ × List ℕ × Fate) → Option (List ℕ)
-first_missing instances [] = None
-first_missing instances (fate ∷ list) = missing_or (node_named fate.2 instances) fate.2 (first_missing instances list)
-  where
-    missing_or : Option ℕ → List ℕ → Option (List ℕ) → Option (List ℕ)
-    missing_or None name later = Some name
-    missing_or (Some node) name later = later
 
 -- each name has its number; else the first that has none, or want of memory
 abbrev pub IsResolved : List Instance → List (ℕ × ℕ × List ℕ × Fate) → Result (List Item) Answer → Type 0

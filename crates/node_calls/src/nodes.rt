@@ -3,8 +3,9 @@ ghost use Rattle.std.specs.Prelude.{◌≡◌, ◌<◌, ◌≤◌, length, IfSom
 ghost use Rattle.m3_model.specs.declared.act.Act.TheVariants as act;
 ghost use Rattle.m3_model.specs.Limits.{MeetsLimits};
 ghost use Rattle.session_net.specs.Ready.{IsReady};
+ghost use Rattle.cluster_members.specs.Names.{node_named};
 ghost use Rattle.node_calls.specs.Halts.{AreManned, HaveSameSlots};
-ghost use Rattle.node_calls.specs.Nodes.{node_named, IsResolved, IsFated, IsDelivered, IsStopped};
+ghost use Rattle.node_calls.specs.Nodes.{IsResolved, IsFated, IsDelivered, IsStopped};
 
 use crate::halts::{slots_of, stop_all};
 use cluster_members::members::Members;

@@ -33,9 +33,10 @@ use Rattle.transcripts.specs.Fates.{OfNode, is_stopped, stopped_by}
 use Rattle.transcripts.specs.Record.{inner_turns, line_of}
 use Rattle.call_lines.specs.Left.{IsLeftBy}
 use Rattle.cluster_members.specs.declared.members.Members.{Members}
+use Rattle.cluster_members.proofs.NameLemmas.{NamedNode, node_found, same_node}
 use Rattle.node_calls.specs.Halts.{slots_of_node}
 use Rattle.node_calls.specs.Nodes.{IsNode}
-use Rattle.node_calls.proofs.NodeLemmas.{NamedNode, node_found, same_node, set_elsewhere, set_here}
+use Rattle.node_calls.proofs.ListLemmas.{set_elsewhere, set_here}
 use Rattle.node_calls.proofs.RunLemmas.{same_slots}
 use Rattle.node_lines.specs.Keeps.{HaveNoPlace, StandsStill}
 use Rattle.node_lines.specs.Stands.{EachNode, HasSlots, Stands}

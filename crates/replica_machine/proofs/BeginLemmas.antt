@@ -94,7 +94,7 @@ module _ {D : Type 0} (state : D → DiskState) (old : MachineState D) (t : ℕ)
       damage = λ other e. subst (λ (x : Damage). Told (state old.disk) (IsDamageOf x)) (same_damage damage other (err_same (reason.Corrupt damage) (reason.Corrupt other) e)) told;
       err = refl;
       disk = brings_stays (a_tenure t) (reason.Corrupt damage) (state old.disk) (state d) stays same faults (λ e. absurd (cc));
-      step = begin_damage state old t d same F faults up high steps damage;
+      step = begin_damage state old t d same F faults up high steps damage (λ tells sound. let named = told tells in damaged_is_unsound named.number named.at (state old.disk).files named.damaged sound);
     }
 
     as_shut : (answer other : Reason) (new : MachineState D) → answer ≡ other → new ≡ shut_machine standing.Down old new.disk → new.disk ≡ d → BeginDone state old t (Err other) (shut_machine standing.Down old d) → BeginDone state old t (Err answer) new
@@ -159,7 +159,7 @@ module _ {D : Type 0} (state : D → DiskState) (old : MachineState D) (t : ℕ)
       damage = λ damage e. absurd (never (reason.Corrupt damage) e);
       err = tt;
       disk = after_stays (state old.disk) (state d) (state new.disk) stays same (a_tenure t) (Ok began) faults brings;
-      step = step_after_stays state old t (reply.Began began.fence began.points) d new same faults steps step;
+      step = step_after_stays state old t (reply.Began began.fence began.points) d new same faults steps (λ damage e. cc) step;
     }
       where
         never : (why : Reason) → (let r : Result Began Reason = Ok began in IsErrOf r why) → ⊥
@@ -171,8 +171,11 @@ module _ {D : Type 0} (state : D → DiskState) (old : MachineState D) (t : ℕ)
       damage = λ damage e. absurd (own_not why (reason.Corrupt damage) own (λ f. cc) (λ f. cc) (err_same why (reason.Corrupt damage) e));
       err = own_refused old d new why own err;
       disk = after_stays (state old.disk) (state d) (state new.disk) stays same (a_tenure t) (Err why) faults brings;
-      step = step_after_stays state old t (reply.Refused why) d new same faults steps step;
+      step = step_after_stays state old t (reply.Refused why) d new same faults steps (λ damage e. own_not why (reason.Corrupt damage) own (λ f. cc) (λ f. cc) (why_is damage e)) step;
     }
+      where
+        why_is : (damage : Damage) → reply.Refused why ≡ reply.Refused (reason.Corrupt damage) → why ≡ reason.Corrupt damage
+        why_is damage e = cc
 
     pub opened_done : (result : Result Began Reason) (mid new : MachineState D) → mid ≡ record old { disk = d } → IfOk result (BeganFrom state t mid new) → IfErr result (IsRefused mid new) → IfErr result IsOwn → BringsTo (a_tenure t) result (state mid.disk) (state new.disk)
         → IsStep state mid (call.Begin t) (reply_by (λ began. reply.Began began.fence began.points) result) new → BeginDone state old t result new

@@ -18,7 +18,7 @@ use Rattle.m3_outside.specs.DiskState.{DiskState, Told, EachImage, StepOf}
 use Rattle.m3_outside.specs.declared.disk_err.DiskErr.{DiskErr}
 use Rattle.m3_outside.specs.declared.disk_err.DiskErr.TheVariants as refused
 use Rattle.placement_core.proofs.ListLemmas.{All-from_each, each-from_All, Any-from_IsIn}
-use Rattle.shard_files.specs.Held.{Held}
+use Rattle.shard_files.specs.Held.{Held, IsSound}
 use Rattle.shard_files.specs.Once.{HeldOnce}
 use Rattle.shard_files.specs.Gains.{nothing, a_tenure, Gains, MayGain, Brings}
 use Rattle.shard_store.specs.Stores.{StoreState, closed_over}
@@ -72,7 +72,7 @@ module _ {D : Type 0} (state : D → DiskState) (old : MachineState D) (t : ℕ)
   -- ---- refused
 
   pub begin_down : old.standing ≡ standing.Down → IsStep state old (call.Begin t) (reply.Refused reason.Down) old
-  begin_down is_down = record { lawful = λ made r h past n s given. ap closed (sym h.stands ∙ is_down); follows = λ made r h. h; opens = λ made r h told none. tt; tells = refl; faults = counts_same _ _ (λ e. cc) }
+  begin_down is_down = record { lawful = λ made r h past n s given. ap closed (sym h.stands ∙ is_down); follows = λ made r h. h; opens = λ made r h told none. tt; sound = λ damage e. absurd (cc); tells = refl; faults = counts_same _ _ (λ e. cc) }
 
   pub begin_unowned : closed old.standing ≡ None → t < old.begun → IsStep state old (call.Begin t) (reply.Refused reason.NotOwned) old
   begin_unowned up lt = record {
@@ -80,13 +80,14 @@ module _ {D : Type 0} (state : D → DiskState) (old : MachineState D) (t : ℕ)
         (not_closed r h up, OnTrue_from (state old.disk).tells (MayBeHigher r t) (λ e. ⊎_elim (λ (zero_is : old.begun ≡ 0). absurd (omega (arith, lt, zero_is))) (λ (m : IsIn r.begun old.begun). inl (Any-from_IsIn (λ begun. t < begun) r.begun old.begun m lt)) h.begun.one_of));
     follows = λ made r h. h;
     opens = λ made r h told none. tt;
+    sound = λ damage e. absurd (cc);
     tells = refl;
     faults = counts_same _ _ (λ e. cc);
   }
 
   module _ (d : D) (same : (state d).tells ≡ (state old.disk).tells) (F : Type 0) (counts : CountsFaults F (state old.disk).faults (state d).faults) where
     pub begin_memory : ((state old.disk).tells ≡ true → (c : Files) → (state d).images c → StepOf (Gains nothing) (state old.disk).images c) → IsStep state old (call.Begin t) (reply.Refused reason.Memory) (record old { disk = d })
-    begin_memory steps = record { lawful = λ made r h past n s given. tt; follows = λ made r h. kept_machine state (state made).images r old d same steps h; opens = λ made r h told none. tt; tells = same; faults = counts_for _ _ _ _ (λ e. absurd (cc)) counts }
+    begin_memory steps = record { lawful = λ made r h past n s given. tt; follows = λ made r h. kept_machine state (state made).images r old d same steps h; opens = λ made r h told none. tt; sound = λ damage e. absurd (cc); tells = same; faults = counts_for _ _ _ _ (λ e. absurd (cc)) counts }
 
     pub begin_fault : F → closed old.standing ≡ None → old.begun ≤ t → ((state old.disk).tells ≡ true → (c : Files) → (state d).images c → StepOf (MayGain (a_tenure t)) (state old.disk).images c)
         → IsStep state old (call.Begin t) (reply.Refused reason.Disk) (shut_machine standing.Down old d)
@@ -97,19 +98,21 @@ module _ {D : Type 0} (state : D → DiskState) (old : MachineState D) (t : ℕ)
           shut_follows state (state made).images r q old standing.Down d (λ e. cc) refl refl refl refl h (λ b. each_step (state old.disk) (state d) (IsHeldBy Held r) (IsHeldBy Held q) same steps (λ x y may held. held_tried r t x y may held) (h.files b))
           (λ none. each_step (state old.disk) (state d) (CameFrom Held (state made).images r.tried) (CameFrom Held (state made).images (r.tried ++ t ∷ [])) same steps (λ x y may came. came_tried (state made).images r.tried t x y may came) (h.unbegun none));
       opens = λ made r h told none. tt;
+      sound = λ damage e. absurd (cc);
       tells = same;
       faults = counts_for _ _ _ _ (λ e. fault) counts;
     }
 
-    pub begin_damage : closed old.standing ≡ None → old.begun ≤ t → ((state old.disk).tells ≡ true → (c : Files) → (state d).images c → StepOf (Gains nothing) (state old.disk).images c) → (damage : Damage)
+    pub begin_damage : closed old.standing ≡ None → old.begun ≤ t → ((state old.disk).tells ≡ true → (c : Files) → (state d).images c → StepOf (Gains nothing) (state old.disk).images c) → (damage : Damage) → Told (state old.disk) (λ files. ¬ IsSound files)
         → IsStep state old (call.Begin t) (reply.Refused (reason.Corrupt damage)) (shut_machine standing.Down old d)
-    begin_damage up high steps damage = record {
+    begin_damage up high steps damage unsound = record {
       lawful = λ made r h past n s given. record { reads = refl; taken = (not_closed r h up, OnTrue_from (state old.disk).tells (NoneHigher r t) (λ e. none_higher r h high)); clock = tt };
       follows = λ made r h.
           let q : ReplicaState = record r { standing = standing.Down } in
           shut_follows state (state made).images r q old standing.Down d (λ e. cc) refl refl refl refl h (λ b. each_step (state old.disk) (state d) (IsHeldBy Held r) (IsHeldBy Held q) same steps (λ x y gains held. held_nothing r q (stands_at r standing.Down) x y gains held) (h.files b))
           (λ none. each_step (state old.disk) (state d) (CameFrom Held (state made).images r.tried) (CameFrom Held (state made).images r.tried) same steps (λ x y gains came. came_nothing (state made).images r.tried x y gains came) (h.unbegun none));
       opens = λ made r h told none. tt;
+      sound = λ other e. unsound;
       tells = same;
       faults = counts_for _ _ _ _ (λ e. absurd (cc)) counts;
     }
@@ -133,6 +136,7 @@ module _ {D : Type 0} (state : D → DiskState) (old : MachineState D) (t : ℕ)
       );
       follows = λ made r h. kept_machine state (state made).images r old d same steps h;
       opens = λ made r h told none. tt;
+      sound = λ damage e. absurd (cc);
       tells = same;
       faults = counts_for _ _ _ _ (λ e. absurd (cc)) counts;
     }
@@ -185,6 +189,7 @@ module _ {D : Type 0} (state : D → DiskState) (old : MachineState D) (t : ℕ)
               let files = (state old.disk).files in
               let found = held told in
               record { files = files; came = h.unbegun none told files (image told); all = found.all; tenure_found = tenure_found; fence_found = fence_found; held = found.held; once = found.once; not_higher = low; fence_is = fence_is };
+          sound = λ damage e. absurd (cc);
           tells = same;
           faults = counts_for _ _ _ _ (λ e. absurd (cc)) counts;
         }
@@ -229,6 +234,7 @@ module _ {D : Type 0} (state : D → DiskState) (old : MachineState D) (t : ℕ)
               unbegun = λ none. absurd (some_there r.begun t none);
             };
         opens = λ made r h told none. absurd ((h.open_ is_open).begun none);
+        sound = λ damage e. absurd (cc);
         tells = same;
         faults = counts_for _ _ _ _ (λ e. absurd (cc)) counts;
       }
@@ -262,11 +268,12 @@ module _ {D : Type 0} (state : D → DiskState) (old : MachineState D) (t : ℕ)
 
 -- after a call that left the files
 pub step_after_stays : {D : Type 0} {F : Type 0} (state : D → DiskState) (old : MachineState D) (t : ℕ) (a : StepReply) (d : D) (new : MachineState D) → (state d).tells ≡ (state old.disk).tells → CountsFaults F (state old.disk).faults (state d).faults
-    → ((state old.disk).tells ≡ true → (c : Files) → (state d).images c → StepOf (Gains nothing) (state old.disk).images c) → IsStep state (record old { disk = d }) (call.Begin t) a new → IsStep state old (call.Begin t) a new
-step_after_stays state old t a d new same counts steps step = record {
+    → ((state old.disk).tells ≡ true → (c : Files) → (state d).images c → StepOf (Gains nothing) (state old.disk).images c) → ((damage : Damage) → a ≡ reply.Refused (reason.Corrupt damage) → ⊥) → IsStep state (record old { disk = d }) (call.Begin t) a new → IsStep state old (call.Begin t) a new
+step_after_stays state old t a d new same counts steps clean step = record {
   lawful = λ made r h past n s given. subst (λ tells. LawfulStep tells past n s r (call.Begin t) a) same (step.lawful made r (kept_machine state (state made).images r old d same steps h) past n s given);
   follows = λ made r h. step.follows made r (kept_machine state (state made).images r old d same steps h);
   opens = λ made r h told none. step.opens made r (kept_machine state (state made).images r old d same steps h) (same ∙ told) none;
+  sound = λ damage e. absurd (clean damage e);
   tells = step.tells ∙ same;
   faults = counts_both _ _ _ _ _ counts step.faults;
 }

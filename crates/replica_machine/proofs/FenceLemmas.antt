@@ -3,6 +3,7 @@ use Rattle.std.proofs.Common.{◌≡◌, inl, inr, ⊎_elim, ℕ, max, [], ◌�
 use Rattle.std.specs.Prelude.{⊤, ◌≢◌, Option, nat_le, OnOk, IfErr, IsErrOf}
 use Rattle.std.specs.Option.{option_or}
 use Rattle.std.proofs.lemmas.Bool.{leb-true}
+use Rattle.m3_model.specs.declared.reason.Damage.{Damage}
 use Rattle.m3_model.specs.declared.reason.Reason.{Reason}
 use Rattle.m3_model.specs.declared.reason.Reason.TheVariants as reason
 use Rattle.m3_model.specs.declared.replica.Standing.{Standing}
@@ -27,7 +28,7 @@ use Rattle.cluster_core.specs.declared.event.StepReply.TheVariants as reply
 use Rattle.cluster_core.specs.declared.replica_state.ReplicaState.{ReplicaState}
 use Rattle.replica_machine.specs.Machines.{MachineState, IsMachineOf, IsHeldBy, IsRefusedFor, refusal, shut_machine, settled, settled_answer}
 use Rattle.replica_machine.specs.Steps.{reply_by, IsStep, BringsTo}
-use Rattle.replica_machine.proofs.ReasonLemmas.{IsPlain, plain_lawful, plain_no_fault, fence_plain, shut_alike, refused_none, refused_some}
+use Rattle.replica_machine.proofs.ReasonLemmas.{IsPlain, plain_lawful, plain_no_damage, plain_no_fault, fence_plain, shut_alike, refused_none, refused_some}
 use Rattle.replica_machine.proofs.DiskLemmas.{each_step, reply_counts, brings_settled, brings_none_to}
 use Rattle.replica_machine.proofs.HeldByLemmas.{held_fence_doubt}
 use Rattle.replica_machine.proofs.StepLemmas.{machine_of, middle, kept_machine, shut_follows, fence_follows}
@@ -100,6 +101,7 @@ module _ {D : Type 0} (state : D → DiskState) (old : MachineState D) (version 
           lawful = λ made r h past n s given. plain_lawful _ past s r (call.Fence version) (λ e. e) why plain (alike r h ∙ first);
           follows = λ made r h. subst (λ (q : ReplicaState). IsMachineOf state (state made).images q old) (left_plain r version why plain) h;
           opens = λ made r h told none. tt;
+          sound = λ damage e. absurd (plain_no_damage why plain damage (reply_damage damage e));
           tells = refl;
           faults = counts_same _ _ (λ e. plain_no_fault why plain (reply_same e));
         };
@@ -110,6 +112,9 @@ module _ {D : Type 0} (state : D → DiskState) (old : MachineState D) (version 
 
       reply_same : reply.Refused why ≡ reply.Refused reason.Disk → why ≡ reason.Disk
       reply_same e = cc
+
+      reply_damage : (damage : Damage) → reply.Refused why ≡ reply.Refused (reason.Corrupt damage) → why ≡ reason.Corrupt damage
+      reply_damage damage e = cc
 
   module _ (first : option_or (shut old.standing) (unowned old.tenure version) ≡ None) (mid : MachineState D) where
     is_owner : {base : Files → Type 0} → (r : ReplicaState) → IsMachineOf state base r old → IsOwner r version
@@ -128,6 +133,7 @@ module _ {D : Type 0} (state : D → DiskState) (old : MachineState D) (version 
           subst (λ (m : MachineState D). IsMachineOf state (state made).images (after r (call.Fence version) reply.Done) m) (sym by.ok)
           (fence_follows state (state made).images r old mid.disk version (owning old.standing old.tenure version first).open_ by.disk.tells (λ t. by.disk.acknowledged t) h);
       opens = λ made r h told none. tt;
+      sound = λ damage e. absurd (cc);
       tells = by.disk.tells;
       faults = answer_counts (Ok u) by;
     }
@@ -142,6 +148,7 @@ module _ {D : Type 0} (state : D → DiskState) (old : MachineState D) (version 
           (λ x y may held. held_fence_doubt r version all.sure_fences q refl refl refl (record { kept = λ o m. m; gained = λ o m. absurd m; gone = λ o stays. stays }) (λ t a. a) (λ t a. ⊎_elim (λ (m : IsIn r.begun t). inl m) (λ (m : IsIn r.tried t × IsIn r.doubt_fences t). inr (m.0, IsIn-append_left r.doubt_fences (version ∷ []) t m.1)) a) x y may held) (h.files b))
           (λ none. absurd (all.begun none)));
       opens = λ made r h told none. tt;
+      sound = λ damage e. absurd (cc);
       tells = by.disk.tells;
       faults = answer_counts (Err refused.Failed) by;
     }
@@ -149,6 +156,7 @@ module _ {D : Type 0} (state : D → DiskState) (old : MachineState D) (version 
       lawful = λ made r h past n s given. tt;
       follows = λ made r h. subst (λ (m : MachineState D). IsMachineOf state (state made).images r m) (sym by.err) (kept_machine state (state made).images r old mid.disk by.disk.tells (λ t. by.disk.unchanged t refl) h);
       opens = λ made r h told none. tt;
+      sound = λ damage e. absurd (cc);
       tells = by.disk.tells;
       faults = answer_counts (Err refused.Memory) by;
     }

@@ -52,6 +52,7 @@ module _ {D : Type 0} (state : D → DiskState) (old : MachineState D) where
         let q : ReplicaState = record r { standing = standing.Down } in
         shut_follows state (state made).images r q old standing.Down old.disk (λ e. cc) refl refl refl refl h (λ b tells c image. held_nothing r q (stands_at r standing.Down) c c (gains_nothing c) (h.files b tells c image)) h.unbegun;
     opens = λ made r h told none. tt;
+    sound = λ damage e. absurd (cc);
     tells = refl;
     faults = counts_same _ _ (λ e. cc);
   }
@@ -69,6 +70,7 @@ module _ {D : Type 0} (state : D → DiskState) (old : MachineState D) where
     };
     follows = λ made r h. h;
     opens = λ made r h told none. tt;
+    sound = λ damage e. absurd (cc);
     tells = refl;
     faults = counts_same _ _ (λ e. cc);
   }
@@ -79,6 +81,7 @@ module _ {D : Type 0} (state : D → DiskState) (old : MachineState D) where
     lawful = λ made r h past n s given. (serving state (state made).images r old version h up, given, OnTrue_from (state old.disk).tells _ (λ tells. live_found r old.content rules pick from to space series at (shown state (state made).images r old version h up tells) answer));
     follows = λ made r h. h;
     opens = λ made r h told none. tt;
+    sound = λ damage e. absurd (cc);
     tells = refl;
     faults = counts_same _ _ (λ e. cc);
   }
@@ -154,6 +157,7 @@ module _ {D : Type 0} (state : D → DiskState) (old : MachineState D) (d : D) w
           let told : (state old.disk).tells ≡ true = sym restarts.proceeds.tells ∙ tells in
           subst (CameFrom Held (state made).images r.tried) (sym (restarts.only told c image)) (h.unbegun none told (state d).files (restarts.image told)));
       opens = λ made r h told none. tt;
+      sound = λ damage e. absurd (cc);
       tells = restarts.proceeds.tells;
       faults = counts_for _ _ _ _ (λ e. cc) restarts.proceeds.faults;
     };
@@ -183,6 +187,7 @@ module _ {D : Type 0} (state : D → DiskState) (old : MachineState D) (d : D) w
           (λ b. each_step (state old.disk) (state d) (IsHeldBy Held r) (IsHeldBy Held q) restarts.proceeds.tells (steps refused.Failed restarts) (λ x y gains held. held_nothing r q (stands_at r standing.Down) x y gains held) (h.files b))
           (λ none. each_step (state old.disk) (state d) (CameFrom Held (state made).images r.tried) (CameFrom Held (state made).images r.tried) restarts.proceeds.tells (steps refused.Failed restarts) (λ x y gains came. came_nothing (state made).images r.tried x y gains came) (h.unbegun none));
       opens = λ made r h told none. tt;
+      sound = λ damage e. absurd (cc);
       tells = restarts.proceeds.tells;
       faults = counts_for _ _ _ _ (λ e. refl) restarts.proceeds.faults;
     };
@@ -200,6 +205,7 @@ module _ {D : Type 0} (state : D → DiskState) (old : MachineState D) (d : D) w
       lawful = λ made r h past n s given. tt;
       follows = λ made r h. kept_machine state (state made).images r old d restarts.proceeds.tells (steps refused.Memory restarts) h;
       opens = λ made r h told none. tt;
+      sound = λ damage e. absurd (cc);
       tells = restarts.proceeds.tells;
       faults = counts_for _ _ _ _ (λ e. cc) restarts.proceeds.faults;
     };

@@ -6,6 +6,7 @@ use Rattle.m3_model.specs.Contents.{Contents, raised}
 use Rattle.m3_outside.proofs.Moments.{same_becomes}
 use Rattle.m3_model.specs.Rules.{InWindow}
 use Rattle.m3_model.specs.declared.point.Point.{Point}
+use Rattle.m3_model.specs.declared.reason.Damage.{Damage}
 use Rattle.m3_model.specs.declared.reason.Reason.{Reason}
 use Rattle.m3_model.specs.declared.reason.Reason.TheVariants as reason
 use Rattle.m3_model.specs.declared.replica.Standing.{Standing}
@@ -28,7 +29,7 @@ use Rattle.cluster_core.specs.declared.replica_state.ReplicaState.{ReplicaState}
 use Rattle.replica_machine.specs.Machines.{MachineState, IsMachineOf, IsHeldBy, IsRefusedFor, refusal, unserved, shut_machine, settled, settled_answer}
 use Rattle.replica_machine.specs.Steps.{reply_by, IsStep, BringsTo}
 use Rattle.replica_machine.proofs.RefusalLemmas.{up}
-use Rattle.replica_machine.proofs.ReasonLemmas.{IsPlain, plain_lawful, plain_no_fault, put_plain, shut_alike, after_three, refused_none, refused_some}
+use Rattle.replica_machine.proofs.ReasonLemmas.{IsPlain, plain_lawful, plain_no_damage, plain_no_fault, put_plain, shut_alike, after_three, refused_none, refused_some}
 use Rattle.replica_machine.proofs.DiskLemmas.{each_step, reply_counts, brings_settled, brings_none_to}
 use Rattle.replica_machine.proofs.HeldByLemmas.{held_doubt}
 use Rattle.replica_machine.proofs.StepLemmas.{machine_of, middle, kept_machine, shut_follows, put_follows, serving}
@@ -87,6 +88,7 @@ module _ {D : Type 0} (state : D → DiskState) (old : MachineState D) (version 
           lawful = λ made r h past n s given. plain_lawful _ past s r (call.Put client number rules version p) (λ e. e) why plain (alike r client number h ∙ first);
           follows = λ made r h. subst (λ (q : ReplicaState). IsMachineOf state (state made).images q old) (left_plain r client number version rules p why plain) h;
           opens = λ made r h told none. tt;
+          sound = λ damage e. absurd (plain_no_damage why plain damage (reply_damage damage e));
           tells = refl;
           faults = counts_same _ _ (λ e. plain_no_fault why plain (reply_same e));
         };
@@ -97,6 +99,9 @@ module _ {D : Type 0} (state : D → DiskState) (old : MachineState D) (version 
 
       reply_same : reply.Refused why ≡ reply.Refused reason.Disk → why ≡ reason.Disk
       reply_same e = cc
+
+      reply_damage : (damage : Damage) → reply.Refused why ≡ reply.Refused (reason.Corrupt damage) → why ≡ reason.Corrupt damage
+      reply_damage damage e = cc
 
   module _ (served : unserved old version ≡ None) (in_window : InWindow rules p) (inside : outside rules p ≡ None) (mid : MachineState D) where
     none_first : option_or (shut old.standing) (option_or (unowned old.tenure version) (option_or (outdated old.fence version) (outside rules p))) ≡ None
@@ -112,6 +117,7 @@ module _ {D : Type 0} (state : D → DiskState) (old : MachineState D) (version 
           subst (λ (m : MachineState D). IsMachineOf state (state made).images (record r { sure = r.sure ++ p ∷ [] }) m) (sym by.ok)
           (put_follows state (state made).images r old mid.disk p (up old.standing old.tenure old.fence version served).open_ by.disk.tells (λ t. by.disk.acknowledged t) h);
       opens = λ made r h told none. tt;
+      sound = λ damage e. absurd (cc);
       tells = by.disk.tells;
       faults = answer_counts (Ok u) by;
     }
@@ -125,6 +131,7 @@ module _ {D : Type 0} (state : D → DiskState) (old : MachineState D) (version 
           (λ x y may held. held_doubt r q p refl refl refl (record { begun = λ t all. all; known = λ t is. is; fence = λ t f is. is }) x y may held) (h.files b))
           (λ none. absurd ((h.open_ (up old.standing old.tenure old.fence version served).open_).begun none)));
       opens = λ made r h told none. tt;
+      sound = λ damage e. absurd (cc);
       tells = by.disk.tells;
       faults = answer_counts (Err refused.Failed) by;
     }
@@ -132,6 +139,7 @@ module _ {D : Type 0} (state : D → DiskState) (old : MachineState D) (version 
       lawful = λ made r h past n s given. tt;
       follows = λ made r h. subst (λ (m : MachineState D). IsMachineOf state (state made).images r m) (sym (by.memory refl)) (kept_machine state (state made).images r old mid.disk by.disk.tells (λ t. by.disk.unchanged t refl) h);
       opens = λ made r h told none. tt;
+      sound = λ damage e. absurd (cc);
       tells = by.disk.tells;
       faults = answer_counts (Err refused.Memory) by;
     }

@@ -3,6 +3,7 @@ use Rattle.std.proofs.Common.{◌≡◌, ◌+◌, inl, inr, ℕ, List, refl, sym
 use Rattle.std.specs.Prelude.{⊤, ◌≢◌, nat_le, slice_get}
 use Rattle.std.specs.Option.{option_or}
 use Rattle.m3_model.specs.declared.point.Point.{Point}
+use Rattle.m3_model.specs.declared.reason.Damage.{Damage}
 use Rattle.m3_model.specs.declared.reason.Reason.{Reason}
 use Rattle.m3_model.specs.declared.reason.Reason.TheVariants as reason
 use Rattle.m3_model.specs.declared.replica.Standing.{Standing}
@@ -80,6 +81,9 @@ put_plain s t fence version rules p why e =
 
 pub fence_plain : (s : Standing) (t : Option ℕ) (version : ℕ) (why : Reason) → option_or (shut s) (unowned t version) ≡ Some why → IsPlain why
 fence_plain s t version why e = at_some (option_or (shut s) (unowned t version)) why (plain_or (shut s) _ (shut_plain s) (unowned_plain t version)) e
+
+pub plain_no_damage : (why : Reason) → IsPlain why → (damage : Damage) → why ≢ reason.Corrupt damage
+plain_no_damage why plain damage e = subst IsPlain e plain
 
 pub plain_no_fault : (why : Reason) → IsPlain why → why ≢ reason.Disk
 plain_no_fault reason.Disk p e = p

@@ -1,11 +1,12 @@
 -- A call of a machine as a step of the core.
 use Rattle.std.specs.Prelude.{◌≡◌, ◌≢◌, ℕ, ⊤, true, List, [], Result, Ok, Err, OnOk, IfErr, IsErr, IsErrOf}
+use Rattle.m3_model.specs.declared.reason.Damage.{Damage}
 use Rattle.m3_model.specs.declared.reason.Reason.{Reason}
 use Rattle.m3_model.specs.declared.reason.Reason.TheVariants as reason
 use Rattle.m3_outside.specs.Causes.{CountsFaults}
 use Rattle.m3_outside.specs.Files.{Files, Stays}
-use Rattle.m3_outside.specs.DiskState.{DiskState, StepOf, Elapses, Proceeds}
-use Rattle.shard_files.specs.Held.{Held}
+use Rattle.m3_outside.specs.DiskState.{DiskState, StepOf, Elapses, Proceeds, Told}
+use Rattle.shard_files.specs.Held.{Held, IsSound}
 use Rattle.shard_files.specs.Gains.{Gain, nothing, Gains, MayGain}
 use Rattle.cluster_core.specs.Earlier.{HasClock, HasSend, HasTenure, HasPage}
 use Rattle.cluster_core.specs.Replicas.{after}
@@ -37,12 +38,13 @@ IsGiven past n s _ = ⊤
 
 -- The answer is a lawful step of each replica that the machine is, whichever disk it was made over, at each slot and after all events that have what the
 -- call is given; and the machine is then the one of what the step leaves of the replica. Where the replica began with this step and never before, it
--- has what files hold that came from an image of that disk. Its disk tells what it holds as
+-- has what files hold that came from an image of that disk. It finds damage only where reads give files that aren't sound. Its disk tells what it holds as
 -- it did. It answers Disk only where the disk's count of faults rose, and this count never falls.
 pub record IsStep {D : Type 0} (state : D → DiskState) (old : MachineState D) (c : StepCall) (a : StepReply) (new : MachineState D) : Type 0 where
   pub lawful : (first : D) (r : ReplicaState) → IsMachineOf state (state first).images r old → (past : List Event) (n s : ℕ) → IsGiven past n s c → LawfulStep (state old.disk).tells past n s r c a
   pub follows : (first : D) (r : ReplicaState) → IsMachineOf state (state first).images r old → IsMachineOf state (state first).images (after r c a) new
   pub opens : (first : D) (r : ReplicaState) → IsMachineOf state (state first).images r old → (state old.disk).tells ≡ true → r.begun ≡ [] → HasOpening Held (state first).images r.tried c a
+  pub sound : (damage : Damage) → a ≡ reply.Refused (reason.Corrupt damage) → Told (state old.disk) (λ files. ¬ IsSound files)
   pub tells : (state new.disk).tells ≡ (state old.disk).tells
   pub faults : CountsFaults (a ≡ reply.Refused reason.Disk) (state old.disk).faults (state new.disk).faults
 

@@ -20,8 +20,9 @@ use Rattle.transcripts.specs.Placements.{placements}
 use Rattle.transcripts.specs.Record.{inner_turns}
 use Rattle.transcripts.specs.Refusals.{missing_in, missing_shard, refusal_by}
 use Rattle.transcripts.specs.Rules.{rules_after, start_rules}
+use Rattle.cluster_members.proofs.NameLemmas.{node_found}
 use Rattle.rule_lines.specs.Due.{BootstrapsAreDue, CallsAreDue, DeliveriesAreDue, FatesAreDue, FirstInitIsFree, FlagsTell, HasShard, HaveLeft, InitsAreDue, IsDueNext, MomentsAreDue, NamespacesAreDue, OrderIsDue, RestartsAreDue, SpaceDue, StopsAreDue}
-use Rattle.rule_lines.proofs.NameLemmas.{listed_where, missing_same, node_found, none_missing, unlisted_where}
+use Rattle.rule_lines.proofs.NameLemmas.{listed_where, missing_same, none_missing, unlisted_where}
 
 -- what is due, by the placement, the rules and the stopped nodes
 refused_by : (start : Option MetaState) (turns : List Turn) (place : Option Placement) (rules : Rules) → HaveLeft start turns place rules → (a : Act) (b : Answer) (refusal : Option Answer)

@@ -23,7 +23,7 @@ use Rattle.transcripts.specs.Placements.{placement_after, start_placement}
 use Rattle.transcripts.specs.Record.{inner_turns}
 use Rattle.transcripts.specs.Rules.{rules_after, start_rules}
 use Rattle.call_lines.specs.Left.{AreStoppedBy}
-use Rattle.rule_lines.specs.Names.{AreNumbered, first_missing, node_named}
+use Rattle.cluster_members.specs.Names.{AreNumbered, first_missing, node_named}
 
 -- this refusal is due of the act in the next line, or none is
 abbrev pub IsDueNext : Option MetaState → List Turn → Act → Answer → Option Answer → Type 0

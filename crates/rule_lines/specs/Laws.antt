@@ -25,10 +25,10 @@ use Rattle.session_net.specs.declared.session_err.SessionErr.TheVariants as err
 use Rattle.told_by.specs.Lines.{ClockLine, PlainLine}
 use Rattle.transcripts.specs.Record.{line_of}
 use Rattle.call_lines.specs.Laws.{Kind, LeavesServed}
+use Rattle.cluster_members.specs.Names.{AreNumbered}
 use Rattle.cluster_members.specs.Steps.{IsMoved, IsNamed}
 use Rattle.cluster_members.specs.declared.members.Members.{Members}
 use Rattle.rule_lines.specs.Due.{IsDueNext}
-use Rattle.rule_lines.specs.Names.{AreNumbered}
 use Rattle.rule_lines.specs.Quiet.{DeliversNone, SetsNone, Stands}
 
 -- ---- refusals that are due

@@ -1,4 +1,3 @@
 pub mod Due
-pub mod Names
 pub mod Quiet
 pub mod Laws

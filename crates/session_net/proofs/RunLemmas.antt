@@ -29,7 +29,7 @@ module _ {D : Type 0} (state : D → DiskState) where
 
   -- where nothing came, nothing changed
   pub ran_nothing : (t : Tracked D) → Ran state t [] t
-  ran_nothing t = record { grew = sym (append-nil t.events); stepped = λ s. stays (finite.get t.members s) }
+  ran_nothing t = record { grew = sym (append-nil t.events); stepped = λ s. stays (finite.get t.members s); only = λ s none. refl }
 
   takes_then : (first next : List Step) (a b c : MachineState D) → TakesSteps state first a b → TakesSteps state next b c → TakesSteps state (first ++ next) a c
   takes_then [] next a b c same h = subst (λ m. TakesSteps state next m c) same h
@@ -41,12 +41,17 @@ module _ {D : Type 0} (state : D → DiskState) where
       let k = subst (λ o. IsStepped state next o c) g.1 h in
       (k.0, k.1, k.2 ∙ g.2, takes_then first next m.machine (g.0).machine (k.0).machine g.3 k.3)
 
+  -- where there was none, there is none
+  none_then : (steps : List Step) (a b : Option (Member D)) → IsStepped state steps a b → a ≡ None → b ≡ None
+  none_then steps a b h none = subst (λ o. IsStepped state steps o b) none h
+
   -- first these events came, and then those
   pub ran_then : (first next : List Event) (a b c : Tracked D) → Ran state a first b → Ran state b next c → Ran state a (first ++ next) c
   ran_then first next a b c g h = record {
     grew = h.grew ∙ ap (λ es. es ++ next) g.grew ∙ append_assoc a.events first next;
     stepped = λ s. subst (λ steps. IsStepped state steps (finite.get a.members s) (finite.get c.members s)) (sym (filter_map-append (step_in s) first next))
         (stepped_then (steps_of s first) (steps_of s next) (finite.get a.members s) (finite.get b.members s) (finite.get c.members s) (g.stepped s) (h.stepped s));
+    only = λ s none. filter_map-append (step_in s) first next ∙ ap (λ xs. xs ++ steps_of s next) (g.only s none) ∙ h.only s (none_then (steps_of s first) (finite.get a.members s) (finite.get b.members s) (g.stepped s) none);
   }
 
   -- ---- one event
@@ -67,6 +72,7 @@ module _ {D : Type 0} (state : D → DiskState) where
     grew = ap (λ x. x.events) h.after ∙ ap (λ b. (old.events ++ b) ++ e ∷ []) h.may_before ∙ ap (λ es. es ++ e ∷ []) (append-nil old.events);
     stepped = λ s. subst (λ steps. IsStepped state steps (finite.get old.members s) (finite.get new.members s)) (sym (no_step e none s))
         (subst (λ m. IsStepped state [] (finite.get old.members s) (finite.get m s)) (sym same) (stays (finite.get old.members s)));
+    only = λ s nobody. no_step e none s;
   }
 
   -- ---- one call
@@ -107,6 +113,14 @@ module _ {D : Type 0} (state : D → DiskState) where
     by_slot s true is = subst (λ q. IsStepped state (record { call = c; reply = said } ∷ []) (finite.get old.members q) (finite.get new.members q)) (same_by s is) here
     by_slot s false is = there s (apart_by s is)
 
+    none_by : (s : Slot) (b : Bool) → (nat_eq slot.node s.node && nat_eq slot.shard s.shard) ≡ b → finite.get old.members s ≡ None → cons_option {X = Step} (if b then Some (record { call = c; reply = said }) else None) [] ≡ []
+    none_by s true is none = let clash : None ≡ Some h.before = sym none ∙ ap (finite.get old.members) (sym (same_by s is)) ∙ h.there in cc
+    none_by s false is none = refl
+
     -- an exchange came
     pub ran_called : Ran state old (exchange slot.node slot.shard c said) new
-    ran_called = record { grew = grew_so; stepped = λ s. by_slot s (nat_eq slot.node s.node && nat_eq slot.shard s.shard) refl }
+    ran_called = record {
+      grew = grew_so;
+      stepped = λ s. by_slot s (nat_eq slot.node s.node && nat_eq slot.shard s.shard) refl;
+      only = λ s none. none_by s (nat_eq slot.node s.node && nat_eq slot.shard s.shard) refl none;
+    }

@@ -1,5 +1,5 @@
 -- What becomes of late writes when they are delivered.
-use Rattle.std.specs.Prelude.{◌≡◌, ◌⊎◌, ℕ, ◌*◌, ⊤, List, [], ◌∷◌, ◌++◌, map, filter, length, Option, Result, nat_lt}
+use Rattle.std.specs.Prelude.{◌≡◌, ◌≤◌, ◌⊎◌, ℕ, ◌*◌, ⊤, List, [], ◌∷◌, ◌++◌, map, filter, length, Option, Result, nat_lt}
 use Rattle.std.specs.Result.{result_err}
 use Rattle.m3_model.specs.declared.limits.TheConstants.{MOST_LATE_WRITES}
 use Rattle.m3_model.specs.declared.reason.Reason.{Reason}
@@ -37,8 +37,9 @@ AreDelivered rules (one ∷ late) (d ∷ deliveries) events =
     (d.0 ≡ one) × (first rest : List Event) × (events ≡ first ++ rest) × IsDelivery (λ (u : ⊤). reply.Done) one.node one.shard (late_put rules one) d.1 first × AreDelivered rules late deliveries rest
 AreDelivered rules _ _ events = ⊥
 
--- all late writes of the bag were delivered, and it is empty
+-- all late writes of the bag, which were few, were delivered, and it is empty
 pub record IsDelivered {D : Type 0} {ghosts : Ghosts D} (state : D → DiskState) (old : Net D ghosts) (outcomes : List (ℕ × ℕ × Option Reason)) (new : Net D ghosts) : Type 0 where
+  pub few : length old.bag ≤ MOST_LATE_WRITES
   pub deliveries : List (LateWrite × Result ⊤ Reason)
   pub puts : List Event
   pub delivered : AreDelivered old.state.rules (known old.state.rules old.bag) deliveries puts

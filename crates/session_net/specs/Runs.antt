@@ -41,7 +41,8 @@ abbrev pub IsStepped : {D : Type 0} → (D → DiskState) → List Step → Opti
 IsStepped state steps None new = new ≡ None
 IsStepped {D} state steps (Some old) new = (m : Member D) × (new ≡ Some m) × (m.first ≡ old.first) × TakesSteps state steps old.machine m.machine
 
--- these events came to the list, and with them the machine of each slot took its steps among them
+-- these events came to the list, and with them the machine of each slot took its steps among them; a slot without a machine has none
 pub record Ran {D : Type 0} (state : D → DiskState) (old : Tracked D) (more : List Event) (new : Tracked D) : Type 0 where
   pub grew : new.events ≡ old.events ++ more
   pub stepped : (s : Slot) → IsStepped state (steps_of s more) (finite.get old.members s) (finite.get new.members s)
+  pub only : (s : Slot) → finite.get old.members s ≡ None → steps_of s more ≡ []

@@ -20,19 +20,19 @@ returns-in-Ok-clause-ok g c =
     let old : Stage g.row.X-D.Denot g.X.D.Disk = stage c.args.cluster.now (g.X.Disks.held c.args.disks.now) (g.X.Disks.counted c.args.disks.now) (g.X.Disks.all_faults c.args.disks.now) in
     let new : Stage g.row.X-D.Denot g.X.D.Disk = stage c.serve-reply.new.self (g.X.Disks.held c.serve-reply.new.disks) (g.X.Disks.counted c.serve-reply.new.disks) (g.X.Disks.all_faults c.serve-reply.new.disks) in
     IfOk-weaker c.line_of.result _ _ (λ v e. answers g.X.D.Disk.state old new c.args.line.now v.items c.in-Ok.request c.serve-reply.result (sym c.is_blank.ensures ∙ c.if-is_blank.false) c.in-Ok.ensures.ok
-    (e ∙ ap (λ place. reply_line place c.serve-reply.result) c.place.ensures) c.serve-reply.ensures.answered c.serve-reply.ensures.placed c.serve-reply.ensures.serves) c.line_of.ensures
+    (e ∙ ap (λ place. reply_line place c.serve-reply.result) c.place.ensures.stands) c.serve-reply.ensures.answered c.place.ensures.left c.serve-reply.ensures.tracks) c.line_of.ensures
 
 pub returns-in-Ok-clause-err : goal.returns-in-Ok-clause-err
 returns-in-Ok-clause-err g c =
     let old : Stage g.row.X-D.Denot g.X.D.Disk = stage c.args.cluster.now (g.X.Disks.held c.args.disks.now) (g.X.Disks.counted c.args.disks.now) (g.X.Disks.all_faults c.args.disks.now) in
     let new : Stage g.row.X-D.Denot g.X.D.Disk = stage c.serve-reply.new.self (g.X.Disks.held c.serve-reply.new.disks) (g.X.Disks.counted c.serve-reply.new.disks) (g.X.Disks.all_faults c.serve-reply.new.disks) in
-    on_err_just c.line_of.result (drops_served g.X.D.Disk.state old new c.args.line.now c.in-Ok.request c.serve-reply.result c.in-Ok.ensures.ok c.serve-reply.ensures.serves)
+    on_err_just c.line_of.result (drops_served g.X.D.Disk.state old new c.args.line.now c.in-Ok.request c.serve-reply.result c.in-Ok.ensures.ok c.serve-reply.ensures.tracks)
 
 pub returns-in-Err-Form-clause-ok : goal.returns-in-Err-Form-clause-ok
 returns-in-Err-Form-clause-ok g c =
     let now : Stage g.row.X-D.Denot g.X.D.Disk = stage c.args.cluster.now (g.X.Disks.held c.args.disks.now) (g.X.Disks.counted c.args.disks.now) (g.X.Disks.all_faults c.args.disks.now) in
     IfOk-weaker c.line_of-in-Err-Form.result _ _ (λ v e. refuses g.X.D.Disk.state now c.args.line.now v.items answer.Form (sym c.is_blank.ensures ∙ c.if-is_blank.false)
-    (subst (λ f. LineMeans c.args.line.now (Err f)) c.in-Err-Form.field-0-is c.in-Err-Form.ensures.err) (e ∙ ap (λ place. reply_line place (reply.One answer.Form)) c.place-in-Err-Form.ensures)) c.line_of-in-Err-Form.ensures
+    (subst (λ f. LineMeans c.args.line.now (Err f)) c.in-Err-Form.field-0-is c.in-Err-Form.ensures.err) (e ∙ ap (λ place. reply_line place (reply.One answer.Form)) c.place-in-Err-Form.ensures.stands) c.place-in-Err-Form.ensures.left) c.line_of-in-Err-Form.ensures
 
 pub returns-in-Err-Form-clause-err : goal.returns-in-Err-Form-clause-err
 returns-in-Err-Form-clause-err g c =
@@ -43,7 +43,7 @@ pub returns-in-Err-Later-clause-ok : goal.returns-in-Err-Later-clause-ok
 returns-in-Err-Later-clause-ok g c =
     let now : Stage g.row.X-D.Denot g.X.D.Disk = stage c.args.cluster.now (g.X.Disks.held c.args.disks.now) (g.X.Disks.counted c.args.disks.now) (g.X.Disks.all_faults c.args.disks.now) in
     IfOk-weaker c.line_of-in-Err-Later.result _ _ (λ v e. refuses g.X.D.Disk.state now c.args.line.now v.items answer.Later (sym c.is_blank.ensures ∙ c.if-is_blank.false)
-    (subst (λ f. LineMeans c.args.line.now (Err f)) c.in-Err-Later.field-0-is c.in-Err-Later.ensures.err) (e ∙ ap (λ place. reply_line place (reply.One answer.Later)) c.place-in-Err-Later.ensures)) c.line_of-in-Err-Later.ensures
+    (subst (λ f. LineMeans c.args.line.now (Err f)) c.in-Err-Later.field-0-is c.in-Err-Later.ensures.err) (e ∙ ap (λ place. reply_line place (reply.One answer.Later)) c.place-in-Err-Later.ensures.stands) c.place-in-Err-Later.ensures.left) c.line_of-in-Err-Later.ensures
 
 pub returns-in-Err-Later-clause-err : goal.returns-in-Err-Later-clause-err
 returns-in-Err-Later-clause-err g c =

@@ -1,6 +1,6 @@
 use Rattle.std.proofs.Common.{◌≡◌, ◌≤◌, ◌++◌, ℕ, List, length}
 use Rattle.std.specs.Io.KnownBytes.{Appends}
-use Rattle.m3_cluster.specs.Depots.{OwnsDisks}
+use Rattle.served_cluster.specs.Owned.{MayServe}
 use Rattle.m3_program.specs.Streams.{TakesOn, stage}
 use Rattle.m3_program.proofs.input.serve_piece.Given as goal
 
@@ -12,7 +12,7 @@ invariant-loop-end g l = record {
   written : Appends (g.K.Sink.written l.fn.out) (g.K.Sink.written l.out) text;
   takes : TakesOn g.X.D.Disk.state (stage l.fn.cluster (g.X.Disks.held l.fn.disks) (g.X.Disks.counted l.fn.disks) (g.X.Disks.all_faults l.fn.disks)) l.fn.line.items done text
       (stage l.cluster (g.X.Disks.held l.disks) (g.X.Disks.counted l.disks) (g.X.Disks.all_faults l.disks)) l.line.items;
-  owned : OwnsDisks l.cluster (g.X.Disks.held l.disks);
+  owned : MayServe l.cluster (g.X.Disks.held l.disks);
   faults : g.K.Sink.faulted l.fn.out ≤ g.K.Sink.faulted l.out;
   stalls : g.K.Sink.stalled l.fn.out ≤ g.K.Sink.stalled l.out;
 }

@@ -3,7 +3,7 @@ use Rattle.std.proofs.lemmas.Iterator.Adapters.{YieldsList-from_vec}
 use Rattle.std.proofs.lemmas.Iterator.Consumers.{YieldsList-so_far, YieldsList-turn, YieldsList-end}
 use Rattle.std.proofs.lemmas.List.{map-id}
 use Rattle.net_plan.specs.Fates.{Item}
-use Rattle.node_calls.specs.Nodes.{node_named, AreNumbered}
+use Rattle.cluster_members.specs.Names.{AreNumbered, node_named}
 use Rattle.node_calls.proofs.RowLemmas.{Fated, missing_at, numbered_push}
 use Rattle.node_calls.proofs.nodes.resolved.Goals as goal
 

@@ -1,4 +1,4 @@
-use Rattle.node_calls.specs.Nodes.{AreNumbered}
+use Rattle.cluster_members.specs.Names.{AreNumbered}
 use Rattle.node_calls.proofs.nodes.resolved.Given as goal
 
 abbrev pub invariant-loop-client : goal.invariant-loop-client

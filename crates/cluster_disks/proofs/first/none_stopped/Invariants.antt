@@ -1,5 +1,0 @@
-use Rattle.std.proofs.Common.{◌≡◌, replicate, false}
-use Rattle.cluster_disks.proofs.first.none_stopped.Given as goal
-
-abbrev pub invariant-loop : goal.invariant-loop
-invariant-loop l = l.stopped.items ≡ replicate l.counter false

@@ -1,6 +1,0 @@
-use Rattle.std.proofs.Common.{take}
-use Rattle.cluster_disks.specs.Lending.{depot_by, HasTaken}
-use Rattle.cluster_disks.proofs.lending.take_all.Given as goal
-
-abbrev pub invariant-loop-slot : goal.invariant-loop-slot
-invariant-loop-slot g l = HasTaken g.D.Disk.state (take l.slot-index l.slots) (depot_by g.X.Disks.held g.X.Disks.counted g.X.Disks.all_faults l.fn.disks) l.machines (depot_by g.X.Disks.held g.X.Disks.counted g.X.Disks.all_faults l.disks)

@@ -1,4 +1,0 @@
-pub mod Depots
-pub mod First
-pub mod Lending
-pub mod Plans

@@ -1,4 +1,0 @@
-pub mod ChainLemmas
-pub mod NodeActs
-pub mod NodeLemmas
-pub mod RowLemmas

@@ -1,5 +1,0 @@
-use Rattle.cluster_nodes.specs.Nodes.{AreNumbered}
-use Rattle.cluster_nodes.proofs.nodes.resolved.Given as goal
-
-abbrev pub invariant-loop-client : goal.invariant-loop-client
-invariant-loop-client l = AreNumbered l.instances l.yielded l.numbered.items

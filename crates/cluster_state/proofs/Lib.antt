@@ -1,5 +1,0 @@
-pub mod ListLemmas
-pub mod OptionLemmas
-pub mod ResultLemmas
-pub mod SameMembers
-pub mod SpaceLemmas

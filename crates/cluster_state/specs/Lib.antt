@@ -1,2 +1,0 @@
-pub mod Tenures
-pub mod Steps

@@ -1,0 +1,30 @@
+-- From what each line's law says to what is tracked.
+use Rattle.std.proofs.Common.{◌≡◌, ℕ, List, [], refl, ap, subst, Bool}
+use Rattle.std.specs.Prelude.{None}
+use Rattle.m3_model.specs.Members.{IsIn}
+use Rattle.m3_model.proofs.MemberLemmas.{filter_map-IsIn}
+use Rattle.m3_outside.specs.DiskState.{DiskState}
+use Rattle.m3_outside.specs.declared.disk.Disk.{Ghosts}
+use Rattle.cluster_core.specs.declared.event.Event.TheVariants as event
+use Rattle.cluster_core.proofs.ListLemmas.{in_at}
+use Rattle.session_net.specs.Runs.{slot_at}
+use Rattle.session_net.specs.declared.net.Net.{Net}
+use Rattle.call_lines.specs.Laws.{Kind}
+use Rattle.cluster_members.specs.declared.members.Members.{Members}
+use Rattle.cluster_tracks.specs.Adds.{AnewAdds, BegunAdds, CallAdds, ServedAdds, StepsAreOfSlots}
+use Rattle.cluster_tracks.proofs.OpenLemmas.{none_there}
+
+pub call_adds : {D : Type 0} {G : Ghosts D} (Line : Kind) (old : Net D G) → CallAdds Line old
+call_adds Line old tells turns messages was a b new were free h = record { more = h.more; grew = h.grew; line = h.line; serves = h.serves free tells was [] were; delivered = h.delivered was were }
+
+pub served_adds : (Line : Kind) → ServedAdds Line
+served_adds Line tells turns messages was events a b later were h = record { more = h.more; grew = h.grew; line = h.line; serves = h.serves tells was [] were; delivered = h.delivered was were }
+
+pub begun_adds : {D : Type 0} {G : Ghosts D} (state : D → DiskState) (old : Members D G) → BegunAdds state old
+begun_adds state old tells turns was a b new were free h = record { more = h.more; grew = h.grew; line = h.line; serves = h.serves free was [] were; delivered = h.delivered was were }
+
+pub anew_adds : (Line : Kind) → AnewAdds Line
+anew_adds Line tells untaken turns was a b more were h = record { more = more; grew = refl; line = h.line; serves = h.serves was [] were; delivered = h.delivered was were }
+
+pub steps_are_of_slots : {D : Type 0} {G : Ghosts D} (m : Members D G) → StepsAreOfSlots m
+steps_are_of_slots m more slots only n s c r i = slots.no_others (slot_at n s) (λ none. let at = in_at more (event.Step n s c r) i in none_there n s more at.0 c r (only (slot_at n s) none) at.1)

@@ -1,0 +1,10 @@
+pub mod FailureLemmas
+pub mod RunLemmas
+pub mod OpenLemmas
+pub mod DamageLemmas
+pub mod NumberLemmas
+pub mod StepLemmas
+pub mod EndLemmas
+pub mod FirstLemmas
+pub mod AddLemmas
+pub mod QuietLemmas

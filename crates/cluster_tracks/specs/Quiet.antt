@@ -1,0 +1,50 @@
+-- Lines that print no placement, begin no replica, and neither stop nor restart a node: the cluster stands after them.
+use Rattle.std.specs.Prelude.{◌≡◌, ◌≤◌, ℕ, List, [], ◌∷◌, ◌++◌, length, Option, None, Bool, true}
+use Rattle.m3_model.specs.declared.act.Act.{Act}
+use Rattle.m3_model.specs.declared.answer.Answer.{Answer}
+use Rattle.m3_model.specs.declared.turn.Turn.{Turn}
+use Rattle.m3_outside.specs.Depots.{Depot, TellAll}
+use Rattle.m3_outside.specs.DiskState.{DiskState}
+use Rattle.m3_outside.specs.declared.disk.Disk.{Ghosts}
+use Rattle.cluster_core.specs.declared.event.Event.{Event}
+use Rattle.replica_calls.specs.Calls.{AreMembersOf}
+use Rattle.session_net.specs.Ready.{IsReady}
+use Rattle.session_net.specs.Runs.{Ran}
+use Rattle.told_by.specs.Lines.{MakesAndHears}
+use Rattle.told_by.specs.Makes.{OpensReplicas}
+use Rattle.transcripts.specs.Placements.{printed}
+use Rattle.transcripts.specs.Record.{line_of}
+use Rattle.call_lines.specs.Left.{IsLeftBy}
+use Rattle.cluster_members.specs.declared.members.Members.{Members}
+use Rattle.node_lines.specs.Keeps.{BeginsGiven, HaveNoPlace, StopsNothing}
+use Rattle.cluster_tracks.specs.Failures.{OnlyReplicasStep}
+use Rattle.cluster_tracks.specs.Steps.{StandsOn}
+use Rattle.cluster_tracks.specs.Tracks.{StandsSo}
+
+-- What a turn makes that prints no placement and begins no replica: no Place and no begin.
+abbrev pub QuietTurnsMakeNone : Type 0
+QuietTurnsMakeNone =
+    (turns : List Turn) (events : List Event) (a : Act) (b : Answer) (more : List Event) → 2 ≤ length events → MakesAndHears None turns events a b more → printed b ≡ None → (OpensReplicas a → ⊥) → HaveNoPlace more × BeginsGiven events more
+
+-- such a turn's events came, and with them its replicas took steps; the fields are what the turns left, its slots, its placement and its stopped nodes stay
+pub record GoesQuietly {D : Type 0} {G : Ghosts D} (state : D → DiskState) (turns : List Turn) (old : Members D G) (a : Act) (b : Answer) (new : Members D G) : Type 0 where
+  pub told : List Event
+  pub grew : new.net.replicas.events ≡ old.net.replicas.events ++ told
+  pub makes : MakesAndHears None turns old.net.replicas.events a b told
+  pub prints : printed b ≡ None
+  pub opens : OpensReplicas a → ⊥
+  pub halts : StopsNothing a b
+  pub more : List Event
+  pub ran : Ran state old.net.replicas more new.net.replicas
+  pub others : OnlyReplicasStep old.net.replicas more
+  pub left : IsLeftBy None (turns ++ line_of a b ∷ []) new.net
+  pub ready : IsReady new.net.state new.net.replicas new.net.bag
+  pub place : new.net.state.place ≡ old.net.state.place
+  pub slots : new.slots.items ≡ old.slots.items
+  pub stopped : new.stopped.items ≡ old.stopped.items
+
+-- So the cluster goes on.
+abbrev pub QuietLinesStandOn : {D : Type 0} {G : Ghosts D} → (D → DiskState) → Members D G → Type 0
+QuietLinesStandOn {D} {G} state old =
+    (tells : Bool) (now : Depot D) (turns : List Turn) (a : Act) (b : Answer) (new : Members D G) → (tells ≡ true → TellAll state) → AreMembersOf state old.net.replicas → StandsSo state tells now turns old → GoesQuietly state turns old a b new
+    → StandsOn state tells turns old a b new

@@ -1,0 +1,107 @@
+-- Whose the disks are that are out.
+use Rattle.std.proofs.Common.{◌≡◌, ℕ, List, refl, sym, subst, ◌∙◌, false, inl, inr}
+use Rattle.std.specs.Prelude.{◌≢◌, ◌⊎◌, Option, Some, None}
+use Rattle.std.specs.FinMap as finite
+use Rattle.std.specs.Option.{is_some}
+use Rattle.m3_model.specs.Members.{IsIn}
+use Rattle.m3_model.specs.declared.act.Act.{Act}
+use Rattle.m3_model.specs.declared.act.Act.TheVariants as act
+use Rattle.m3_model.specs.declared.answer.Answer.{Answer}
+use Rattle.m3_model.specs.declared.answer.Answer.TheVariants as answer
+use Rattle.m3_outside.specs.Depots.{Depot}
+use Rattle.m3_outside.specs.DiskState.{DiskState}
+use Rattle.m3_outside.specs.Slots.{Held, Out}
+use Rattle.m3_outside.specs.declared.disk.Disk.{Ghosts}
+use Rattle.m3_outside.specs.declared.slot.Slot.{Slot as Place}
+use Rattle.replica_calls.specs.Slots.{MemberMap}
+use Rattle.replica_calls.specs.declared.member.Member.{Member}
+use Rattle.replica_calls.specs.declared.slot.Slot.{Slot}
+use Rattle.session_net.specs.Runs.{slot_at}
+use Rattle.cluster_members.specs.declared.members.Members.{Members}
+use Rattle.first_cluster.specs.First.{IsRefusedInit}
+use Rattle.first_cluster.specs.Depots.{AreOut, OwnedBy, place_of_slot}
+use Rattle.first_cluster.specs.Lending.{HasGivenBack, HasReturned, IsBack, IsGivenBack, IsKept, IsUntouched}
+use Rattle.tracked_lines.specs.Acts.{Does, IsServedBy, OnMembers, next_call}
+use Rattle.tracked_lines.specs.Slots.{KeepsSlots}
+use Rattle.tracked_lines.proofs.SlotLemmas.{acts_keep_slots}
+use Rattle.served_cluster.specs.Acts.{Answers, Serves}
+use Rattle.served_cluster.specs.declared.cluster.Cluster.{Cluster}
+
+-- ---- `init`
+
+-- none stood
+pub none_stood : {X : Type 0} (o : Option X) → false ≡ is_some o → o ≡ None
+none_stood None none = refl
+none_stood (Some x) none = cc
+
+-- one that was refused gave all disks back
+pub refused_returned : {D : Type 0} (state : D → DiskState) (rf shards seed : ℕ) (nodes : List (List ℕ × List ℕ)) (old new : Depot D) (b : Answer) → IsRefusedInit state rf shards seed nodes old new b → HasReturned state old finite.empty new
+refused_returned state rf shards seed nodes old new (answer.Disk name shard) h = h.1
+refused_returned state rf shards seed nodes old new answer.Memory h = h
+refused_returned state rf shards seed nodes old new _ h = absurd h
+
+-- ---- disks given back
+
+module _ {D : Type 0} (state : D → DiskState) where
+  -- after an `init` that was refused no disk is out
+  pub none_returned : (old new : Depot D) → ((place : Place) → old.held place ≢ Out) → HasReturned state old finite.empty new → (place : Place) → new.held place ≢ Out
+  none_returned old new none h place out = by (h.each (slot_at place.node place.shard))
+    where
+      by : IsUntouched old finite.empty new (slot_at place.node place.shard) ⊎ IsGivenBack state old finite.empty new (slot_at place.node place.shard) → ⊥
+      by (inl same) = none place (sym same.held ∙ out)
+      by (inr back) = (let clash = sym back.held ∙ out in cc)
+
+  -- nor once those of all slots are given back
+  pub none_given_back : (slots : List Slot) (old new : Depot D) (members left : MemberMap D) → AreOut slots members old.held → HasGivenBack state slots old members new left → (place : Place) → new.held place ≢ Out
+  none_given_back slots old new members left own h place out = by (h.each s)
+    where
+      s : Slot
+      s = slot_at place.node place.shard
+
+      -- one that kept its replica would be none of the slots, and of no other
+      none_left : (o : Option (Member D)) → finite.get members s ≡ o → finite.get left s ≡ finite.get members s → finite.get members s ≡ None
+      none_left None is same = is
+      none_left (Some m) is same =
+          let away : ¬ IsIn slots s = λ i. (let clash : None ≡ Some m = sym (h.gone s i) ∙ same ∙ is in cc) in
+          own.only s away
+
+      by : IsKept old members new left s ⊎ IsBack state members new left s → ⊥
+      by (inl kept) = own.there s (none_left (finite.get members s) refl kept.member) (sym kept.held ∙ out)
+      by (inr back) = (let clash = sym back.held ∙ out in cc)
+
+-- ---- acts other than `init`
+
+module _ {D : Type 0} {G : Ghosts D} (state : D → DiskState) (held : Place → Held D) where
+  owned_on : (m g : Members D G) → KeepsSlots m g → OwnedBy (Some m) held → OwnedBy (Some g) held
+  owned_on m g keeps own = record {
+    only = λ s away. (keeps.same s).1 (own.only s (λ i. away (subst (λ slots. IsIn slots s) (sym keeps.slots) i)));
+    lent = λ s r is. by_old s (finite.get m.net.replicas.members s) refl (λ none. (let clash : None ≡ Some r = sym ((keeps.same s).1 none) ∙ is in cc));
+    there = λ s none. own.there s ((keeps.same s).0 none);
+  }
+    where
+      by_old : (s : Slot) (o : Option (Member D)) → finite.get m.net.replicas.members s ≡ o → (finite.get m.net.replicas.members s ≡ None → ⊥) → held (place_of_slot s) ≡ Out
+      by_old s None is some = absurd (some is)
+      by_old s (Some r) is some = own.lent s r is
+
+  -- the disks that are out stay those of its replicas
+  pub owned_after : (old : Option (Members D G)) (a : Act) (b : Answer) (calls : _) (new : Option (Members D G)) → OnMembers old (λ m g. Does state (next_call calls) m a b g) b new → OwnedBy old held → OwnedBy new held
+  owned_after None a b calls new did own = subst (λ (o : Option (Members D G)). OwnedBy o held) (sym did.1) own
+  owned_after (Some m) a b calls new did own = subst (λ (o : Option (Members D G)). OwnedBy o held) (sym did.1) (owned_on m did.0 (acts_keep_slots state m (next_call calls) a b did.0 did.2) own)
+
+-- what is answered an act other than `init` serves it
+pub serves_so : {D : Type 0} {G : Ghosts D} (state : D → DiskState) (depot : Depot D) (old : Cluster D G) (a : Act) (b : Answer) (new : Cluster D G) → ((rf shards seed : _) (nodes : _) → a ≡ act.Init rf shards seed nodes → ⊥) → Answers state old a b new → Serves state depot old a b depot new
+serves_so {D} {G} state depot old a b new other h = record { members = by a other h.members; calls = h.calls }
+  where
+    by : (x : Act) → ((rf shards seed : _) (nodes : _) → x ≡ act.Init rf shards seed nodes → ⊥) → OnMembers old.members (λ m g. Does state (next_call old.calls) m x b g) b new.members → IsServedBy state old.calls depot old.members x b depot new.members
+    by (act.Init rf shards seed nodes) away it = absurd (away rf shards seed nodes refl)
+    by (act.Namespace name block past future retention) away it = (it, refl)
+    by (act.Now now) away it = (it, refl)
+    by (act.Write ns id t v level version) away it = (it, refl)
+    by (act.Fetch ns id from to level version) away it = (it, refl)
+    by (act.Match ns wanted from to level version) away it = (it, refl)
+    by (act.Fates list) away it = (it, refl)
+    by act.Deliver away it = (it, refl)
+    by (act.Stop node) away it = (it, refl)
+    by (act.Restart node pick) away it = (it, refl)
+    by (act.Bootstrap node asked) away it = (it, refl)
+    by _ away it = (it, refl)

@@ -1,0 +1,13 @@
+use Rattle.served_cluster.proofs.ActLemmas.{made, wanted}
+use Rattle.served_cluster.proofs.cluster.Cluster.answer_call.Goals as goal
+
+pub returns-then-number-clause-answers : goal.returns-then-number-clause-answers
+returns-then-number-clause-answers g c =
+    let next = c.next-number in
+    wanted g.D.Disk.state c.args.self.now c.in-Some.members c.in-Some.is c.args.act next.result next.new.self c.requires.call next.ensures.number next.ensures.raised c.if-number.true
+
+pub returns-clause-answers : goal.returns-clause-answers
+returns-clause-answers g c =
+    let next = c.next-number in
+    made g.D.Disk.state c.args.self.now c.in-Some.members c.in-Some.is c.args.act c.make_call.result c.make_call.new.members next.result c.call_of.result next.new.self c.requires.call next.ensures.number next.ensures.raised c.call_of.ensures
+    c.make_call.ensures.does

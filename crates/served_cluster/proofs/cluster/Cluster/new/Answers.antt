@@ -1,0 +1,7 @@
+use Rattle.std.proofs.Common.{refl}
+use Rattle.std.specs.Prelude.{None}
+use Rattle.cluster_tracks.proofs.StepLemmas.{tracks_at_first}
+use Rattle.served_cluster.proofs.cluster.Cluster.new.Goals as goal
+
+pub returns-clause-tracks : goal.returns-clause-tracks
+returns-clause-tracks g c = λ tells first tell bare. tracks_at_first g.D.Disk.state None tells first c.new.result refl c.new.ensures tell bare

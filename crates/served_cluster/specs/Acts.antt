@@ -1,0 +1,31 @@
+-- What a cluster answers an act, and what that leaves of it.
+use Rattle.std.specs.Prelude.{◌≡◌, Bool, true, false}
+use Rattle.m3_model.specs.declared.act.Act.{Act}
+use Rattle.m3_model.specs.declared.act.Act.TheVariants as act
+use Rattle.m3_model.specs.declared.answer.Answer.{Answer}
+use Rattle.m3_outside.specs.Depots.{Depot}
+use Rattle.m3_outside.specs.DiskState.{DiskState}
+use Rattle.m3_outside.specs.declared.disk.Disk.{Ghosts}
+use Rattle.cluster_tracks.specs.Numbers.{numbers_by}
+use Rattle.tracked_lines.specs.Acts.{Does, IsServedBy, OnMembers, next_call}
+use Rattle.served_cluster.specs.declared.cluster.Cluster.{Cluster}
+
+-- the act makes a cluster
+abbrev pub is_init : Act → Bool
+is_init (act.Init rf shards seed nodes) = true
+is_init _ = false
+
+-- the act sets fates
+abbrev pub sets_fates : Act → Bool
+sets_fates (act.Fates list) = true
+sets_fates _ = false
+
+-- what an act other than `init` is answered, and what it leaves
+pub record Answers {D : Type 0} {G : Ghosts D} (state : D → DiskState) (old : Cluster D G) (a : Act) (answered : Answer) (new : Cluster D G) : Type 0 where
+  pub members : OnMembers old.members (λ m g. Does state (next_call old.calls) m a answered g) answered new.members
+  pub calls : new.calls ≡ numbers_by a answered old.calls
+
+-- the same of any act, and what it leaves of the disks that the cluster doesn't have
+pub record Serves {D : Type 0} {G : Ghosts D} (state : D → DiskState) (depot : Depot D) (old : Cluster D G) (a : Act) (answered : Answer) (after : Depot D) (new : Cluster D G) : Type 0 where
+  pub members : IsServedBy state old.calls depot old.members a answered after new.members
+  pub calls : new.calls ≡ numbers_by a answered old.calls

@@ -1,0 +1,32 @@
+-- What a cluster needs to serve a request: the disks that are out are its own, its calls may be made, and its slots have their replicas.
+use Rattle.std.specs.Prelude.{⊤, List, Option, Some, None, Bool, option_map}
+use Rattle.m3_model.specs.declared.placement.Placement.{Placement}
+use Rattle.m3_outside.specs.Depots.{Depot}
+use Rattle.m3_outside.specs.DiskState.{DiskState}
+use Rattle.m3_outside.specs.Slots.{Held}
+use Rattle.m3_outside.specs.declared.disk.Disk.{Ghosts}
+use Rattle.m3_outside.specs.declared.slot.Slot.{Slot as Place}
+use Rattle.m3_model.specs.declared.turn.Turn.{Turn}
+use Rattle.session_net.specs.Ready.{IsReady}
+use Rattle.cluster_members.specs.declared.members.Members.{Members}
+use Rattle.node_calls.specs.Halts.{AreManned}
+use Rattle.first_cluster.specs.Depots.{OwnedBy}
+use Rattle.cluster_tracks.specs.Tracks.{Tracks}
+use Rattle.served_cluster.specs.declared.cluster.Cluster.{Cluster}
+
+-- where one stands, its calls may be made, and each of its slots has a replica
+abbrev pub AreReady : {D : Type 0} {G : Ghosts D} → Option (Members D G) → Type 0
+AreReady None = ⊤
+AreReady (Some m) = IsReady m.net.state m.net.replicas m.net.bag × AreManned m.slots.items m.net.replicas
+
+-- and the disks that are out are those of its replicas
+pub record MayServe {D : Type 0} {G : Ghosts D} (c : Cluster D G) (held : Place → Held D) : Type 0 where
+  pub owned : OwnedBy c.members held
+  pub ready : AreReady c.members
+
+abbrev pub place_of : {D : Type 0} {G : Ghosts D} → Cluster D G → Option Placement
+place_of c = option_map (λ m. m.net.state.place) c.members
+
+-- the turns are tracked, over disks that were so when the run began and are so now
+abbrev pub TracksTurns : {D : Type 0} {G : Ghosts D} → (D → DiskState) → Bool → Depot D → Depot D → List Turn → Cluster D G → Type 0
+TracksTurns state tells first now turns c = Tracks state tells first now turns c.members c.calls

@@ -1,0 +1,341 @@
+ghost use Rattle.std.specs.Prelude.{◌≡◌, ◌≢◌, ◌<◌, ◌≤◌, [], ◌∷◌, ◌++◌, List, Some, None, Bool, true, false, IsTrue};
+ghost use Rattle.std.specs.Option.{option_copied};
+ghost use Rattle.m3_model.specs.declared.turn.Turn.{Turn};
+ghost use Rattle.m3_model.specs.declared.act.Act.TheVariants as act;
+ghost use Rattle.m3_model.specs.Calls.{is_call};
+ghost use Rattle.m3_model.specs.Limits.{IsInit, MeetsLimits, KeepsLimits};
+ghost use Rattle.m3_model.specs.NotYet.{fills_its_nodes, IsServedAct, IsServed};
+ghost use Rattle.m3_outside.specs.Depots.{Depot, TellAll};
+ghost use Rattle.m3_outside.specs.Slots.{Out};
+ghost use Rattle.m3_outside.specs.declared.slot.Slot.{Slot as Place};
+ghost use Rattle.event_trail.specs.Trails.{IsLegalOver};
+ghost use Rattle.replica_calls.specs.Calls.{AreMembersOf};
+ghost use Rattle.replica_calls.specs.declared.slot.Slot.{Slot as AtSlot};
+ghost use Rattle.transcripts.specs.Placements.{placement_after};
+ghost use Rattle.transcripts.specs.Record.{IsAnsweredBy, inner_turns};
+ghost use Rattle.first_cluster.specs.Bare.{AreBare};
+ghost use Rattle.first_cluster.specs.Depots.{RisesBy, count_at, depot_by, place_of_slot};
+ghost use Rattle.cluster_tracks.specs.Ends.{replica_at};
+ghost use Rattle.cluster_tracks.specs.Tracks.{events_of};
+ghost use Rattle.cluster_tracks.specs.Numbers.{last_number};
+ghost use Rattle.replica_calls.specs.declared.call_id.CallId.{CallId as CallName};
+ghost use Rattle.tracked_lines.specs.Acts.{Does, IsMade};
+ghost use Rattle.tracked_lines.specs.Lines.{EachMember};
+ghost use Rattle.served_cluster.specs.Acts.{Answers, Serves, is_init, sets_fates};
+ghost use Rattle.served_cluster.specs.Owned.{AreReady, MayServe, TracksTurns, place_of};
+
+use cluster_members::calls::Range;
+use cluster_members::members::Members;
+use first_cluster::first::first_members;
+use first_cluster::lending::give_all;
+use m3_model::act::{Act, Fate};
+use m3_model::answer::Answer;
+use m3_model::placement::Placement;
+use m3_model::rules::Space;
+use m3_model::seq::Seq;
+use m3_model::text::Text;
+use m3_model::turn::{Reply, Request};
+use m3_outside::disk::Disk;
+use m3_outside::disks::Disks;
+use net_plan::calls::Calls;
+use node_calls::boots::{bootstrap, restart};
+use node_calls::nodes::{deliver, set_fates, stop};
+use replica_calls::call_id::CallId;
+use session_net::net::Net;
+use std::alloc::Global;
+use std::mem::replace;
+
+// At this number a numbering stays, so that no call goes by it.
+const LAST_NUMBER: u64 = u64::MAX;
+
+/// The nodes of one process and what they hold, before `init` none.
+#[derive(Drop)]
+pub struct Cluster<D: Disk> {
+    pub(crate) members: Option<Members<D>>,
+    pub(crate) calls: Calls,
+}
+
+// The call of this number of the lines outside `par`.
+fn call_of(number: u64) -> CallId
+    ensures { result ≡ record { client = 0; number = number } }
+{
+    CallId { client: 0, number }
+}
+
+// Makes a write, a fetch or a match as this call.
+fn make_call<D: Disk>(members: &mut Members<D>, alloc: Global, id: CallId, act: Act) -> Answer
+    requires limits { MeetsLimits act }
+    requires served { IsServedAct act }
+    requires call { is_call act ≡ true }
+    requires number { id.number < last_number }
+    requires ready { AreReady (Some members.old) }
+    ensures ready { AreReady (Some members.new) }
+    ensures does { Does D.state id members.old act result members.new }
+{
+    match act {
+        Act::Write {
+            ns,
+            id: name,
+            t,
+            v,
+            level,
+            ..
+        } => members.write(alloc, id, ns, name, t, v, level),
+        Act::Fetch {
+            ns,
+            id: name,
+            from,
+            to,
+            level,
+            ..
+        } => members.fetch(alloc, id, ns, name, Range { from, to }, level),
+        Act::Match {
+            ns,
+            wanted,
+            from,
+            to,
+            level,
+            ..
+        } => members.find(alloc, id, ns, wanted, Range { from, to }, level),
+        _ => unreachable!(),
+    }
+}
+
+// Changes the rules or the nodes, or delivers late messages.
+fn make_change<D: Disk>(members: &mut Members<D>, alloc: Global, act: Act) -> Answer
+    requires limits { MeetsLimits act }
+    requires served { IsServedAct act }
+    requires no_init { is_init act ≡ false }
+    requires change { is_call act ≡ false }
+    requires no_fates { sets_fates act ≡ false }
+    requires ready { AreReady (Some members.old) }
+    ensures ready { AreReady (Some members.new) }
+    ensures does { (id : CallName) → Does D.state id members.old act result members.new }
+{
+    match act {
+        Act::Namespace {
+            name,
+            block,
+            past,
+            future,
+            retention,
+        } => members.name_space(
+            alloc,
+            Space {
+                name,
+                block,
+                past,
+                future,
+                retention,
+            },
+        ),
+        Act::Now { now } => members.set_moment(alloc, now),
+        Act::Deliver => deliver(members, alloc),
+        Act::Stop { node } => stop(members, node),
+        Act::Restart { node, pick } => restart(members, node, pick),
+        Act::Bootstrap { node, shard } => bootstrap(members, alloc, node, shard),
+        _ => unreachable!(),
+    }
+}
+
+impl<D: Disk> Cluster<D> {
+    /// No nodes yet.
+    pub fn new() -> Cluster<D>
+        ensures none { result.members ≡ None }
+        ensures tracks { (tells : Bool) (first : Depot D) → (tells ≡ true → TellAll D.state) → (tells ≡ true → AreBare D.state first.held) → TracksTurns D.state tells first first [] result }
+    {
+        Cluster {
+            members: None,
+            calls: Calls::new(),
+        }
+    }
+
+    /// The placement, from `init` on: that which the turns so far left, where they are tracked.
+    pub fn place(&self) -> Option<&Placement>
+        ensures stands { option_copied result ≡ place_of self.now }
+        ensures left { (tells : Bool) (first now : Depot D) (turns : List Turn) → TracksTurns D.state tells first now turns self.now → placement_after None (inner_turns turns) ≡ place_of self.now }
+    {
+        match &self.members {
+            None => None,
+            Some(members) => Some(&members.net.state.place),
+        }
+    }
+
+    // The list of events is legal as far as the disks tell, and each replica is what it says.
+    fn know(&self)
+        ensures legal { IsLegalOver D.state (events_of self.now.members) }
+        ensures members { EachMember self.now.members (λ m. AreMembersOf D.state m.net.replicas) }
+    {
+        match &self.members {
+            None => {}
+            Some(members) => members.net.replicas.know(),
+        }
+    }
+
+    // Makes a cluster on the nodes where none stands, over the disks of its slots.
+    fn init<X: Disks<D = D>>(
+        &mut self,
+        alloc: Global,
+        disks: &mut X,
+        rf: u32,
+        shards: u32,
+        seed: u32,
+        nodes: Seq<(Text, Text)>,
+    ) -> Answer
+        requires limits { IsInit rf shards seed nodes }
+        requires apart { IsTrue (fills_its_nodes rf nodes) }
+        requires owned { MayServe self.old (X.held disks.old) }
+        ensures owned { MayServe self.new (X.held disks.new) }
+        ensures made { IsMade D.state (depot_by X.held X.counted X.all_faults disks.old) self.old.members rf shards seed nodes result (depot_by X.held X.counted X.all_faults disks.new) self.new.members }
+        ensures calls { self.new.calls ≡ self.old.calls }
+    {
+        if self.members.is_some() {
+            return Answer::Order;
+        }
+        match first_members(alloc, disks, rf, shards, seed, nodes) {
+            Ok((members, placement)) => {
+                drop(replace(&mut self.members, Some(members)));
+                let version = placement.version;
+                Answer::Placed { placement, version }
+            }
+            Err(refused) => refused,
+        }
+    }
+
+    // Accepted fates begin all numberings anew.
+    fn set_fates(&mut self, alloc: Global, list: Seq<(u32, u64, Text, Fate)>) -> Answer
+        requires limits { MeetsLimits (act.Fates list) }
+        requires ready { AreReady self.old.members }
+        ensures ready { AreReady self.new.members }
+        ensures answers { Answers D.state self.old (act.Fates list) result self.new }
+    {
+        let Some(members) = &mut self.members else {
+            return Answer::Order;
+        };
+        let answer = set_fates(members, alloc, list);
+        if let Answer::Done = &answer {
+            self.calls.restart();
+        }
+        answer
+    }
+
+    // Answers a write, a fetch or a match. Its number is its own, so the last one is given to no call.
+    fn answer_call(&mut self, alloc: Global, act: Act) -> Answer
+        requires limits { MeetsLimits act }
+        requires served { IsServedAct act }
+        requires call { is_call act ≡ true }
+        requires ready { AreReady self.old.members }
+        ensures ready { AreReady self.new.members }
+        ensures answers { Answers D.state self.old act result self.new }
+    {
+        let number = self.calls.next(0);
+        let Some(members) = &mut self.members else {
+            return Answer::Order;
+        };
+        if number == LAST_NUMBER {
+            return Answer::Memory;
+        }
+        make_call(members, alloc, call_of(number), act)
+    }
+
+    // Answers what changes the rules, the messages' fates or the nodes.
+    fn answer_change(&mut self, alloc: Global, act: Act) -> Answer
+        requires limits { MeetsLimits act }
+        requires served { IsServedAct act }
+        requires no_init { is_init act ≡ false }
+        requires change { is_call act ≡ false }
+        requires ready { AreReady self.old.members }
+        ensures ready { AreReady self.new.members }
+        ensures answers { Answers D.state self.old act result self.new }
+    {
+        if let Act::Fates { list } = act {
+            return self.set_fates(alloc, list);
+        }
+        let Some(members) = &mut self.members else {
+            return Answer::Order;
+        };
+        make_change(members, alloc, act)
+    }
+
+    // Answers an act other than `init`. No disk is taken or given back.
+    fn answer(&mut self, alloc: Global, act: Act) -> Answer
+        requires limits { MeetsLimits act }
+        requires served { IsServedAct act }
+        requires no_init { is_init act ≡ false }
+        requires ready { AreReady self.old.members }
+        ensures ready { AreReady self.new.members }
+        ensures answers { Answers D.state self.old act result self.new }
+    {
+        match act {
+            Act::Write { .. } | Act::Fetch { .. } | Act::Match { .. } => self.answer_call(
+                alloc, act,
+            ),
+            _ => self.answer_change(alloc, act),
+        }
+    }
+
+    // Answers an act.
+    fn serve_act<X: Disks<D = D>>(&mut self, alloc: Global, disks: &mut X, act: Act) -> Answer
+        requires limits { MeetsLimits act }
+        requires served { IsServedAct act }
+        requires owned { MayServe self.old (X.held disks.old) }
+        ensures owned { MayServe self.new (X.held disks.new) }
+        ensures answers { Serves D.state (depot_by X.held X.counted X.all_faults disks.old) self.old act result (depot_by X.held X.counted X.all_faults disks.new) self.new }
+    {
+        if let Act::Init {
+            rf,
+            shards,
+            seed,
+            nodes,
+        } = act
+        {
+            return self.init(alloc, disks, rf, shards, seed, nodes);
+        }
+        self.answer(alloc, act)
+    }
+
+    /// Answers one request. The turns so far that are tracked are so with this one.
+    pub fn serve<X: Disks<D = D>>(
+        &mut self,
+        alloc: Global,
+        disks: &mut X,
+        request: Request,
+    ) -> Reply
+        requires limits { KeepsLimits request }
+        requires served { IsServed request }
+        requires owned { MayServe self.old (X.held disks.old) }
+        ensures owned { MayServe self.new (X.held disks.new) }
+        ensures answered { IsAnsweredBy request result }
+        ensures tracks { (tells : Bool) (first : Depot D) (turns : List Turn)
+            → TracksTurns D.state tells first (record { held = X.held disks.old; counted = X.counted disks.old; faults = X.all_faults disks.old }) turns self.old
+            → TracksTurns D.state tells first (record { held = X.held disks.new; counted = X.counted disks.new; faults = X.all_faults disks.new }) (turns ++ record { request = request; reply = result } ∷ []) self.new }
+    {
+        match request {
+            Request::One(act) => {
+                self.know();
+                let answer = self.serve_act(alloc, disks, act);
+                self.know();
+                Reply::One(answer)
+            }
+            Request::Par { .. } => unreachable!(),
+        }
+    }
+
+    /// Gives all disks back. The count of all faults rises by as much as those of the disks rose since they were taken.
+    /// Takes no memory.
+    pub fn close<X: Disks<D = D>>(self, disks: &mut X)
+        requires owned { MayServe self (X.held disks.old) }
+        ensures none_out { (place : Place) → X.held disks.new place ≢ Out }
+        ensures counted { (s : AtSlot) → X.counted disks.new (place_of_slot s)
+            ≡ count_at D.state (record { held = X.held disks.old; counted = X.counted disks.old; faults = X.all_faults disks.old }) (replica_at self.members s) s }
+        ensures rose { RisesBy D.state (depot_by X.held X.counted X.all_faults disks.old) self.members (X.all_faults disks.new) }
+        ensures later { X.all_faults disks.old ≤ X.all_faults disks.new }
+    {
+        let Cluster { members, .. } = self;
+        if let Some(members) = members {
+            let Members { net, slots, .. } = members;
+            let Net { mut replicas, .. } = net;
+            give_all(disks, slots.as_slice(), &mut replicas);
+        }
+    }
+}

@@ -1,7 +1,0 @@
-use Rattle.std.proofs.Common.{sym, ◌∙◌}
-use Rattle.block_buffer.proofs.MapLemmas.{get_of}
-use Rattle.session.specs.Slots.{slot_cmp}
-use Rattle.session.proofs.machines.Machines.get.Goals as goal
-
-pub returns : goal.returns
-returns g c = rw (← c.self.view_is) (c.get.ensures.value ∙ sym (get_of slot_cmp c.self.inside.map.entries c.args.slot c.self.invariant))

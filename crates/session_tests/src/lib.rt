@@ -1,5 +1,0 @@
-//! Tests of client calls.
-#![tactic(auto)]
-
-#[cfg(test)]
-mod sessions;
