@@ -1,8 +1,5 @@
 -- From what each line's law says to what is tracked.
-use Rattle.std.proofs.Common.{◌≡◌, ℕ, List, [], refl, ap, subst, Bool}
-use Rattle.std.specs.Prelude.{None}
-use Rattle.m3_model.specs.Members.{IsIn}
-use Rattle.m3_model.proofs.MemberLemmas.{filter_map-IsIn}
+use Rattle.std.proofs.Common.{[], refl}
 use Rattle.m3_outside.specs.DiskState.{DiskState}
 use Rattle.m3_outside.specs.declared.disk.Disk.{Ghosts}
 use Rattle.cluster_core.specs.declared.event.Event.TheVariants as event
@@ -27,4 +24,4 @@ pub anew_adds : (Line : Kind) → AnewAdds Line
 anew_adds Line tells untaken turns was a b more were h = record { more = more; grew = refl; line = h.line; serves = h.serves was [] were; delivered = h.delivered was were }
 
 pub steps_are_of_slots : {D : Type 0} {G : Ghosts D} (m : Members D G) → StepsAreOfSlots m
-steps_are_of_slots m more slots only n s c r i = slots.no_others (slot_at n s) (λ none. let at = in_at more (event.Step n s c r) i in none_there n s more at.0 c r (only (slot_at n s) none) at.1)
+steps_are_of_slots m more slots only n s c r i = slots.are.all (slot_at n s) (λ none. let at = in_at more (event.Step n s c r) i in none_there n s more at.0 c r (only (slot_at n s) none) at.1)

@@ -1,10 +1,9 @@
 -- Over disks that tell and had no points no step finds damage.
-use Rattle.std.proofs.Common.{◌≡◌, List, [], ◌∷◌, refl, true}
+use Rattle.std.proofs.Common.{◌≡◌, [], refl}
 use Rattle.m3_model.specs.declared.reason.Damage.{Damage}
 use Rattle.m3_model.specs.declared.reason.Reason.TheVariants as reason
-use Rattle.m3_outside.specs.Depots.{Depot, TellAll}
+use Rattle.m3_outside.specs.Depots.{TellAll}
 use Rattle.m3_outside.specs.DiskState.{DiskState, EachImage, IsLawful}
-use Rattle.shard_files.specs.Held.{IsSound}
 use Rattle.cluster_core.specs.Replicas.{replica}
 use Rattle.cluster_core.specs.declared.event.Event.TheVariants as event
 use Rattle.cluster_core.specs.declared.event.StepCall.{StepCall}
@@ -18,7 +17,7 @@ use Rattle.replica_machine.specs.Steps.{IsStep}
 use Rattle.replica_machine.proofs.OpeningLemmas.{tenures_are_known}
 use Rattle.replica_calls.specs.Calls.{Tracked}
 use Rattle.first_cluster.specs.Bare.{HasNoPoints}
-use Rattle.cluster_tracks.specs.Runs.{HasNoDamage, RunFindsNoDamage}
+use Rattle.cluster_tracks.specs.Runs.{RunFindsNoDamage}
 use Rattle.cluster_tracks.proofs.OpenLemmas.{in_run}
 
 module _ {D : Type 0} (state : D → DiskState) (lawful : (d : D) → IsLawful (state d)) (tell : TellAll state) where

@@ -1,6 +1,6 @@
 -- What a run that is tracked promises at its end.
-use Rattle.std.proofs.Common.{◌≡◌, ◌≤◌, ◌<◌, ◌+◌, ◌-◌, ℕ, zero, suc, List, [], ◌∷◌, ◌++◌, length, refl, sym, ap, subst, ◌∙◌, append_assoc, inl, inr, arith, Bool, true, false, cond, ◌&&◌}
-use Rattle.std.specs.Prelude.{◌⊎◌, ◌≢◌, Option, Some, None, nat_eq, count_by, ◌||◌, if◌then◌else◌}
+use Rattle.std.proofs.Common.{◌≡◌, ◌≤◌, ◌<◌, ◌+◌, ◌-◌, ℕ, suc, List, [], ◌∷◌, ◌++◌, length, refl, sym, ap, subst, ◌∙◌, append_assoc, inl, inr, arith, Bool, true, false, cond, ◌&&◌}
+use Rattle.std.specs.Prelude.{◌⊎◌, Option, Some, None, nat_eq, count_by, ◌||◌, if◌then◌else◌}
 use Rattle.std.specs.FinMap as finite
 use Rattle.std.specs.List.{cons_option}
 use Rattle.std.proofs.lemmas.Bool.{and_from, eq-eqb}
@@ -20,7 +20,6 @@ use Rattle.cluster_core.specs.declared.event.Event.{Event}
 use Rattle.cluster_core.specs.declared.event.Event.TheVariants as event
 use Rattle.cluster_core.specs.declared.event.StepCall.{StepCall}
 use Rattle.cluster_core.specs.declared.event.StepReply.TheVariants as reply
-use Rattle.told_by.specs.Openings.{OpeningStands}
 use Rattle.told_by.proofs.KeptLemmas.{told_kept}
 use Rattle.told_causes.specs.Faults.{fault_of, faults_told, tells_of}
 use Rattle.told_causes.proofs.FaultLemmas.{count_append, faults_steps}
@@ -29,7 +28,6 @@ use Rattle.told_runs.proofs.CausedLemmas.{told_caused}
 use Rattle.told_runs.proofs.CountedLemmas.{few, of_run}
 use Rattle.transcripts.specs.Caused.{Caused}
 use Rattle.transcripts.specs.Faults.{Fault, FaultKind, Taking, Failing, Damaged, is_failing, is_taking}
-use Rattle.transcripts.specs.Kept.{Kept}
 use Rattle.transcripts.specs.Record.{TurnPlace, IsTurnPlace}
 use Rattle.replica_calls.specs.declared.member.Member.{Member}
 use Rattle.replica_calls.specs.declared.slot.Slot.{Slot}
@@ -37,8 +35,8 @@ use Rattle.replica_calls.specs.Slots.{MemberMap}
 use Rattle.session_net.specs.Runs.{Step, slot_at, step_in, steps_of}
 use Rattle.cluster_members.specs.declared.members.Members.{Members}
 use Rattle.first_cluster.specs.Depots.{count_at, place_of_slot, risen}
-use Rattle.cluster_tracks.specs.Ends.{AreGivenBack, AreShown, CausedWhereTracked, KeptWhereTracked, ShownWhereTracked, is_failed_at, is_fault, replica_at}
-use Rattle.cluster_tracks.specs.Failures.{failures_in, is_failure}
+use Rattle.cluster_tracks.specs.Ends.{AreGivenBack, CausedWhereTracked, KeptWhereTracked, ShownWhereTracked, is_failed_at, is_fault}
+use Rattle.cluster_tracks.specs.Failures.{failures_in}
 use Rattle.cluster_tracks.specs.Runs.{HasNoDamage, RoseByFailures, no_points}
 use Rattle.cluster_tracks.proofs.DamageLemmas.{run_finds_no_damage}
 use Rattle.cluster_core.proofs.ListLemmas.{at_in}
@@ -258,7 +256,7 @@ module _ {D : Type 0} {G : Ghosts D} (state : D → DiskState) (tells : Bool) (n
 
   -- the failures are of the cluster's slots
   of_slots : AreOf m.slots.items m.net.replicas.events
-  of_slots n s c i = h.stands.slots.no_others (slot_at n s) (λ none.
+  of_slots n s c i = h.stands.slots.are.all (slot_at n s) (λ none.
       let step : Step = record { call = c; reply = reply.Refused reason.Disk } in
       let among = filter_map-IsIn (step_in (slot_at n s)) m.net.replicas.events (event.Step n s c (reply.Refused reason.Disk)) step i (own n s c) in
       subst (λ xs. IsIn xs step) (rise.others (slot_at n s) none) among)

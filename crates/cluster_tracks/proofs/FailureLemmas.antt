@@ -1,10 +1,10 @@
 -- Failures counted along the list.
 use Rattle.std.proofs.Common.{◌≡◌, ℕ, ◌+◌, ◌≤◌, List, [], ◌∷◌, ◌++◌, Bool, true, false, cond, refl, sym, ap, subst, ◌∙◌, arith}
-use Rattle.std.specs.Prelude.{Option, Some, None, min, count_by}
+use Rattle.std.specs.Prelude.{Option, Some, None}
 use Rattle.std.specs.FinMap as finite
 use Rattle.std.proofs.lemmas.List.Elements.{filter_map-append}
 use Rattle.m3_model.specs.declared.reason.Reason.TheVariants as reason
-use Rattle.m3_outside.specs.Causes.{RoseBy, CountsFaults as CountsCalls, last_count}
+use Rattle.m3_outside.specs.Causes.{RoseBy, CountsFaults as CountsCalls}
 use Rattle.m3_outside.specs.DiskState.{DiskState}
 use Rattle.cluster_core.proofs.ListLemmas.{some_same}
 use Rattle.cluster_core.specs.declared.event.Event.{Event}
@@ -16,7 +16,7 @@ use Rattle.replica_calls.specs.declared.member.Member.{Member}
 use Rattle.replica_calls.specs.declared.slot.Slot.{Slot}
 use Rattle.session_net.specs.Runs.{IsStepped, Ran, Step, TakesSteps, step_in, steps_of}
 use Rattle.told_causes.proofs.FaultLemmas.{count_append}
-use Rattle.cluster_tracks.specs.Failures.{CountGoesOn, CountsFailures, CountsFaults, OnlyReplicasStep, OtherSlotsStay, failures_in, is_failure}
+use Rattle.cluster_tracks.specs.Failures.{CountGoesOn, CountsFailures, OnlyReplicasStep, OtherSlotsStay, failures_in, is_failure}
 
 -- ---- counts
 

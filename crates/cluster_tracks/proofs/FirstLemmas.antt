@@ -1,69 +1,53 @@
 -- A first cluster, after the line of the `init` that made it.
-use Rattle.std.proofs.Common.{◌≡◌, ◌≢◌, ◌≤◌, ◌<◌, ◌+◌, ℕ, zero, suc, List, [], ◌∷◌, ◌++◌, length, take, refl, sym, ap, subst, ◌∙◌, inl, inr, arith, Bool, true, false}
-use Rattle.std.specs.Prelude.{◌⊎◌, Option, Some, None, slice_get}
+use Rattle.std.proofs.Common.{◌≡◌, ◌+◌, ℕ, zero, suc, List, [], ◌∷◌, ◌++◌, length, take, refl, sym, ap, subst, ◌∙◌, inl, inr, arith, Bool, true}
+use Rattle.std.specs.Prelude.{Some, None}
 use Rattle.std.specs.FinMap as finite
-use Rattle.std.specs.List.{Any}
 use Rattle.m3_model.specs.Members.{IsIn}
 use Rattle.m3_model.specs.declared.act.Act.TheVariants as act
 use Rattle.m3_model.specs.declared.answer.Answer.TheVariants as answer
 use Rattle.m3_model.specs.declared.placement.Assignment.{Assignment}
-use Rattle.m3_model.specs.declared.placement.Instance.{Instance}
 use Rattle.m3_model.specs.declared.placement.Placement.{Placement}
 use Rattle.m3_model.specs.declared.turn.Turn.{Turn}
-use Rattle.m3_outside.specs.Depots.{Depot, TellAll}
+use Rattle.m3_outside.specs.Depots.{Depot}
 use Rattle.m3_outside.specs.DiskState.{DiskState, EachImage}
 use Rattle.m3_outside.specs.declared.disk.Disk.{Ghosts}
-use Rattle.placement_core.specs.Shards.{Shard}
 use Rattle.placement_core.proofs.ListLemmas.{IsIn-from_Any}
-use Rattle.cluster_core.specs.Earlier.{GivesTenure, HasTenure, last_place}
 use Rattle.cluster_core.specs.Lists.{At}
 use Rattle.cluster_core.specs.Legal.{Legal}
 use Rattle.cluster_core.specs.Replicas.{replica}
 use Rattle.cluster_core.specs.declared.event.Event.{Event}
 use Rattle.cluster_core.specs.declared.event.Event.TheVariants as event
-use Rattle.cluster_core.specs.declared.event.StepCall.{StepCall}
 use Rattle.cluster_core.specs.declared.event.StepCall.TheVariants as call
 use Rattle.cluster_core.specs.declared.event.StepReply.{StepReply}
-use Rattle.cluster_core.proofs.ListLemmas.{any_at, at_in, at_same, some_same}
-use Rattle.replica_calls.specs.Calls.{Tracked, first_member}
+use Rattle.cluster_core.proofs.ListLemmas.{at_in, some_same}
+use Rattle.replica_calls.specs.Calls.{first_member}
 use Rattle.replica_calls.specs.declared.member.Member.{Member}
 use Rattle.replica_calls.specs.declared.slot.Slot.{Slot}
-use Rattle.session_net.specs.Ready.{IsReady}
-use Rattle.session_net.specs.Runs.{slot_at, steps_of}
+use Rattle.session_net.specs.Runs.{steps_of}
 use Rattle.cluster_members.specs.declared.members.Members.{Members}
 use Rattle.first_cluster.specs.Bare.{AreBare}
 use Rattle.first_cluster.specs.Begins.{begins_of}
 use Rattle.first_cluster.specs.Depots.{place_of_slot}
 use Rattle.first_cluster.specs.First.{IsFirst, opening_of}
 use Rattle.first_cluster.specs.Slots.{AreApart, slots_of, start_at, starts_of}
-use Rattle.first_cluster.specs.declared.start.Start.{Start}
 use Rattle.first_cluster.proofs.BareLemmas.{given_bare}
-use Rattle.first_cluster.proofs.PlacedSlots.{from_start, node_low, slot_start, start_slot, tenure_first, tenure_given}
+use Rattle.first_cluster.proofs.PlacedSlots.{from_start, start_slot, tenure_first}
 use Rattle.first_cluster.proofs.SlotLists.{in_or_out, slots_apart}
-use Rattle.told_by.specs.Hears.{HasReplica, IsNamedBy}
 use Rattle.told_by.specs.Makes.{IsAssigned}
 use Rattle.transcripts.specs.Record.{line_of}
+use Rattle.rule_lines.specs.Stands.{NoneStands, Stands}
 use Rattle.node_lines.specs.Opens.{IsGivenNow, IsLow, OpensLow}
-use Rattle.node_lines.specs.Stands.{HasSlots, Stands}
-use Rattle.init_lines.specs.Stands.{NoneStands, StandsAfter}
-use Rattle.init_lines.proofs.BeginEvents.{IsOfBegin, IsStepOf, of_begin, step_among}
+use Rattle.init_lines.proofs.BeginEvents.{step_among}
 use Rattle.init_lines.proofs.StandLemmas.{first_stands}
 use Rattle.cluster_tracks.specs.Runs.{HaveRun, IsMade}
 use Rattle.cluster_tracks.specs.Steps.{FirstStandsSo}
-use Rattle.cluster_tracks.specs.Tracks.{StandsSo}
 use Rattle.cluster_tracks.proofs.FailureLemmas.{stepped_from}
-use Rattle.cluster_tracks.proofs.OpenLemmas.{none_taken, none_there}
-use Rattle.cluster_tracks.proofs.RunLemmas.{run_is_counted}
+use Rattle.cluster_tracks.proofs.OpenLemmas.{none_taken}
 use Rattle.told_by.proofs.LineLemmas.{take_all}
 use Rattle.told_moves.proofs.SlotLemmas.{Tries, tried_began}
 
--- what an event places, if it is a Place
-abbrev placed_in : Event → Option Placement
-placed_in (event.Place place done) = Some place
-placed_in _ = None
-
 module _ {D : Type 0} {G : Ghosts D} (state : D → DiskState) (m : Members D G) (tells : Bool) (turns : List Turn) (rf shards seed : ℕ) (nodes : List (List ℕ × List ℕ)) (old now : Depot D) (bare : tells ≡ true → AreBare state old.held) (none : NoneStands turns)
-    (first : IsFirst state rf shards seed nodes old now m) (ready : IsReady m.net.state m.net.replicas m.net.bag) (legal : Legal tells m.net.replicas.events) where
+    (first : IsFirst state rf shards seed nodes old now m) (legal : Legal tells m.net.replicas.events) where
   abbrev place : Placement
   place = m.net.state.place
 
@@ -82,11 +66,8 @@ module _ {D : Type 0} {G : Ghosts D} (state : D → DiskState) (m : Members D G)
   list_is : events ≡ list
   list_is = first.opened.begun.ran.grew
 
-  stands_after : StandsAfter longer m
-  stands_after = first_stands state m turns rf shards seed nodes old now none first
-
-  slot_in : (s : Slot) → IsIn m.slots.items s → IsIn (slots_of place) s
-  slot_in s i = subst (λ xs. IsIn xs s) first.slots i
+  stands : Stands None longer m
+  stands = first_stands state m turns rf shards seed nodes old now none first
 
   in_slots : (s : Slot) → IsIn (slots_of place) s → IsIn m.slots.items s
   in_slots s i = subst (λ xs. IsIn xs s) (sym first.slots) i
@@ -123,66 +104,12 @@ module _ {D : Type 0} {G : Ghosts D} (state : D → DiskState) (m : Members D G)
     others = others;
   }
 
-  -- ---- what stands in the list
-
-  -- the only Place is the first event
-  one_place : (i : ℕ) (e : Event) (p : Placement) → At list i e → placed_in e ≡ Some p → p ≡ place
-  one_place zero e p at is = (let same : event.Place place [] ≡ e = some_same (event.Place place []) e at in some_same p place (sym is ∙ ap placed_in (sym same)))
-  one_place (suc zero) e p at is = (let same : event.Clock m.net.state.rules ≡ e = some_same (event.Clock m.net.state.rules) e at in let clash : None ≡ Some p = ap placed_in same ∙ is in cc)
-  one_place (suc (suc i)) e p at is =
-      let h = of_begin first.opened.begun.said (starts_of place) e (at_in begins i e at) in
-      elim h.is as (λ _. p ≡ place) [
-        | inl ask ↦ (let clash : None ≡ Some p = ap placed_in ask ∙ is in cc)
-        | inr step ↦ (let clash : None ≡ Some p = ap placed_in step ∙ is in cc)
-      ]
-
-  place_at : (i : ℕ) (p : Placement) (done : List (ℕ × ℕ)) → At events i (event.Place p done) → p ≡ place
-  place_at i p done at = one_place i (event.Place p done) p (subst (λ es. At es i (event.Place p done)) list_is at) refl
-
-  -- a tenure that a Place gives is that of a slot
-  given_by : (n s tenure : ℕ) (i : ℕ) (e : Event) → At events i e → GivesTenure n s tenure e → IsIn (slots_of place) (slot_at n s)
-  given_by n s tenure i (event.Place p done) at gives =
-      let same = place_at i p done at in
-      let there : At place.shards s gives.0 = subst (λ (q : Placement). At q.shards s gives.0) same gives.1 in
-      let a = IsIn-from_Any (λ (x : Assignment). (x.node ≡ n) × (x.tenure ≡ tenure)) gives.0 gives.2 in
-      let start = from_start 0 place.shards s gives.0 a.0 there a.1 in
-      let zero_s : 0 + s ≡ s = omega arith in
-      subst (λ k. IsIn (slots_of place) (slot_at n k)) zero_s (subst (λ k. IsIn (slots_of place) (slot_at k (0 + s))) a.2.0 (start_slot place (start_at (0 + s) a.0) start))
-  given_by n s tenure i e at gives = absurd gives
-
-  -- ---- slots
-
-  given : (s : Slot) → IsIn m.slots.items s → (tenure : ℕ) × HasTenure events s.node s.shard tenure
-  given s i =
-      let start = slot_start place s (slot_in s i) in
-      let has = tenure_given place [] (event.Clock m.net.state.rules ∷ begins) start.0 start.1 in
-      ((start.0).tenure, subst (λ es. HasTenure es s.node s.shard (start.0).tenure) (sym list_is) (subst (λ (q : Slot). HasTenure list q.node q.shard (start.0).tenure) start.2 has))
-
-  all : (n s : ℕ) → HasReplica events n s → IsIn m.slots.items (slot_at n s)
-  all n s (inl has) = let e = any_at (GivesTenure n s has.0) events has.1 in in_slots (slot_at n s) (given_by n s has.0 e.0 e.1 e.2 e.3)
-  all n s (inr took) = (stands_after.slots (slot_at n s)).1 (λ gone. none_there n s events took.0 took.1 took.2 ((run_is_counted state m.net.replicas tells now run).1.others (slot_at n s) gone) took.3)
-
-  has_slots : HasSlots m
-  has_slots = record {
-    manned = λ s i. (stands_after.slots s).0 i;
-    no_others = λ s some. (stands_after.slots s).1 some;
-    given = given;
-    all = all;
-    placed = λ s i. node_low place rf shards nodes first.place s (slot_in s i);
-  }
-
-  named : (n : ℕ) (own : Instance) → slice_get place.instances n ≡ Some own → IsNamedBy events n own.name
-  named n own at i p done other there is = ap (λ (x : Instance). x.name) (at_same place.instances n other own (subst (λ (q : Placement). At q.instances n other) (place_at i p done there) is) at)
-
-  stands : Stands None longer m
-  stands = record { left = stands_after.left; ready = ready; slots = has_slots; named = named; stopped = λ n own at. stands_after.stops n own at }
-
   -- ---- first begins
 
   -- each tenure that the placement gives is the first one
   given_one : (n s tenure : ℕ) → IsGivenNow events n s tenure → tenure ≡ 1
   given_one n s tenure g =
-      let same : g.0 ≡ place = some_same g.0 place (sym g.1 ∙ ready.place) in
+      let same : g.0 ≡ place = some_same g.0 place (sym g.1 ∙ stands.ready.place) in
       let has = subst (λ (q : Placement). IsAssigned q n s tenure) same g.2 in
       let a = IsIn-from_Any (λ (x : Assignment). (x.node ≡ n) × (x.tenure ≡ tenure)) has.0 has.2 in
       sym a.2.1 ∙ tenure_first place rf shards nodes first.place (start_at (0 + s) a.0) (from_start 0 place.shards s has.0 a.0 has.1 a.1)
@@ -217,9 +144,9 @@ module _ {D : Type 0} {G : Ghosts D} (state : D → DiskState) (m : Members D G)
   }
 
 pub first_stands_so : {D : Type 0} {G : Ghosts D} (state : D → DiskState) (m : Members D G) → FirstStandsSo state m
-first_stands_so {D} {G} state m tells turns rf shards seed nodes old now tell bare none first ready legal = record {
-  stands = stands state m tells turns rf shards seed nodes old now bare none first ready legal;
-  run = run state m tells turns rf shards seed nodes old now bare none first ready legal;
+first_stands_so {D} {G} state m tells turns rf shards seed nodes old now tell bare none first legal = record {
+  stands = stands state m tells turns rf shards seed nodes old now bare none first legal;
+  run = run state m tells turns rf shards seed nodes old now bare none first legal;
   apart = subst AreApart (sym first.slots) (slots_apart m.net.state.place first.lawful);
-  low = low state m tells turns rf shards seed nodes old now bare none first ready legal;
+  low = low state m tells turns rf shards seed nodes old now bare none first legal;
 }

@@ -10,7 +10,6 @@ use Rattle.m3_model.specs.Members.{IsIn}
 use Rattle.m3_model.specs.declared.point.Point.{Point}
 use Rattle.m3_outside.specs.Depots.{Depot, TellAll}
 use Rattle.m3_outside.specs.DiskState.{DiskState, EachImage}
-use Rattle.m3_outside.specs.Files.{Files}
 use Rattle.shard_files.specs.Once.{HaveSamePoints}
 use Rattle.shard_files.proofs.HeldLemmas.{held_is_one}
 use Rattle.cluster_core.specs.Lists.{At}
@@ -29,12 +28,11 @@ use Rattle.replica_machine.specs.Openings.{AllSound}
 use Rattle.replica_machine.specs.Steps.{IsStep}
 use Rattle.replica_machine.proofs.OpeningLemmas.{first_begin_is_as_made}
 use Rattle.replica_machine.proofs.OtherLemmas.{first_follows}
-use Rattle.replica_calls.specs.Calls.{Tracked, first_member}
+use Rattle.replica_calls.specs.Calls.{Tracked}
 use Rattle.replica_calls.specs.declared.member.Member.{Member}
-use Rattle.replica_calls.specs.declared.slot.Slot.{Slot}
-use Rattle.session_net.specs.Runs.{Ran, Step, TakesSteps, IsStepped, slot_at, step_in, steps_of}
+use Rattle.session_net.specs.Runs.{Step, TakesSteps, IsStepped, slot_at, step_in, steps_of}
 use Rattle.first_cluster.specs.Bare.{HasNoPoints}
-use Rattle.cluster_tracks.specs.Runs.{HaveRun, IsMade, RunOpensEmpty, no_points}
+use Rattle.cluster_tracks.specs.Runs.{HaveRun, RunOpensEmpty}
 
 -- ---- one event
 

@@ -1,35 +1,31 @@
 -- Lines that print no placement, begin no replica, and neither stop nor restart a node.
-use Rattle.std.proofs.Common.{◌≡◌, ◌≤◌, ◌+◌, ℕ, List, [], ◌∷◌, ◌++◌, length, take, length-append, refl, sym, ap, subst, ◌∙◌, arith, Bool, true}
-use Rattle.std.specs.Prelude.{⊤, Option, Some, None}
+use Rattle.std.proofs.Common.{◌≡◌, ◌≤◌, ◌+◌, ℕ, List, ◌++◌, length, take, length-append, sym, ap, subst, ◌∙◌, arith, Bool}
+use Rattle.std.specs.Prelude.{Some, None}
+use Rattle.std.proofs.lemmas.List.{append_cancel_left}
 use Rattle.m3_model.specs.Members.{IsIn}
 use Rattle.m3_model.specs.declared.act.Act.{Act}
 use Rattle.m3_model.specs.declared.answer.Answer.{Answer}
-use Rattle.m3_model.specs.declared.placement.Placement.{Placement}
 use Rattle.m3_model.specs.declared.turn.Turn.{Turn}
-use Rattle.m3_outside.specs.Depots.{Depot, TellAll}
+use Rattle.m3_outside.specs.Depots.{Depot}
 use Rattle.m3_outside.specs.DiskState.{DiskState, IsLawful}
 use Rattle.m3_outside.specs.declared.disk.Disk.{Ghosts}
-use Rattle.cluster_core.specs.Lists.{At}
 use Rattle.cluster_core.specs.declared.event.Event.{Event}
 use Rattle.cluster_core.specs.declared.event.Event.TheVariants as event
 use Rattle.cluster_core.specs.declared.event.StepCall.TheVariants as call
-use Rattle.cluster_core.specs.declared.event.StepReply.{StepReply}
 use Rattle.cluster_core.proofs.ListLemmas.{in_at}
 use Rattle.replica_calls.specs.Calls.{Tracked}
-use Rattle.session_net.specs.Runs.{Ran}
 use Rattle.told_by.specs.Lines.{MakesAndHears, place_after}
 use Rattle.told_by.specs.Makes.{MayMake, OpensReplicas}
 use Rattle.told_by.proofs.OneLemmas.{back_at}
 use Rattle.transcripts.specs.Placements.{printed}
 use Rattle.cluster_members.specs.declared.members.Members.{Members}
-use Rattle.node_lines.specs.Keeps.{BeginsGiven, HaveNoPlace, IsNoPlace}
+use Rattle.rule_lines.specs.Stays.{HaveNoPlace, IsNoPlace}
+use Rattle.rule_lines.proofs.StandLemmas.{stands_still}
+use Rattle.node_lines.specs.Keeps.{BeginsGiven}
 use Rattle.node_lines.specs.Opens.{MayBegin}
 use Rattle.node_lines.proofs.OpenLemmas.{begins_still}
-use Rattle.node_lines.proofs.StandLemmas.{stands_still}
-use Rattle.cluster_tracks.specs.Quiet.{GoesQuietly, QuietLinesStandOn, QuietTurnsMakeNone}
+use Rattle.cluster_tracks.specs.Quiet.{QuietLinesStandOn, QuietTurnsMakeNone}
 use Rattle.cluster_tracks.specs.Runs.{HaveRun}
-use Rattle.cluster_tracks.specs.Steps.{StandsOn}
-use Rattle.cluster_tracks.specs.Tracks.{StandsSo}
 use Rattle.cluster_tracks.proofs.AddLemmas.{steps_are_of_slots}
 
 module _ (turns : List Turn) (events : List Event) (a : Act) (b : Answer) (more : List Event) (opened : 2 ≤ length events) (makes : MakesAndHears None turns events a b more) (prints : printed b ≡ None) (opens : OpensReplicas a → ⊥) where
@@ -50,13 +46,8 @@ module _ (turns : List Turn) (events : List Event) (a : Act) (b : Answer) (more 
 pub quiet_turns_make_none : QuietTurnsMakeNone
 quiet_turns_make_none turns events a b more opened makes prints opens = (no_place turns events a b more opened makes prints opens, no_begin turns events a b more opened makes prints opens)
 
--- what stands behind one list is one
-cancel : {X : Type 0} (xs ys zs : List X) → xs ++ ys ≡ xs ++ zs → ys ≡ zs
-cancel [] ys zs e = e
-cancel (x ∷ xs) ys zs e = let rest : xs ++ ys ≡ xs ++ zs = cc in cancel xs ys zs rest
-
 -- a list that was opened has two events
-two_events : {D : Type 0} (state : D → DiskState) (tells : Bool) (depot : Depot D) (t : Tracked D) → HaveRun state tells depot t → 2 ≤ length t.events
+pub two_events : {D : Type 0} (state : D → DiskState) (tells : Bool) (depot : Depot D) (t : Tracked D) → HaveRun state tells depot t → 2 ≤ length t.events
 two_events state tells depot t h =
     let long : length t.events ≡ length h.made.events + length h.more = ap length h.ran.grew ∙ length-append h.made.events h.more in
     let two : length h.made.events ≡ 2 = ap length h.opened in
@@ -64,7 +55,7 @@ two_events state tells depot t h =
 
 pub quiet_lines_stand_on : {D : Type 0} {G : Ghosts D} (state : D → DiskState) → ((d : D) → IsLawful (state d)) → (old : Members D G) → QuietLinesStandOn state old
 quiet_lines_stand_on {D} {G} state lawful old tells now turns a b new tell are h q =
-    let same : q.told ≡ q.more = cancel old.net.replicas.events q.told q.more (sym q.grew ∙ q.ran.grew) in
+    let same : q.told ≡ q.more = append_cancel_left old.net.replicas.events q.told q.more (sym q.grew ∙ q.ran.grew) in
     let none = quiet_turns_make_none turns old.net.replicas.events a b q.told (two_events state tells now old.net.replicas h.run) q.makes q.prints q.opens in
     let no_place = subst HaveNoPlace same none.0 in
     let given = subst (BeginsGiven old.net.replicas.events) same none.1 in

@@ -1,20 +1,19 @@
 -- Replicas that took the steps of the list since they were made.
-use Rattle.std.proofs.Common.{◌≡◌, ℕ, ◌≤◌, List, [], ◌∷◌, ◌++◌, Bool, refl, sym, ap, subst, ◌∙◌, arith}
+use Rattle.std.proofs.Common.{◌≡◌, List, [], ◌++◌, Bool, sym, ap, subst, ◌∙◌, arith}
 use Rattle.std.specs.Prelude.{Option, Some, None}
 use Rattle.std.specs.FinMap as finite
 use Rattle.m3_outside.specs.Causes.{RoseBy}
 use Rattle.m3_outside.specs.Depots.{Depot}
 use Rattle.m3_outside.specs.DiskState.{DiskState}
-use Rattle.cluster_core.specs.declared.event.Event.{Event}
-use Rattle.replica_calls.specs.Calls.{Tracked, first_member}
+use Rattle.replica_calls.specs.Calls.{Tracked}
 use Rattle.replica_calls.specs.declared.member.Member.{Member}
 use Rattle.replica_calls.specs.declared.slot.Slot.{Slot}
-use Rattle.session_net.specs.Runs.{IsStepped, Ran, Step, steps_of}
+use Rattle.session_net.specs.Runs.{IsStepped, Step, steps_of}
 use Rattle.session_net.proofs.RunLemmas.{ran_then}
 use Rattle.first_cluster.specs.Depots.{place_of_slot}
-use Rattle.cluster_tracks.specs.Failures.{CountsFailures, CountsFaults, OnlyReplicasStep, failures_in}
+use Rattle.cluster_tracks.specs.Failures.{CountsFaults, failures_in}
 use Rattle.cluster_tracks.specs.Runs.{HaveRun, RoseByFailures, RunGoesOn, RunIsCounted}
-use Rattle.cluster_tracks.proofs.FailureLemmas.{count_goes_on, rose_none, stepped_from, stepped_none, steps_append}
+use Rattle.cluster_tracks.proofs.FailureLemmas.{count_goes_on, rose_none, stepped_from, steps_append}
 
 module _ {D : Type 0} (state : D → DiskState) where
   -- a slot for which no replica was made has none

@@ -1,28 +1,19 @@
 -- One more line of a run that is tracked.
-use Rattle.std.proofs.Common.{◌≡◌, ◌≤◌, ◌+◌, ℕ, List, [], ◌∷◌, ◌++◌, length, length-append, refl, sym, ap, subst, ◌∙◌, arith, Bool, true}
-use Rattle.std.specs.Prelude.{Option, Some, None, replicate, slice_index}
-use Rattle.m3_model.specs.declared.act.Act.{Act}
-use Rattle.m3_model.specs.declared.answer.Answer.{Answer}
-use Rattle.m3_model.specs.declared.limits.TheConstants.{MOST_CLIENTS}
-use Rattle.m3_model.specs.declared.turn.Turn.{Turn}
-use Rattle.m3_model.proofs.SplitLemmas.{not_empty}
+use Rattle.std.proofs.Common.{◌≡◌, ◌+◌, ℕ, [], ◌∷◌, ◌++◌, length, length-append, refl, sym, ap, subst, arith, Bool}
+use Rattle.std.specs.Prelude.{Option, None, slice_index}
 use Rattle.m3_outside.specs.Causes.{RoseBy}
-use Rattle.m3_outside.specs.Depots.{Depot, TellAll}
 use Rattle.m3_outside.specs.DiskState.{DiskState}
 use Rattle.m3_outside.specs.declared.disk.Disk.{Ghosts}
-use Rattle.m3_outside.specs.declared.slot.Slot.{Slot as Place}
 use Rattle.cluster_core.specs.Legal.{Legal}
 use Rattle.told_by.specs.Lines.{ClockLine, InitLine, PlainLine, ReadLine, WriteLine}
 use Rattle.told_runs.specs.Lines.{IsToldAndServed, KindServes, delivered_on}
 use Rattle.told_runs.proofs.LineLemmas.{clock_serves, init_serves, plain_serves, read_serves, served_first, write_serves}
 use Rattle.transcripts.specs.Record.{line_of}
 use Rattle.call_lines.specs.Laws.{Kind}
-use Rattle.call_lines.specs.Left.{WereDelivered}
 use Rattle.cluster_members.specs.declared.members.Members.{Members}
-use Rattle.first_cluster.specs.Bare.{AreBare}
 use Rattle.first_cluster.specs.Slots.{AreApart}
-use Rattle.cluster_tracks.specs.Steps.{IsNext, StandsAfterLine, TracksAtFirst, TracksOn}
-use Rattle.cluster_tracks.specs.Tracks.{MayStand, Tracks, events_of}
+use Rattle.cluster_tracks.specs.Steps.{StandsAfterLine, TracksAtFirst, TracksOn}
+use Rattle.cluster_tracks.specs.Tracks.{Tracks, events_of}
 use Rattle.cluster_tracks.proofs.FailureLemmas.{rose_both, rose_none}
 use Rattle.cluster_tracks.proofs.NumberLemmas.{numbers_stay}
 use Rattle.cluster_tracks.proofs.RunLemmas.{run_goes_on}

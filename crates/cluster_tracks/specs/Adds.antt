@@ -1,5 +1,5 @@
 -- From what each line's law says to what is tracked: what came to the list tells of the line and serves it.
-use Rattle.std.specs.Prelude.{◌≡◌, ℕ, List, [], Bool, None}
+use Rattle.std.specs.Prelude.{ℕ, List, [], Bool, None}
 use Rattle.m3_model.specs.Members.{IsIn}
 use Rattle.m3_model.specs.declared.act.Act.{Act}
 use Rattle.m3_model.specs.declared.answer.Answer.{Answer}
@@ -20,7 +20,7 @@ use Rattle.call_lines.specs.Laws.{IsNotRefused, Kind, LeavesLine, LeavesServed}
 use Rattle.call_lines.specs.Left.{WereDelivered}
 use Rattle.cluster_members.specs.declared.members.Members.{Members}
 use Rattle.node_lines.specs.Laws.{LeavesBegun}
-use Rattle.node_lines.specs.Stands.{HasSlots}
+use Rattle.rule_lines.specs.Stands.{HasSlots}
 use Rattle.init_lines.specs.Laws.{LeavesAnew}
 use Rattle.cluster_tracks.specs.Failures.{OnlyReplicasStep}
 use Rattle.cluster_tracks.specs.Steps.{AddsLine}

@@ -1,5 +1,5 @@
 -- Lines that print no placement, begin no replica, and neither stop nor restart a node: the cluster stands after them.
-use Rattle.std.specs.Prelude.{◌≡◌, ◌≤◌, ℕ, List, [], ◌∷◌, ◌++◌, length, Option, None, Bool, true}
+use Rattle.std.specs.Prelude.{◌≡◌, ◌≤◌, List, [], ◌∷◌, ◌++◌, length, None, Bool, true}
 use Rattle.m3_model.specs.declared.act.Act.{Act}
 use Rattle.m3_model.specs.declared.answer.Answer.{Answer}
 use Rattle.m3_model.specs.declared.turn.Turn.{Turn}
@@ -16,7 +16,9 @@ use Rattle.transcripts.specs.Placements.{printed}
 use Rattle.transcripts.specs.Record.{line_of}
 use Rattle.call_lines.specs.Left.{IsLeftBy}
 use Rattle.cluster_members.specs.declared.members.Members.{Members}
-use Rattle.node_lines.specs.Keeps.{BeginsGiven, HaveNoPlace, StopsNothing}
+use Rattle.rule_lines.specs.Quiet.{KeepsStops}
+use Rattle.rule_lines.specs.Stays.{HaveNoPlace}
+use Rattle.node_lines.specs.Keeps.{BeginsGiven}
 use Rattle.cluster_tracks.specs.Failures.{OnlyReplicasStep}
 use Rattle.cluster_tracks.specs.Steps.{StandsOn}
 use Rattle.cluster_tracks.specs.Tracks.{StandsSo}
@@ -33,7 +35,7 @@ pub record GoesQuietly {D : Type 0} {G : Ghosts D} (state : D → DiskState) (tu
   pub makes : MakesAndHears None turns old.net.replicas.events a b told
   pub prints : printed b ≡ None
   pub opens : OpensReplicas a → ⊥
-  pub halts : StopsNothing a b
+  pub halts : KeepsStops a b
   pub more : List Event
   pub ran : Ran state old.net.replicas more new.net.replicas
   pub others : OnlyReplicasStep old.net.replicas more

@@ -13,7 +13,6 @@ use Rattle.m3_outside.specs.declared.disk.Disk.{Ghosts}
 use Rattle.m3_outside.specs.declared.slot.Slot.{Slot as Place}
 use Rattle.cluster_core.specs.Legal.{Legal}
 use Rattle.cluster_core.specs.declared.event.Event.{Event}
-use Rattle.session_net.specs.Ready.{IsReady}
 use Rattle.session_net.specs.Runs.{Ran}
 use Rattle.told_runs.specs.Lines.{ServesOne, delivered_on}
 use Rattle.transcripts.specs.Deliveries.{LateMessage}
@@ -24,9 +23,8 @@ use Rattle.call_lines.specs.Left.{WereDelivered}
 use Rattle.cluster_members.specs.declared.members.Members.{Members}
 use Rattle.first_cluster.specs.Bare.{AreBare}
 use Rattle.first_cluster.specs.First.{IsFirst}
-use Rattle.init_lines.specs.Stands.{NoneStands}
+use Rattle.rule_lines.specs.Stands.{NoneStands, Stands}
 use Rattle.node_lines.specs.Opens.{OpensLow}
-use Rattle.node_lines.specs.Stands.{Stands}
 use Rattle.cluster_tracks.specs.Failures.{OnlyReplicasStep}
 use Rattle.cluster_tracks.specs.Numbers.{numbers_by}
 use Rattle.cluster_tracks.specs.Tracks.{MayStand, StandsSo, Tracks, events_of}
@@ -87,5 +85,5 @@ StandsAfterLine {D} {G} state old =
 abbrev pub FirstStandsSo : {D : Type 0} {G : Ghosts D} → (D → DiskState) → Members D G → Type 0
 FirstStandsSo {D} {G} state m =
     (tells : Bool) (turns : List Turn) (rf shards seed : ℕ) (nodes : List (List ℕ × List ℕ)) (old now : Depot D) → (tells ≡ true → TellAll state) → (tells ≡ true → AreBare state old.held) → NoneStands turns → IsFirst state rf shards seed nodes old now m
-    → IsReady m.net.state m.net.replicas m.net.bag → Legal tells m.net.replicas.events
+    → Legal tells m.net.replicas.events
     → StandsSo state tells now (turns ++ line_of (act.Init rf shards seed nodes) (answer.Placed m.net.state.place m.net.state.place.version) ∷ []) m

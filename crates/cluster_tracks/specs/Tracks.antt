@@ -17,9 +17,8 @@ use Rattle.call_lines.specs.Left.{WereDelivered}
 use Rattle.cluster_members.specs.declared.members.Members.{Members}
 use Rattle.first_cluster.specs.Bare.{AreBare}
 use Rattle.first_cluster.specs.Slots.{AreApart}
+use Rattle.rule_lines.specs.Stands.{NoneStands, Stands}
 use Rattle.node_lines.specs.Opens.{OpensLow}
-use Rattle.node_lines.specs.Stands.{Stands}
-use Rattle.init_lines.specs.Stands.{NoneStands}
 use Rattle.cluster_tracks.specs.Numbers.{IsNumbered}
 use Rattle.cluster_tracks.specs.Runs.{HaveRun}
 

@@ -20,6 +20,7 @@ use Rattle.cluster_core.specs.declared.event.StepCall.{StepCall}
 use Rattle.cluster_core.specs.declared.event.StepCall.TheVariants as call
 use Rattle.cluster_core.specs.declared.event.StepReply.{StepReply}
 use Rattle.cluster_core.specs.declared.event.StepReply.TheVariants as reply
+use Rattle.cluster_core.proofs.ListLemmas.{some_same}
 use Rattle.replica_machine.specs.Boots.{IsBootReason}
 use Rattle.replica_machine.specs.Machines.{first_machine}
 use Rattle.replica_machine.specs.declared.machine.Began.{Began}
@@ -86,16 +87,13 @@ pub record IsStepOf (said : Slot → Said) (starts : List Start) (n s : ℕ) (c 
   pub call_is : call.Begin start.tenure ≡ c
   pub reply_is : begin_reply (said start.slot) ≡ a
 
-same_some : {X : Type 0} (x y : X) → Some x ≡ Some y → x ≡ y
-same_some x y e = cc
-
 step_in_so : (said : Slot → Said) (starts : List Start) (n s : ℕ) (c : StepCall) (a : StepReply) → IsOfBegin said starts (event.Step n s c a) → IsStepOf said starts n s c a
 step_in_so said starts n s c a h =
     elim h.is as (λ _. IsStepOf said starts n s c a) [
       | inl ask ↦ absurd (let bad : None ≡ Some (n, s, c, a) = ap shown_in ask in cc)
       | inr step ↦
           let same : ◌≡◌ {A = ℕ × ℕ × StepCall × StepReply} (h.start.slot.node, h.start.slot.shard, call.Begin h.start.tenure, begin_reply (said h.start.slot)) (n, s, c, a) =
-          same_some {X = ℕ × ℕ × StepCall × StepReply} (h.start.slot.node, h.start.slot.shard, call.Begin h.start.tenure, begin_reply (said h.start.slot)) (n, s, c, a) (ap shown_in step) in
+          some_same {X = ℕ × ℕ × StepCall × StepReply} (h.start.slot.node, h.start.slot.shard, call.Begin h.start.tenure, begin_reply (said h.start.slot)) (n, s, c, a) (ap shown_in step) in
           record {
             start = h.start;
             among = h.among;
@@ -137,12 +135,12 @@ first_begun state tenure disk after (Err why) promised no_want =
     first_reason why promised.reasons (λ e. (let bad : standing.Boot ≡ standing.Down = promised.down.0 (ap Err e) in cc)) (λ e. no_want (ap Err e))
 
 -- each replica of a first cluster says so
-pub said_first : {D : Type 0} {ghosts : Ghosts D} (state : D → DiskState) (rf shards seed : ℕ) (nodes : List (List ℕ × List ℕ)) (old new : Depot D) (m : Members D ghosts) (first : IsFirst state rf shards seed nodes old new m)
+pub said_first : {D : Type 0} {G : Ghosts D} (state : D → DiskState) (rf shards seed : ℕ) (nodes : List (List ℕ × List ℕ)) (old new : Depot D) (m : Members D G) (first : IsFirst state rf shards seed nodes old new m)
     → (start : Start) → IsIn (starts_of m.net.state.place) start → IsFirstBegun (begin_reply (first.opened.begun.said start.slot))
-said_first {D} {ghosts} state rf shards seed nodes old new m first start i =
+said_first {D} {G} state rf shards seed nodes old new m first start i =
     let was = (first.opened.taken).taken start.slot (subst (λ xs. IsIn xs start.slot) (sym first.slots) (start_slot m.net.state.place start i)) in
     let begun = first.opened.begun.each start i in
-    let same : begun.before ≡ first_member was.disk = same_some begun.before (first_member was.disk) (sym begun.was ∙ was.stands) in
+    let same : begun.before ≡ first_member was.disk = some_same begun.before (first_member was.disk) (sym begun.was ∙ was.stands) in
     first_begun state start.tenure was.disk begun.after (first.opened.begun.said start.slot)
     (subst (λ (x : Member D). Begins state start.tenure (call.Begin start.tenure) (first.opened.begun.said start.slot) x.machine begun.after.machine) same begun.promised) (first.opened.begun.no_want start i)
 

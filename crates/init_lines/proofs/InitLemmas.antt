@@ -26,7 +26,7 @@ use Rattle.cluster_core.specs.declared.event.StepCall.{StepCall}
 use Rattle.cluster_core.specs.declared.event.StepCall.TheVariants as call
 use Rattle.cluster_core.specs.declared.event.StepReply.{StepReply}
 use Rattle.cluster_core.specs.declared.event.StepReply.TheVariants as reply
-use Rattle.cluster_core.proofs.ListLemmas.{at_in, at_within, in_at}
+use Rattle.cluster_core.proofs.ListLemmas.{at_in, at_within, in_at, some_same}
 use Rattle.replica_machine.specs.declared.machine.Began.{Began}
 use Rattle.replica_calls.specs.declared.slot.Slot.{Slot}
 use Rattle.session_net.specs.Runs.{slot_at}
@@ -57,15 +57,12 @@ use Rattle.transcripts.specs.Refusals.{refusal_by}
 use Rattle.transcripts.specs.Rules.{rules_at, start_rules}
 use Rattle.call_lines.specs.Left.{WereDelivered}
 use Rattle.call_lines.proofs.ServeLemmas.{delivered_so}
+use Rattle.rule_lines.specs.Stands.{NoneStands}
+use Rattle.rule_lines.proofs.StandLemmas.{no_placement, printed_none}
 use Rattle.init_lines.specs.Laws.{FirstTells, LeavesAnew}
-use Rattle.init_lines.specs.Stands.{NoneStands}
 use Rattle.init_lines.proofs.BeginEvents.{IsStepOf, ask_for, assigned_start, began_so, of_begin, refused_so, said_first, start_assigned, step_among, step_of, step_there}
-use Rattle.init_lines.proofs.StandLemmas.{no_placement, printed_none}
 
 -- ---- lists that begin with two events
-
-some_same : {X : Type 0} (x y : X) → Some x ≡ Some y → x ≡ y
-some_same x y e = cc
 
 -- events that aren't Places leave the placement that stands
 place_kept : (was : Option Placement) (e : Event) → IsQuiet e → placed_after was e ≡ was
@@ -88,7 +85,7 @@ decided turns rf shards seed nodes b taking end none kind =
     let p = place_after turns (act.Init rf shards seed nodes) b in
     inr (inr (inner_turns turns, record { others = []; some_of = tt; are = sym (append-nil (inner_turns turns)) }, subst (IsDecidedBy taking None p) (sym (not_refused turns rf shards seed nodes b none)) kind))
 
-module _ {D : Type 0} {ghosts : Ghosts D} (state : D → DiskState) (m : Members D ghosts) (rf shards seed : ℕ) (nodes : List (List ℕ × List ℕ)) (old new : Depot D) (first : IsFirst state rf shards seed nodes old new m) (turns : List Turn) (none : NoneStands turns) where
+module _ {D : Type 0} {G : Ghosts D} (state : D → DiskState) (m : Members D G) (rf shards seed : ℕ) (nodes : List (List ℕ × List ℕ)) (old new : Depot D) (first : IsFirst state rf shards seed nodes old new m) (turns : List Turn) (none : NoneStands turns) where
   abbrev place : Placement
   place = m.net.state.place
 
@@ -260,5 +257,5 @@ module _ {D : Type 0} {ghosts : Ghosts D} (state : D → DiskState) (m : Members
     pub leaves_first : LeavesAnew InitLine tells [] turns a b m.net.replicas.events
     leaves_first = subst (LeavesAnew InitLine tells [] turns a b) (sym events_are) leaves_so
 
-pub first_tells : {D : Type 0} {ghosts : Ghosts D} (state : D → DiskState) → ((d : D) → IsLawfulDisk (state d)) → (m : Members D ghosts) → FirstTells state m
-first_tells {D} {ghosts} state lawful m tells turns rf shards seed nodes old new tell bare none first = leaves_first state m rf shards seed nodes old new first turns none tells lawful tell bare
+pub first_tells : {D : Type 0} {G : Ghosts D} (state : D → DiskState) → ((d : D) → IsLawfulDisk (state d)) → (m : Members D G) → FirstTells state m
+first_tells {D} {G} state lawful m tells turns rf shards seed nodes old new tell bare none first = leaves_first state m rf shards seed nodes old new first turns none tells lawful tell bare

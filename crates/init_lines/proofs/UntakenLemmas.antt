@@ -9,6 +9,7 @@ use Rattle.m3_model.specs.declared.placement.Instance.{Instance}
 use Rattle.m3_model.specs.declared.placement.Placement.{Placement}
 use Rattle.m3_model.specs.declared.turn.Turn.{Turn}
 use Rattle.placement_plan.specs.First.{IsFirstPlacement, first_instances}
+use Rattle.cluster_core.proofs.ListLemmas.{some_same}
 use Rattle.session_net.specs.Runs.{slot_at}
 use Rattle.first_cluster.proofs.PlacedSlots.{shard_low}
 use Rattle.told_by.specs.Lines.{PlainLine}
@@ -20,14 +21,11 @@ use Rattle.transcripts.specs.Faults.{Fault, Taking}
 use Rattle.transcripts.specs.Record.{Record, TurnPlace}
 use Rattle.call_lines.specs.Left.{WereDelivered}
 use Rattle.call_lines.proofs.ServeLemmas.{delivered_so}
+use Rattle.rule_lines.specs.Stands.{NoneStands}
 use Rattle.init_lines.specs.Laws.{LeavesAnew, UntakenTells, untaken_at}
-use Rattle.init_lines.specs.Stands.{NoneStands}
 use Rattle.init_lines.proofs.InitLemmas.{decided}
 
 -- ---- the node's name
-
-some_same : {X : Type 0} (x y : X) → Some x ≡ Some y → x ≡ y
-some_same x y e = cc
 
 -- the node of a first placement has its name by `init`
 names_from : (nodes : List (List ℕ × List ℕ)) (node : ℕ) (one : Instance) → slice_get (first_instances nodes) node ≡ Some one → NamesNode nodes one.name node

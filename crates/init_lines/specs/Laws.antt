@@ -1,5 +1,5 @@
 -- What `init` leaves of the list of events tells of its line.
-use Rattle.std.specs.Prelude.{◌≡◌, ℕ, List, [], ◌∷◌, ◌++◌, length, None, Bool, true, false}
+use Rattle.std.specs.Prelude.{◌≡◌, ℕ, List, [], ◌∷◌, ◌++◌, length, None, Bool, true}
 use Rattle.m3_model.specs.declared.act.Act.{Act}
 use Rattle.m3_model.specs.declared.act.Act.TheVariants as act
 use Rattle.m3_model.specs.declared.answer.Answer.{Answer}
@@ -15,13 +15,11 @@ use Rattle.first_cluster.specs.First.{IsFirst, IsUntaken}
 use Rattle.told_by.specs.Lines.{InitLine, PlainLine}
 use Rattle.told_runs.specs.Lines.{ServesOne, delivered_on}
 use Rattle.transcripts.specs.Deliveries.{LateMessage}
-use Rattle.transcripts.specs.Fates.{stopped_by}
 use Rattle.transcripts.specs.Faults.{Fault, Taking}
 use Rattle.transcripts.specs.Record.{Record, TurnPlace, line_of}
-use Rattle.call_lines.specs.Keeps.{SetsNothing}
 use Rattle.call_lines.specs.Laws.{Kind}
 use Rattle.call_lines.specs.Left.{WereDelivered}
-use Rattle.init_lines.specs.Stands.{NoneStands, StandsAfter}
+use Rattle.rule_lines.specs.Stands.{NoneStands, Stands}
 
 -- Where a run that found nothing had no events, these tell of a turn's line, and serve it, with these disks that couldn't be taken. It delivers nothing.
 pub record LeavesAnew (Line : Kind) (tells : Bool) (untaken : List Fault) (turns : List Turn) (a : Act) (b : Answer) (more : List Event) : Type 0 where
@@ -30,17 +28,17 @@ pub record LeavesAnew (Line : Kind) (tells : Bool) (untaken : List Fault) (turns
   pub delivered : (was : TurnPlace → List LateMessage) → WereDelivered turns was → WereDelivered (turns ++ line_of a b ∷ []) (delivered_on turns was (λ p. []))
 
 -- so do the events of a first cluster of the `init` that made it; the disks are bare where they tell
-abbrev pub FirstTells : {D : Type 0} {ghosts : Ghosts D} → (D → DiskState) → Members D ghosts → Type 0
-FirstTells {D} {ghosts} state m =
+abbrev pub FirstTells : {D : Type 0} {G : Ghosts D} → (D → DiskState) → Members D G → Type 0
+FirstTells {D} {G} state m =
     (tells : Bool) (turns : List Turn) (rf shards seed : ℕ) (nodes : List (List ℕ × List ℕ)) (old new : Depot D)
     → (tells ≡ true → TellAll state) → (tells ≡ true → AreBare state old.held) → NoneStands turns → IsFirst state rf shards seed nodes old new m
     → LeavesAnew InitLine tells [] turns (act.Init rf shards seed nodes) (answer.Placed m.net.state.place m.net.state.place.version) m.net.replicas.events
 
--- and its fields are what the turns left
-abbrev pub FirstStands : {D : Type 0} {ghosts : Ghosts D} → (D → DiskState) → Members D ghosts → Type 0
-FirstStands {D} {ghosts} state m =
+-- and the cluster stands after the line
+abbrev pub FirstStands : {D : Type 0} {G : Ghosts D} → (D → DiskState) → Members D G → Type 0
+FirstStands {D} {G} state m =
     (turns : List Turn) (rf shards seed : ℕ) (nodes : List (List ℕ × List ℕ)) (old new : Depot D) → NoneStands turns → IsFirst state rf shards seed nodes old new m
-    → StandsAfter (turns ++ line_of (act.Init rf shards seed nodes) (answer.Placed m.net.state.place m.net.state.place.version) ∷ []) m
+    → Stands None (turns ++ line_of (act.Init rf shards seed nodes) (answer.Placed m.net.state.place m.net.state.place.version) ∷ []) m
 
 -- the fault by which the disk of the slot couldn't be taken in the next line
 abbrev pub untaken_at : List Turn → ℕ → ℕ → Fault
@@ -51,13 +49,3 @@ abbrev pub UntakenTells : Type 0 → Type 0
 UntakenTells D =
     (tells : Bool) (turns : List Turn) (rf shards seed : ℕ) (nodes : List (List ℕ × List ℕ)) (name : List ℕ) (shard : ℕ) (old new : Depot D) → NoneStands turns → (untaken : IsUntaken rf shards seed nodes name shard old new)
     → LeavesAnew PlainLine tells (untaken_at turns untaken.node shard ∷ []) turns (act.Init rf shards seed nodes) (answer.Disk name shard) []
-
--- ---- before
-
--- no cluster stands before the first turn
-abbrev pub NoneStandsAtFirst : Type 0
-NoneStandsAtFirst = NoneStands []
-
--- nor after one more that sets nothing and stops no node
-abbrev pub StaysUnmade : Type 0
-StaysUnmade = (turns : List Turn) (a : Act) (b : Answer) → NoneStands turns → SetsNothing a b → ((name : List ℕ) → stopped_by name a b false ≡ false) → NoneStands (turns ++ line_of a b ∷ [])

@@ -1,10 +1,10 @@
 //! What `init` leaves of the list tells of its turn.
-ghost use Rattle.init_lines.specs.Laws.{FirstStands, FirstTells, NoneStandsAtFirst, StaysUnmade, UntakenTells};
+ghost use Rattle.init_lines.specs.Laws.{FirstStands, FirstTells, UntakenTells};
 
 use cluster_members::members::Members;
 use m3_outside::disk::Disk;
 
-/// The events of a first cluster tell of the line of the `init` that made it, and serve it; and its fields are what the turns left.
+/// The events of a first cluster tell of the line of the `init` that made it, and serve it; and it stands after the line.
 pub fn first_tells<D: Disk>(members: &Members<D>)
     ensures tells { FirstTells D.state members.now }
     ensures stands { FirstStands D.state members.now }
@@ -13,10 +13,4 @@ pub fn first_tells<D: Disk>(members: &Members<D>)
 /// Where a disk couldn't be taken, nothing came to the list, and that tells of the line and serves it.
 pub fn untaken_tells<D: Disk>(_disk: &D)
     ensures { UntakenTells D }
-{}
-
-/// No cluster stands before the first turn, nor after one more that sets nothing.
-pub fn none_stands()
-    ensures first { NoneStandsAtFirst }
-    ensures stays { StaysUnmade }
 {}

@@ -1,6 +1,6 @@
 -- The lines of bootstraps, by what they brought.
 use Rattle.std.proofs.Common.{◌≡◌, ◌≢◌, ◌<◌, ◌≤◌, ◌+◌, ◌*◌, ℕ, List, [], ◌∷◌, ◌++◌, length, take, refl, sym, ap, ◌∙◌, subst, inl, inr, arith, Bool, true, false, length-append}
-use Rattle.std.specs.Prelude.{◌⊎◌, Option, Some, None, slice_get}
+use Rattle.std.specs.Prelude.{◌⊎◌, Option, Some, None}
 use Rattle.std.specs.FinMap as finite
 use Rattle.std.proofs.lemmas.List.{append-nil}
 use Rattle.std.proofs.Math.Nat.{mul-le-mul_left}
@@ -43,7 +43,7 @@ use Rattle.told_runs.specs.Bounds.{writes_taken}
 use Rattle.told_runs.specs.Lines.{AddsInOrder, OpensNext, ServesOne}
 use Rattle.transcripts.specs.Caused.{acts_in}
 use Rattle.transcripts.specs.Deliveries.{LateMessage}
-use Rattle.transcripts.specs.Fates.{OfNode, is_stopped, stopped_by}
+use Rattle.transcripts.specs.Fates.{OfNode, is_stopped}
 use Rattle.transcripts.specs.Placements.{later_placement, printed, start_placement}
 use Rattle.transcripts.specs.Record.{Record, TurnPlace, inner_turns, joined, line_of, lists_of}
 use Rattle.transcripts.specs.Waiting.{is_covering}
@@ -54,14 +54,17 @@ use Rattle.cluster_members.specs.declared.members.Members.{Members}
 use Rattle.node_calls.specs.Nodes.{KeepsButBoots, MayBoot}
 use Rattle.node_calls.proofs.BeginLemmas.{tenure_node}
 use Rattle.node_calls.proofs.RunLemmas.{ready_still}
-use Rattle.node_lines.specs.Keeps.{BeginsGiven, HaveNoPlace, IsNoPlace}
+use Rattle.rule_lines.specs.Quiet.{KeepsStops}
+use Rattle.rule_lines.specs.Stands.{Stands}
+use Rattle.rule_lines.specs.Stays.{HaveNoPlace, IsNoPlace}
+use Rattle.rule_lines.proofs.GrowLemmas.{last_before, last_still}
+use Rattle.rule_lines.proofs.StandLemmas.{flags_stay, stands_on}
+use Rattle.node_lines.specs.Keeps.{BeginsGiven}
 use Rattle.node_lines.specs.Laws.{LeavesBegun}
 use Rattle.node_lines.specs.Opens.{IsGivenNow, MayBegin}
-use Rattle.node_lines.specs.Stands.{Stands}
 use Rattle.node_lines.proofs.BootLemmas.{IsBeginHere, IsCovered, IsRefusedBy, covered_assigned}
-use Rattle.node_lines.proofs.GrowLemmas.{last_before, last_still}
 use Rattle.node_lines.proofs.OpenLemmas.{begins_on, given_tenure, opens_next}
-use Rattle.node_lines.proofs.StandLemmas.{named_last, of_name, stands_on, stopped_push, stopped_so}
+use Rattle.node_lines.proofs.StandLemmas.{named_last, of_name, stopped_so}
 
 -- ---- what such an event isn't
 
@@ -90,7 +93,7 @@ pub record IsBootAnswer (place : Placement) (a : Act) (b : Answer) : Type 0 wher
   pub prints : later_placement (printed b) (Some place) ≡ Some place
   pub printed_is : (shown : Placement) → printed b ≡ Some shown → shown ≡ place
   pub no_moves : (available : List (ℕ × List ℕ)) (shown : Placement) (version : ℕ) → b ≡ answer.Available available shown version → available ≡ []
-  pub halts : (own : List ℕ) (x : Bool) → stopped_by own a b x ≡ x
+  pub halts : KeepsStops a b
 
 module _ {D : Type 0} {G : Ghosts D} (state : D → DiskState) (tells : Bool) (start : Option MetaState) (turns : List Turn) (old new : Members D G) (stands : Stands start turns old) (may : MayBegin state tells start old.net.replicas) (name : List ℕ) (asked : Option ℕ) (boot : MayBoot old name asked)
     (b : Answer) (answers : IsBootAnswer old.net.state.place (act.Bootstrap name asked) b) (more : List Event) (ran : Ran state old.net.replicas more new.net.replicas) (each : (e : Event) → IsIn more e → IsBeginHere boot.runs.node asked old.net.state.place e)
@@ -239,9 +242,7 @@ module _ {D : Type 0} {G : Ghosts D} (state : D → DiskState) (tells : Bool) (s
   stands_so = stands_on state start turns old stands a b new (ap (λ (s : MetaState). s.place) keeps.keeps.state) more ran no_place
       (λ k s c r m. let h = here_step node asked place k s c r (each (event.Step k s c r) m) in
       stands.slots.all k s (inl (h.0, subst (λ n. HasTenure events n s h.0) (sym h.1) (given_tenure events node s h.0 (place, stands.ready.place, covered_assigned node asked place s h.0 h.3)))))
-      keeps.keeps.slots left ready_so (λ k own at.
-      ap (λ xs. slice_get xs k) keeps.stopped ∙ stands.stopped k own (ap (λ (st : MetaState). slice_get st.place.instances k) (sym keeps.keeps.state) ∙ at)
-      ∙ ap Some (sym (stopped_push turns a b own.name ∙ answers.halts own.name (is_stopped (inner_turns turns) own.name))))
+      keeps.keeps.slots left ready_so (flags_stay turns a b old new answers.halts (ap (λ (s : MetaState). s.place) keeps.keeps.state) keeps.stopped stands.stopped)
 
   pub leaves_begun : HearsBy start events (InStretch whole (length events) (length whole)) p a b → HearsOf start (InStretch whole (length events) (length whole)) p [] b → (b ≡ answer.Memory) ⊎ IsOfKind [] start p a b → LeavesBegun state tells start turns old a b new
   leaves_begun hears heard kind = record {

@@ -47,15 +47,16 @@ use Rattle.node_calls.specs.Begins.{Assigned, Begun, EndsBoots, IsUnowned, assig
 use Rattle.node_calls.specs.Nodes.{IsHeldUp}
 use Rattle.node_calls.proofs.BeginLemmas.{begun_few, few_below, tenure_node}
 use Rattle.node_calls.proofs.ListLemmas.{flat-IsIn}
+use Rattle.rule_lines.specs.Stands.{Stands}
+use Rattle.rule_lines.proofs.GrowLemmas.{happens_in}
+use Rattle.rule_lines.proofs.StandLemmas.{stands_still}
 use Rattle.node_lines.specs.Laws.{AvailableTells, BootDamagedTells, BootFailedTells, BootWantedTells, LeavesBegun}
 use Rattle.node_lines.specs.Opens.{MayBegin}
-use Rattle.node_lines.specs.Stands.{Stands}
 use Rattle.node_lines.proofs.BootLemmas.{IsCovered, IsRefusedBy, any_tenure, below_covered, begun_here, form_shown, passed_at, passed_begun, there_at, unbegun_covered, unbegun_here}
 use Rattle.node_lines.proofs.BootLines.{IsBootAnswer, leaves_begun}
-use Rattle.node_lines.proofs.GrowLemmas.{happens_in}
 use Rattle.node_lines.proofs.HaltLemmas.{plain_so}
 use Rattle.node_lines.proofs.LeftLemmas.{SetsNoMore, left_still}
-use Rattle.node_lines.proofs.StandLemmas.{named_last, only_node, stands_still}
+use Rattle.node_lines.proofs.StandLemmas.{named_last, only_node}
 
 -- ---- answers
 

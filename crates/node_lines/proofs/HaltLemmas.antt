@@ -1,6 +1,6 @@
 -- Lines that stop or restart a node.
 use Rattle.std.proofs.Common.{◌≡◌, ◌<◌, ◌≤◌, ◌+◌, ◌*◌, ℕ, List, [], ◌∷◌, ◌++◌, length, take, refl, sym, ap, ◌∙◌, subst, inl, inr, arith, Bool, true, false, length-append}
-use Rattle.std.specs.Prelude.{◌⊎◌, Option, Some, None, nat_eq, slice_get, IsTrue}
+use Rattle.std.specs.Prelude.{◌⊎◌, Option, Some, None, nat_eq, IsTrue}
 use Rattle.std.specs.List.{flat_map}
 use Rattle.std.proofs.lemmas.Bool.{cases_lt}
 use Rattle.m3_model.specs.Members.{IsIn}
@@ -47,11 +47,11 @@ use Rattle.told_by.proofs.OneLemmas.{among_back, at_back, back_at}
 use Rattle.told_moves.specs.Order.{IsInitAct}
 use Rattle.told_runs.specs.Answers.{HearsOf, IsOfKind}
 use Rattle.transcripts.specs.Deliveries.{delivers_nothing}
-use Rattle.transcripts.specs.Fates.{is_stopped, stopped_by}
+use Rattle.transcripts.specs.Fates.{is_stopped}
 use Rattle.transcripts.specs.Record.{TurnPlace, inner_turns, line_of}
 use Rattle.call_lines.specs.Keeps.{SetsNothing}
 use Rattle.call_lines.specs.Laws.{IsCalm, LeavesLine}
-use Rattle.call_lines.specs.Left.{IsLeftBy}
+use Rattle.call_lines.specs.Left.{AreStoppedBy, IsLeftBy}
 use Rattle.call_lines.proofs.KeepLemmas.{left_as_before}
 use Rattle.call_lines.proofs.ServeLemmas.{answered, delivered_so, serves_so}
 use Rattle.cluster_members.specs.declared.members.Members.{Members}
@@ -59,11 +59,13 @@ use Rattle.node_calls.specs.Halts.{IsUnrestarted, restart_at, slots_of_node, sto
 use Rattle.node_calls.specs.Nodes.{IsNode, IsUnstarted, KeepsButNodes}
 use Rattle.node_calls.proofs.ListLemmas.{IsIn-flat, filter_few, flat-IsIn, flat_long}
 use Rattle.node_calls.proofs.RunLemmas.{quiet_exchange, quiet_flat, ready_still, unrestarted_few, unrestarted_quiet}
-use Rattle.node_lines.specs.Keeps.{HaveNoPlace, IsNoPlace}
+use Rattle.rule_lines.specs.Quiet.{KeepsStops}
+use Rattle.rule_lines.specs.Stands.{Stands}
+use Rattle.rule_lines.specs.Stays.{HaveNoPlace, IsNoPlace}
+use Rattle.rule_lines.proofs.GrowLemmas.{given_before, happens_in, last_before}
+use Rattle.rule_lines.proofs.StandLemmas.{flags_stay, stands_on}
 use Rattle.node_lines.specs.Laws.{LeavesStanding, RestartFailedTells, RestartWantedTells, RestartedTells, StoppedTells}
-use Rattle.node_lines.specs.Stands.{EachNode, Stands}
-use Rattle.node_lines.proofs.GrowLemmas.{given_before, happens_in, last_before}
-use Rattle.node_lines.proofs.StandLemmas.{named_last, of_node, slot_here, stands_on, stopped_push, stopped_set, stopped_so}
+use Rattle.node_lines.proofs.StandLemmas.{named_last, of_node, slot_here, stopped_set, stopped_so}
 
 -- ---- events at the slots of a node
 
@@ -220,13 +222,13 @@ module _ {D : Type 0} {G : Ghosts D} (state : D → DiskState) (start : Option M
   ready_so quiet =
       subst (λ st. IsReady st new.net.replicas new.net.bag) (sym keeps.state) (subst (IsReady old.net.state new.net.replicas) (sym keeps.bag) (ready_still state old.net.replicas new.net.replicas more ran old.net.state old.net.bag stands.ready quiet))
 
-  pub stands_so : AreQuiet more → EachNode new (λ k called. slice_get new.stopped.items k ≡ Some (is_stopped (inner_turns (turns ++ line_of a b ∷ [])) called)) → Stands start (turns ++ line_of a b ∷ []) new
+  pub stands_so : AreQuiet more → AreStoppedBy (turns ++ line_of a b ∷ []) new.net.state.place new.stopped.items → Stands start (turns ++ line_of a b ∷ []) new
   stands_so quiet stopped = stands_on state start turns old stands a b new (ap (λ (s : MetaState). s.place) keeps.state) more ran no_place
       (λ k s c r m. IsIn-filter (λ (x : Slot). nat_eq x.node n.node) old.slots.items (slot_at k s) (halt_step Kind own_slots k s c r (halts (event.Step k s c r) m))) keeps.slots (left_so keeps.bag) (ready_so quiet) stopped
 
 -- ---- sizes and quiet
 
-few_own : {D : Type 0} {G : Ghosts D} (m : Members D G) (node : ℕ) → length (slots_of_node node m.slots.items) ≤ MOST_NODES * MOST_SHARDS
+pub few_own : {D : Type 0} {G : Ghosts D} (m : Members D G) (node : ℕ) → length (slots_of_node node m.slots.items) ≤ MOST_NODES * MOST_SHARDS
 few_own m node = let few = filter_few (λ (s : Slot). nat_eq s.node node) m.slots.items in let most = m.few_slots in omega (arith, few, most)
 
 stops_quiet : (slots : List Slot) → AreQuiet (flat_map stop_at slots)
@@ -333,7 +335,7 @@ refused_asks start turns name pick b stopped not past k s c kind =
     ]
 
 module _ {D : Type 0} {G : Ghosts D} (state : D → DiskState) (start : Option MetaState) (turns : List Turn) (old new : Members D G) (stands : Stands start turns old) (name : List ℕ) (pick shard : ℕ) (why : Reason) (h : IsUnstarted state old name shard why new)
-    (b : Answer) (answers : IsHaltAnswer (act.Restart name pick) b) (not_done : b ≡ answer.Done → ⊥) (halts_so : (own : List ℕ) (x : Bool) → stopped_by own (act.Restart name pick) b x ≡ x) where
+    (b : Answer) (answers : IsHaltAnswer (act.Restart name pick) b) (not_done : b ≡ answer.Done → ⊥) (halts_so : KeepsStops (act.Restart name pick) b) where
   abbrev pub slots : List Slot
   slots = slots_of_node h.was.node old.slots.items
 
@@ -380,8 +382,7 @@ module _ {D : Type 0} {G : Ghosts D} (state : D → DiskState) (start : Option M
         (line state start turns old new stands name true h.was (act.Restart name pick) b answers IsHaltCall (λ c k. k) came h.stopped each asks h.keeps hears again)
         (let long = flat_long stop_at (λ s. refl) slots in let both = length-append h.tried stops in let tried = unrestarted_few slots shard why h.tried h.refused in let few = few_own old h.was.node in omega (arith, long, both, tried, few)) (λ is. is) heard kind;
     stands = stands_so state start turns old new stands name true h.was (act.Restart name pick) b answers IsHaltCall (λ c k. k) came h.stopped each asks h.keeps
-        (quiet_both h.tried stops (unrestarted_quiet slots shard why h.tried h.refused) (stops_quiet slots)) (λ k own at.
-        ap (λ xs. slice_get xs k) h.stays ∙ stands.stopped k own (ap (λ (st : MetaState). slice_get st.place.instances k) (sym h.keeps.state) ∙ at) ∙ ap Some (sym (stopped_push turns (act.Restart name pick) b own.name ∙ halts_so own.name (is_stopped (inner_turns turns) own.name))));
+        (quiet_both h.tried stops (unrestarted_quiet slots shard why h.tried h.refused) (stops_quiet slots)) (flags_stay turns (act.Restart name pick) b old new halts_so (ap (λ (s : MetaState). s.place) h.keeps.state) h.stays stands.stopped);
   }
 
   -- the refused step is heard

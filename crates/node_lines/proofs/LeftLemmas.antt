@@ -45,7 +45,7 @@ drop_on (suc k) [] x y i = absurd (none_left k i)
     none_left (suc k) i = i
 drop_on (suc k) (z ∷ xs) x y i = drop_on k xs x y i
 
-module _ {D : Type 0} {ghosts : Ghosts D} (start : Option MetaState) (turns : List Turn) (a : Act) (b : Answer) (old new : Net D ghosts) (sets : SetsNoMore old.state.place a b) (left : IsLeftBy start turns old) (stay : FieldsStay old new) (bag : new.bag ≡ old.bag) where
+module _ {D : Type 0} {G : Ghosts D} (start : Option MetaState) (turns : List Turn) (a : Act) (b : Answer) (old new : Net D G) (sets : SetsNoMore old.state.place a b) (left : IsLeftBy start turns old) (stay : FieldsStay old new) (bag : new.bag ≡ old.bag) where
   abbrev pub longer : List Turn
   longer = turns ++ line_of a b ∷ []
 

@@ -1,4 +1,3 @@
-pub mod GrowLemmas
 pub mod StandLemmas
 pub mod HaltLemmas
 pub mod OpenLemmas

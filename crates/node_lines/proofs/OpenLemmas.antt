@@ -52,9 +52,10 @@ use Rattle.told_runs.specs.Lines.{OpensNext}
 use Rattle.transcripts.specs.Moves.{IsLeftFence}
 use Rattle.cluster_members.specs.declared.members.Members.{Members}
 use Rattle.node_calls.specs.Begins.{IsUnowned}
-use Rattle.node_lines.specs.Keeps.{BeginsGiven, BeginsStill, HaveNoPlace}
+use Rattle.rule_lines.specs.Stays.{HaveNoPlace}
+use Rattle.rule_lines.proofs.GrowLemmas.{last_still, take_behind, take_in}
+use Rattle.node_lines.specs.Keeps.{BeginsGiven, BeginsStill}
 use Rattle.node_lines.specs.Opens.{IsGivenNow, IsLow, MayBegin}
-use Rattle.node_lines.proofs.GrowLemmas.{last_still, take_behind, take_in}
 
 -- ---- steps of a slot among events
 

@@ -1,9 +1,8 @@
--- A cluster that stands, one line on.
-use Rattle.std.proofs.Common.{◌≡◌, ◌<◌, ℕ, List, [], ◌∷◌, ◌++◌, length, refl, sym, ap, ◌∙◌, subst, inl, inr, arith, Bool, true, false}
+-- A node of a cluster that stands, and its slots.
+use Rattle.std.proofs.Common.{◌≡◌, ◌<◌, ℕ, List, [], ◌∷◌, ◌++◌, length, refl, sym, ap, ◌∙◌, inl, inr, arith, Bool, true, false}
 use Rattle.std.specs.Prelude.{Option, Some, slice_get, slice_set, nat_eq, if◌then◌else◌}
 use Rattle.std.specs.Cmp.Lexicographic.{pointwise}
 use Rattle.std.proofs.lemmas.Bool.{cases_eq, eq-eqb, eqb-true}
-use Rattle.std.proofs.lemmas.Grind.{fold-append}
 use Rattle.std.proofs.lemmas.Slice.Eq.{bytes_eq-Decides}
 use Rattle.m3_model.specs.Members.{IsIn}
 use Rattle.m3_model.specs.declared.act.Act.{Act}
@@ -12,35 +11,26 @@ use Rattle.m3_model.specs.declared.placement.Instance.{Instance}
 use Rattle.m3_model.specs.declared.placement.Placement.{Placement}
 use Rattle.m3_model.specs.declared.rules.MetaState.{MetaState}
 use Rattle.m3_model.specs.declared.turn.Turn.{Turn}
-use Rattle.m3_outside.specs.DiskState.{DiskState}
 use Rattle.m3_outside.specs.declared.disk.Disk.{Ghosts}
-use Rattle.cluster_core.specs.Earlier.{GivesTenure, last_place}
+use Rattle.cluster_core.specs.Earlier.{last_place}
 use Rattle.cluster_core.specs.declared.event.Event.{Event}
-use Rattle.cluster_core.specs.declared.event.Event.TheVariants as event
-use Rattle.cluster_core.specs.declared.event.StepCall.{StepCall}
-use Rattle.cluster_core.specs.declared.event.StepReply.{StepReply}
 use Rattle.cluster_core.proofs.ListLemmas.{at_some}
 use Rattle.placement_core.proofs.ListLemmas.{chosen, filter-IsIn, same_at}
 use Rattle.replica_calls.specs.declared.slot.Slot.{Slot}
-use Rattle.session_net.specs.Ready.{IsReady}
-use Rattle.session_net.specs.Runs.{Ran, slot_at}
-use Rattle.session_net.proofs.ReadyLemmas.{any_after, there_after}
+use Rattle.session_net.specs.Runs.{slot_at}
 use Rattle.told_by.specs.Hears.{HasReplica, IsNamedBy}
 use Rattle.told_by.specs.Makes.{IsNamedLast}
 use Rattle.told_by.proofs.LeaveLemmas.{place_there}
-use Rattle.told_by.proofs.TurnLemmas.{inner-append}
 use Rattle.transcripts.specs.Fates.{OfNode, is_stopped, stopped_by}
 use Rattle.transcripts.specs.Record.{inner_turns, line_of}
-use Rattle.call_lines.specs.Left.{IsLeftBy}
+use Rattle.call_lines.specs.Left.{AreStoppedBy}
 use Rattle.cluster_members.specs.declared.members.Members.{Members}
 use Rattle.cluster_members.proofs.NameLemmas.{NamedNode, node_found, same_node}
 use Rattle.node_calls.specs.Halts.{slots_of_node}
 use Rattle.node_calls.specs.Nodes.{IsNode}
 use Rattle.node_calls.proofs.ListLemmas.{set_elsewhere, set_here}
-use Rattle.node_calls.proofs.RunLemmas.{same_slots}
-use Rattle.node_lines.specs.Keeps.{HaveNoPlace, StandsStill}
-use Rattle.node_lines.specs.Stands.{EachNode, HasSlots, Stands}
-use Rattle.node_lines.proofs.GrowLemmas.{named_still, replica_before}
+use Rattle.rule_lines.specs.Stands.{Stands}
+use Rattle.rule_lines.proofs.QuietLemmas.{stops_next}
 
 -- ---- slots of a node
 
@@ -51,10 +41,6 @@ pub node_has : (node : ℕ) (slots : List Slot) (s : Slot) → IsIn slots s → 
 node_has node slots s i is = filter-IsIn (λ (x : Slot). nat_eq x.node node) slots s i (eq-eqb s.node node is)
 
 -- ---- stopped nodes
-
-pub stopped_push : (turns : List Turn) (a : Act) (b : Answer) (name : List ℕ) → is_stopped (inner_turns (turns ++ line_of a b ∷ [])) name ≡ stopped_by name a b (is_stopped (inner_turns turns) name)
-stopped_push turns a b name =
-    ap (λ ts. is_stopped ts name) (inner-append turns (line_of a b ∷ [])) ∙ fold-append (λ before turn. stopped_by name turn.act turn.answer before) false (inner_turns turns) (inner_turns (line_of a b ∷ []))
 
 module _ {D : Type 0} {G : Ghosts D} (start : Option MetaState) (turns : List Turn) (m : Members D G) (stands : Stands start turns m) (name : List ℕ) (halted : Bool) (n : IsNode m name halted) where
   abbrev pub place : Placement
@@ -100,7 +86,7 @@ module _ {D : Type 0} {G : Ghosts D} (start : Option MetaState) (turns : List Tu
     one_node : (k : ℕ) (own : Instance) → slice_get place.instances k ≡ Some own → slice_get new.stopped.items k ≡ Some (is_stopped (inner_turns (turns ++ line_of a b ∷ [])) own.name)
     one_node k own at =
         let was = is_stopped (inner_turns turns) own.name in
-        let now : is_stopped (inner_turns (turns ++ line_of a b ∷ [])) own.name ≡ (if pointwise nat_eq own.name name then v else was) = stopped_push turns a b own.name ∙ halts own.name was in
+        let now : is_stopped (inner_turns (turns ++ line_of a b ∷ [])) own.name ≡ (if pointwise nat_eq own.name name then v else was) = stops_next turns a b own.name ∙ halts own.name was in
         elim (cases_eq k n.node) as (λ _. slice_get new.stopped.items k ≡ Some (is_stopped (inner_turns (turns ++ line_of a b ∷ [])) own.name)) [
           | inl here ↦
               (let called : own.name ≡ name = ap (λ (x : Instance). x.name) (same_at place.instances n.node own named.instance_ (ap (slice_get place.instances) (sym here) ∙ at) named.stands) ∙ named.name_is in
@@ -114,42 +100,5 @@ module _ {D : Type 0} {G : Ghosts D} (start : Option MetaState) (turns : List Tu
         differs true is apart = absurd (apart ((bytes_eq-Decides own.name name).0 is))
         differs false is apart = refl
 
-    pub stopped_set : EachNode new (λ k called. slice_get new.stopped.items k ≡ Some (is_stopped (inner_turns (turns ++ line_of a b ∷ [])) called))
+    pub stopped_set : AreStoppedBy (turns ++ line_of a b ∷ []) new.net.state.place new.stopped.items
     stopped_set k own at = one_node k own (ap (λ (p : Placement). slice_get p.instances k) (sym same_place) ∙ at)
-
--- ---- one line on
-
-module _ {D : Type 0} {G : Ghosts D} (state : D → DiskState) (start : Option MetaState) (turns : List Turn) (old : Members D G) (stands : Stands start turns old) (a : Act) (b : Answer) (new : Members D G) (same_place : new.net.state.place ≡ old.net.state.place)
-    (more : List Event) (ran : Ran state old.net.replicas more new.net.replicas) (no_place : HaveNoPlace more) (of_slots : (n s : ℕ) (c : StepCall) (r : StepReply) → IsIn more (event.Step n s c r) → IsIn old.slots.items (slot_at n s)) (slots : new.slots.items ≡ old.slots.items) where
-  slots_on : HasSlots new
-  slots_on = record {
-    manned = λ s i. there_after state old.net.replicas new.net.replicas more s ran (stands.slots.manned s (was_in s i));
-    no_others = λ s there. now_in s (stands.slots.no_others s (λ gone. there ((same_slots state old.net.replicas new.net.replicas more ran s).1 gone)));
-    given = λ s i. let given = stands.slots.given s (was_in s i) in (given.0, any_after state (GivesTenure s.node s.shard given.0) old.net.replicas new.net.replicas more ran given.1);
-    all = λ n s has. now_in (slot_at n s) (elim (replica_before old.net.replicas.events more no_place n s (subst (λ es. HasReplica es n s) ran.grew has)) as (λ _. IsIn old.slots.items (slot_at n s)) [
-      | inl before ↦ stands.slots.all n s before
-      | inr stepped ↦ of_slots n s stepped.0 stepped.1 stepped.2
-    ]);
-    placed = λ s i. subst (λ (p : Placement). s.node < length p.instances) (sym same_place) (stands.slots.placed s (was_in s i));
-  }
-    where
-      was_in : (s : Slot) → IsIn new.slots.items s → IsIn old.slots.items s
-      was_in s i = subst (λ xs. IsIn xs s) slots i
-
-      now_in : (s : Slot) → IsIn old.slots.items s → IsIn new.slots.items s
-      now_in s i = subst (λ xs. IsIn xs s) (sym slots) i
-
-  pub stands_on : IsLeftBy start (turns ++ line_of a b ∷ []) new.net → IsReady new.net.state new.net.replicas new.net.bag
-      → EachNode new (λ k called. slice_get new.stopped.items k ≡ Some (is_stopped (inner_turns (turns ++ line_of a b ∷ [])) called)) → Stands start (turns ++ line_of a b ∷ []) new
-  stands_on left ready stopped = record {
-    left = left;
-    ready = ready;
-    slots = slots_on;
-    named = λ n own at. subst (λ es. IsNamedBy es n own.name) (sym ran.grew) (named_still old.net.replicas.events more no_place n own.name (stands.named n own (ap (λ (p : Placement). slice_get p.instances n) (sym same_place) ∙ at)));
-    stopped = stopped;
-  }
-
-pub stands_still : {D : Type 0} {G : Ghosts D} (state : D → DiskState) (old : Members D G) → StandsStill state old
-stands_still {D} {G} state old start turns new a b stands h =
-    stands_on state start turns old stands a b new h.place h.more h.ran h.no_place h.of_slots h.slots h.left h.ready (λ k own at.
-    ap (λ xs. slice_get xs k) h.stopped ∙ stands.stopped k own (ap (λ (p : Placement). slice_get p.instances k) (sym h.place) ∙ at) ∙ ap Some (sym (stopped_push turns a b own.name ∙ h.halts own.name (is_stopped (inner_turns turns) own.name))))

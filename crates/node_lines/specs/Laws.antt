@@ -11,7 +11,6 @@ use Rattle.m3_model.specs.declared.turn.Turn.{Turn}
 use Rattle.m3_outside.specs.DiskState.{DiskState}
 use Rattle.m3_outside.specs.declared.disk.Disk.{Ghosts}
 use Rattle.cluster_core.specs.declared.event.Event.{Event}
-use Rattle.session_net.specs.declared.net.Net.{Net}
 use Rattle.told_by.specs.Lines.{PlainLine}
 use Rattle.told_runs.specs.Lines.{ServesOne, delivered_on}
 use Rattle.transcripts.specs.Deliveries.{LateMessage}
@@ -20,8 +19,8 @@ use Rattle.call_lines.specs.Laws.{IsNotRefused, LeavesLine}
 use Rattle.call_lines.specs.Left.{WereDelivered}
 use Rattle.cluster_members.specs.declared.members.Members.{Members}
 use Rattle.node_calls.specs.Nodes.{IsBootstrapped, IsRestarted, IsStopped}
-use Rattle.node_lines.specs.Opens.{MayBegin, OpensLow}
-use Rattle.node_lines.specs.Stands.{Stands}
+use Rattle.rule_lines.specs.Stands.{Stands}
+use Rattle.node_lines.specs.Opens.{MayBegin}
 
 -- ---- stops and restarts
 

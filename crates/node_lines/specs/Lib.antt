@@ -1,4 +1,3 @@
-pub mod Stands
 pub mod Opens
 pub mod Laws
 pub mod Keeps

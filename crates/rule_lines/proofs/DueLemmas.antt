@@ -1,5 +1,5 @@
 -- Which refusal is due, from what the turns left.
-use Rattle.std.proofs.Common.{◌≡◌, ℕ, ◌≤◌, List, length, map, refl, sym, ap, ap₂, ◌∙◌, Bool, true, false, cond, not}
+use Rattle.std.proofs.Common.{◌≡◌, ℕ, ◌<◌, ◌≤◌, List, length, map, refl, sym, ap, ap₂, ◌∙◌, Bool, true, false, cond, not}
 use Rattle.std.specs.Prelude.{Option, Some, None, option_map, is_some, nat_le, nat_lt, decimal}
 use Rattle.std.specs.Option.{option_or}
 use Rattle.std.proofs.lemmas.Bool.{le-leb, le-ltb, lt-leb, lt-ltb}
@@ -21,7 +21,7 @@ use Rattle.transcripts.specs.Record.{inner_turns}
 use Rattle.transcripts.specs.Refusals.{missing_in, missing_shard, refusal_by}
 use Rattle.transcripts.specs.Rules.{rules_after, start_rules}
 use Rattle.cluster_members.proofs.NameLemmas.{node_found}
-use Rattle.rule_lines.specs.Due.{BootstrapsAreDue, CallsAreDue, DeliveriesAreDue, FatesAreDue, FirstInitIsFree, FlagsTell, HasShard, HaveLeft, InitsAreDue, IsDueNext, MomentsAreDue, NamespacesAreDue, OrderIsDue, RestartsAreDue, SpaceDue, StopsAreDue}
+use Rattle.rule_lines.specs.Due.{BootstrapsAreDue, CallsAreDue, DeliveriesAreDue, FatesAreDue, FirstInitIsFree, FlagsTell, HaveLeft, InitsAreDue, IsDueNext, MomentsAreDue, NamespacesAreDue, OrderIsDue, RestartsAreDue, SpaceDue, StopsAreDue}
 use Rattle.rule_lines.proofs.NameLemmas.{listed_where, missing_same, none_missing, unlisted_where}
 
 -- what is due, by the placement, the rules and the stopped nodes
@@ -156,9 +156,9 @@ restarts_are_due start turns place rules left name pick b = record {
 abbrev boot_refusal : List ℕ → Bool → Option (List ℕ) → Bool → Option Answer
 boot_refusal name listed missing halted = option_or (option_map (λ n. answer.Unknown n) (option_or (cond listed None (Some name)) missing)) (cond halted (Some (answer.State name)) None)
 
-shard_there : (place : Placement) (asked : Option ℕ) → HasShard place asked → missing_shard (Some place) asked ≡ None
+shard_there : (place : Placement) (asked : Option ℕ) → ((shard : ℕ) → asked ≡ Some shard → shard < length place.shards) → missing_shard (Some place) asked ≡ None
 shard_there place None h = refl
-shard_there place (Some shard) h = ap (λ b. cond b None (Some (decimal shard))) (lt-ltb shard (length place.shards) h)
+shard_there place (Some shard) h = ap (λ b. cond b None (Some (decimal shard))) (lt-ltb shard (length place.shards) (h shard refl))
 
 shard_away : (place : Placement) (asked : Option ℕ) (shard : ℕ) → asked ≡ Some shard → length place.shards ≤ shard → missing_shard (Some place) asked ≡ Some (decimal shard)
 shard_away place asked shard is high = ap (missing_shard (Some place)) is ∙ ap (λ b. cond b None (Some (decimal shard))) (le-ltb shard (length place.shards) high)

@@ -271,11 +271,11 @@ no_room_tells start turns events a n few none = record {
   delivers_none = tt;
 }
 
-pub full_write_tells : {D : Type 0} {ghosts : Ghosts D} (state : D → DiskState) (net : Net D ghosts) → FullWriteTells state net
+pub full_write_tells : {D : Type 0} {G : Ghosts D} (state : D → DiskState) (net : Net D G) → FullWriteTells state net
 full_write_tells state net start turns a id point level new ready full =
     let members = full.1.0 in
     let six = few_members net.state.place ready.lawful (shard_of_point net.state point) members (full.1.1).same in
     no_room_tells start turns net.replicas.events a (most_added members) (omega (arith, six)) full.1.2
 
-pub full_delivery_tells : {D : Type 0} {ghosts : Ghosts D} (net : Net D ghosts) → FullDeliveryTells net
+pub full_delivery_tells : {D : Type 0} {G : Ghosts D} (net : Net D G) → FullDeliveryTells net
 full_delivery_tells net start turns a new full = no_room_tells start turns net.replicas.events a (2 * MOST_LATE_WRITES) (omega arith) full.1

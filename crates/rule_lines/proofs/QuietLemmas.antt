@@ -1,4 +1,4 @@
--- What turns leave as it was, and that a cluster stands after them.
+-- What turns leave as it was.
 use Rattle.std.proofs.Common.{◌≡◌, ◌≢◌, ℕ, List, [], ◌∷◌, ◌++◌, refl, sym, ap, subst, ◌∙◌, Bool}
 use Rattle.std.proofs.lemmas.Grind.{fold-append}
 use Rattle.std.specs.Prelude.{Option, Some, None}
@@ -13,24 +13,20 @@ use Rattle.m3_model.specs.declared.turn.Reply.TheVariants as reply
 use Rattle.m3_model.specs.declared.turn.Request.TheVariants as request
 use Rattle.m3_model.specs.declared.turn.Turn.{Turn}
 use Rattle.m3_outside.specs.DiskState.{DiskState}
-use Rattle.m3_outside.specs.declared.disk.Disk.{Ghosts}
 use Rattle.cluster_core.specs.declared.event.Event.{Event}
 use Rattle.replica_calls.specs.Calls.{Tracked}
 use Rattle.replica_calls.specs.declared.member.Member.{Member}
 use Rattle.replica_calls.specs.declared.slot.Slot.{Slot}
 use Rattle.session_net.specs.Runs.{IsStepped, Ran, steps_of}
 use Rattle.session_net.proofs.ReadyLemmas.{there_after}
-use Rattle.told_by.proofs.OneLemmas.{is_own}
 use Rattle.told_by.proofs.TurnLemmas.{inner-append}
 use Rattle.transcripts.specs.Fates.{fates_set, is_stopped, stopped_by}
 use Rattle.transcripts.specs.Placements.{printed, seed_by}
-use Rattle.transcripts.specs.Record.{TurnPlace, inner_turns, line_of}
+use Rattle.transcripts.specs.Record.{inner_turns, line_of}
 use Rattle.transcripts.specs.Rules.{rules_by}
-use Rattle.transcripts.proofs.PlaceLemmas.{at_push}
 use Rattle.call_lines.specs.Left.{AreSlots, AreStoppedBy}
-use Rattle.call_lines.proofs.KeepLemmas.{fates_on, left_as_before, numbering_next, place_next, rules_on}
-use Rattle.cluster_members.specs.declared.members.Members.{Members}
-use Rattle.rule_lines.specs.Quiet.{DeliversNothingSo, IsBeforeFirst, KeepsStops, KeepsStopsSo, NumbersGoOn, SetsNone, SetsNothingSo, StandsOn, StandsUnchanged, StaysBeforeInit}
+use Rattle.call_lines.proofs.KeepLemmas.{numbering_next}
+use Rattle.rule_lines.specs.Quiet.{DeliversNothingSo, KeepsStops, KeepsStopsSo, NumbersGoOn, SetsNone, SetsNothingSo}
 
 -- ---- by the answer
 
@@ -82,35 +78,7 @@ stops_next turns a b name =
 pub flags_on : (turns : List Turn) (a : Act) (b : Answer) (place : Placement) (flags : List Bool) → KeepsStops a b → AreStoppedBy turns place flags → AreStoppedBy (turns ++ line_of a b ∷ []) place flags
 flags_on turns a b place flags keeps are node own stands = are node own stands ∙ ap Some (sym (stops_next turns a b own.name ∙ keeps own.name (is_stopped (inner_turns turns) own.name)))
 
--- ---- before an `init`
-
--- no place stands in no lines
-never : {X : Type 0} (xs : List X) (y : X) (ys : List X) → [] ≡ xs ++ y ∷ ys → ⊥
-never [] y ys e = cc
-never (x ∷ xs) y ys e = cc
-
-pub is_before_first : IsBeforeFirst
-is_before_first = record { place = refl; rules = refl; fates = refl; stops = λ name. refl; prints = λ p at. absurd (never p.lines p.line at.after at.in_run) }
-
-pub stays_before_init : StaysBeforeInit
-stays_before_init turns a b h was =
-    let sets = sets_nothing_so a b h in
-    record {
-      place = place_next None turns a b sets.place ∙ was.place;
-      rules = rules_on None turns a b sets ∙ was.rules;
-      fates = fates_on None turns a b sets ∙ was.fates;
-      stops = λ name. stops_next turns a b name ∙ keeps_stops_so a b h name (is_stopped (inner_turns turns) name) ∙ was.stops name;
-      prints = at_push (λ p. printed p.turn.answer ≡ None) turns (line_of a b) was.prints (λ p last. ap (λ (q : TurnPlace). printed q.turn.answer) (is_own None turns [] a b [] p last) ∙ sets.place);
-    }
-
--- ---- a cluster that stands
-
-pub stands_unchanged : {D : Type 0} {ghosts : Ghosts D} (m : Members D ghosts) → StandsUnchanged m
-stands_unchanged m start turns a b stands sets delivers = record {
-  left = left_as_before m.net start turns m.net a b stands.left (record { state = refl; fates = refl }) (sets_nothing_so a b sets) (delivers_nothing_so a b delivers) refl;
-  stopped = flags_on turns a b m.net.state.place m.stopped.items (keeps_stops_so a b sets) stands.stopped;
-  slots = stands.slots;
-}
+-- ---- slots
 
 -- steps leave a replica where there was one, and none where there was none
 pub slots_on : {D : Type 0} (state : D → DiskState) (slots : List Slot) (old new : Tracked D) (more : List Event) → Ran state old more new → AreSlots slots old → AreSlots slots new
@@ -121,11 +89,3 @@ slots_on {D} state slots old new more ran are = record {
   where
     before : (s : Slot) → finite.get new.members s ≢ None → finite.get old.members s ≢ None
     before s some none = some (subst (λ (o : Option (Member D)). IsStepped state (steps_of s more) o (finite.get new.members s)) none (ran.stepped s))
-
-pub stands_on : {D : Type 0} {ghosts : Ghosts D} (state : D → DiskState) (old : Members D ghosts) → StandsOn state old
-stands_on {D} {ghosts} state old start turns a b new more stands keeps nodes ran left = record {
-  left = left;
-  stopped = subst (λ (p : Placement). AreStoppedBy (turns ++ line_of a b ∷ []) p new.stopped.items) (sym nodes.place)
-      (subst (AreStoppedBy (turns ++ line_of a b ∷ []) old.net.state.place) (sym nodes.stopped) (flags_on turns a b old.net.state.place old.stopped.items keeps stands.stopped));
-  slots = subst (λ slots. AreSlots slots new.net.replicas) (sym nodes.slots) (slots_on state old.slots.items old.net.replicas new.net.replicas more ran stands.slots);
-}

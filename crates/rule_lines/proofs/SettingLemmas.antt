@@ -20,11 +20,13 @@ use Rattle.cluster_core.specs.Earlier.{last_clock, last_place}
 use Rattle.cluster_core.specs.declared.event.Asked.TheVariants as asked
 use Rattle.cluster_core.specs.declared.event.Event.{Event}
 use Rattle.cluster_core.specs.declared.event.Event.TheVariants as event
+use Rattle.cluster_core.specs.declared.event.StepCall.{StepCall}
 use Rattle.cluster_core.specs.declared.event.StepCall.TheVariants as call
 use Rattle.cluster_core.specs.declared.event.StepReply.{StepReply}
 use Rattle.net_plan.specs.Fates.{FateMap, fate_of}
 use Rattle.net_plan.specs.declared.fate_key.FateKey.{FateKey}
 use Rattle.net_plan.proofs.RowLemmas.{get-fates}
+use Rattle.replica_calls.specs.Calls.{Tracked}
 use Rattle.session_net.specs.Ready.{IsReady}
 use Rattle.told_by.specs.Clocks.{sets_rules}
 use Rattle.told_by.specs.Hears.{HearsBy, InStretch}
@@ -37,18 +39,21 @@ use Rattle.transcripts.specs.Placements.{seed_after, seed_by}
 use Rattle.transcripts.specs.Record.{inner_turns, line_of}
 use Rattle.transcripts.specs.Rules.{rules_after, rules_by, start_rules}
 use Rattle.call_lines.specs.Laws.{IsCalm, LeavesServed}
-use Rattle.call_lines.specs.Left.{AreSlots, AreStoppedBy, FareAsSet, HoldsBack, IsLeftBy}
+use Rattle.call_lines.specs.Left.{AreSlots, FareAsSet, HoldsBack, IsLeftBy}
 use Rattle.call_lines.proofs.DeliverLemmas.{none_behind, nothing_at, prints_none}
 use Rattle.call_lines.proofs.KeepLemmas.{holds_on, numbering_next, place_next, rules_next, seed_next}
 use Rattle.call_lines.proofs.ServeLemmas.{answered, delivered_so, serves_so}
 use Rattle.cluster_members.specs.Steps.{SetsRules, clock_events}
 use Rattle.cluster_members.specs.declared.members.Members.{Members}
+use Rattle.cluster_members.proofs.ClockLemmas.{ready_ruled}
 use Rattle.rule_lines.specs.Due.{HaveLeft, IsDueNext}
 use Rattle.rule_lines.specs.Laws.{FatesTell, GoesOn, MovedTells, NamedTells}
-use Rattle.rule_lines.specs.Quiet.{KeepsStops, Stands}
+use Rattle.rule_lines.specs.Quiet.{KeepsStops}
+use Rattle.rule_lines.specs.Stands.{Stands}
+use Rattle.rule_lines.specs.Stays.{IsNoPlace}
 use Rattle.rule_lines.proofs.DueLemmas.{fates_are_due, moments_are_due, namespaces_are_due}
 use Rattle.rule_lines.proofs.NameLemmas.{numbered_fate}
-use Rattle.rule_lines.proofs.QuietLemmas.{flags_on, stands_on}
+use Rattle.rule_lines.proofs.StandLemmas.{flags_stay, stands_grown, stands_still}
 
 -- a list that has a placement and a moment has two events
 two_events : (events : List Event) (place : Placement) (rules : Rules) → last_place events ≡ Some place → last_clock events ≡ Some rules → 2 ≤ length events
@@ -59,6 +64,18 @@ two_events (_ ∷ []) place rules p c = absurd (let bad : None ≡ Some place = 
 
 -- ---- the rules
 
+-- a Clock and its Ask are no Place
+clock_no_place : (rules : Rules) (e : Event) → IsIn (clock_events rules) e → IsNoPlace e
+clock_no_place rules e (inl is) = subst IsNoPlace is tt
+clock_no_place rules e (inr (inl is)) = subst IsNoPlace is tt
+clock_no_place rules e (inr (inr none)) = absurd none
+
+-- nor a step
+clock_no_step : (rules : Rules) (n s : ℕ) (c : StepCall) (r : StepReply) → IsIn (clock_events rules) (event.Step n s c r) → ⊥
+clock_no_step rules n s c r (inl is) = cc
+clock_no_step rules n s c r (inr (inl is)) = cc
+clock_no_step rules n s c r (inr (inr none)) = none
+
 module _ (start : Option MetaState) (turns : List Turn) (events : List Event) (a : Act) (rules : Rules) (sets : sets_rules a answer.Done ≡ true) (leaves : rules_by a answer.Done (rules_after (start_rules start) (inner_turns turns)) ≡ rules)
     (asks : (past : List Event) → MayAsk start past (place_after turns a answer.Done) a (asked.Clock rules)) (hears : (Here : ℕ → Event → Type 0) → HearsBy start events Here (place_after turns a answer.Done) a answer.Done) (opened : 2 ≤ length events) where
   abbrev more : List Event
@@ -68,11 +85,6 @@ module _ (start : Option MetaState) (turns : List Turn) (events : List Event) (a
   made past e (inl is) = subst (MayMake start past (place_after turns a answer.Done)) is (asks past)
   made past e (inr (inl is)) = subst (MayMake start past (place_after turns a answer.Done)) is tt
   made past e (inr (inr none)) = absurd none
-
-  no_step : (n s : ℕ) (r : StepReply) → IsIn more (event.Step n s call.Restart r) → ⊥
-  no_step n s r (inl is) = cc
-  no_step n s r (inr (inl is)) = cc
-  no_step n s r (inr (inr none)) = none
 
   calm_clock : (e : Event) → IsIn more e → IsCalm e
   calm_clock e (inl is) = subst IsCalm is tt
@@ -87,7 +99,7 @@ module _ (start : Option MetaState) (turns : List Turn) (events : List Event) (a
   clock_line = record {
     makes = record {
       makes = λ i e le two at. made (take i (events ++ more)) e (among_back events more i e at le);
-      restarts = λ i n s r le two at. absurd (no_step n s r (among_back events more i (event.Step n s call.Restart r) at le));
+      restarts = λ i n s r le two at. absurd (clock_no_step rules n s call.Restart r (among_back events more i (event.Step n s call.Restart r) at le));
       hears = hears (InStretch (events ++ more) (length events) (length (events ++ more)));
     };
     sets = sets;
@@ -107,9 +119,9 @@ module _ (start : Option MetaState) (turns : List Turn) (events : List Event) (a
   }
 
 -- the fields after it
-ruled_left : {D : Type 0} {ghosts : Ghosts D} (state : D → DiskState) (start : Option MetaState) (turns : List Turn) (old new : Members D ghosts) (a : Act) (rules : Rules) → IsLeftBy start turns old.net → SetsRules state rules old new → rules_by a answer.Done old.net.state.rules ≡ rules
+ruled_left : {D : Type 0} {G : Ghosts D} (state : D → DiskState) (start : Option MetaState) (turns : List Turn) (old new : Members D G) (a : Act) (rules : Rules) → IsLeftBy start turns old.net → SetsRules state rules old new → rules_by a answer.Done old.net.state.rules ≡ rules
     → ((x : ℕ) → seed_by a answer.Done x ≡ x) → fates_set (request.One a) (reply.One answer.Done) ≡ None → IsLeftBy start (turns ++ line_of a answer.Done ∷ []) new.net
-ruled_left {D} {ghosts} state start turns old new a rules left set by seed fates =
+ruled_left {D} {G} state start turns old new a rules left set by seed fates =
     let is = set.state_is in
     let longer = turns ++ line_of a answer.Done ∷ [] in
     let same_place : new.net.state.place ≡ old.net.state.place = ap (λ (s : MetaState). s.place) is in
@@ -126,7 +138,7 @@ ruled_left {D} {ghosts} state start turns old new a rules left set by seed fates
     fates_stay : (numbering_by (fates_set (request.One a) (reply.One answer.Done)) (calls_in (client_acts 0 (request.One a))) (numbering_after 0 turns)).fates ≡ (numbering_after 0 turns).fates
     fates_stay = ap (λ o. (numbering_by o (calls_in (client_acts 0 (request.One a))) (numbering_after 0 turns)).fates) fates
 
-module _ {D : Type 0} {ghosts : Ghosts D} (state : D → DiskState) (start : Option MetaState) (turns : List Turn) (old new : Members D ghosts) (stands : Stands start turns old) (ready : IsReady old.net.state old.net.replicas old.net.bag) where
+module _ {D : Type 0} {G : Ghosts D} (state : D → DiskState) (start : Option MetaState) (turns : List Turn) (old new : Members D G) (stands : Stands start turns old) where
   abbrev here : Option Placement
   here = Some old.net.state.place
 
@@ -140,20 +152,30 @@ module _ {D : Type 0} {ghosts : Ghosts D} (state : D → DiskState) (start : Opt
   ruled a rules set sets by asks hears free kind seed fates keeps =
       let leaves : rules_by a answer.Done (rules_after (start_rules start) (inner_turns turns)) ≡ rules = ap (rules_by a answer.Done) (stands.left).rules ∙ by in
       record {
-        line = clock_served start turns old.net.replicas.events a rules sets leaves (λ past. asks past rules leaves) hears (two_events old.net.replicas.events old.net.state.place old.net.state.rules ready.place ready.clock) new.net.replicas.events (set.ran).grew free kind;
-        stands = stands_on state old start turns a answer.Done new (clock_events rules) stands keeps (record { place = ap (λ (s : MetaState). s.place) set.state_is; slots = set.slots; stopped = set.stopped }) set.ran
-            (ruled_left state start turns old new a rules stands.left set by seed fates);
+        line = clock_served start turns old.net.replicas.events a rules sets leaves (λ past. asks past rules leaves) hears (two_events old.net.replicas.events old.net.state.place old.net.state.rules stands.ready.place stands.ready.clock) new.net.replicas.events (set.ran).grew free kind;
+        stands = stands_still state old start turns new a answer.Done stands (record {
+          left = ruled_left state start turns old new a rules stands.left set by seed fates;
+          ready = ready_ruled state old.net.state new.net.state old.net.replicas new.net.replicas new.net.bag rules (subst (IsReady old.net.state old.net.replicas) (sym set.bag) stands.ready) set.ran set.state_is;
+          place = ap (λ (s : MetaState). s.place) set.state_is;
+          more = clock_events rules;
+          ran = set.ran;
+          no_place = clock_no_place rules;
+          of_slots = λ n s c r i. absurd (clock_no_step rules n s c r i);
+          slots = set.slots;
+          stopped = set.stopped;
+          halts = keeps;
+        });
       }
 
-pub named_tells : {D : Type 0} {ghosts : Ghosts D} (state : D → DiskState) (old : Members D ghosts) → NamedTells state old
-named_tells state old start turns name block past future retention new stands ready named =
-    let due = namespaces_are_due start turns old.net.state.place old.net.state.rules (have_left state start turns old new stands ready) name block past future retention answer.Done in
-    ruled state start turns old new stands ready (act.Namespace name block past future retention) _ named.1 refl refl (λ past r is. sym is) (λ Here. tt) (due.free (named.0).new (named.0).few) tt (λ x. refl) refl (λ own x. refl)
+pub named_tells : {D : Type 0} {G : Ghosts D} (state : D → DiskState) (old : Members D G) → NamedTells state old
+named_tells state old start turns name block past future retention new stands named =
+    let due = namespaces_are_due start turns old.net.state.place old.net.state.rules (have_left state start turns old new stands) name block past future retention answer.Done in
+    ruled state start turns old new stands (act.Namespace name block past future retention) _ named.1 refl refl (λ past r is. sym is) (λ Here. tt) (due.free (named.0).new (named.0).few) tt (λ x. refl) refl (λ own x. refl)
 
-pub moved_tells : {D : Type 0} {ghosts : Ghosts D} (state : D → DiskState) (old : Members D ghosts) → MovedTells state old
-moved_tells state old start turns now new stands ready moved =
-    let due = moments_are_due start turns old.net.state.place old.net.state.rules (have_left state start turns old new stands ready) now answer.Done in
-    ruled state start turns old new stands ready (act.Now now) _ moved.1 refl refl (λ past r is. sym is) (λ Here. tt) (due.free moved.0) tt (λ x. refl) refl (λ own x. refl)
+pub moved_tells : {D : Type 0} {G : Ghosts D} (state : D → DiskState) (old : Members D G) → MovedTells state old
+moved_tells state old start turns now new stands moved =
+    let due = moments_are_due start turns old.net.state.place old.net.state.rules (have_left state start turns old new stands) now answer.Done in
+    ruled state start turns old new stands (act.Now now) _ moved.1 refl refl (λ past r is. sym is) (λ Here. tt) (due.free moved.0) tt (λ x. refl) refl (λ own x. refl)
 
 -- ---- the fates
 
@@ -171,8 +193,8 @@ fates_line start turns events list = record {
   ends = λ available boot x m. let bad : answer.Done ≡ answer.Available available boot.place boot.version = boot.answered in cc;
 }
 
-pub fates_tell : {D : Type 0} {ghosts : Ghosts D} (old : Members D ghosts) → FatesTell old
-fates_tell {D} {ghosts} old start turns list new stands ready set =
+pub fates_tell : {D : Type 0} {G : Ghosts D} (old : Members D G) → FatesTell old
+fates_tell {D} {G} old start turns list new stands set =
     let a : Act = act.Fates list in
     let left = stands.left in
     let longer = turns ++ line_of a answer.Done ∷ [] in
@@ -184,7 +206,7 @@ fates_tell {D} {ghosts} old start turns list new stands ready set =
     let fare : FareAsSet longer old.net.state.place new.net.fates = (λ client call node own there.
     let key : FateKey = record { client = client; call = call; node = node } in
     ap (λ (f : FateMap). fate_of f key) set.fates ∙ ap (λ o. unwrap_or o Deliver) (get-fates set.items key)
-    ∙ numbered_fate old.net.state.place.instances list set.items ((ready.lawful).limits).distinct set.numbered client call node own there
+    ∙ numbered_fate old.net.state.place.instances list set.items ((stands.ready.lawful).limits).distinct set.numbered client call node own there
     ∙ ap (λ (n : Numbering). fate_in n.fates client call own.name) (sym (numbering_next start turns a answer.Done))) in
     record {
       line = record {
@@ -194,16 +216,13 @@ fates_tell {D} {ghosts} old start turns list new stands ready set =
         serves = serves_so start turns events a answer.Done [] (λ e m. absurd m) (omega arith) (λ yes place e. absurd (let bad : None ≡ Some place = e in cc)) [] tt (λ x m. absurd m) (answered start turns events a answer.Done [] (λ e m. absurd m) (inr tt) due);
         delivered = delivered_so turns a answer.Done [] (λ x m. absurd m);
       };
-      stands = record {
-        left = record {
-          rules = rules_next start turns a answer.Done ∙ left.rules ∙ sym (ap (λ (s : MetaState). s.rules) is);
-          place = place_next start turns a answer.Done refl ∙ left.place ∙ ap Some (sym same_place);
-          seed = seed_next start turns a answer.Done ∙ left.seed ∙ sym (ap (λ (s : MetaState). s.seed) is);
-          fates = subst (λ (p : Placement). FareAsSet longer p new.net.fates) (sym same_place) fare;
-          late = subst (HoldsBack start longer) (sym set.bag) (holds_on start turns a answer.Done refl old.net.bag left.late);
-        };
-        stopped = subst (λ (p : Placement). AreStoppedBy longer p new.stopped.items) (sym same_place)
-            (subst (AreStoppedBy longer old.net.state.place) (sym set.stopped) (flags_on turns a answer.Done old.net.state.place old.stopped.items (λ name x. refl) stands.stopped));
-        slots = subst (λ slots. AreSlots slots new.net.replicas) (sym set.slots) (subst (AreSlots old.slots.items) (sym set.replicas) stands.slots);
-      };
+      stands = stands_grown start turns old stands a answer.Done new same_place [] (ap (λ (t : Tracked D). t.events) set.replicas ∙ sym (append-nil events)) (λ e m. absurd m) (λ n s c r m. absurd m) set.slots
+          (subst (λ slots. AreSlots slots new.net.replicas) (sym set.slots) (subst (AreSlots old.slots.items) (sym set.replicas) stands.slots.are)) (record {
+            rules = rules_next start turns a answer.Done ∙ left.rules ∙ sym (ap (λ (s : MetaState). s.rules) is);
+            place = place_next start turns a answer.Done refl ∙ left.place ∙ ap Some (sym same_place);
+            seed = seed_next start turns a answer.Done ∙ left.seed ∙ sym (ap (λ (s : MetaState). s.seed) is);
+            fates = subst (λ (p : Placement). FareAsSet longer p new.net.fates) (sym same_place) fare;
+            late = subst (HoldsBack start longer) (sym set.bag) (holds_on start turns a answer.Done refl old.net.bag left.late);
+          }) (subst (λ (s : MetaState). IsReady s new.net.replicas new.net.bag) (sym is) (subst (λ (t : Tracked D). IsReady old.net.state t new.net.bag) (sym set.replicas) (subst (IsReady old.net.state old.net.replicas) (sym set.bag) stands.ready)))
+          (flags_stay turns a answer.Done old new (λ name x. refl) same_place set.stopped stands.stopped);
     }

@@ -1,5 +1,5 @@
 -- Which refusal is due of an act in the next line: said of the rules, the placement and the stopped nodes that the turns left.
-use Rattle.std.specs.Prelude.{◌≡◌, ℕ, ℤ, ◌≤◌, ◌<◌, ⊤, List, length, Option, Some, None, IsSome, Bool, true, false, slice_get, decimal}
+use Rattle.std.specs.Prelude.{◌≡◌, ℕ, ℤ, ◌≤◌, ◌<◌, List, length, Option, Some, None, IsSome, Bool, true, false, slice_get, decimal}
 use Rattle.m3_model.specs.Rules.{namespace_place}
 use Rattle.m3_model.specs.declared.act.Act.{Act}
 use Rattle.m3_model.specs.declared.act.Act.TheVariants as act
@@ -123,17 +123,12 @@ pub record RestartDue (start : Option MetaState) (turns : List Turn) (place : Pl
 abbrev pub RestartsAreDue : Type 0
 RestartsAreDue = WhereLeft (λ start turns place rules. (name : List ℕ) (pick : ℕ) (b : Answer) → RestartDue start turns place name pick b)
 
--- the shard is there, if one is asked for
-abbrev pub HasShard : Placement → Option ℕ → Type 0
-HasShard place None = ⊤
-HasShard place (Some shard) = shard < length place.shards
-
 -- of a bootstrap: that there is no such node or no such shard, that it is stopped, or nothing
 pub record BootstrapDue (start : Option MetaState) (turns : List Turn) (place : Placement) (name : List ℕ) (asked : Option ℕ) (b : Answer) : Type 0 where
   pub unknown : node_named name place.instances ≡ None → IsDueNext start turns (act.Bootstrap name asked) b (Some (answer.Unknown name))
   pub no_shard : (node shard : ℕ) → node_named name place.instances ≡ Some node → asked ≡ Some shard → length place.shards ≤ shard → IsDueNext start turns (act.Bootstrap name asked) b (Some (answer.Unknown (decimal shard)))
-  pub state : (node : ℕ) → node_named name place.instances ≡ Some node → HasShard place asked → is_stopped (inner_turns turns) name ≡ true → IsDueNext start turns (act.Bootstrap name asked) b (Some (answer.State name))
-  pub free : (node : ℕ) → node_named name place.instances ≡ Some node → HasShard place asked → is_stopped (inner_turns turns) name ≡ false → IsDueNext start turns (act.Bootstrap name asked) b None
+  pub state : (node : ℕ) → node_named name place.instances ≡ Some node → ((shard : ℕ) → asked ≡ Some shard → shard < length place.shards) → is_stopped (inner_turns turns) name ≡ true → IsDueNext start turns (act.Bootstrap name asked) b (Some (answer.State name))
+  pub free : (node : ℕ) → node_named name place.instances ≡ Some node → ((shard : ℕ) → asked ≡ Some shard → shard < length place.shards) → is_stopped (inner_turns turns) name ≡ false → IsDueNext start turns (act.Bootstrap name asked) b None
 
 abbrev pub BootstrapsAreDue : Type 0
 BootstrapsAreDue = WhereLeft (λ start turns place rules. (name : List ℕ) (asked : Option ℕ) (b : Answer) → BootstrapDue start turns place name asked b)

@@ -29,7 +29,8 @@ use Rattle.cluster_members.specs.Names.{AreNumbered}
 use Rattle.cluster_members.specs.Steps.{IsMoved, IsNamed}
 use Rattle.cluster_members.specs.declared.members.Members.{Members}
 use Rattle.rule_lines.specs.Due.{IsDueNext}
-use Rattle.rule_lines.specs.Quiet.{DeliversNone, SetsNone, Stands}
+use Rattle.rule_lines.specs.Quiet.{DeliversNone, SetsNone}
+use Rattle.rule_lines.specs.Stands.{Stands}
 
 -- ---- refusals that are due
 
@@ -50,17 +51,17 @@ abbrev pub NoRoomTells : Type 0
 NoRoomTells = (start : Option MetaState) (turns : List Turn) (events : List Event) (a : Act) (n : ℕ) → n + 2 ≤ MOST_REQUEST_EVENTS → ¬ HasRoom n events → LeavesNothing start turns events a answer.Full
 
 -- and for what a write adds, or a delivery
-abbrev pub FullWriteTells : {D : Type 0} {ghosts : Ghosts D} → (D → DiskState) → Net D ghosts → Type 0
-FullWriteTells {D} {ghosts} state net =
-    (start : Option MetaState) (turns : List Turn) (a : Act) (id : CallId) (point : Point) (level : WriteLevel) (new : Net D ghosts) → IsReady net.state net.replicas net.bag → IsRefused state net id point level new err.Full → LeavesNothing start turns net.replicas.events a answer.Full
+abbrev pub FullWriteTells : {D : Type 0} {G : Ghosts D} → (D → DiskState) → Net D G → Type 0
+FullWriteTells {D} {G} state net =
+    (start : Option MetaState) (turns : List Turn) (a : Act) (id : CallId) (point : Point) (level : WriteLevel) (new : Net D G) → IsReady net.state net.replicas net.bag → IsRefused state net id point level new err.Full → LeavesNothing start turns net.replicas.events a answer.Full
 
-abbrev pub FullDeliveryTells : {D : Type 0} {ghosts : Ghosts D} → Net D ghosts → Type 0
-FullDeliveryTells {D} {ghosts} net = (start : Option MetaState) (turns : List Turn) (a : Act) (new : Net D ghosts) → IsUndelivered net new err.Full → LeavesNothing start turns net.replicas.events a answer.Full
+abbrev pub FullDeliveryTells : {D : Type 0} {G : Ghosts D} → Net D G → Type 0
+FullDeliveryTells {D} {G} net = (start : Option MetaState) (turns : List Turn) (a : Act) (new : Net D G) → IsUndelivered net new err.Full → LeavesNothing start turns net.replicas.events a answer.Full
 
 -- ---- rules and fates
 
 -- the turn's line is told and served, and the cluster stands after it
-pub record GoesOn {D : Type 0} {ghosts : Ghosts D} (Line : Kind) (start : Option MetaState) (turns : List Turn) (old : Members D ghosts) (a : Act) (b : Answer) (new : Members D ghosts) : Type 0 where
+pub record GoesOn {D : Type 0} {G : Ghosts D} (Line : Kind) (start : Option MetaState) (turns : List Turn) (old : Members D G) (a : Act) (b : Answer) (new : Members D G) : Type 0 where
   pub line : LeavesServed Line start turns [] old.net.replicas.events a b new.net.replicas.events
   pub stands : Stands start (turns ++ line_of a b ∷ []) new
 
@@ -69,18 +70,18 @@ abbrev pub space_of : List ℕ → ℕ → ℕ → ℕ → ℕ → Space
 space_of name block past future retention = record { name = name; block = block; past = past; future = future; retention = retention }
 
 -- a namespace was made
-abbrev pub NamedTells : {D : Type 0} {ghosts : Ghosts D} → (D → DiskState) → Members D ghosts → Type 0
-NamedTells {D} {ghosts} state old =
-    (start : Option MetaState) (turns : List Turn) (name : List ℕ) (block past future retention : ℕ) (new : Members D ghosts) → Stands start turns old → IsReady old.net.state old.net.replicas old.net.bag → IsNamed state old (space_of name block past future retention) answer.Done new
+abbrev pub NamedTells : {D : Type 0} {G : Ghosts D} → (D → DiskState) → Members D G → Type 0
+NamedTells {D} {G} state old =
+    (start : Option MetaState) (turns : List Turn) (name : List ℕ) (block past future retention : ℕ) (new : Members D G) → Stands start turns old → IsNamed state old (space_of name block past future retention) answer.Done new
     → GoesOn ClockLine start turns old (act.Namespace name block past future retention) answer.Done new
 
 -- the moment moved on
-abbrev pub MovedTells : {D : Type 0} {ghosts : Ghosts D} → (D → DiskState) → Members D ghosts → Type 0
-MovedTells {D} {ghosts} state old =
-    (start : Option MetaState) (turns : List Turn) (now : ℕ) (new : Members D ghosts) → Stands start turns old → IsReady old.net.state old.net.replicas old.net.bag → IsMoved state old now answer.Done new → GoesOn ClockLine start turns old (act.Now now) answer.Done new
+abbrev pub MovedTells : {D : Type 0} {G : Ghosts D} → (D → DiskState) → Members D G → Type 0
+MovedTells {D} {G} state old =
+    (start : Option MetaState) (turns : List Turn) (now : ℕ) (new : Members D G) → Stands start turns old → IsMoved state old now answer.Done new → GoesOn ClockLine start turns old (act.Now now) answer.Done new
 
 -- all but the fates stays, and these are the list's, with the numbers of the nodes in place of their names
-pub record SetsFates {D : Type 0} {ghosts : Ghosts D} (list : List (ℕ × ℕ × List ℕ × Fate)) (old new : Members D ghosts) : Type 0 where
+pub record SetsFates {D : Type 0} {G : Ghosts D} (list : List (ℕ × ℕ × List ℕ × Fate)) (old new : Members D G) : Type 0 where
   pub items : List Item
   pub numbered : AreNumbered old.net.state.place.instances list items
   pub fates : new.net.fates ≡ fates_of items
@@ -91,6 +92,6 @@ pub record SetsFates {D : Type 0} {ghosts : Ghosts D} (list : List (ℕ × ℕ �
   pub stopped : new.stopped.items ≡ old.stopped.items
 
 -- fates were set
-abbrev pub FatesTell : {D : Type 0} {ghosts : Ghosts D} → Members D ghosts → Type 0
-FatesTell {D} {ghosts} old =
-    (start : Option MetaState) (turns : List Turn) (list : List (ℕ × ℕ × List ℕ × Fate)) (new : Members D ghosts) → Stands start turns old → IsReady old.net.state old.net.replicas old.net.bag → SetsFates list old new → GoesOn PlainLine start turns old (act.Fates list) answer.Done new
+abbrev pub FatesTell : {D : Type 0} {G : Ghosts D} → Members D G → Type 0
+FatesTell {D} {G} old =
+    (start : Option MetaState) (turns : List Turn) (list : List (ℕ × ℕ × List ℕ × Fate)) (new : Members D G) → Stands start turns old → SetsFates list old new → GoesOn PlainLine start turns old (act.Fates list) answer.Done new

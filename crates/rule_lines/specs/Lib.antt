@@ -1,3 +1,5 @@
 pub mod Due
 pub mod Quiet
+pub mod Stands
+pub mod Stays
 pub mod Laws

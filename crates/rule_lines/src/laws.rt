@@ -1,6 +1,7 @@
-//! Lines that are refused, that are given up, or that set the rules or the fates.
+//! Lines that are refused, that are given up, or that set the rules or the fates; and lines after which a cluster stands still.
 ghost use Rattle.rule_lines.specs.Laws.{FatesTell, FullDeliveryTells, FullWriteTells, MovedTells, NamedTells, NoRoomTells, RefusedTells};
-ghost use Rattle.rule_lines.specs.Quiet.{DeliversNothingSo, IsBeforeFirst, KeepsStopsSo, NumbersGoOn, SetsNothingSo, StandsOn, StandsUnchanged, StaysBeforeInit};
+ghost use Rattle.rule_lines.specs.Quiet.{DeliversNothingSo, KeepsStopsSo, NumbersGoOn, SetsNothingSo};
+ghost use Rattle.rule_lines.specs.Stays.{NoneIsPlaced, NoneStandsAtFirst, StandsStill, StandsUnchanged, StaysUnmade};
 
 use cluster_members::members::Members;
 use m3_outside::disk::Disk;
@@ -39,14 +40,16 @@ pub fn turns_leave()
     ensures numbers { NumbersGoOn }
 {}
 
-/// Before an `init` nothing is set: at first, and after each line that sets nothing.
-pub fn first_turns_leave()
-    ensures first { IsBeforeFirst }
-    ensures stays { StaysBeforeInit }
+/// No cluster stands before the first turn, nor after one more that sets nothing and stops no node; and then there is no placement.
+pub fn none_stands()
+    ensures first { NoneStandsAtFirst }
+    ensures stays { StaysUnmade }
+    ensures placed { NoneIsPlaced }
 {}
 
-/// A cluster stands after a line in which nothing changed, and after one that leaves its fields so and its nodes as they were.
+/// A cluster stands after a line in which nothing changed, and after one that made no placement, where the slots alone stepped and
+/// no node was stopped or restarted.
 pub fn stands_again<D: Disk>(members: &Members<D>)
     ensures unchanged { StandsUnchanged members.now }
-    ensures on { StandsOn D.state members.now }
+    ensures still { StandsStill D.state members.now }
 {}

@@ -1,5 +1,5 @@
-//! Which refusals are due, and what lines leave that are refused, given up, or set the rules or the fates: the list of events
-//! tells of each and serves it.
+//! What is so of a cluster that stands; which refusals are due; and what lines leave that are refused, given up, or set the rules or
+//! the fates: the list of events tells of each and serves it.
 #![tactic(auto)]
 
 pub mod due;

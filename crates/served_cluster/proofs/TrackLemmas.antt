@@ -16,7 +16,7 @@ use Rattle.replica_calls.specs.Calls.{AreMembersOf}
 use Rattle.transcripts.specs.Placements.{placement_after}
 use Rattle.transcripts.specs.Record.{inner_turns, line_of}
 use Rattle.cluster_members.specs.declared.members.Members.{Members}
-use Rattle.init_lines.proofs.StandLemmas.{no_placement}
+use Rattle.rule_lines.proofs.StandLemmas.{no_placement}
 use Rattle.cluster_tracks.specs.Tracks.{MayStand, events_of}
 use Rattle.tracked_lines.specs.Lines.{EachMember, IsLeft}
 use Rattle.tracked_lines.proofs.LineLemmas.{lines_are_tracked}

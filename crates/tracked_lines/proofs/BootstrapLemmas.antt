@@ -14,8 +14,8 @@ use Rattle.m3_outside.specs.declared.disk.Disk.{Ghosts}
 use Rattle.call_lines.specs.Laws.{IsNotRefused}
 use Rattle.cluster_members.specs.Names.{node_named}
 use Rattle.cluster_members.specs.declared.members.Members.{Members}
-use Rattle.node_calls.specs.Nodes.{HasShard as HasShardOf, IsBootstrapped, IsHeldUp, IsNoShard, MayBoot}
-use Rattle.rule_lines.specs.Due.{BootstrapDue, HasShard, IsDueNext}
+use Rattle.node_calls.specs.Nodes.{HasShard, IsBootstrapped, IsHeldUp, IsNoShard, MayBoot}
+use Rattle.rule_lines.specs.Due.{BootstrapDue, IsDueNext}
 use Rattle.rule_lines.proofs.DueLemmas.{bootstraps_are_due}
 use Rattle.node_lines.specs.Laws.{LeavesBegun}
 use Rattle.node_lines.proofs.BootTells.{available_tells, boot_damaged_tells, boot_failed_tells, boot_wanted_tells}
@@ -23,17 +23,12 @@ use Rattle.tracked_lines.specs.Lines.{BootstrapsAreTracked, IsLeft, MayGoOn}
 use Rattle.tracked_lines.proofs.NodeLemmas.{IsTracked, begun_on, flag_tells, full_on, may_begin, refused_on, so, wanted_on}
 use Rattle.tracked_lines.proofs.SharedLemmas.{have_left}
 
--- the shard that is asked for is one of the placement's
-has_shard : {D : Type 0} {G : Ghosts D} (m : Members D G) (asked : Option ℕ) → HasShardOf m asked → HasShard m.net.state.place asked
-has_shard m None h = tt
-has_shard m (Some shard) h = h
-
 module _ {D : Type 0} {G : Ghosts D} (state : D → DiskState) (lawful : (d : D) → IsLawful (state d)) (m : Members D G) (tells : Bool) (first now : Depot D) (turns : List Turn) (calls : List ℕ) (go : MayGoOn state tells first now turns calls m) (name : List ℕ) where
   boot_due : (asked : Option ℕ) (b : Answer) → BootstrapDue None turns m.net.state.place name asked b
   boot_due asked b = bootstraps_are_due None turns m.net.state.place m.net.state.rules (have_left turns m go.tracks.after.stands) name asked b
 
   free_boot : (asked : Option ℕ) (b : Answer) → MayBoot m name asked → IsNotRefused None turns (act.Bootstrap name asked) b
-  free_boot asked b may = (boot_due asked b).free may.runs.node may.runs.found (has_shard m asked may.has_shard) (flag_tells state m tells first now turns calls go name false may.runs)
+  free_boot asked b may = (boot_due asked b).free may.runs.node may.runs.found (λ shard is. subst (HasShard m) is may.has_shard) (flag_tells state m tells first now turns calls go name false may.runs)
 
   -- the shard that isn't there is named
   no_shard_due : (asked : Option ℕ) (unknown : List ℕ) (node : ℕ) → node_named name m.net.state.place.instances ≡ Some node → IsNoShard m asked unknown
@@ -63,7 +58,7 @@ module _ {D : Type 0} {G : Ghosts D} (state : D → DiskState) (lawful : (d : D)
     boot_on (answer.Unknown unknown) g left (inr (node, found, away), same) = refused_on state m tells first now turns calls go boot (answer.Unknown unknown) g same (no_shard_due asked unknown node found away)
     boot_on (answer.State node) g left (n, has, is, same) =
         let b : Answer = answer.State node in
-        let due = (boot_due asked b).state n.node n.found (has_shard m asked has) (flag_tells state m tells first now turns calls go name true n) in
+        let due = (boot_due asked b).state n.node n.found (λ shard is. subst (HasShard m) is has) (flag_tells state m tells first now turns calls go name true n) in
         refused_on state m tells first now turns calls go boot b g same (subst (λ x. IsDueNext None turns boot b (Some (answer.State x))) (sym is) due)
     boot_on (answer.Disk node shard) g left (is, h) =
         let b : Answer = answer.Disk node shard in

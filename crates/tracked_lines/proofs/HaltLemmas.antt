@@ -19,9 +19,9 @@ use Rattle.node_calls.specs.Halts.{restart_at, slots_of_node, stop_at}
 use Rattle.node_calls.specs.Nodes.{IsNode, IsRestarted, IsStopped, IsUnstarted}
 use Rattle.rule_lines.specs.Due.{IsDueNext, RestartDue, StopDue}
 use Rattle.rule_lines.proofs.DueLemmas.{restarts_are_due, stops_are_due}
-use Rattle.node_lines.proofs.HaltLemmas.{restart_failed_tells, restart_wanted_tells, restarted_tells, stopped_tells}
+use Rattle.node_lines.proofs.HaltLemmas.{few_own, restart_failed_tells, restart_wanted_tells, restarted_tells, stopped_tells}
 use Rattle.tracked_lines.specs.Lines.{IsLeft, MayGoOn, RestartsAreTracked, StopsAreTracked}
-use Rattle.tracked_lines.proofs.NodeLemmas.{IsTracked, few_own, flag_tells, halted_on, lacking_on, refused_on, so}
+use Rattle.tracked_lines.proofs.NodeLemmas.{IsTracked, flag_tells, halted_on, lacking_on, refused_on, so}
 use Rattle.tracked_lines.proofs.SharedLemmas.{have_left}
 
 module _ {D : Type 0} {G : Ghosts D} (state : D → DiskState) (lawful : (d : D) → IsLawful (state d)) (m : Members D G) (tells : Bool) (first now : Depot D) (turns : List Turn) (calls : List ℕ) (go : MayGoOn state tells first now turns calls m) (name : List ℕ) where

@@ -32,13 +32,13 @@ use Rattle.first_cluster.proofs.BareLemmas.{returned_bare}
 use Rattle.first_cluster.proofs.SlotLists.{in_or_out}
 use Rattle.init_lines.specs.Laws.{untaken_at}
 use Rattle.init_lines.proofs.InitLemmas.{first_tells}
-use Rattle.init_lines.proofs.StandLemmas.{no_placement, stays_unmade}
 use Rattle.init_lines.proofs.UntakenLemmas.{untaken_tells}
 use Rattle.rule_lines.specs.Laws.{LeavesNothing}
 use Rattle.rule_lines.specs.Quiet.{SetsNone}
 use Rattle.rule_lines.proofs.DueLemmas.{inits_are_due, order_is_due}
 use Rattle.rule_lines.proofs.NothingLemmas.{refused_tells}
 use Rattle.rule_lines.proofs.QuietLemmas.{keeps_stops_so, sets_nothing_so}
+use Rattle.rule_lines.proofs.StandLemmas.{no_placement, stays_unmade}
 use Rattle.cluster_tracks.specs.Numbers.{numbers_by}
 use Rattle.cluster_tracks.specs.Steps.{AddsLine}
 use Rattle.cluster_tracks.specs.Tracks.{Tracks}
@@ -140,7 +140,7 @@ module _ {D : Type 0} {G : Ghosts D} (state : D → DiskState) (tells : Bool) (f
           legal = left.legal;
           rose = rose_none before.faults now.faults is.opened.taken.later;
           later = taken_later state m.slots.items before now is.opened.made is.opened.taken;
-          after = first_stands_so state m tells turns rf shards seed nodes before now t.tell t.after.bare t.after.none is left.ready left.legal;
+          after = first_stands_so state m tells turns rf shards seed nodes before now t.tell t.after.bare t.after.none is left.legal;
         }))
 
 -- where none stands, each act but an `init` is out of order

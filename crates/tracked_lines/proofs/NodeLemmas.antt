@@ -1,18 +1,17 @@
 -- What lines that stop, restart or bootstrap a node share: where nothing changed, and where replicas took steps.
-use Rattle.std.proofs.Common.{◌≡◌, ◌≤◌, ◌+◌, ◌*◌, ℕ, List, [], ◌∷◌, ◌++◌, length, sym, ap, subst, ◌∙◌, length-append, arith, Bool}
-use Rattle.std.specs.Prelude.{Some, None, nat_eq}
+use Rattle.std.proofs.Common.{◌≡◌, ◌≤◌, ◌+◌, ◌*◌, ℕ, List, [], ◌∷◌, ◌++◌, length, sym, subst, ◌∙◌, Bool}
+use Rattle.std.specs.Prelude.{Some, None}
 use Rattle.std.proofs.lemmas.List.{append_cancel_left}
 use Rattle.m3_model.specs.declared.act.Act.{Act}
 use Rattle.m3_model.specs.declared.answer.Answer.{Answer}
 use Rattle.m3_model.specs.declared.answer.Answer.TheVariants as answer
-use Rattle.m3_model.specs.declared.limits.TheConstants.{MOST_NODES, MOST_REQUEST_EVENTS, MOST_SHARDS}
+use Rattle.m3_model.specs.declared.limits.TheConstants.{MOST_REQUEST_EVENTS}
 use Rattle.m3_model.specs.declared.turn.Turn.{Turn}
 use Rattle.m3_outside.specs.Depots.{Depot}
 use Rattle.m3_outside.specs.DiskState.{DiskState, IsLawful}
 use Rattle.m3_outside.specs.declared.disk.Disk.{Ghosts}
 use Rattle.cluster_core.specs.declared.event.Event.{Event}
-use Rattle.replica_calls.specs.Calls.{HasRoom, Tracked}
-use Rattle.replica_calls.specs.declared.slot.Slot.{Slot}
+use Rattle.replica_calls.specs.Calls.{HasRoom}
 use Rattle.session_net.specs.Runs.{Ran}
 use Rattle.told_by.specs.Lines.{PlainLine}
 use Rattle.told_by.specs.Makes.{OpensReplicas}
@@ -23,35 +22,23 @@ use Rattle.call_lines.specs.Laws.{IsNotRefused}
 use Rattle.cluster_members.specs.declared.members.Members.{Members}
 use Rattle.node_calls.specs.Halts.{slots_of_node}
 use Rattle.node_calls.specs.Nodes.{IsNode, LacksRoom}
-use Rattle.node_calls.proofs.ListLemmas.{filter_few}
 use Rattle.rule_lines.specs.Due.{IsDueNext}
 use Rattle.rule_lines.specs.Laws.{LeavesNothing}
 use Rattle.rule_lines.proofs.NothingLemmas.{no_room_tells, refused_tells}
-use Rattle.node_lines.specs.Keeps.{BeginsGiven, HaveNoPlace}
+use Rattle.rule_lines.specs.Stays.{HaveNoPlace}
+use Rattle.node_lines.specs.Keeps.{BeginsGiven}
 use Rattle.node_lines.specs.Laws.{LeavesBegun, LeavesStanding}
 use Rattle.node_lines.specs.Opens.{MayBegin}
 use Rattle.node_lines.proofs.OpenLemmas.{begins_still}
 use Rattle.node_lines.proofs.StandLemmas.{stopped_so}
 use Rattle.cluster_tracks.specs.Numbers.{numbers_by}
-use Rattle.cluster_tracks.specs.Runs.{HaveRun}
 use Rattle.cluster_tracks.specs.Steps.{AddsLine, StandsOn}
 use Rattle.cluster_tracks.specs.Tracks.{StandsSo, Tracks}
 use Rattle.cluster_tracks.proofs.AddLemmas.{begun_adds, call_adds}
-use Rattle.cluster_tracks.proofs.QuietLemmas.{quiet_turns_make_none}
+use Rattle.cluster_tracks.proofs.QuietLemmas.{quiet_turns_make_none, two_events}
 use Rattle.cluster_tracks.proofs.StepLemmas.{plain_on}
 use Rattle.tracked_lines.specs.Lines.{IsLeft, MayGoOn}
 use Rattle.tracked_lines.proofs.SharedLemmas.{goes_on as any_goes_on, memory_tells, stays_same}
-
--- a list that was opened has two events
-two_events : {D : Type 0} (state : D → DiskState) (tells : Bool) (depot : Depot D) (t : Tracked D) → HaveRun state tells depot t → 2 ≤ length t.events
-two_events state tells depot t h =
-    let long : length t.events ≡ length h.made.events + length h.more = ap length h.ran.grew ∙ length-append h.made.events h.more in
-    let two : length h.made.events ≡ 2 = ap length h.opened in
-    omega (arith, long, two)
-
--- the slots of a node are few
-pub few_own : {D : Type 0} {G : Ghosts D} (m : Members D G) (node : ℕ) → length (slots_of_node node m.slots.items) ≤ MOST_NODES * MOST_SHARDS
-few_own m node = let few = filter_few (λ (s : Slot). nat_eq s.node node) m.slots.items in let most = m.few_slots in omega (arith, few, most)
 
 module _ {D : Type 0} {G : Ghosts D} (state : D → DiskState) (m : Members D G) (tells : Bool) (first now : Depot D) (turns : List Turn) (calls : List ℕ) (go : MayGoOn state tells first now turns calls m) where
   abbrev pub so : StandsSo state tells now turns m

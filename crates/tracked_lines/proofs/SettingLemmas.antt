@@ -18,9 +18,9 @@ use Rattle.transcripts.specs.Record.{line_of}
 use Rattle.cluster_members.specs.Steps.{SetsRules, clock_events}
 use Rattle.cluster_members.specs.declared.members.Members.{Members}
 use Rattle.node_calls.specs.Nodes.{KeepsButFates}
-use Rattle.node_lines.specs.Keeps.{StopsNothing}
 use Rattle.rule_lines.specs.Due.{IsDueNext, MomentDue, NamespaceDue}
 use Rattle.rule_lines.specs.Laws.{GoesOn}
+use Rattle.rule_lines.specs.Quiet.{KeepsStops}
 use Rattle.rule_lines.proofs.DueLemmas.{fates_are_due, moments_are_due, namespaces_are_due}
 use Rattle.rule_lines.proofs.NothingLemmas.{no_room_tells, refused_tells}
 use Rattle.rule_lines.proofs.SettingLemmas.{fates_tell, moved_tells, named_tells}
@@ -29,14 +29,14 @@ use Rattle.cluster_tracks.specs.Tracks.{Tracks}
 use Rattle.cluster_tracks.proofs.AddLemmas.{served_adds}
 use Rattle.cluster_tracks.proofs.StepLemmas.{clock_on, plain_on}
 use Rattle.tracked_lines.specs.Lines.{FatesAreTracked, IsLeft, MayGoOn, MomentsAreTracked, NamespacesAreTracked}
-use Rattle.tracked_lines.proofs.SharedLemmas.{fields_stand, goes_quietly, have_left, memory_tells, stays_same}
+use Rattle.tracked_lines.proofs.SharedLemmas.{goes_quietly, have_left, memory_tells, stays_same}
 
 module _ {D : Type 0} {G : Ghosts D} (state : D → DiskState) (lawful : (d : D) → IsLawful (state d)) (m : Members D G) where
   -- ---- the rules
 
   -- a Clock came, and all but the rules stays
   ruled : (tells : Bool) (first now : Depot D) (turns : List Turn) (calls : List ℕ) (a : Act) (rules : Rules) (g : Members D G) → MayGoOn state tells first now turns calls m → IsLeft tells g → GoesOn ClockLine None turns m a answer.Done g → SetsRules state rules m g
-      → (OpensReplicas a → ⊥) → StopsNothing a answer.Done → Tracks state tells first now (turns ++ line_of a answer.Done ∷ []) (Some g) (numbers_by a answer.Done calls)
+      → (OpensReplicas a → ⊥) → KeepsStops a answer.Done → Tracks state tells first now (turns ++ line_of a answer.Done ∷ []) (Some g) (numbers_by a answer.Done calls)
   ruled tells first now turns calls a rules g on left goes set opens halts =
       goes_quietly state m tells first now turns calls a answer.Done ClockLine (clock_on state (Some m)) lawful g [] on
       (served_adds ClockLine tells turns [] on.tracks.delivered m.net.replicas.events a answer.Done g.net.replicas.events on.tracks.were goes.line) left.legal (record {
@@ -60,7 +60,7 @@ module _ {D : Type 0} {G : Ghosts D} (state : D → DiskState) (lawful : (d : D)
   namespaces_are_tracked name block past future retention tells first now turns calls answer.Done g on left done =
       let a : Act = act.Namespace name block past future retention in
       let stands = on.tracks.after.stands in
-      ruled tells first now turns calls a _ g on left (named_tells state m None turns name block past future retention g (fields_stand turns m stands) stands.ready done) done.1 (λ h. h) (λ own x. refl)
+      ruled tells first now turns calls a _ g on left (named_tells state m None turns name block past future retention g stands done) done.1 (λ h. h) (λ own x. refl)
   namespaces_are_tracked name block past future retention tells first now turns calls answer.Order g on left done =
       let a : Act = act.Namespace name block past future retention in
       let due : NamespaceDue None turns m.net.state.rules name block past future retention answer.Order = namespaces_are_due None turns m.net.state.place m.net.state.rules (have_left turns m on.tracks.after.stands) name block past future retention answer.Order in
@@ -81,7 +81,7 @@ module _ {D : Type 0} {G : Ghosts D} (state : D → DiskState) (lawful : (d : D)
   pub moments_are_tracked : MomentsAreTracked state m
   moments_are_tracked moment tells first now turns calls answer.Done g on left done =
       let stands = on.tracks.after.stands in
-      ruled tells first now turns calls (act.Now moment) _ g on left (moved_tells state m None turns moment g (fields_stand turns m stands) stands.ready done) done.1 (λ h. h) (λ own x. refl)
+      ruled tells first now turns calls (act.Now moment) _ g on left (moved_tells state m None turns moment g stands done) done.1 (λ h. h) (λ own x. refl)
   moments_are_tracked moment tells first now turns calls (answer.Clock stood) g on left done =
       let due : MomentDue None turns m.net.state.rules moment (answer.Clock stood) = moments_are_due None turns m.net.state.place m.net.state.rules (have_left turns m on.tracks.after.stands) moment (answer.Clock stood) in
       stays_same state m tells first now turns calls (act.Now moment) (answer.Clock stood) g done.2 on.tracks
@@ -99,7 +99,7 @@ module _ {D : Type 0} {G : Ghosts D} (state : D → DiskState) (lawful : (d : D)
       let a : Act = act.Fates list in
       let keeps : KeepsButFates m g = done.3 in
       let stands = on.tracks.after.stands in
-      let goes : GoesOn PlainLine None turns m a answer.Done g = fates_tell m None turns list g (fields_stand turns m stands) stands.ready (record {
+      let goes : GoesOn PlainLine None turns m a answer.Done g = fates_tell m None turns list g stands (record {
         items = done.0;
         numbered = done.1;
         fates = done.2;

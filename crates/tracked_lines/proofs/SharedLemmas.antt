@@ -21,9 +21,8 @@ use Rattle.call_lines.proofs.ServeLemmas.{delivered_so}
 use Rattle.cluster_members.specs.declared.members.Members.{Members}
 use Rattle.rule_lines.specs.Due.{HaveLeft}
 use Rattle.rule_lines.specs.Laws.{LeavesNothing}
-use Rattle.rule_lines.specs.Quiet.{Stands as FieldsStand}
-use Rattle.rule_lines.proofs.QuietLemmas.{stands_unchanged}
-use Rattle.node_lines.specs.Stands.{Stands}
+use Rattle.rule_lines.specs.Stands.{Stands}
+use Rattle.rule_lines.proofs.StandLemmas.{stands_unchanged}
 use Rattle.cluster_tracks.specs.Numbers.{numbers_by}
 use Rattle.cluster_tracks.specs.Quiet.{GoesQuietly}
 use Rattle.cluster_tracks.specs.Steps.{AddsLine, StandsOn, TracksOn}
@@ -34,13 +33,8 @@ use Rattle.cluster_tracks.proofs.QuietLemmas.{quiet_lines_stand_on}
 use Rattle.cluster_tracks.proofs.StepLemmas.{plain_on, stands_after_line}
 use Rattle.tracked_lines.specs.Lines.{MayGoOn}
 
--- ---- what the turns left of a cluster that stands
+-- ---- the placement and the rules that the turns left of a cluster that stands
 
--- its fields, its stopped nodes and its slots
-pub fields_stand : {D : Type 0} {G : Ghosts D} (turns : List Turn) (m : Members D G) → Stands None turns m → FieldsStand None turns m
-fields_stand turns m h = record { left = h.left; stopped = λ node own at. h.stopped node own at; slots = record { there = λ s i. h.slots.manned s i; all = λ s some. h.slots.no_others s some } }
-
--- its placement and its rules
 pub have_left : {D : Type 0} {G : Ghosts D} (turns : List Turn) (m : Members D G) → Stands None turns m → HaveLeft None turns (Some m.net.state.place) m.net.state.rules
 have_left turns m h = record { rules_are = h.left.rules; place_is = h.left.place }
 
@@ -80,13 +74,12 @@ module _ {D : Type 0} {G : Ghosts D} (state : D → DiskState) (m : Members D G)
   pub stays : Tracks state tells first now turns (Some m) calls → LeavesNothing None turns m.net.replicas.events a b → Tracks state tells first now (turns ++ line_of a b ∷ []) (Some m) (numbers_by a b calls)
   stays t h =
       let before : StandsSo state tells now turns m = t.after in
-      let fields : FieldsStand None (turns ++ line_of a b ∷ []) m = stands_unchanged m None turns a b (fields_stand turns m before.stands) h.sets_none h.delivers_none in
       goes_on PlainLine (plain_on state (Some m)) m [] t (served_adds PlainLine tells turns [] t.delivered m.net.replicas.events a b m.net.replicas.events t.were h.line) t.legal (record {
         more = [];
         ran = ran_nothing state m.net.replicas;
         others = λ s none. refl;
         slots = refl;
-        stands = record { left = fields.left; ready = before.stands.ready; slots = before.stands.slots; named = before.stands.named; stopped = λ node own at. fields.stopped node own at };
+        stands = stands_unchanged m None turns a b before.stands h.sets_none h.delivers_none;
         low = before.low;
       })
 

@@ -16,7 +16,7 @@ use Rattle.cluster_core.proofs.ListLemmas.{any_at, at_any, at_within, in_at}
 use Rattle.told_by.specs.Hears.{HasReplica, InStretch, IsNamedBy, Happens}
 use Rattle.told_by.proofs.LineLemmas.{at_front}
 use Rattle.told_by.proofs.OneLemmas.{among_back, at_back, back_at}
-use Rattle.node_lines.specs.Keeps.{HaveNoPlace, IsNoPlace}
+use Rattle.rule_lines.specs.Stays.{HaveNoPlace, IsNoPlace}
 
 -- ---- lists
 

@@ -1,8 +1,0 @@
-use Rattle.init_lines.proofs.StandLemmas.{none_stands_at_first, stays_unmade}
-use Rattle.init_lines.proofs.laws.none_stands.Goals as goal
-
-pub returns-clause-first : goal.returns-clause-first
-returns-clause-first c = none_stands_at_first
-
-pub returns-clause-stays : goal.returns-clause-stays
-returns-clause-stays c = stays_unmade
