@@ -21,7 +21,7 @@ use Rattle.m3_outside.specs.declared.disk.Disk.{Ghosts}
 use Rattle.cluster_core.specs.Legal.{Legal}
 use Rattle.cluster_core.specs.declared.event.Event.{Event}
 use Rattle.cluster_core.proofs.ListLemmas.{some_same}
-use Rattle.replica_calls.specs.declared.call_id.CallId.{CallId}
+use Rattle.replica_exchange.specs.declared.call_id.CallId.{CallId}
 use Rattle.session_net.specs.Outcomes.{answering, refusing}
 use Rattle.session_net.specs.Reads.{IsFound, Wish, asked_shards, told_in}
 use Rattle.session_net.specs.declared.net.Net.{Net}

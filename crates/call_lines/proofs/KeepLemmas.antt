@@ -27,7 +27,7 @@ use Rattle.placement_core.specs.NodeNames.{IsNamedBelow}
 use Rattle.placement_core.specs.Shards.{Shard, nodes_of, shard_at}
 use Rattle.placement_core.proofs.ListLemmas.{IsIn-filter, chosen}
 use Rattle.placement_core.proofs.OrderLemmas.{ascends-filter, ascends-map}
-use Rattle.replica_calls.specs.declared.call_id.CallId.{CallId}
+use Rattle.replica_exchange.specs.declared.call_id.CallId.{CallId}
 use Rattle.session_net.specs.Messages.{fate_to}
 use Rattle.session_net.specs.Writes.{AreMembers, bag_after, filled, is_late, late_to, shard_of_point}
 use Rattle.session_net.specs.declared.net.Net.{Net}

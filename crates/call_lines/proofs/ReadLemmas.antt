@@ -34,7 +34,7 @@ use Rattle.cluster_core.specs.declared.event.StepReply.TheVariants as reply
 use Rattle.cluster_core.proofs.ListLemmas.{at_append, at_in, at_same, at_within, in_at, take_at}
 use Rattle.placement_core.specs.NodeNames.{IsNamedBelow}
 use Rattle.placement_core.specs.Shards.{counted, is_available, shard_at}
-use Rattle.replica_calls.specs.declared.call_id.CallId.{CallId}
+use Rattle.replica_exchange.specs.declared.call_id.CallId.{CallId}
 use Rattle.session_net.specs.Outcomes.{answering, refusing}
 use Rattle.session_net.specs.Reads.{AreRead, IsAsked, ShardRead, Wish, asked_shards, count_from, done_of, ended_of, read_of as read_call, start_of, told_in}
 use Rattle.session_net.specs.declared.net.Net.{Net}

@@ -27,7 +27,7 @@ use Rattle.told_by.specs.Hears.{InStretch}
 use Rattle.told_by.specs.Lines.{place_after}
 use Rattle.told_by.proofs.LineLemmas.{line_below}
 use Rattle.told_by.proofs.OneLemmas.{among_back}
-use Rattle.replica_calls.specs.Calls.{HasRoom}
+use Rattle.replica_exchange.specs.MachineCalls.{HasRoom}
 use Rattle.told_runs.specs.Answers.{HearsOf, IsAnswered, IsDecidedBy, IsOfKind, MayLackRoom}
 use Rattle.told_runs.specs.Bounds.{writes_taken}
 use Rattle.told_runs.specs.Lines.{AddsInOrder, OpensNext, PrintsByInit, ServesOne, delivered_on}

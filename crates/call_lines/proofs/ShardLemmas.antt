@@ -25,7 +25,7 @@ use Rattle.placement_core.specs.Lawful.{IsLawful}
 use Rattle.placement_core.specs.NodeNames.{IsNamedBelow}
 use Rattle.placement_core.specs.Shards.{Shard, counted, is_available, nodes_of, shard_at}
 use Rattle.placement_core.proofs.HolderLemmas.{chosen_node}
-use Rattle.replica_calls.specs.declared.call_id.CallId.{CallId}
+use Rattle.replica_exchange.specs.declared.call_id.CallId.{CallId}
 use Rattle.session_net.specs.Messages.{Heard, fate_to}
 use Rattle.session_net.specs.Outcomes.{Told, answering, refusing, told_of}
 use Rattle.told_by.specs.Hears.{HasServed, HasStep, Happens, HearsShard, IsHeard, IsOwnCall, IsServed}

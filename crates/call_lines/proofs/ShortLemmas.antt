@@ -24,7 +24,7 @@ use Rattle.cluster_core.specs.declared.event.StepReply.{StepReply}
 use Rattle.cluster_core.specs.declared.event.StepReply.TheVariants as reply
 use Rattle.cluster_core.proofs.ListLemmas.{at_append, at_in, some_same}
 use Rattle.placement_core.specs.Shards.{counted, shard_at}
-use Rattle.replica_calls.specs.declared.call_id.CallId.{CallId}
+use Rattle.replica_exchange.specs.declared.call_id.CallId.{CallId}
 use Rattle.session_net.specs.Outcomes.{answering}
 use Rattle.session_net.specs.Reads.{ShardRead, Wish, asked_shards, most_added, read_of as read_call, start_of, told_in}
 use Rattle.session_net.specs.declared.net.Net.{Net}

@@ -8,7 +8,7 @@ use Rattle.cluster_core.specs.Lists.{At}
 use Rattle.cluster_core.specs.declared.event.Event.{Event}
 use Rattle.cluster_core.proofs.ListLemmas.{at_append, some_same}
 use Rattle.net_plan.specs.Fates.{FateMap}
-use Rattle.replica_calls.specs.declared.call_id.CallId.{CallId}
+use Rattle.replica_exchange.specs.declared.call_id.CallId.{CallId}
 use Rattle.session_net.specs.Outcomes.{answering}
 use Rattle.session_net.specs.Reads.{AreRead, IsAsked, ShardRead, Wish, done_of, ended_of, start_of, told_in}
 use Rattle.told_by.proofs.LineLemmas.{at_front}

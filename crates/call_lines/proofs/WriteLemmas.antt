@@ -44,7 +44,7 @@ use Rattle.cluster_core.proofs.ListLemmas.{any_at, at_append, at_in, at_same, at
 use Rattle.placement_core.specs.NodeNames.{IsNamedBelow}
 use Rattle.placement_core.specs.Shards.{Shard, counted, is_available, nodes_of, shard_at}
 use Rattle.placement_core.proofs.OrderLemmas.{ascends-filter, ascends-map}
-use Rattle.replica_calls.specs.declared.call_id.CallId.{CallId}
+use Rattle.replica_exchange.specs.declared.call_id.CallId.{CallId}
 use Rattle.session_net.specs.Messages.{Heard, fate_to}
 use Rattle.session_net.specs.Outcomes.{answering, refusing}
 use Rattle.session_net.specs.Writes.{IsSent, Sent, counted_among, put_of, send_of, shard_of_point, told_in}

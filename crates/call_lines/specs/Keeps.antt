@@ -11,7 +11,7 @@ use Rattle.m3_model.specs.declared.turn.Request.TheVariants as request
 use Rattle.m3_model.specs.declared.turn.Turn.{Turn}
 use Rattle.m3_outside.specs.declared.disk.Disk.{Ghosts}
 use Rattle.placement_core.specs.Shards.{Shard, nodes_of}
-use Rattle.replica_calls.specs.declared.call_id.CallId.{CallId}
+use Rattle.replica_exchange.specs.declared.call_id.CallId.{CallId}
 use Rattle.session_net.specs.Writes.{AreMembers, bag_after, shard_of_point}
 use Rattle.session_net.specs.declared.net.Net.{Net}
 use Rattle.transcripts.specs.Deliveries.{delivers_nothing}

@@ -16,7 +16,7 @@ use Rattle.cluster_core.specs.declared.event.Event.{Event}
 use Rattle.cluster_core.specs.declared.event.Event.TheVariants as event
 use Rattle.cluster_core.specs.declared.event.StepCall.{StepCall}
 use Rattle.cluster_core.specs.declared.event.StepCall.TheVariants as call
-use Rattle.replica_calls.specs.declared.call_id.CallId.{CallId}
+use Rattle.replica_exchange.specs.declared.call_id.CallId.{CallId}
 use Rattle.session_net.specs.Deliveries.{IsDelivered}
 use Rattle.session_net.specs.Ready.{IsReady}
 use Rattle.session_net.specs.Writes.{IsAcknowledged, IsUnmet, IsUnsent}

@@ -12,7 +12,7 @@ use Rattle.m3_model.specs.declared.turn.Turn.{Turn}
 use Rattle.m3_outside.specs.DiskState.{DiskState}
 use Rattle.m3_outside.specs.declared.disk.Disk.{Ghosts}
 use Rattle.cluster_core.specs.Legal.{Legal}
-use Rattle.replica_calls.specs.declared.call_id.CallId.{CallId}
+use Rattle.replica_exchange.specs.declared.call_id.CallId.{CallId}
 use Rattle.session_net.specs.Reads.{IsCutShort, IsFirstShort, IsFound, IsFull, IsStopped, Wish}
 use Rattle.session_net.specs.Ready.{IsReady}
 use Rattle.session_net.specs.declared.net.Net.{Net}

@@ -9,7 +9,7 @@ use Rattle.m3_model.specs.declared.answer.Answer.{Answer}
 use Rattle.m3_model.specs.declared.answer.Answer.TheVariants as answer
 use Rattle.m3_model.specs.declared.point.Pick.{Pick}
 use Rattle.m3_model.specs.declared.point.Point.{Point}
-use Rattle.replica_calls.specs.declared.call_id.CallId.{CallId}
+use Rattle.replica_exchange.specs.declared.call_id.CallId.{CallId}
 use Rattle.session_net.specs.Reads.{Wish, IsFound, IsRefusedRead}
 use Rattle.session_net.specs.Writes.{IsAcknowledged, IsRefused}
 use Rattle.session_net.specs.declared.net.Net.{Net}

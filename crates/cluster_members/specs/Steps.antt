@@ -11,7 +11,7 @@ use Rattle.m3_model.specs.declared.rules.Space.{Space}
 use Rattle.cluster_core.specs.declared.event.Asked.TheVariants as asked
 use Rattle.cluster_core.specs.declared.event.Event.{Event}
 use Rattle.cluster_core.specs.declared.event.Event.TheVariants as event
-use Rattle.replica_calls.specs.Calls.{HasRoom}
+use Rattle.replica_exchange.specs.MachineCalls.{HasRoom}
 use Rattle.session_net.specs.Runs.{Ran}
 use Rattle.cluster_members.specs.declared.members.Members.{Members}
 

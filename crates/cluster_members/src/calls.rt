@@ -15,7 +15,7 @@ use m3_model::point::{Matcher, Pick, Point};
 use m3_model::seq::Seq;
 use m3_model::text::Text;
 use m3_outside::disk::Disk;
-use replica_calls::call_id::CallId;
+use replica_exchange::call_id::CallId;
 use session_net::session_err::SessionErr;
 use session_reads::read::fetch;
 use session_writes::write::write;

@@ -4,7 +4,7 @@ ghost use Rattle.m3_model.specs.declared.rules.Rules.{Rules as Ruling};
 ghost use Rattle.cluster_core.specs.Legal.{IsNextClock, Lawful};
 ghost use Rattle.cluster_core.specs.declared.event.Asked.TheVariants as asked;
 ghost use Rattle.cluster_core.specs.declared.event.Event.TheVariants as event;
-ghost use Rattle.replica_calls.specs.Calls.{HasRoom};
+ghost use Rattle.replica_exchange.specs.MachineCalls.{HasRoom};
 ghost use Rattle.session_net.specs.Runs.{Ran};
 ghost use Rattle.cluster_members.specs.Steps.{clock_events};
 

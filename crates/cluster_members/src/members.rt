@@ -2,7 +2,7 @@ ghost use Rattle.std.specs.Prelude.{◌≡◌, ◌≤◌, ◌<◌, ◌*◌, leng
 ghost use Rattle.m3_model.specs.declared.limits.TheConstants.{MOST_NAMESPACES, MOST_NODES, MOST_SHARDS, TIME_END};
 
 use m3_outside::disk::Disk;
-use replica_calls::slot::Slot;
+use replica_exchange::slot::Slot;
 use session_net::net::Net;
 
 /// A cluster that stands: what its calls meet, the slots that have a replica by shard, and which of its nodes are stopped.

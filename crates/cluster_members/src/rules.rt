@@ -2,7 +2,7 @@
 ghost use Rattle.std.specs.Prelude.{◌≡◌, ◌≤◌, ◌<◌, ◌++◌, ◌∷◌, [], length, IfOk};
 ghost use Rattle.m3_model.specs.declared.limits.TheConstants.{MOST_NAMESPACES, TIME_END};
 ghost use Rattle.cluster_core.specs.Legal.{IsNextClock};
-ghost use Rattle.replica_calls.specs.Calls.{HasRoom};
+ghost use Rattle.replica_exchange.specs.MachineCalls.{HasRoom};
 ghost use Rattle.session_net.specs.Ready.{IsReady};
 ghost use Rattle.cluster_members.specs.Steps.{IsMoved, IsNamed, SetsRules, at_moment, with_space};
 

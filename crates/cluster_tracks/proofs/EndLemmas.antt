@@ -29,8 +29,8 @@ use Rattle.told_runs.proofs.CountedLemmas.{few, of_run}
 use Rattle.transcripts.specs.Caused.{Caused}
 use Rattle.transcripts.specs.Faults.{Fault, FaultKind, Taking, Failing, Damaged, is_failing, is_taking}
 use Rattle.transcripts.specs.Record.{TurnPlace, IsTurnPlace}
-use Rattle.replica_calls.specs.declared.member.Member.{Member}
-use Rattle.replica_calls.specs.declared.slot.Slot.{Slot}
+use Rattle.replica_exchange.specs.declared.member.Member.{Member}
+use Rattle.replica_exchange.specs.declared.slot.Slot.{Slot}
 use Rattle.replica_calls.specs.Slots.{MemberMap}
 use Rattle.session_net.specs.Runs.{Step, slot_at, step_in, steps_of}
 use Rattle.cluster_members.specs.declared.members.Members.{Members}

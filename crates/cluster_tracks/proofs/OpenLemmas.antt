@@ -28,8 +28,8 @@ use Rattle.replica_machine.specs.Openings.{AllSound}
 use Rattle.replica_machine.specs.Steps.{IsStep}
 use Rattle.replica_machine.proofs.OpeningLemmas.{first_begin_is_as_made}
 use Rattle.replica_machine.proofs.OtherLemmas.{first_follows}
+use Rattle.replica_exchange.specs.declared.member.Member.{Member}
 use Rattle.replica_calls.specs.Calls.{Tracked}
-use Rattle.replica_calls.specs.declared.member.Member.{Member}
 use Rattle.session_net.specs.Runs.{Step, TakesSteps, IsStepped, slot_at, step_in, steps_of}
 use Rattle.first_cluster.specs.Bare.{HasNoPoints}
 use Rattle.cluster_tracks.specs.Runs.{HaveRun, RunOpensEmpty}

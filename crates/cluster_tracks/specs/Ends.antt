@@ -13,8 +13,8 @@ use Rattle.told_runs.specs.Lines.{life_of}
 use Rattle.transcripts.specs.Caused.{Caused}
 use Rattle.transcripts.specs.Faults.{Fault, Damaged, is_failing, is_taking}
 use Rattle.transcripts.specs.Kept.{Kept}
-use Rattle.replica_calls.specs.declared.member.Member.{Member}
-use Rattle.replica_calls.specs.declared.slot.Slot.{Slot}
+use Rattle.replica_exchange.specs.declared.member.Member.{Member}
+use Rattle.replica_exchange.specs.declared.slot.Slot.{Slot}
 use Rattle.cluster_members.specs.declared.members.Members.{Members}
 use Rattle.first_cluster.specs.Depots.{RisesBy, count_at, place_of_slot}
 use Rattle.cluster_tracks.specs.Tracks.{Tracks, faults_of}

@@ -23,10 +23,10 @@ use Rattle.replica_machine.specs.Machines.{IsHeldBy, MachineState, first_machine
 use Rattle.replica_machine.specs.Steps.{IsStep}
 use Rattle.replica_machine.specs.declared.machine.Began.{Began}
 use Rattle.replica_machine.proofs.OtherLemmas.{first_follows}
+use Rattle.replica_exchange.specs.Promises.{Begins}
+use Rattle.replica_exchange.specs.declared.member.Member.{Member}
+use Rattle.replica_exchange.specs.declared.slot.Slot.{Slot}
 use Rattle.replica_calls.specs.Calls.{first_member}
-use Rattle.replica_calls.specs.Promises.{Begins}
-use Rattle.replica_calls.specs.declared.member.Member.{Member}
-use Rattle.replica_calls.specs.declared.slot.Slot.{Slot}
 use Rattle.cluster_members.specs.declared.members.Members.{Members}
 use Rattle.first_cluster.specs.Bare.{BeginsBare, FirstBeginsBare, HasNoPoints, IsBare, ReturnedBare}
 use Rattle.first_cluster.specs.Begins.{Said}

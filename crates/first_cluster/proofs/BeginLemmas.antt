@@ -17,13 +17,14 @@ use Rattle.cluster_core.specs.declared.event.StepCall.TheVariants as call
 use Rattle.cluster_core.specs.declared.event.StepReply.{StepReply}
 use Rattle.cluster_core.specs.declared.event.StepReply.TheVariants as reply
 use Rattle.replica_machine.specs.declared.machine.Began.{Began}
-use Rattle.replica_calls.specs.Calls.{AddsBoth, Tracked, HasRoom, MayCall, WasCalled, IsMissed, result_of}
-use Rattle.replica_calls.specs.Promises.{Begins}
+use Rattle.replica_exchange.specs.MachineCalls.{AddsBoth, HasRoom, result_of}
+use Rattle.replica_exchange.specs.Promises.{Begins}
+use Rattle.replica_exchange.specs.declared.call_err.CallErr.{CallErr}
+use Rattle.replica_exchange.specs.declared.call_err.CallErr.TheVariants as call_err
+use Rattle.replica_exchange.specs.declared.member.Member.{Member}
+use Rattle.replica_exchange.specs.declared.slot.Slot.{Slot}
+use Rattle.replica_calls.specs.Calls.{Tracked, MayCall, WasCalled, IsMissed}
 use Rattle.replica_calls.specs.Slots.{slot_cmp}
-use Rattle.replica_calls.specs.declared.call_err.CallErr.{CallErr}
-use Rattle.replica_calls.specs.declared.call_err.CallErr.TheVariants as call_err
-use Rattle.replica_calls.specs.declared.member.Member.{Member}
-use Rattle.replica_calls.specs.declared.slot.Slot.{Slot}
 use Rattle.replica_calls.proofs.SlotLemmas.{get-insert_here}
 use Rattle.session_net.specs.Runs.{IsStepped, Ran, Step, step_in, steps_of}
 use Rattle.session_net.proofs.ReadyLemmas.{any_after, room_after, there_after}

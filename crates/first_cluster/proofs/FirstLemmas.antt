@@ -22,10 +22,11 @@ use Rattle.cluster_core.specs.declared.event.StepReply.{StepReply}
 use Rattle.net_plan.specs.declared.late_write.LateWrite.{LateWrite}
 use Rattle.placement_core.specs.Lawful.{IsLawful}
 use Rattle.placement_core.specs.Shards.{Shard, nodes_of, shard_at}
-use Rattle.replica_calls.specs.Calls.{HasRoom, Tracked, first_member}
+use Rattle.replica_exchange.specs.MachineCalls.{HasRoom}
+use Rattle.replica_exchange.specs.declared.member.Member.{Member}
+use Rattle.replica_exchange.specs.declared.slot.Slot.{Slot}
+use Rattle.replica_calls.specs.Calls.{Tracked, first_member}
 use Rattle.replica_calls.specs.Slots.{MemberMap}
-use Rattle.replica_calls.specs.declared.member.Member.{Member}
-use Rattle.replica_calls.specs.declared.slot.Slot.{Slot}
 use Rattle.session_net.specs.Ready.{IsReady}
 use Rattle.session_net.specs.Runs.{IsStepped, Step, slot_at, steps_of}
 use Rattle.session_net.proofs.ReadyLemmas.{AreQuiet, IsQuiet, ready_after, quiet_both, quiet_none, there_after}

@@ -8,10 +8,10 @@ use Rattle.m3_outside.specs.Causes.{RoseBy, last_count}
 use Rattle.m3_outside.specs.DiskState.{DiskState}
 use Rattle.m3_outside.specs.Slots.{Here, Out, OthersStay}
 use Rattle.m3_outside.specs.declared.slot.Slot.{Slot as Place}
-use Rattle.replica_calls.specs.declared.member.Member.{Member}
+use Rattle.replica_exchange.specs.declared.member.Member.{Member}
 use Rattle.replica_calls.specs.Slots.{MemberMap, slot_cmp}
 use Rattle.session_net.specs.Runs.{slot_at}
-use Rattle.replica_calls.specs.declared.slot.Slot.{Slot}
+use Rattle.replica_exchange.specs.declared.slot.Slot.{Slot}
 use Rattle.m3_outside.specs.Depots.{Depot}
 use Rattle.first_cluster.specs.Depots.{AreOut, count_at, place_of_slot, risen}
 use Rattle.first_cluster.specs.Slots.{AreApart}

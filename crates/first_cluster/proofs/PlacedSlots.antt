@@ -13,7 +13,7 @@ use Rattle.cluster_core.specs.Lists.{At}
 use Rattle.cluster_core.specs.declared.event.Event.{Event}
 use Rattle.cluster_core.specs.declared.event.Event.TheVariants as event
 use Rattle.placement_core.proofs.ListLemmas.{Any-from_IsIn, at_within}
-use Rattle.replica_calls.specs.declared.slot.Slot.{Slot}
+use Rattle.replica_exchange.specs.declared.slot.Slot.{Slot}
 use Rattle.session_net.specs.Runs.{slot_at}
 use Rattle.first_cluster.specs.Slots.{slots_from, slots_of, slots_in, start_at, starts_from, starts_of}
 use Rattle.first_cluster.specs.declared.start.Start.{Start}

@@ -4,9 +4,9 @@ use Rattle.std.specs.Prelude.{None}
 use Rattle.std.specs.FinMap.{get, remove, get-remove}
 use Rattle.std.specs.Ordering.{eq_by_cmp}
 use Rattle.m3_outside.specs.declared.slot.Slot.{Slot as Place}
-use Rattle.replica_calls.proofs.SlotLemmas.{slot_cmp_total, same_slot}
+use Rattle.replica_exchange.specs.declared.slot.Slot.{Slot}
 use Rattle.replica_calls.specs.Slots.{MemberMap, slot_cmp}
-use Rattle.replica_calls.specs.declared.slot.Slot.{Slot}
+use Rattle.replica_calls.proofs.SlotLemmas.{slot_cmp_total, same_slot}
 use Rattle.first_cluster.specs.Depots.{place_of_slot}
 use Rattle.first_cluster.proofs.SlotLists.{own_slot}
 

@@ -15,7 +15,7 @@ use Rattle.transcripts.specs.Placements.{has_replica}
 use Rattle.placement_core.proofs.OrderLemmas.{ascends-map}
 use Rattle.replica_calls.specs.Slots.{slot_cmp}
 use Rattle.session_net.specs.Runs.{slot_at}
-use Rattle.replica_calls.specs.declared.slot.Slot.{Slot}
+use Rattle.replica_exchange.specs.declared.slot.Slot.{Slot}
 use Rattle.replica_calls.proofs.SlotLemmas.{same_slot, slot_cmp_total}
 use Rattle.first_cluster.specs.Slots.{AreApart, slots_from, slots_of}
 use Rattle.first_cluster.proofs.ListLemmas.{ascends_append, any_of, ascends_on}

@@ -5,10 +5,10 @@ use Rattle.std.specs.FinMap.{get, insert}
 use Rattle.m3_outside.specs.DiskState.{DiskState, IsEmpty}
 use Rattle.m3_outside.specs.Slots.{Here, Out, MayGive, OthersStay}
 use Rattle.m3_outside.specs.declared.slot.Slot.{Slot as Place}
+use Rattle.replica_exchange.specs.declared.slot.Slot.{Slot}
 use Rattle.replica_calls.specs.Calls.{first_member}
-use Rattle.replica_calls.proofs.SlotLemmas.{get-insert_here, get-insert_other}
 use Rattle.replica_calls.specs.Slots.{MemberMap}
-use Rattle.replica_calls.specs.declared.slot.Slot.{Slot}
+use Rattle.replica_calls.proofs.SlotLemmas.{get-insert_here, get-insert_other}
 use Rattle.m3_outside.specs.Depots.{Depot}
 use Rattle.first_cluster.specs.Depots.{place_of_slot}
 use Rattle.first_cluster.specs.Lending.{IsUntouched, IsGivenBack, IsNew, KeepsOthers}

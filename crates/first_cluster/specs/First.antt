@@ -16,7 +16,7 @@ use Rattle.placement_core.specs.Lawful.{IsLawful}
 use Rattle.placement_plan.specs.First.{IsFirstPlacement, IsInitial}
 use Rattle.cluster_core.specs.declared.event.Event.{Event}
 use Rattle.cluster_core.specs.declared.event.Event.TheVariants as event
-use Rattle.replica_calls.specs.declared.slot.Slot.{Slot}
+use Rattle.replica_exchange.specs.declared.slot.Slot.{Slot}
 use Rattle.session_net.specs.Runs.{slot_at}
 use Rattle.cluster_members.specs.declared.members.Members.{Members}
 use Rattle.first_cluster.specs.Lending.{AreOpened, HasReturned}

@@ -10,10 +10,10 @@ use Rattle.m3_outside.specs.declared.slot.Slot.{Slot as Place}
 use Rattle.cluster_core.specs.declared.event.Event.{Event}
 use Rattle.cluster_core.specs.declared.event.StepCall.TheVariants as call
 use Rattle.cluster_core.specs.declared.event.StepReply.{StepReply}
+use Rattle.replica_exchange.specs.declared.member.Member.{Member}
+use Rattle.replica_exchange.specs.declared.slot.Slot.{Slot}
 use Rattle.replica_calls.specs.Calls.{Tracked, first_member}
 use Rattle.replica_calls.specs.Slots.{MemberMap}
-use Rattle.replica_calls.specs.declared.member.Member.{Member}
-use Rattle.replica_calls.specs.declared.slot.Slot.{Slot}
 use Rattle.session_net.specs.Runs.{Step, IsStepped}
 use Rattle.first_cluster.specs.Begins.{HaveBegun}
 use Rattle.first_cluster.specs.Depots.{place_of_slot, risen}

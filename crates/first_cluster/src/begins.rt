@@ -4,8 +4,8 @@ ghost use Rattle.std.specs.FinMap as finite;
 ghost use Rattle.m3_model.specs.Members.{IsIn};
 ghost use Rattle.m3_model.specs.declared.reason.Reason.TheVariants as reason;
 ghost use Rattle.cluster_core.specs.Earlier.{HasTenure};
-ghost use Rattle.replica_calls.specs.Calls.{HasRoom};
-ghost use Rattle.replica_calls.specs.declared.call_err.CallErr.TheVariants as call_err;
+ghost use Rattle.replica_exchange.specs.MachineCalls.{HasRoom};
+ghost use Rattle.replica_exchange.specs.declared.call_err.CallErr.TheVariants as call_err;
 ghost use Rattle.first_cluster.specs.Begins.{WantedMemory, WasBegun, HaveBegun, HaveSomeBegun};
 ghost use Rattle.first_cluster.specs.Slots.{AreApart, slots_in};
 ghost use Rattle.first_cluster.specs.declared.start.Start.{Start as AtStart};
@@ -14,8 +14,8 @@ use crate::start::Start;
 use m3_model::memory::Memory;
 use m3_model::reason::Reason;
 use m3_outside::disk::Disk;
-use replica_calls::CallErr;
 use replica_calls::replicas::Replicas;
+use replica_exchange::CallErr;
 
 // What is counted of the answer of a begin: only want of memory is a refusal.
 fn only_memory(answer: Result<(), CallErr>) -> Result<(), Memory>

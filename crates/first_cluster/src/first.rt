@@ -20,7 +20,7 @@ use m3_model::text::Text;
 use m3_outside::disk::Disk;
 use m3_outside::disks::Disks;
 use net_plan::fates::Fates;
-use replica_calls::slot::Slot;
+use replica_exchange::slot::Slot;
 use session_net::net::Net;
 use std::alloc::Global;
 

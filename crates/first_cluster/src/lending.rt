@@ -6,9 +6,9 @@ ghost use Rattle.m3_outside.specs.Slots.{Out};
 ghost use Rattle.placement_core.specs.Lawful.{IsLawful};
 ghost use Rattle.cluster_core.specs.Earlier.{HasTenure};
 ghost use Rattle.cluster_core.specs.Replicas.{replica, fresh};
-ghost use Rattle.replica_calls.specs.Calls.{HasRoom};
-ghost use Rattle.replica_calls.specs.declared.member.Member.{Member as Replica};
-ghost use Rattle.replica_calls.specs.declared.slot.Slot.{Slot as AtSlot};
+ghost use Rattle.replica_exchange.specs.MachineCalls.{HasRoom};
+ghost use Rattle.replica_exchange.specs.declared.member.Member.{Member as Replica};
+ghost use Rattle.replica_exchange.specs.declared.slot.Slot.{Slot as AtSlot};
 ghost use Rattle.first_cluster.specs.Depots.{depot_by, place_of_slot};
 ghost use Rattle.first_cluster.specs.First.{opening_of};
 ghost use Rattle.first_cluster.specs.Lending.{IsFree, IsTaken, KeepsOthers, HasTaken, MayHaveTaken, AreOpened, IsUnopened, HasGivenBack, first_tenure};
@@ -26,9 +26,9 @@ use m3_outside::disk::Disk;
 use m3_outside::disk_err::DiskErr;
 use m3_outside::disks::Disks;
 use m3_outside::slot::Slot as Place;
-use replica_calls::member::Member;
 use replica_calls::replicas::Replicas;
-use replica_calls::slot::Slot;
+use replica_exchange::member::Member;
+use replica_exchange::slot::Slot;
 use std::alloc::Global;
 
 // The place of a slot's disk.

@@ -14,7 +14,7 @@ use m3_model::rules::{MetaState, Rules};
 use m3_model::seq::Seq;
 use m3_model::text::Text;
 use net_plan::bag::Bag;
-use replica_calls::slot::Slot;
+use replica_exchange::slot::Slot;
 use std::alloc::Global;
 
 // What a cluster is to be.

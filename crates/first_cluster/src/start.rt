@@ -1,4 +1,4 @@
-use replica_calls::slot::Slot;
+use replica_exchange::slot::Slot;
 
 /// The slot of a replica, with the tenure with which it begins.
 #[derive(Clone, Copy)]

@@ -24,11 +24,11 @@ use Rattle.cluster_core.proofs.ListLemmas.{some_same}
 use Rattle.replica_machine.specs.Boots.{IsBootReason}
 use Rattle.replica_machine.specs.Machines.{first_machine}
 use Rattle.replica_machine.specs.declared.machine.Began.{Began}
+use Rattle.replica_exchange.specs.Exchanges.{ask_of}
+use Rattle.replica_exchange.specs.Promises.{Begins}
+use Rattle.replica_exchange.specs.declared.member.Member.{Member}
+use Rattle.replica_exchange.specs.declared.slot.Slot.{Slot}
 use Rattle.replica_calls.specs.Calls.{first_member}
-use Rattle.replica_calls.specs.Exchanges.{ask_of}
-use Rattle.replica_calls.specs.Promises.{Begins}
-use Rattle.replica_calls.specs.declared.member.Member.{Member}
-use Rattle.replica_calls.specs.declared.slot.Slot.{Slot}
 use Rattle.session_net.specs.Runs.{slot_at}
 use Rattle.cluster_members.specs.declared.members.Members.{Members}
 use Rattle.first_cluster.specs.Begins.{Said, begin_of, begin_reply, begins_of, WantedMemory}

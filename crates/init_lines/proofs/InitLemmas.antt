@@ -28,7 +28,7 @@ use Rattle.cluster_core.specs.declared.event.StepReply.{StepReply}
 use Rattle.cluster_core.specs.declared.event.StepReply.TheVariants as reply
 use Rattle.cluster_core.proofs.ListLemmas.{at_in, at_within, in_at, some_same}
 use Rattle.replica_machine.specs.declared.machine.Began.{Began}
-use Rattle.replica_calls.specs.declared.slot.Slot.{Slot}
+use Rattle.replica_exchange.specs.declared.slot.Slot.{Slot}
 use Rattle.session_net.specs.Runs.{slot_at}
 use Rattle.session_net.proofs.ReadyLemmas.{AreQuiet, IsQuiet}
 use Rattle.cluster_members.specs.declared.members.Members.{Members}

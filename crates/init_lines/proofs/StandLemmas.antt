@@ -30,9 +30,9 @@ use Rattle.cluster_core.specs.declared.event.StepCall.{StepCall}
 use Rattle.cluster_core.specs.declared.event.StepReply.{StepReply}
 use Rattle.cluster_core.proofs.ListLemmas.{any_at, at_in, at_same, some_same}
 use Rattle.told_by.specs.Hears.{HasReplica, IsNamedBy}
+use Rattle.replica_exchange.specs.declared.member.Member.{Member}
+use Rattle.replica_exchange.specs.declared.slot.Slot.{Slot}
 use Rattle.replica_calls.specs.Calls.{first_member}
-use Rattle.replica_calls.specs.declared.member.Member.{Member}
-use Rattle.replica_calls.specs.declared.slot.Slot.{Slot}
 use Rattle.session_net.specs.Runs.{IsStepped, Step, slot_at, steps_of}
 use Rattle.session_net.proofs.ReadyLemmas.{there_after}
 use Rattle.cluster_members.specs.declared.members.Members.{Members}

@@ -1,11 +1,15 @@
 -- The keys of an object against a list of texts.
-use Rattle.std.proofs.Common.{◌≡◌, ℕ, List, [], ◌∷◌, map, ◌||◌, refl, ap, Bor, String, Global}
-use Rattle.std.specs.Prelude.{nat_eq, string_bytes}
+use Rattle.std.proofs.Common.{◌≡◌, ℕ, List, [], ◌∷◌, map, Bool, true, false, ◌||◌, refl, sym, ap, ◌∙◌, Bor, Global, Ordering, Less, Equal, Greater, is_eq}
+use Rattle.std.specs.Prelude.{nat_eq, ◌&&◌}
 use Rattle.std.specs.List.{list_all, list_any}
-use Rattle.std.specs.Map.{keys_of}
-use Rattle.std.specs.Cmp.Lexicographic.{pointwise}
-use Rattle.serde_json.specs.View.{members_view}
-use Rattle.serde_json.specs.declared.value.Value.{Value}
+use Rattle.std.specs.Ordering.{nat_cmp, match_ordering}
+use Rattle.std.specs.Cmp.Lexicographic.{pointwise, slice_cmp}
+use Rattle.std.proofs.lemmas.Map.Text.{is_eq-slice_cmp}
+use Rattle.std.proofs.lemmas.Slice.Eq.{bytes_eq-Decides}
+use Rattle.json.specs.Value.{members_view}
+use Rattle.json.specs.declared.value.Value.{Value}
+use Rattle.serde_json.specs.Data.{Data, Members, no_members, member, put}
+use Rattle.line_parse.specs.Contents.{content, members_data}
 use Rattle.line_fields.specs.Fields.{is_one_of, keys_within}
 
 -- a text is one of the texts that references point to
@@ -13,7 +17,43 @@ pub one_of_texts : (texts : List (Bor (List ℕ))) (text : List ℕ) → list_an
 one_of_texts [] text = refl
 one_of_texts (one ∷ texts) text = ap (λ b. pointwise nat_eq one.now text || b) (one_of_texts texts text)
 
--- the keys of the members that the entries of a map stand for
-pub keys_within-members_view : (allowed : List (Bor (List ℕ))) (es : List (String Global × Value)) → keys_within (map (λ one. one.now) allowed) (members_view es) ≡ list_all (λ key. list_any (λ one. pointwise nat_eq one.now (string_bytes key)) allowed) (keys_of es)
-keys_within-members_view allowed [] = refl
-keys_within-members_view allowed (e ∷ es) = let first = one_of_texts allowed (string_bytes e.0) in let rest = keys_within-members_view allowed es in cc
+twice : (b c : Bool) → (b && c) ≡ (b && (b && c))
+twice true c = refl
+twice false c = refl
+
+swapped : (a b c : Bool) → (a && (b && c)) ≡ (b && (a && c))
+swapped true b c = refl
+swapped false true c = refl
+swapped false false c = refl
+
+moved : (a b c : Bool) → (b && (a && c)) ≡ ((a && b) && c)
+moved true b c = refl
+moved false true c = refl
+moved false false c = refl
+
+-- the keys of the members with one more, or with a new value at a key
+keys_within-put : (allowed : List (List ℕ)) (key : List ℕ) (d : Data) (ms : Members) → keys_within allowed (put key d ms) ≡ (is_one_of allowed key && keys_within allowed ms)
+keys_within-put allowed key d no_members = refl
+keys_within-put allowed key d (member l e ms) = by (slice_cmp nat_cmp key l) refl (keys_within-put allowed key d ms)
+  where
+    by : (o : Ordering) → slice_cmp nat_cmp key l ≡ o → keys_within allowed (put key d ms) ≡ (is_one_of allowed key && keys_within allowed ms)
+        → keys_within allowed (match_ordering o (member key d (member l e ms)) (member l d ms) (member l e (put key d ms))) ≡ (is_one_of allowed key && (is_one_of allowed l && keys_within allowed ms))
+    by Less is rest = refl
+    by Equal is rest =
+        let same : key ≡ l = (bytes_eq-Decides key l).0 (sym (is_eq-slice_cmp key l) ∙ ap is_eq is) in
+        twice (is_one_of allowed l) (keys_within allowed ms) ∙ ap (λ one. is_one_of allowed one && (is_one_of allowed l && keys_within allowed ms)) (sym same)
+    by Greater is rest = ap (λ b. is_one_of allowed l && b) rest ∙ swapped (is_one_of allowed l) (is_one_of allowed key) (keys_within allowed ms)
+
+-- the keys of the members of a line, which go in one after the other
+pub keys_within-members_data : (allowed : List (Bor (List ℕ))) (members : List (Bor (List ℕ) × Value Global)) (found : Members) → keys_within (map (λ one. one.now) allowed) (members_data (members_view members) found)
+    ≡ (list_all (λ one. list_any (λ text. pointwise nat_eq text.now one.0.now) allowed) members && keys_within (map (λ one. one.now) allowed) found)
+keys_within-members_data allowed [] found = refl
+keys_within-members_data allowed (one ∷ members) found =
+    let texts = map (λ text. text.now) allowed in
+    keys_within-members_data allowed members (put one.0.now (content one.1) found) ∙ ap (λ b. list_all (λ other. list_any (λ text. pointwise nat_eq text.now other.0.now) allowed) members && b) (keys_within-put texts one.0.now (content one.1) found)
+    ∙ ap (λ b. list_all (λ other. list_any (λ text. pointwise nat_eq text.now other.0.now) allowed) members && (b && keys_within texts found)) (sym (one_of_texts allowed one.0.now))
+    ∙ moved (list_any (λ text. pointwise nat_eq text.now one.0.now) allowed) (list_all (λ other. list_any (λ text. pointwise nat_eq text.now other.0.now) allowed) members) (keys_within texts found)
+
+pub all_and_none : (b : Bool) → (b && true) ≡ b
+all_and_none true = refl
+all_and_none false = refl

@@ -1,17 +1,18 @@
 ghost use Rattle.std.specs.Prelude.{◌≡◌, Ok};
-ghost use Rattle.serde_json.specs.View.{view, items_view};
+ghost use Rattle.line_parse.specs.Contents.{content, contents};
 ghost use Rattle.line_fields.specs.Fields.{Gives};
 ghost use Rattle.line_lists.specs.Fates.{fate_named, fate_of_four, fate_of_items, fate_of, messages_differ, fates_at};
 
 use crate::lists::{Entry, list_at};
+use json::Value;
 use line_fields::fault::LineErr;
 use line_fields::fields::{name_in, number_of, text_of};
+use line_parse::values::as_array;
 use m3_model::act::Fate;
 use m3_model::duplicate::Duplicate;
 use m3_model::limits::{MOST_CLIENTS, MOST_FATES, TIME_END};
 use m3_model::seq::Seq;
 use m3_model::text::Text;
-use serde_json::Value;
 use std::alloc::Global;
 use std::collections::BTreeSet;
 
@@ -28,12 +29,12 @@ fn fate_named(name: &str) -> Result<Fate, LineErr>
 
 fn fate_of_four(
     alloc: Global,
-    client: &Value,
-    call: &Value,
-    node: &Value,
-    name: &Value,
+    client: &Value<'_>,
+    call: &Value<'_>,
+    node: &Value<'_>,
+    name: &Value<'_>,
 ) -> Result<(u32, u64, Text, Fate), LineErr>
-    ensures { Gives (λ fate. fate) result (fate_of_four (view client.now) (view call.now) (view node.now) (view name.now)) }
+    ensures { Gives (λ fate. fate) result (fate_of_four (content client.now) (content call.now) (content node.now) (content name.now)) }
 {
     let client = number_of(client, 0, MOST_CLIENTS as u64 + 1)?;
     let call = number_of(call, 0, TIME_END)?;
@@ -43,8 +44,8 @@ fn fate_of_four(
 }
 
 #[tactic(auto, using(crate::proofs::Entries::not_four_items))]
-fn fate_of_items(alloc: Global, items: &[Value]) -> Result<(u32, u64, Text, Fate), LineErr>
-    ensures { Gives (λ fate. fate) result (fate_of_items (items_view items.now)) }
+fn fate_of_items(alloc: Global, items: &[Value<'_>]) -> Result<(u32, u64, Text, Fate), LineErr>
+    ensures { Gives (λ fate. fate) result (fate_of_items (contents items.now)) }
 {
     if items.len() == 4 {
         fate_of_four(alloc, &items[0], &items[1], &items[2], &items[3])
@@ -57,10 +58,10 @@ impl Entry for (u32, u64, Text, Fate) {
     ghost reading = { fate_of };
 
     #[tactic(auto, unfolding(crate::specs::Fates::fate_of))]
-    fn of_item(alloc: Global, item: &Value) -> Result<(u32, u64, Text, Fate), LineErr> {
-        match item.as_array() {
+    fn of_item(alloc: Global, item: &Value<'_>) -> Result<(u32, u64, Text, Fate), LineErr> {
+        match as_array(item) {
             None => Err(LineErr::Form),
-            Some(items) => fate_of_items(alloc, items.as_slice()),
+            Some(items) => fate_of_items(alloc, items),
         }
     }
 }
@@ -83,10 +84,10 @@ fn messages_differ(alloc: Global, fates: &[(u32, u64, Text, Fate)]) -> Result<bo
 #[tactic(auto, unfolding(crate::specs::Fates::fates_at))]
 pub fn fates_at(
     alloc: Global,
-    value: &Value,
+    value: &Value<'_>,
     key: &str,
 ) -> Result<Seq<(u32, u64, Text, Fate)>, LineErr>
-    ensures { Gives (λ fates. fates) result (fates_at key.now (view value.now)) }
+    ensures { Gives (λ fates. fates) result (fates_at key.now (content value.now)) }
 {
     let fates = list_at(alloc, value, key, 0, MOST_FATES)?;
     if messages_differ(alloc, fates.as_slice())? {

@@ -1,14 +1,15 @@
 ghost use Rattle.std.specs.Prelude.{◌≡◌, Result};
 ghost use Rattle.serde_json.specs.Data.{Data};
-ghost use Rattle.serde_json.specs.View.{view, items_view};
+ghost use Rattle.line_parse.specs.Contents.{content, contents};
 ghost use Rattle.line_fields.specs.declared.fault.LineErr.{LineErr};
 ghost use Rattle.line_fields.specs.Fields.{Gives};
 ghost use Rattle.line_lists.specs.Lists.{has_count, items_at, entries_of, list_at};
 
+use json::Value;
 use line_fields::fault::LineErr;
 use line_fields::fields::field;
+use line_parse::values::as_array;
 use m3_model::seq::Seq;
-use serde_json::Value;
 use std::alloc::Global;
 
 /// What an item of an array spells.
@@ -16,34 +17,34 @@ pub(crate) trait Entry: Sized {
     ghost reading: { Data → Result Self LineErr };
 
     /// The entry that an item is; `Form` where it is none.
-    fn of_item(alloc: Global, item: &Value) -> Result<Self, LineErr>
-        ensures { Gives (λ entry. entry) result (reading (view item.now)) };
+    fn of_item(alloc: Global, item: &Value<'_>) -> Result<Self, LineErr>
+        ensures { Gives (λ entry. entry) result (reading (content item.now)) };
 }
 
 #[tactic(auto, using(crate::proofs::Entries::count_of_values))]
-fn has_count(items: &[Value], least: usize, most: usize) -> bool
-    ensures { result ≡ has_count least most (items_view items.now) }
+fn has_count(items: &[Value<'_>], least: usize, most: usize) -> bool
+    ensures { result ≡ has_count least most (contents items.now) }
 {
     (least..=most).contains(&items.len())
 }
 
 #[tactic(auto, unfolding(crate::specs::Lists::items_at))]
-fn items_at<'a>(
-    value: &'a Value,
+fn items_at<'v, 'a>(
+    value: &'v Value<'a>,
     key: &str,
     least: usize,
     most: usize,
-) -> Result<&'a [Value], LineErr>
-    ensures { Gives (λ items. items_view items.now) result (items_at key.now least most (view value.now)) }
+) -> Result<&'v [Value<'a>], LineErr>
+    ensures { Gives (λ items. contents items.now) result (items_at key.now least most (content value.now)) }
 {
-    match field(value, key)?.as_array() {
-        Some(items) if has_count(items.as_slice(), least, most) => Ok(items.as_slice()),
+    match as_array(field(value, key)?) {
+        Some(items) if has_count(items, least, most) => Ok(items),
         _ => Err(LineErr::Form),
     }
 }
 
-fn entries_of<E: Entry + Drop>(alloc: Global, items: &[Value]) -> Result<Vec<E>, LineErr>
-    ensures { Gives (λ entries. entries.items) result (entries_of E.reading (items_view items.now)) }
+fn entries_of<E: Entry + Drop>(alloc: Global, items: &[Value<'_>]) -> Result<Vec<E>, LineErr>
+    ensures { Gives (λ entries. entries.items) result (entries_of E.reading (contents items.now)) }
 {
     let mut entries = Vec::new(alloc);
     for item in items {
@@ -56,12 +57,12 @@ fn entries_of<E: Entry + Drop>(alloc: Global, items: &[Value]) -> Result<Vec<E>,
 /// The field as an array of at least `least` and at most `most` entries; `Form` where it is none such.
 pub(crate) fn list_at<E: Entry + Drop>(
     alloc: Global,
-    value: &Value,
+    value: &Value<'_>,
     key: &str,
     least: usize,
     most: usize,
 ) -> Result<Seq<E>, LineErr>
-    ensures { Gives (λ entries. entries) result (list_at E.reading key.now least most (view value.now)) }
+    ensures { Gives (λ entries. entries) result (list_at E.reading key.now least most (content value.now)) }
 {
     let items = items_at(value, key, least, most)?;
     let entries = entries_of(alloc, items)?;

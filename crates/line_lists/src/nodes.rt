@@ -1,21 +1,22 @@
 ghost use Rattle.std.specs.Prelude.{◌≡◌, ◌==◌};
 ghost use Rattle.std.specs.List.{list_any};
 ghost use Rattle.std.specs.Cmp.Lexicographic.{pointwise};
-ghost use Rattle.serde_json.specs.View.{view, items_view};
+ghost use Rattle.line_parse.specs.Contents.{content, contents};
 ghost use Rattle.line_fields.specs.Fields.{Gives};
 ghost use Rattle.line_lists.specs.Nodes.{node_of_two, node_of_items, node_of, names_differ, nodes_at};
 
 use crate::lists::{Entry, list_at};
+use json::Value;
 use line_fields::fault::LineErr;
 use line_fields::fields::name_in;
+use line_parse::values::as_array;
 use m3_model::limits::MOST_NODES;
 use m3_model::seq::Seq;
 use m3_model::text::Text;
-use serde_json::Value;
 use std::alloc::Global;
 
-fn node_of_two(alloc: Global, name: &Value, group: &Value) -> Result<(Text, Text), LineErr>
-    ensures { Gives (λ node. node) result (node_of_two (view name.now) (view group.now)) }
+fn node_of_two(alloc: Global, name: &Value<'_>, group: &Value<'_>) -> Result<(Text, Text), LineErr>
+    ensures { Gives (λ node. node) result (node_of_two (content name.now) (content group.now)) }
 {
     let name = name_in(name)?;
     let group = name_in(group)?;
@@ -23,8 +24,8 @@ fn node_of_two(alloc: Global, name: &Value, group: &Value) -> Result<(Text, Text
 }
 
 #[tactic(auto, using(crate::proofs::Entries::not_two_items))]
-fn node_of_items(alloc: Global, items: &[Value]) -> Result<(Text, Text), LineErr>
-    ensures { Gives (λ node. node) result (node_of_items (items_view items.now)) }
+fn node_of_items(alloc: Global, items: &[Value<'_>]) -> Result<(Text, Text), LineErr>
+    ensures { Gives (λ node. node) result (node_of_items (contents items.now)) }
 {
     if items.len() == 2 {
         node_of_two(alloc, &items[0], &items[1])
@@ -37,10 +38,10 @@ impl Entry for (Text, Text) {
     ghost reading = { node_of };
 
     #[tactic(auto, unfolding(crate::specs::Nodes::node_of))]
-    fn of_item(alloc: Global, item: &Value) -> Result<(Text, Text), LineErr> {
-        match item.as_array() {
+    fn of_item(alloc: Global, item: &Value<'_>) -> Result<(Text, Text), LineErr> {
+        match as_array(item) {
             None => Err(LineErr::Form),
-            Some(items) => node_of_items(alloc, items.as_slice()),
+            Some(items) => node_of_items(alloc, items),
         }
     }
 }
@@ -62,8 +63,8 @@ fn names_differ(nodes: &[(Text, Text)]) -> bool
 
 /// The field as an array of some nodes, each a name and its group, with names of their own; `Form` where it is none such.
 #[tactic(auto, unfolding(crate::specs::Nodes::nodes_at))]
-pub fn nodes_at(alloc: Global, value: &Value, key: &str) -> Result<Seq<(Text, Text)>, LineErr>
-    ensures { Gives (λ nodes. nodes) result (nodes_at key.now (view value.now)) }
+pub fn nodes_at(alloc: Global, value: &Value<'_>, key: &str) -> Result<Seq<(Text, Text)>, LineErr>
+    ensures { Gives (λ nodes. nodes) result (nodes_at key.now (content value.now)) }
 {
     let nodes = list_at(alloc, value, key, 1, MOST_NODES)?;
     if names_differ(nodes.as_slice()) {

@@ -194,6 +194,38 @@ form {"op":"bootstrap","node":"123456789012345678901234567890123"}
 form {"op":"bootstrap","node":"a","pick":0}
 form {"op":"bootstrap","node":"a","shard":0,"x":0}"#;
 
+// Lines whose parts are spelled by escapes, come twice or aren't JSON, each with its outcome before it.
+const SPELLINGS: &str = r#"ok {"op":"st\u006fp","n\u006fde":"\u0061"}
+form {"op":"deliver","\u006fp":7}
+ok {"op":7,"\u006fp":"deliver"}
+form {"op":"deliver","\u0078":1}
+form {"op":"stop","node":"a\u0020b"}
+form {"op":"stop","node\u0000":"a"}
+form {"op":"stop","node":"a","n\u006fde":null}
+later {"op":"tick","":"\""}
+form {"op":"tick","x":"\x"}
+form {"op":"tick","x":"\u00g0"}
+form {"op":"tick","x":"\udc00"}
+form {"op":"tick","x\ud800\ud800":1}
+later {"op":"tick","x":{"op":"frob","op":7}}"#;
+
+// Lines with numbers that a number of JSON or of 64 bits just can or can't be, each with its outcome before it.
+const NUMBERS: &str = r#"later {"op":"tick","x":1.7976931348623157e308}
+form {"op":"tick","x":1.7976931348623159e308}
+form {"op":"tick","x":[0,{"y":-1e309}]}
+form {"op":"tick","x":1e309,"x":1}
+later {"op":"tick","x":1e-400}
+form {"op":"tick","x":01}
+form {"op":"tick","x":-}
+form {"op":"tick","x":1.}
+form {"op":"tick","x":.5}
+form {"op":"now","now":18446744073709551615}
+form {"op":"now","now":18446744073709551616}
+form {"op":"now","now":4611686018427387903.0}
+form {"op":"now","now":-0}
+ok {"op":"now","now":1e308,"now":0}
+form {"op":"now","now":1e309,"now":0}"#;
+
 fn outcome(alloc: Global, line: &[u8]) -> &'static str {
     match read_line(alloc, line) {
         Ok(_) => "ok",
@@ -214,7 +246,7 @@ fn wrong_row(alloc: Global, rows: &str) -> Option<&str> {
 #[test]
 fn rows(rt: HostRuntime) {
     for rows in [
-        OBJECTS, INITS, NAMESPACES, MOMENTS, CALLS, MATCHES, FATES, NODES,
+        OBJECTS, INITS, NAMESPACES, MOMENTS, CALLS, MATCHES, FATES, NODES, SPELLINGS, NUMBERS,
     ] {
         assert_eq!(rt; wrong_row(rt.alloc(), rows), None);
     }
@@ -222,29 +254,41 @@ fn rows(rt: HostRuntime) {
 
 #[test]
 fn bytes(rt: HostRuntime) {
-    let table: [(&[u8], &str); 4] = [
+    let table: [(&[u8], &str); 9] = [
         (b"", "form"),
         (b"{\"op\":\"tick\"}\r", "later"),
         (b"\xef\xbb\xbf{\"op\":\"tick\"}", "form"),
         (b"{\"op\":\"tick\",\"x\":\"\xff\"}", "form"),
+        (b"{\"op\":\"tick\",\"\xff\":1}", "form"),
+        (b"{\"op\":\"tick\",\"x\":\"\\n\xed\xa0\x80\"}", "form"),
+        (b"{\"op\":\"tick\",\"x\":\"\xc0\x80\"}", "form"),
+        (b"{\"op\":\"tick\",\"x\":\"\xc3\xa9\"}", "later"),
+        (b"{\"op\":\"tick\"}\xc3", "form"),
     ];
     for (line, want) in table {
         assert_eq!(rt; outcome(rt.alloc(), line), want);
     }
 }
 
-// The outcome of a line whose middle is so many times the piece.
+fn push_times(line: &mut String, piece: &str, count: usize) -> Result<(), Fail> {
+    for _ in 0..count {
+        line.push_str(piece)?;
+    }
+    Ok(())
+}
+
+// The outcome of a line whose middle is so many times the piece, and then as often what closes it.
 fn long_outcome(
     alloc: Global,
     front: &str,
     piece: &str,
+    closing: &str,
     count: usize,
     back: &str,
 ) -> Result<&'static str, Fail> {
     let mut line = String::from_str(alloc, front)?;
-    for _ in 0..count {
-        line.push_str(piece)?;
-    }
+    push_times(&mut line, piece, count)?;
+    push_times(&mut line, closing, count)?;
     line.push_str(back)?;
     Ok(outcome(alloc, line.as_bytes()))
 }
@@ -255,15 +299,30 @@ fn long_lines(rt: HostRuntime) -> Result<(), Fail> {
     let id_end = r#"","t":1,"v":1}"#;
     let ns = r#"{"op":"write","ns":""#;
     let ns_end = r#"","id":"a","t":1,"v":1}"#;
-    for (front, piece, count, back, want) in [
-        ("", "[", 10_000, "", "form"),
-        (r#"{"op":"tick","x":"#, "9", 400, "}", "form"),
-        (id, "x", 512, id_end, "ok"),
-        (id, "x", 513, id_end, "form"),
-        (ns, "m", 32, ns_end, "ok"),
-        (ns, "m", 33, ns_end, "form"),
+    let tick = r#"{"op":"tick","x":"#;
+    let tick_text = r#"{"op":"tick","x":""#;
+    let stop = r#"{"op":"stop""#;
+    let stop_end = r#","n\u006fde":"\u0061"}"#;
+    for (front, piece, closing, count, back, want) in [
+        ("", "[", "", 10_000, "", "form"),
+        (tick, "9", "", 400, "}", "form"),
+        (id, "x", "", 512, id_end, "ok"),
+        (id, "x", "", 513, id_end, "form"),
+        (id, r"\u0078", "", 512, id_end, "ok"),
+        (id, r"\u0078", "", 513, id_end, "form"),
+        (ns, "m", "", 32, ns_end, "ok"),
+        (ns, "m", "", 33, ns_end, "form"),
+        (tick, "[", "]", 126, "}", "later"),
+        (tick, "[", "]", 127, "}", "form"),
+        (tick, r#"{"y":["#, "]}", 63, "}", "later"),
+        (tick, r#"{"y":["#, "]}", 64, "}", "form"),
+        (tick_text, "y", "", 65_000, r#""}"#, "later"),
+        (tick_text, r"\u0079", "", 10_000, r#""}"#, "later"),
+        (r#"{"op":"tick","x":[0"#, ",1", "", 30_000, "]}", "later"),
+        (stop, " ", "", 65_000, stop_end, "ok"),
+        (stop, " ", "", 65_000, r#","node":"a b"}"#, "form"),
     ] {
-        let got = long_outcome(rt.alloc(), front, piece, count, back)?;
+        let got = long_outcome(rt.alloc(), front, piece, closing, count, back)?;
         assert_eq!(rt; got, want, "{count} of {piece}");
     }
     Ok(())
@@ -274,6 +333,15 @@ const FIELDS: &str =
     r#"write m hello 100 -7 Majority None => {"v":-7,"t":100,"id":"hello","ns":"m","op":"write"}
 fetch m hello 2 9 Majority None => {"to":9,"from":2,"id":"hello","ns":"m","op":"fetch"}
 match m dc=x h!= 2 9 => {"where":[["dc","=","x"],["h","!=",""]],"to":9,"from":2,"ns":"m","op":"match"}"#;
+
+// The same of lines whose texts have escapes, and whose keys come twice.
+const SPELLED_FIELDS: &str =
+    r#"write m hello 100 -7 Majority None => {"\u006fp":"wr\u0069te","n\u0073":"\u006d","\u0069d":"h\u0065l\u006co","\u0074":100,"v":-7}
+write m {dc="x"} 1 2 One None => {"l\u0065vel":"o\u006ee","id":"{dc=\"\u0078\"}","v":2,"t":1,"ns":"m","op":"write"}
+write m b 1 3 Majority None => {"op":"write","ns":"m","id":"a","t":1,"v":1,"\u0069d":"b","v":2,"\u0076":3}
+write m b 1 3 Majority None => {"op":"fetch","\u006fp":"write","ns":"n","ns":"m","id":"\u0061","id":"b","t":1,"v":"x","v":3}
+fetch m a 2 9 Majority None => {"op":"write","ns":"m","id":"a","from":[9,{"from":8}],"from":2,"to":9,"op":"fetch"}
+match m dc=a"\/é😀 h!=é 2 9 => {"where":[["d\u0063","\u003d","a\"\\\/\u00e9\ud83d\ude00"],["h","!=","é"]],"to":9,"from":2,"ns":"m","op":"match"}"#;
 
 fn tell_matcher(matcher: &Matcher, out: &mut String) -> Result<(), Fail> {
     let sign = if matcher.equal { "=" } else { "!=" };
@@ -363,5 +431,8 @@ fn fields(rt: HostRuntime) -> Result<(), Fail> {
     let mut out = String::new(rt.alloc());
     tell_rows(rt.alloc(), FIELDS, &mut out)?;
     assert_eq!(rt; out.as_str().trim_end(), FIELDS);
+    let mut spelled = String::new(rt.alloc());
+    tell_rows(rt.alloc(), SPELLED_FIELDS, &mut spelled)?;
+    assert_eq!(rt; spelled.as_str().trim_end(), SPELLED_FIELDS);
     Ok(())
 }

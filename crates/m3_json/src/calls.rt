@@ -1,16 +1,17 @@
 ghost use Rattle.std.specs.Prelude.{◌≡◌, IfOk, IfSome};
-ghost use Rattle.serde_json.specs.View.{view};
+ghost use Rattle.line_parse.specs.Contents.{content};
 ghost use Rattle.m3_model.specs.Limits.{MeetsLimits, IsMoment};
 ghost use Rattle.line_fields.specs.Fields.{Gives};
 ghost use Rattle.m3_json.specs.Requests.{NamesSeries};
 ghost use Rattle.m3_json.specs.Rows.{write_level_named, read_level_named, write_level_at, read_level_at, version_at, write_of, fetch_of};
 
+use json::Value;
 use line_fields::fault::LineErr;
 use line_fields::fields::{has_only, name_at, number_at, number_of, text_at, text_of, value_at};
+use line_parse::values::get;
 use m3_model::act::{Act, ReadLevel, WriteLevel};
 use m3_model::limits::TIME_END;
 use m3_model::text::Text;
-use serde_json::Value;
 use std::alloc::Global;
 
 fn write_level_named(name: &str) -> Result<WriteLevel, LineErr>
@@ -37,10 +38,10 @@ fn read_level_named(name: &str) -> Result<ReadLevel, LineErr>
 }
 
 #[tactic(auto, unfolding(crate::specs::Rows::write_level_at))]
-fn write_level_at(value: &Value) -> Result<WriteLevel, LineErr>
-    ensures { Gives (λ l. l) result (write_level_at (view value.now)) }
+fn write_level_at(value: &Value<'_>) -> Result<WriteLevel, LineErr>
+    ensures { Gives (λ l. l) result (write_level_at (content value.now)) }
 {
-    match value.get("level") {
+    match get(value, "level") {
         None => Ok(WriteLevel::Majority),
         Some(level) => write_level_named(text_of(level)?),
     }
@@ -48,10 +49,10 @@ fn write_level_at(value: &Value) -> Result<WriteLevel, LineErr>
 
 /// The level of the read that an object spells; a majority where it has none.
 #[tactic(auto, unfolding(crate::specs::Rows::read_level_at))]
-pub fn read_level_at(value: &Value) -> Result<ReadLevel, LineErr>
-    ensures { Gives (λ l. l) result (read_level_at (view value.now)) }
+pub fn read_level_at(value: &Value<'_>) -> Result<ReadLevel, LineErr>
+    ensures { Gives (λ l. l) result (read_level_at (content value.now)) }
 {
-    match value.get("level") {
+    match get(value, "level") {
         None => Ok(ReadLevel::Majority),
         Some(level) => read_level_named(text_of(level)?),
     }
@@ -59,11 +60,11 @@ pub fn read_level_at(value: &Value) -> Result<ReadLevel, LineErr>
 
 /// The version of the call that an object spells, where it has one.
 #[tactic(auto, unfolding(crate::specs::Rows::version_at))]
-pub fn version_at(value: &Value) -> Result<Option<u64>, LineErr>
-    ensures gives { Gives (λ n. n) result (version_at (view value.now)) }
+pub fn version_at(value: &Value<'_>) -> Result<Option<u64>, LineErr>
+    ensures gives { Gives (λ n. n) result (version_at (content value.now)) }
     ensures within { IfOk result (λ version. IfSome version IsMoment) }
 {
-    match value.get("version") {
+    match get(value, "version") {
         None => Ok(None),
         Some(version) => Ok(Some(number_of(version, 0, TIME_END)?)),
     }
@@ -71,8 +72,8 @@ pub fn version_at(value: &Value) -> Result<Option<u64>, LineErr>
 
 /// The write that an object spells; any text is taken for its identifier.
 #[tactic(auto, unfolding(crate::specs::Rows::write_of))]
-pub fn write_of(alloc: Global, value: &Value) -> Result<Act, LineErr>
-    ensures gives { Gives (λ a. a) result (write_of (view value.now)) }
+pub fn write_of(alloc: Global, value: &Value<'_>) -> Result<Act, LineErr>
+    ensures gives { Gives (λ a. a) result (write_of (content value.now)) }
     ensures within { IfOk result (λ a. NamesSeries a → MeetsLimits a) }
 {
     if !has_only(value, &["id", "level", "ns", "op", "t", "v", "version"]) {
@@ -96,8 +97,8 @@ pub fn write_of(alloc: Global, value: &Value) -> Result<Act, LineErr>
 
 /// The fetch that an object spells; any text is taken for its identifier.
 #[tactic(auto, unfolding(crate::specs::Rows::fetch_of))]
-pub fn fetch_of(alloc: Global, value: &Value) -> Result<Act, LineErr>
-    ensures gives { Gives (λ a. a) result (fetch_of (view value.now)) }
+pub fn fetch_of(alloc: Global, value: &Value<'_>) -> Result<Act, LineErr>
+    ensures gives { Gives (λ a. a) result (fetch_of (content value.now)) }
     ensures within { IfOk result (λ a. NamesSeries a → MeetsLimits a) }
 {
     if !has_only(value, &["from", "id", "level", "ns", "op", "to", "version"]) {

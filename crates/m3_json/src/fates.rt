@@ -1,20 +1,20 @@
 ghost use Rattle.std.specs.Prelude.{◌≡◌, IfOk};
-ghost use Rattle.serde_json.specs.View.{view};
+ghost use Rattle.line_parse.specs.Contents.{content};
 ghost use Rattle.m3_model.specs.Limits.{MeetsLimits};
 ghost use Rattle.line_fields.specs.Fields.{Gives};
 ghost use Rattle.m3_json.specs.Fates.{fates_of, deliver_of};
 
+use json::Value;
 use line_fields::fault::LineErr;
 use line_fields::fields::has_only;
 use line_lists::fates::fates_at;
 use m3_model::act::Act;
-use serde_json::Value;
 use std::alloc::Global;
 
 /// The fates that an object spells.
 #[tactic(auto, unfolding(crate::specs::Fates::fates_of))]
-pub fn fates_of(alloc: Global, value: &Value) -> Result<Act, LineErr>
-    ensures gives { Gives (λ a. a) result (fates_of (view value.now)) }
+pub fn fates_of(alloc: Global, value: &Value<'_>) -> Result<Act, LineErr>
+    ensures gives { Gives (λ a. a) result (fates_of (content value.now)) }
     ensures within { IfOk result MeetsLimits }
 {
     if !has_only(value, &["list", "op"]) {
@@ -26,8 +26,8 @@ pub fn fates_of(alloc: Global, value: &Value) -> Result<Act, LineErr>
 
 /// The delivery of late writes that an object spells.
 #[tactic(auto, unfolding(crate::specs::Fates::deliver_of))]
-pub fn deliver_of(value: &Value) -> Result<Act, LineErr>
-    ensures gives { Gives (λ a. a) result (deliver_of (view value.now)) }
+pub fn deliver_of(value: &Value<'_>) -> Result<Act, LineErr>
+    ensures gives { Gives (λ a. a) result (deliver_of (content value.now)) }
     ensures within { IfOk result MeetsLimits }
 {
     if has_only(value, &["op"]) {

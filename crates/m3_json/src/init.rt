@@ -1,21 +1,21 @@
 ghost use Rattle.std.specs.Prelude.{◌≡◌, IfOk};
-ghost use Rattle.serde_json.specs.View.{view};
+ghost use Rattle.line_parse.specs.Contents.{content};
 ghost use Rattle.m3_model.specs.Limits.{MeetsLimits};
 ghost use Rattle.line_fields.specs.Fields.{Gives};
 ghost use Rattle.m3_json.specs.Rows.{init_of};
 
+use json::Value;
 use line_fields::fault::LineErr;
 use line_fields::fields::{has_only, number_at};
 use line_lists::nodes::nodes_at;
 use m3_model::act::Act;
 use m3_model::limits::{MOST_REPLICAS, MOST_SHARDS, SEED_END};
-use serde_json::Value;
 use std::alloc::Global;
 
 /// The init that an object spells.
 #[tactic(auto, unfolding(crate::specs::Rows::init_of))]
-pub fn init_of(alloc: Global, value: &Value) -> Result<Act, LineErr>
-    ensures gives { Gives (λ a. a) result (init_of (view value.now)) }
+pub fn init_of(alloc: Global, value: &Value<'_>) -> Result<Act, LineErr>
+    ensures gives { Gives (λ a. a) result (init_of (content value.now)) }
     ensures within { IfOk result MeetsLimits }
 {
     if !has_only(value, &["nodes", "op", "rf", "seed", "shards"]) {

@@ -1,5 +1,6 @@
 ghost use Rattle.std.specs.Prelude.{◌≡◌, ◌↔◌, Ok, Err, IfOk, IfErr, IsTrue};
-ghost use Rattle.serde_json.specs.View.{view};
+ghost use Rattle.json.specs.declared.error.Error.TheVariants.{OutOfMemory};
+ghost use Rattle.line_parse.specs.Contents.{content};
 ghost use Rattle.m3_model.specs.Limits.{MeetsLimits, KeepsLimits};
 ghost use Rattle.m3_model.specs.NotYet.{IsServed};
 ghost use Rattle.line_fields.specs.Fields.{Gives};
@@ -13,17 +14,18 @@ use crate::moment::now_of;
 use crate::namespace::namespace_of;
 use crate::nodes::{bootstrap_of, restart_of, stop_of};
 use crate::not_yet::{is_put_off, refusal_of};
+use json::{Error, Scratch, Value};
 use line_fields::fault::LineErr;
 use line_fields::fields::text_at;
+use line_parse::parse::parse;
 use m3_model::act::Act;
 use m3_model::turn::Request;
-use serde_json::Value;
 use series_id::valid;
 use std::alloc::Global;
 
 #[tactic(auto, using(crate::proofs::Meanings::fails_as), unfolding(crate::specs::Requests::act_of))]
-fn act_of(alloc: Global, op: &str, value: &Value) -> Result<Act, LineErr>
-    ensures gives { Gives (λ a. a) result (act_of op.now (view value.now)) }
+fn act_of(alloc: Global, op: &str, value: &Value<'_>) -> Result<Act, LineErr>
+    ensures gives { Gives (λ a. a) result (act_of op.now (content value.now)) }
     ensures within { IfOk result (λ a. NamesSeries a → MeetsLimits a) }
 {
     match op {
@@ -51,11 +53,11 @@ fn names_series(act: &Act) -> bool
     }
 }
 
-fn request_of(alloc: Global, value: &Value) -> Result<Request, LineErr>
-    ensures ok { IfOk result (λ r. ObjectMeans (view value.now) (Ok r)) }
+fn request_of(alloc: Global, value: &Value<'_>) -> Result<Request, LineErr>
+    ensures ok { IfOk result (λ r. ObjectMeans (content value.now) (Ok r)) }
     ensures within { IfOk result KeepsLimits }
     ensures served { IfOk result IsServed }
-    ensures err { IfErr result (λ e. ObjectMeans (view value.now) (Err e)) }
+    ensures err { IfErr result (λ e. ObjectMeans (content value.now) (Err e)) }
 {
     let op = text_at(value, "op")?;
     let act = act_of(alloc, op, value)?;
@@ -66,6 +68,15 @@ fn request_of(alloc: Global, value: &Value) -> Result<Request, LineErr>
         return Err(LineErr::Later);
     }
     Ok(Request::One(act))
+}
+
+fn is_memory(error: Error) -> bool
+    ensures { IsTrue result ↔ (error ≡ OutOfMemory) }
+{
+    match error {
+        Error::OutOfMemory => true,
+        Error::Invalid | Error::TooLong | Error::DuplicateKey => false,
+    }
 }
 
 /// The request that a line spells: a JSON object with `op` and the fields of that op's row. Of a key that comes twice
@@ -80,9 +91,10 @@ pub fn read_line(alloc: Global, line: &[u8]) -> Result<Request, LineErr>
     ensures served { IfOk result IsServed }
     ensures err { IfErr result (λ e. LineMeans line.now (Err e)) }
 {
-    match Value::from_slice(alloc, line) {
+    let mut scratch = Scratch::new(alloc);
+    match parse(alloc, line, &mut scratch) {
         Ok(value) => request_of(alloc, &value),
-        Err(error) if error.is_memory() => Err(LineErr::Memory),
+        Err(error) if is_memory(error) => Err(LineErr::Memory),
         Err(_) => Err(LineErr::Form),
     }
 }

@@ -1,21 +1,21 @@
 ghost use Rattle.std.specs.Prelude.{◌≡◌, IfOk};
-ghost use Rattle.serde_json.specs.View.{view};
+ghost use Rattle.line_parse.specs.Contents.{content};
 ghost use Rattle.m3_model.specs.Limits.{MeetsLimits};
 ghost use Rattle.line_fields.specs.Fields.{Gives};
 ghost use Rattle.m3_json.specs.Rows.{namespace_of};
 
+use json::Value;
 use line_fields::fault::LineErr;
 use line_fields::fields::{has_only, name_at, number_at};
 use m3_model::act::Act;
 use m3_model::limits::DURATION_END;
 use m3_model::text::Text;
-use serde_json::Value;
 use std::alloc::Global;
 
 /// The namespace that an object spells.
 #[tactic(auto, unfolding(crate::specs::Rows::namespace_of))]
-pub fn namespace_of(alloc: Global, value: &Value) -> Result<Act, LineErr>
-    ensures gives { Gives (λ a. a) result (namespace_of (view value.now)) }
+pub fn namespace_of(alloc: Global, value: &Value<'_>) -> Result<Act, LineErr>
+    ensures gives { Gives (λ a. a) result (namespace_of (content value.now)) }
     ensures within { IfOk result MeetsLimits }
 {
     if !has_only(

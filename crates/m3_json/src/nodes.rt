@@ -1,22 +1,23 @@
 ghost use Rattle.std.specs.Prelude.{◌≡◌, ◌<◌, IfOk, IfSome};
-ghost use Rattle.serde_json.specs.View.{view};
+ghost use Rattle.line_parse.specs.Contents.{content};
 ghost use Rattle.m3_model.specs.Limits.{MeetsLimits, IsMoment};
 ghost use Rattle.m3_model.specs.declared.limits.TheConstants.{MOST_SHARDS};
 ghost use Rattle.line_fields.specs.Fields.{Gives};
 ghost use Rattle.m3_json.specs.Rows.{stop_of, pick_at, restart_of, shard_asked, bootstrap_of};
 
+use json::Value;
 use line_fields::fault::LineErr;
 use line_fields::fields::{has_only, name_at, number_of};
+use line_parse::values::get;
 use m3_model::act::Act;
 use m3_model::limits::{MOST_SHARDS, TIME_END};
 use m3_model::text::Text;
-use serde_json::Value;
 use std::alloc::Global;
 
 /// The stop of a node that an object spells.
 #[tactic(auto, unfolding(crate::specs::Rows::stop_of))]
-pub fn stop_of(alloc: Global, value: &Value) -> Result<Act, LineErr>
-    ensures gives { Gives (λ a. a) result (stop_of (view value.now)) }
+pub fn stop_of(alloc: Global, value: &Value<'_>) -> Result<Act, LineErr>
+    ensures gives { Gives (λ a. a) result (stop_of (content value.now)) }
     ensures within { IfOk result MeetsLimits }
 {
     if !has_only(value, &["node", "op"]) {
@@ -29,11 +30,11 @@ pub fn stop_of(alloc: Global, value: &Value) -> Result<Act, LineErr>
 }
 
 #[tactic(auto, unfolding(crate::specs::Rows::pick_at))]
-fn pick_at(value: &Value) -> Result<u64, LineErr>
-    ensures gives { Gives (λ n. n) result (pick_at (view value.now)) }
+fn pick_at(value: &Value<'_>) -> Result<u64, LineErr>
+    ensures gives { Gives (λ n. n) result (pick_at (content value.now)) }
     ensures within { IfOk result IsMoment }
 {
-    match value.get("pick") {
+    match get(value, "pick") {
         None => Ok(0),
         Some(pick) => number_of(pick, 0, TIME_END),
     }
@@ -41,8 +42,8 @@ fn pick_at(value: &Value) -> Result<u64, LineErr>
 
 /// The restart of a node that an object spells.
 #[tactic(auto, unfolding(crate::specs::Rows::restart_of))]
-pub fn restart_of(alloc: Global, value: &Value) -> Result<Act, LineErr>
-    ensures gives { Gives (λ a. a) result (restart_of (view value.now)) }
+pub fn restart_of(alloc: Global, value: &Value<'_>) -> Result<Act, LineErr>
+    ensures gives { Gives (λ a. a) result (restart_of (content value.now)) }
     ensures within { IfOk result MeetsLimits }
 {
     if !has_only(value, &["node", "op", "pick"]) {
@@ -57,11 +58,11 @@ pub fn restart_of(alloc: Global, value: &Value) -> Result<Act, LineErr>
 }
 
 #[tactic(auto, unfolding(crate::specs::Rows::shard_asked))]
-fn shard_asked(value: &Value) -> Result<Option<u32>, LineErr>
-    ensures gives { Gives (λ n. n) result (shard_asked (view value.now)) }
+fn shard_asked(value: &Value<'_>) -> Result<Option<u32>, LineErr>
+    ensures gives { Gives (λ n. n) result (shard_asked (content value.now)) }
     ensures within { IfOk result (λ shard. IfSome shard (λ s. s < MOST_SHARDS)) }
 {
-    match value.get("shard") {
+    match get(value, "shard") {
         None => Ok(None),
         Some(shard) => Ok(Some(number_of(shard, 0, MOST_SHARDS as u64)? as u32)),
     }
@@ -69,8 +70,8 @@ fn shard_asked(value: &Value) -> Result<Option<u32>, LineErr>
 
 /// The bootstrap of a node that an object spells.
 #[tactic(auto, unfolding(crate::specs::Rows::bootstrap_of))]
-pub fn bootstrap_of(alloc: Global, value: &Value) -> Result<Act, LineErr>
-    ensures gives { Gives (λ a. a) result (bootstrap_of (view value.now)) }
+pub fn bootstrap_of(alloc: Global, value: &Value<'_>) -> Result<Act, LineErr>
+    ensures gives { Gives (λ a. a) result (bootstrap_of (content value.now)) }
     ensures within { IfOk result MeetsLimits }
 {
     if !has_only(value, &["node", "op", "shard"]) {

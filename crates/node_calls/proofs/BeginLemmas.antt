@@ -27,13 +27,14 @@ use Rattle.cluster_core.specs.declared.event.StepReply.TheVariants as reply
 use Rattle.replica_machine.specs.Boots.{IsBootReason}
 use Rattle.replica_machine.specs.Machines.{MachineState}
 use Rattle.replica_machine.specs.declared.machine.Began.{Began}
-use Rattle.replica_calls.specs.Calls.{AreMembersOf, HasRoom, MayCall, Tracked}
-use Rattle.replica_calls.specs.Promises.{Begins}
+use Rattle.replica_exchange.specs.MachineCalls.{HasRoom}
+use Rattle.replica_exchange.specs.Promises.{Begins}
+use Rattle.replica_exchange.specs.declared.call_err.CallErr.{CallErr}
+use Rattle.replica_exchange.specs.declared.call_err.CallErr.TheVariants as call_err
+use Rattle.replica_exchange.specs.declared.member.Member.{Member}
+use Rattle.replica_exchange.specs.declared.slot.Slot.{Slot}
+use Rattle.replica_calls.specs.Calls.{AreMembersOf, MayCall, Tracked}
 use Rattle.replica_calls.specs.Slots.{MemberMap}
-use Rattle.replica_calls.specs.declared.call_err.CallErr.{CallErr}
-use Rattle.replica_calls.specs.declared.call_err.CallErr.TheVariants as call_err
-use Rattle.replica_calls.specs.declared.member.Member.{Member}
-use Rattle.replica_calls.specs.declared.slot.Slot.{Slot}
 use Rattle.session_net.specs.Messages.{exchange}
 use Rattle.session_net.specs.Runs.{IsStepped, Ran, slot_at, steps_of}
 use Rattle.session_net.proofs.ReadyLemmas.{AreQuiet, IsQuiet, place_there, quiet_both, room_after}

@@ -15,12 +15,13 @@ use Rattle.cluster_core.specs.declared.event.StepReply.{StepReply}
 use Rattle.cluster_core.specs.declared.event.StepReply.TheVariants as reply
 use Rattle.net_plan.specs.declared.late_write.LateWrite.{LateWrite}
 use Rattle.replica_machine.specs.Steps.{reply_by}
-use Rattle.replica_calls.specs.Calls.{Tracked, Promise, HasRoom, IsMissed, MayCall, AddsBoth, WasCalled, result_of}
-use Rattle.replica_calls.specs.Promises.{Stops, Restarts}
-use Rattle.replica_calls.specs.declared.call_err.CallErr.{CallErr}
-use Rattle.replica_calls.specs.declared.call_err.CallErr.TheVariants as call_err
-use Rattle.replica_calls.specs.declared.member.Member.{Member}
-use Rattle.replica_calls.specs.declared.slot.Slot.{Slot}
+use Rattle.replica_exchange.specs.MachineCalls.{Promise, HasRoom, AddsBoth, result_of}
+use Rattle.replica_exchange.specs.Promises.{Stops, Restarts}
+use Rattle.replica_exchange.specs.declared.call_err.CallErr.{CallErr}
+use Rattle.replica_exchange.specs.declared.call_err.CallErr.TheVariants as call_err
+use Rattle.replica_exchange.specs.declared.member.Member.{Member}
+use Rattle.replica_exchange.specs.declared.slot.Slot.{Slot}
+use Rattle.replica_calls.specs.Calls.{Tracked, IsMissed, MayCall, WasCalled}
 use Rattle.session_net.specs.Messages.{exchange}
 use Rattle.session_net.specs.Ready.{IsReady}
 use Rattle.session_net.specs.Runs.{IsStepped, Ran, steps_of}

@@ -15,10 +15,11 @@ use Rattle.cluster_core.specs.declared.event.StepReply.{StepReply}
 use Rattle.cluster_core.specs.declared.event.StepReply.TheVariants as reply
 use Rattle.replica_machine.specs.Boots.{MayBeUnowned}
 use Rattle.replica_machine.specs.Damages.{IsFormDamage}
-use Rattle.replica_calls.specs.Calls.{Tracked, IsMemberOf}
+use Rattle.replica_exchange.specs.MachineCalls.{IsMemberOf}
+use Rattle.replica_exchange.specs.declared.member.Member.{Member}
+use Rattle.replica_exchange.specs.declared.slot.Slot.{Slot}
+use Rattle.replica_calls.specs.Calls.{Tracked}
 use Rattle.replica_calls.specs.Slots.{MemberMap}
-use Rattle.replica_calls.specs.declared.member.Member.{Member}
-use Rattle.replica_calls.specs.declared.slot.Slot.{Slot}
 use Rattle.session_net.specs.Messages.{exchange}
 use Rattle.session_net.specs.Runs.{slot_at}
 

@@ -12,8 +12,8 @@ use Rattle.cluster_core.specs.declared.event.StepCall.TheVariants as call
 use Rattle.cluster_core.specs.declared.event.StepReply.{StepReply}
 use Rattle.cluster_core.specs.declared.event.StepReply.TheVariants as reply
 use Rattle.replica_machine.specs.Damages.{IsFormDamage}
+use Rattle.replica_exchange.specs.declared.slot.Slot.{Slot}
 use Rattle.replica_calls.specs.Calls.{Tracked}
-use Rattle.replica_calls.specs.declared.slot.Slot.{Slot}
 use Rattle.session_net.specs.Messages.{exchange}
 use Rattle.session_net.specs.Runs.{Ran}
 use Rattle.node_calls.specs.Begins.{AreBegun, EndsBoots, IsPassed, IsUnbegun, assigned_at, assigned_below}

@@ -8,8 +8,8 @@ use Rattle.m3_model.specs.declared.reason.Reason.TheVariants as reason
 use Rattle.cluster_core.specs.declared.event.Event.{Event}
 use Rattle.cluster_core.specs.declared.event.StepCall.TheVariants as call
 use Rattle.cluster_core.specs.declared.event.StepReply.TheVariants as reply
+use Rattle.replica_exchange.specs.declared.slot.Slot.{Slot}
 use Rattle.replica_calls.specs.Calls.{Tracked}
-use Rattle.replica_calls.specs.declared.slot.Slot.{Slot}
 use Rattle.session_net.specs.Messages.{exchange}
 
 -- ---- slots

@@ -11,7 +11,7 @@ use Rattle.m3_model.specs.declared.reason.Reason.TheVariants as reason
 use Rattle.m3_outside.specs.DiskState.{DiskState}
 use Rattle.net_plan.specs.Fates.{Item, fates_of}
 use Rattle.cluster_core.specs.declared.event.Event.{Event}
-use Rattle.replica_calls.specs.Calls.{HasRoom}
+use Rattle.replica_exchange.specs.MachineCalls.{HasRoom}
 use Rattle.session_net.specs.Deliveries as late
 use Rattle.session_net.specs.Runs.{Ran}
 use Rattle.session_net.specs.declared.session_err.SessionErr.TheVariants as err

@@ -5,7 +5,7 @@ ghost use Rattle.m3_model.specs.Members.{IsIn};
 ghost use Rattle.placement_core.specs.Shards.{shard_at, nodes_of};
 ghost use Rattle.transcripts.specs.Waiting.{is_covering};
 ghost use Rattle.cluster_core.specs.Earlier.{HasTenure, last_place};
-ghost use Rattle.replica_calls.specs.Calls.{HasRoom};
+ghost use Rattle.replica_exchange.specs.MachineCalls.{HasRoom};
 ghost use Rattle.session_net.specs.Runs.{slot_at};
 ghost use Rattle.node_calls.specs.Begins.{EndsBoots, tenure_in};
 ghost use Rattle.node_calls.specs.Boots.{IsOfForm, IsBeginTried, IsShardTried, EndsBegins, BreaksBegins};
@@ -14,9 +14,9 @@ use crate::refused::Refused;
 use m3_model::placement::{Assignment, Placement};
 use m3_model::reason::Reason;
 use m3_outside::disk::Disk;
-use replica_calls::CallErr;
 use replica_calls::replicas::Replicas;
-use replica_calls::slot::Slot;
+use replica_exchange::CallErr;
+use replica_exchange::slot::Slot;
 
 // Whether a refusal ends a bootstrap: for others a replica is passed over.
 fn passed_over(shard: u32, why: Reason) -> Result<(), Refused>

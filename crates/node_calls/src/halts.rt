@@ -2,16 +2,16 @@
 ghost use Rattle.std.specs.Prelude.{◌≡◌, ◌≢◌, ◌≤◌, ◌*◌, None, length, IfErr, OnOk};
 ghost use Rattle.std.specs.FinMap as finite;
 ghost use Rattle.std.specs.List.{flat_map};
-ghost use Rattle.replica_calls.specs.Calls.{HasRoom};
+ghost use Rattle.replica_exchange.specs.MachineCalls.{HasRoom};
 ghost use Rattle.session_net.specs.Runs.{Ran};
 ghost use Rattle.node_calls.specs.Boots.{IsRestartTried, EndsRestarts};
 ghost use Rattle.node_calls.specs.Halts.{slots_of_node, stop_at, restart_at, AreManned};
 
 use crate::refused::Refused;
 use m3_outside::disk::Disk;
-use replica_calls::CallErr;
 use replica_calls::replicas::Replicas;
-use replica_calls::slot::Slot;
+use replica_exchange::CallErr;
+use replica_exchange::slot::Slot;
 
 /// How many of the slots are the node's.
 pub(crate) fn slots_of(slots: &[Slot], node: u8) -> u64

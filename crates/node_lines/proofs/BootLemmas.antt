@@ -24,8 +24,8 @@ use Rattle.cluster_core.specs.declared.event.StepReply.{StepReply}
 use Rattle.cluster_core.specs.declared.event.StepReply.TheVariants as reply
 use Rattle.cluster_core.proofs.ListLemmas.{at_in, some_same}
 use Rattle.replica_machine.specs.Damages.{IsFormDamage}
+use Rattle.replica_exchange.specs.Exchanges.{ask_of}
 use Rattle.replica_calls.specs.Calls.{Tracked}
-use Rattle.replica_calls.specs.Exchanges.{ask_of}
 use Rattle.replica_calls.specs.Slots.{MemberMap}
 use Rattle.session_net.specs.Messages.{exchange}
 use Rattle.session_net.specs.Runs.{slot_at}

@@ -26,8 +26,8 @@ use Rattle.cluster_core.specs.declared.event.StepCall.TheVariants as call
 use Rattle.cluster_core.specs.declared.event.StepReply.{StepReply}
 use Rattle.cluster_core.specs.declared.event.StepReply.TheVariants as reply
 use Rattle.cluster_core.proofs.ListLemmas.{at_in, at_within, some_same}
-use Rattle.replica_calls.specs.Exchanges.{ask_of}
-use Rattle.replica_calls.specs.declared.member.Member.{Member}
+use Rattle.replica_exchange.specs.Exchanges.{ask_of}
+use Rattle.replica_exchange.specs.declared.member.Member.{Member}
 use Rattle.session_net.specs.Ready.{IsReady}
 use Rattle.session_net.specs.Runs.{Ran, slot_at}
 use Rattle.session_net.proofs.ReadyLemmas.{AreQuiet, IsQuiet}

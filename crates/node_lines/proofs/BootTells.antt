@@ -25,7 +25,7 @@ use Rattle.cluster_core.specs.declared.event.Event.TheVariants as event
 use Rattle.cluster_core.specs.declared.event.StepCall.TheVariants as call
 use Rattle.cluster_core.specs.declared.event.StepReply.TheVariants as reply
 use Rattle.cluster_core.proofs.ListLemmas.{at_append, at_in, at_within, some_same}
-use Rattle.replica_calls.specs.Exchanges.{ask_of}
+use Rattle.replica_exchange.specs.Exchanges.{ask_of}
 use Rattle.session_net.specs.Messages.{exchange}
 use Rattle.session_net.specs.Runs.{slot_at}
 use Rattle.session_net.proofs.RunLemmas.{ran_nothing}

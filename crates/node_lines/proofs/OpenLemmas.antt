@@ -39,10 +39,10 @@ use Rattle.replica_machine.specs.Machines.{IsMachineOf, MachineState}
 use Rattle.replica_machine.specs.Openings.{AllSound, IsUpTo}
 use Rattle.replica_machine.specs.Steps.{IsStep}
 use Rattle.replica_machine.proofs.OpeningLemmas.{first_begin_is_as_made, stays_as_made}
+use Rattle.replica_exchange.specs.Exchanges.{ask_of}
+use Rattle.replica_exchange.specs.declared.member.Member.{Member}
+use Rattle.replica_exchange.specs.declared.slot.Slot.{Slot}
 use Rattle.replica_calls.specs.Calls.{Tracked}
-use Rattle.replica_calls.specs.Exchanges.{ask_of}
-use Rattle.replica_calls.specs.declared.member.Member.{Member}
-use Rattle.replica_calls.specs.declared.slot.Slot.{Slot}
 use Rattle.session_net.specs.Runs.{IsStepped, Ran, TakesSteps, slot_at, step_in, steps_of}
 use Rattle.told_by.specs.Makes.{IsAssigned}
 use Rattle.told_by.proofs.LeaveLemmas.{place_there}

@@ -16,7 +16,7 @@ use Rattle.cluster_core.specs.Earlier.{last_place}
 use Rattle.cluster_core.specs.declared.event.Event.{Event}
 use Rattle.cluster_core.proofs.ListLemmas.{at_some}
 use Rattle.placement_core.proofs.ListLemmas.{chosen, filter-IsIn, same_at}
-use Rattle.replica_calls.specs.declared.slot.Slot.{Slot}
+use Rattle.replica_exchange.specs.declared.slot.Slot.{Slot}
 use Rattle.session_net.specs.Runs.{slot_at}
 use Rattle.told_by.specs.Hears.{HasReplica, IsNamedBy}
 use Rattle.told_by.specs.Makes.{IsNamedLast}

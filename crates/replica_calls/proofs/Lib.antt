@@ -1,5 +1,4 @@
 pub mod SlotLemmas
-pub mod ExchangeLemmas
+mod AddLemmas
 pub mod TrackLemmas
 pub mod StandLemmas
-mod ReadLemmas

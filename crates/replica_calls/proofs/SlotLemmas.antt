@@ -11,9 +11,9 @@ use Rattle.std.specs.declared.cmp.Ordering.TheVariants.{Less, Equal, Greater}
 use Rattle.std.proofs.lemmas.Cmp.{then_total, on_total, nat_cmp_total}
 use Rattle.m3_model.proofs.Keyed.{equal_of}
 use Rattle.block_buffer.proofs.MapLemmas.{sorted_of, get_of, inserted}
+use Rattle.replica_exchange.specs.declared.member.Member.{Member}
+use Rattle.replica_exchange.specs.declared.slot.Slot.{Slot}
 use Rattle.replica_calls.specs.Slots.{slot_cmp, MemberMap}
-use Rattle.replica_calls.specs.declared.member.Member.{Member}
-use Rattle.replica_calls.specs.declared.slot.Slot.{Slot}
 
 pub slot_cmp_total : IsTotalOrder slot_cmp
 slot_cmp_total = then_total (on_total (λ s. s.shard) nat_cmp_total) (on_total (λ s. s.node) nat_cmp_total)

@@ -12,10 +12,11 @@ use Rattle.cluster_core.specs.declared.event.StepCall.{StepCall}
 use Rattle.cluster_core.specs.declared.event.StepReply.{StepReply}
 use Rattle.cluster_core.proofs.ExtendLemmas.{any_more, at_last}
 use Rattle.replica_machine.specs.Steps.{reply_by}
-use Rattle.replica_calls.specs.Calls.{Tracked, Promise, Adding, MayCallBy, MayCall, MayCopyAndCall, MayTell}
-use Rattle.replica_calls.specs.Exchanges.{ask_of, own_events, Seen, seen_in, IsNothing, HasExchanged, HasStepped, HasAdded}
-use Rattle.replica_calls.specs.declared.call_err.CallErr.{CallErr}
-use Rattle.replica_calls.specs.declared.slot.Slot.{Slot}
+use Rattle.replica_exchange.specs.MachineCalls.{Promise, Adding}
+use Rattle.replica_exchange.specs.Exchanges.{ask_of, own_events, Seen, seen_in, IsNothing, HasExchanged, HasStepped, HasAdded}
+use Rattle.replica_exchange.specs.declared.call_err.CallErr.{CallErr}
+use Rattle.replica_exchange.specs.declared.slot.Slot.{Slot}
+use Rattle.replica_calls.specs.Calls.{Tracked, MayCallBy, MayCall, MayCopyAndCall, MayTell}
 use Rattle.replica_calls.proofs.SlotLemmas.{get-insert_other}
 
 longer_by : (seen more now : List Event) → now ≡ seen ++ more → IsPrefix seen now

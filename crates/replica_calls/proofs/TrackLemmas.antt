@@ -16,13 +16,14 @@ use Rattle.cluster_core.specs.declared.event.Event.{Event}
 use Rattle.cluster_core.specs.declared.event.StepCall.{StepCall}
 use Rattle.cluster_core.specs.declared.event.StepReply.{StepReply}
 use Rattle.replica_machine.specs.Machines.{MachineState, first_machine, IsMachineOf}
-use Rattle.replica_calls.specs.Calls.{Tracked, first_member, IsMemberOf, AreMembersOf, IsTracked, HasRoom, IsMissed, WasNotCalled, WantedMemory, Promise, Adding, MayAnswerBy, MayCallBy, OtherReplicasStay, IsNoStep}
+use Rattle.replica_exchange.specs.MachineCalls.{IsMemberOf, HasRoom, Promise, Adding, MayAnswerBy, OtherReplicasStay}
+use Rattle.replica_exchange.specs.declared.call_err.CallErr.{CallErr}
+use Rattle.replica_exchange.specs.declared.call_err.CallErr.TheVariants as call_err
+use Rattle.replica_exchange.specs.declared.member.Member.{Member}
+use Rattle.replica_exchange.specs.declared.slot.Slot.{Slot}
+use Rattle.replica_calls.specs.Calls.{Tracked, first_member, AreMembersOf, IsTracked, IsMissed, WasNotCalled, WantedMemory, MayCallBy, IsNoStep}
 use Rattle.replica_calls.specs.Slots.{slot_cmp, shown, MemberMap}
-use Rattle.replica_calls.specs.declared.call_err.CallErr.{CallErr}
-use Rattle.replica_calls.specs.declared.call_err.CallErr.TheVariants as call_err
-use Rattle.replica_calls.specs.declared.member.Member.{Member}
-use Rattle.replica_calls.specs.declared.slot.Slot.{Slot}
-use Rattle.replica_calls.proofs.ExchangeLemmas.{replica_added}
+use Rattle.replica_calls.proofs.AddLemmas.{replica_added}
 use Rattle.replica_calls.proofs.SlotLemmas.{slot_cmp_total, slot_cmp-IsAntisymmetric, same_slot, get-insert_here, get-insert_other, Wrote}
 
 slot_apart : (q s : Slot) → (q ≡ s) ⊎ ¬ (q ≡ s)

@@ -1,4 +1,2 @@
 pub mod Slots
-pub mod Exchanges
-pub mod Promises
 pub mod Calls

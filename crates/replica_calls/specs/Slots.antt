@@ -6,8 +6,8 @@ use Rattle.std.specs.Ordering.{nat_cmp, on, then_cmp}
 use Rattle.std.specs.declared.cmp.Ordering.{Ordering}
 use Rattle.std.specs.declared.snapshot.Snapshot.{Snapshot}
 use Rattle.replica_machine.specs.Machines.{MachineState, machine_code}
-use Rattle.replica_calls.specs.declared.member.Member.{Member}
-use Rattle.replica_calls.specs.declared.slot.Slot.{Slot}
+use Rattle.replica_exchange.specs.declared.member.Member.{Member}
+use Rattle.replica_exchange.specs.declared.slot.Slot.{Slot}
 
 -- by shard, then by node
 abbrev pub slot_cmp : Slot → Slot → Ordering

@@ -9,15 +9,11 @@ ghost use Rattle.cluster_core.specs.declared.event.StepCall.TheVariants as call;
 ghost use Rattle.cluster_core.specs.declared.event.StepReply.TheVariants as reply;
 ghost use Rattle.event_book.specs.Lists.{most_entries};
 ghost use Rattle.event_trail.specs.Trails.{IsLegalOver, IsLawfulOver};
-ghost use Rattle.replica_calls.specs.Calls.{first_member, AreMembersOf, HasRoom, MayCall, MayCopyAndCall, MayTell, IsNoStep};
-ghost use Rattle.replica_calls.specs.Exchanges.{seen_in, IsNothing, HasAdded};
-ghost use Rattle.replica_calls.specs.Promises.{Begins, Puts, Reads, Fences, Stops, Restarts, Reports};
+ghost use Rattle.replica_exchange.specs.MachineCalls.{HasRoom};
+ghost use Rattle.replica_exchange.specs.Exchanges.{seen_in, IsNothing, HasAdded};
+ghost use Rattle.replica_exchange.specs.Promises.{Begins, Puts, Reads, Fences, Stops, Restarts, Reports};
+ghost use Rattle.replica_calls.specs.Calls.{first_member, AreMembersOf, MayCall, MayCopyAndCall, MayTell, IsNoStep};
 
-use crate::call_err::CallErr;
-use crate::call_id::CallId;
-use crate::exchange::{boot_on, fence_on, put_on, read_on, report_on, restart_on, stop_on};
-use crate::member::Member;
-use crate::slot::Slot;
 use cluster_core::event::Event;
 use event_book::Full;
 use event_trail::trail::Trail;
@@ -27,6 +23,13 @@ use m3_model::replica::Report;
 use m3_model::rules::Rules;
 use m3_model::seq::Seq;
 use m3_outside::disk::Disk;
+use replica_exchange::CallErr;
+use replica_exchange::call_id::CallId;
+use replica_exchange::exchange::{
+    boot_on, fence_on, put_on, read_on, report_on, restart_on, stop_on,
+};
+use replica_exchange::member::Member;
+use replica_exchange::slot::Slot;
 use replica_machine::machine::Machine;
 use std::alloc::Global;
 use std::collections::BTreeMap;

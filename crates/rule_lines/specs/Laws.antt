@@ -15,8 +15,8 @@ use Rattle.m3_outside.specs.DiskState.{DiskState}
 use Rattle.m3_outside.specs.declared.disk.Disk.{Ghosts}
 use Rattle.cluster_core.specs.declared.event.Event.{Event}
 use Rattle.net_plan.specs.Fates.{Item, fates_of}
-use Rattle.replica_calls.specs.Calls.{HasRoom}
-use Rattle.replica_calls.specs.declared.call_id.CallId.{CallId}
+use Rattle.replica_exchange.specs.MachineCalls.{HasRoom}
+use Rattle.replica_exchange.specs.declared.call_id.CallId.{CallId}
 use Rattle.session_net.specs.Deliveries.{IsUndelivered}
 use Rattle.session_net.specs.Ready.{IsReady}
 use Rattle.session_net.specs.Writes.{IsRefused}

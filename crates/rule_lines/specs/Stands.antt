@@ -6,7 +6,7 @@ use Rattle.m3_model.specs.declared.rules.MetaState.{MetaState}
 use Rattle.m3_model.specs.declared.turn.Turn.{Turn}
 use Rattle.m3_outside.specs.declared.disk.Disk.{Ghosts}
 use Rattle.cluster_core.specs.Earlier.{HasTenure}
-use Rattle.replica_calls.specs.declared.slot.Slot.{Slot}
+use Rattle.replica_exchange.specs.declared.slot.Slot.{Slot}
 use Rattle.session_net.specs.Ready.{IsReady}
 use Rattle.session_net.specs.Runs.{slot_at}
 use Rattle.told_by.specs.Hears.{HasReplica, IsNamedBy}

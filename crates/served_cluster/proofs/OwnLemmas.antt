@@ -13,9 +13,9 @@ use Rattle.m3_outside.specs.DiskState.{DiskState}
 use Rattle.m3_outside.specs.Slots.{Held, Out}
 use Rattle.m3_outside.specs.declared.disk.Disk.{Ghosts}
 use Rattle.m3_outside.specs.declared.slot.Slot.{Slot as Place}
+use Rattle.replica_exchange.specs.declared.member.Member.{Member}
+use Rattle.replica_exchange.specs.declared.slot.Slot.{Slot}
 use Rattle.replica_calls.specs.Slots.{MemberMap}
-use Rattle.replica_calls.specs.declared.member.Member.{Member}
-use Rattle.replica_calls.specs.declared.slot.Slot.{Slot}
 use Rattle.session_net.specs.Runs.{slot_at}
 use Rattle.cluster_members.specs.declared.members.Members.{Members}
 use Rattle.first_cluster.specs.First.{IsRefusedInit}

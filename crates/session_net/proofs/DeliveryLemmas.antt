@@ -13,12 +13,13 @@ use Rattle.cluster_core.specs.declared.event.StepCall.{StepCall}
 use Rattle.cluster_core.specs.declared.event.StepReply.{StepReply}
 use Rattle.net_plan.specs.Fates.{FateMap}
 use Rattle.replica_machine.specs.Steps.{reply_by}
-use Rattle.replica_calls.specs.Calls.{Tracked, Promise, HasRoom, IsMissed, MayCopyAndCall, result_of}
-use Rattle.replica_calls.specs.declared.call_err.CallErr.{CallErr}
-use Rattle.replica_calls.specs.declared.call_err.CallErr.TheVariants as call_err
-use Rattle.replica_calls.specs.declared.call_id.CallId.{CallId}
-use Rattle.replica_calls.specs.declared.member.Member.{Member}
-use Rattle.replica_calls.specs.declared.slot.Slot.{Slot}
+use Rattle.replica_exchange.specs.MachineCalls.{Promise, HasRoom, result_of}
+use Rattle.replica_exchange.specs.declared.call_err.CallErr.{CallErr}
+use Rattle.replica_exchange.specs.declared.call_err.CallErr.TheVariants as call_err
+use Rattle.replica_exchange.specs.declared.call_id.CallId.{CallId}
+use Rattle.replica_exchange.specs.declared.member.Member.{Member}
+use Rattle.replica_exchange.specs.declared.slot.Slot.{Slot}
+use Rattle.replica_calls.specs.Calls.{Tracked, IsMissed, MayCopyAndCall}
 use Rattle.session_net.specs.Messages.{exchange, IsDelivery, AreTwo, IsHeard, Heard, AreHeard, fate_to}
 use Rattle.session_net.specs.Brought.{Delivered, Brought}
 use Rattle.session_net.specs.Runs.{Ran}

@@ -13,11 +13,12 @@ use Rattle.cluster_core.specs.declared.event.StepCall.{StepCall}
 use Rattle.cluster_core.specs.declared.event.StepReply.{StepReply}
 use Rattle.replica_machine.specs.Machines.{MachineState}
 use Rattle.replica_machine.specs.Steps.{IsStep, reply_by}
-use Rattle.replica_calls.specs.Calls.{Tracked, Promise, AddsBoth, WasCalled, IsNoStep}
-use Rattle.replica_calls.specs.Exchanges.{ask_of, seen_in, IsNothing, HasAdded, HasExchanged}
-use Rattle.replica_calls.specs.declared.call_err.CallErr.{CallErr}
-use Rattle.replica_calls.specs.declared.member.Member.{Member}
-use Rattle.replica_calls.specs.declared.slot.Slot.{Slot}
+use Rattle.replica_exchange.specs.MachineCalls.{Promise, AddsBoth}
+use Rattle.replica_exchange.specs.Exchanges.{ask_of, seen_in, IsNothing, HasAdded, HasExchanged}
+use Rattle.replica_exchange.specs.declared.call_err.CallErr.{CallErr}
+use Rattle.replica_exchange.specs.declared.member.Member.{Member}
+use Rattle.replica_exchange.specs.declared.slot.Slot.{Slot}
+use Rattle.replica_calls.specs.Calls.{Tracked, WasCalled, IsNoStep}
 use Rattle.replica_calls.proofs.SlotLemmas.{get-insert_here, get-insert_other}
 use Rattle.session_net.specs.Messages.{exchange}
 use Rattle.session_net.specs.Runs.{Step, step_in, steps_of, TakesSteps, IsStepped, Ran}

@@ -11,7 +11,7 @@ use Rattle.cluster_core.specs.declared.event.StepCall.{StepCall}
 use Rattle.cluster_core.specs.declared.event.StepCall.TheVariants as call
 use Rattle.cluster_core.specs.declared.event.StepReply.TheVariants as reply
 use Rattle.net_plan.specs.declared.late_write.LateWrite.{LateWrite}
-use Rattle.replica_calls.specs.Calls.{HasRoom}
+use Rattle.replica_exchange.specs.MachineCalls.{HasRoom}
 use Rattle.session_net.specs.Messages.{IsDelivery}
 use Rattle.session_net.specs.Runs.{Ran}
 use Rattle.session_net.specs.declared.net.Net.{Net}

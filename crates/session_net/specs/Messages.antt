@@ -10,8 +10,8 @@ use Rattle.cluster_core.specs.declared.event.StepCall.{StepCall}
 use Rattle.cluster_core.specs.declared.event.StepReply.{StepReply}
 use Rattle.net_plan.specs.Fates.{FateMap, fate_of}
 use Rattle.replica_machine.specs.Steps.{reply_by}
-use Rattle.replica_calls.specs.Exchanges.{ask_of}
-use Rattle.replica_calls.specs.declared.call_id.CallId.{CallId}
+use Rattle.replica_exchange.specs.Exchanges.{ask_of}
+use Rattle.replica_exchange.specs.declared.call_id.CallId.{CallId}
 
 -- what becomes of the message of the call to the node
 abbrev pub fate_to : FateMap → CallId → ℕ → Fate

@@ -26,8 +26,9 @@ use Rattle.cluster_core.specs.declared.event.StepCall.{StepCall}
 use Rattle.cluster_core.specs.declared.event.StepCall.TheVariants as call
 use Rattle.cluster_core.specs.declared.event.StepReply.TheVariants as reply
 use Rattle.net_plan.specs.Fates.{FateMap}
-use Rattle.replica_calls.specs.Calls.{Tracked, HasRoom}
-use Rattle.replica_calls.specs.declared.call_id.CallId.{CallId}
+use Rattle.replica_exchange.specs.MachineCalls.{HasRoom}
+use Rattle.replica_exchange.specs.declared.call_id.CallId.{CallId}
+use Rattle.replica_calls.specs.Calls.{Tracked}
 use Rattle.replica_machine.specs.Damages.{IsFormDamage}
 use Rattle.session_net.specs.Messages.{Heard, AreHeard}
 use Rattle.session_net.specs.Outcomes.{Told, told_of, answering, AreCounted, IsTooFew}

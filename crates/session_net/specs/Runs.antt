@@ -9,9 +9,9 @@ use Rattle.cluster_core.specs.declared.event.StepCall.{StepCall}
 use Rattle.cluster_core.specs.declared.event.StepReply.{StepReply}
 use Rattle.replica_machine.specs.Machines.{MachineState}
 use Rattle.replica_machine.specs.Steps.{IsStep}
+use Rattle.replica_exchange.specs.declared.member.Member.{Member}
+use Rattle.replica_exchange.specs.declared.slot.Slot.{Slot}
 use Rattle.replica_calls.specs.Calls.{Tracked}
-use Rattle.replica_calls.specs.declared.member.Member.{Member}
-use Rattle.replica_calls.specs.declared.slot.Slot.{Slot}
 
 -- the slot of a node for a shard
 abbrev pub slot_at : ℕ → ℕ → Slot

@@ -25,8 +25,9 @@ use Rattle.net_plan.specs.declared.late_write.LateWrite.{LateWrite}
 use Rattle.placement_core.specs.Lawful.{IsLawful}
 use Rattle.placement_core.specs.NodeNames.{IsNamedBelow}
 use Rattle.placement_core.specs.Shards.{Shard, shard_at, nodes_of, counts}
-use Rattle.replica_calls.specs.Calls.{Tracked, HasRoom}
-use Rattle.replica_calls.specs.declared.call_id.CallId.{CallId}
+use Rattle.replica_exchange.specs.MachineCalls.{HasRoom}
+use Rattle.replica_exchange.specs.declared.call_id.CallId.{CallId}
+use Rattle.replica_calls.specs.Calls.{Tracked}
 use Rattle.session_net.specs.Messages.{Heard, AreHeard, fate_to}
 use Rattle.session_net.specs.Outcomes.{Told, told_of, answering, refusing, IsTooFew, IsShortOf}
 use Rattle.session_net.specs.Runs.{Ran}

@@ -1,7 +1,8 @@
 //! Events of calls of clients.
 ghost use Rattle.std.specs.Prelude.{◌≡◌, [], ◌∷◌, length, Bool};
 ghost use Rattle.cluster_core.specs.Legal.{Lawful};
-ghost use Rattle.replica_calls.specs.Calls.{HasRoom, IsNoStep};
+ghost use Rattle.replica_exchange.specs.MachineCalls.{HasRoom};
+ghost use Rattle.replica_calls.specs.Calls.{IsNoStep};
 ghost use Rattle.session_net.specs.Runs.{Ran};
 
 use cluster_core::event::Event;

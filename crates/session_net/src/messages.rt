@@ -6,7 +6,7 @@ ghost use Rattle.session_net.specs.Messages.{fate_to};
 use m3_model::act::Fate;
 use net_plan::fate_key::FateKey;
 use net_plan::fates::Fates;
-use replica_calls::call_id::CallId;
+use replica_exchange::call_id::CallId;
 
 /// What becomes of the call's message to the node.
 pub fn fate_to(fates: &Fates, call: CallId, node: u8) -> Fate

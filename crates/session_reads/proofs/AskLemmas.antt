@@ -25,8 +25,8 @@ use Rattle.block_buffer.specs.Joins.{joined}
 use Rattle.cluster_core.specs.declared.event.StepCall.{StepCall}
 use Rattle.cluster_core.specs.declared.event.StepReply.TheVariants as reply
 use Rattle.net_plan.specs.Fates.{FateMap}
+use Rattle.replica_exchange.specs.declared.call_id.CallId.{CallId}
 use Rattle.replica_calls.specs.Calls.{Tracked}
-use Rattle.replica_calls.specs.declared.call_id.CallId.{CallId}
 use Rattle.session_net.specs.Brought.{Brought}
 use Rattle.session_net.specs.Messages.{IsHeard, Heard, fate_to}
 use Rattle.session_net.proofs.DeliveryLemmas.{heard_more}

@@ -11,7 +11,7 @@ use m3_model::point::{Pick, Series};
 use m3_model::seq::Seq;
 use m3_outside::disk::Disk;
 use quorum_count::{majority, needed_read};
-use replica_calls::call_id::CallId;
+use replica_exchange::call_id::CallId;
 use session_net::net::Net;
 use session_net::session_err::SessionErr;
 use std::alloc::Global;

@@ -7,7 +7,7 @@ ghost use Rattle.cluster_core.specs.Earlier.{HasClock, HasShard};
 ghost use Rattle.cluster_core.specs.Legal.{IsFetched};
 ghost use Rattle.cluster_core.specs.declared.event.Event.TheVariants as event;
 ghost use Rattle.event_book.specs.Lists.{most_entries};
-ghost use Rattle.replica_calls.specs.Calls.{HasRoom};
+ghost use Rattle.replica_exchange.specs.MachineCalls.{HasRoom};
 ghost use Rattle.session_net.specs.Outcomes.{AreCounted, IsShortOf};
 ghost use Rattle.session_net.specs.Reads.{most_added};
 ghost use Rattle.session_net.specs.Tallies.{HasRoom as Counts};

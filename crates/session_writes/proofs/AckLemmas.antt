@@ -15,7 +15,7 @@ use Rattle.cluster_core.specs.declared.event.StepCall.{StepCall}
 use Rattle.cluster_core.specs.declared.event.StepReply.TheVariants as reply
 use Rattle.net_plan.specs.Fates.{FateMap}
 use Rattle.placement_core.specs.Shards.{Shard, counts, nodes_of}
-use Rattle.replica_calls.specs.declared.call_id.CallId.{CallId}
+use Rattle.replica_exchange.specs.declared.call_id.CallId.{CallId}
 use Rattle.session_net.specs.Messages.{IsDelivery, IsHeard, Heard, AreHeard, fate_to}
 use Rattle.session_net.specs.Outcomes.{told_of, answering}
 use Rattle.session_net.specs.Writes.{counted_among}

@@ -4,7 +4,7 @@ ghost use Rattle.std.specs.FinMap as finite;
 ghost use Rattle.wire_bytes.specs.Entries.{IsBounded};
 ghost use Rattle.cluster_core.specs.Earlier.{HasClock, HasSend};
 ghost use Rattle.cluster_core.specs.declared.event.StepReply.TheVariants as reply;
-ghost use Rattle.replica_calls.specs.Calls.{HasRoom};
+ghost use Rattle.replica_exchange.specs.MachineCalls.{HasRoom};
 ghost use Rattle.session_net.specs.Brought.{Delivered, Brought};
 ghost use Rattle.session_net.specs.Writes.{put_of};
 
@@ -13,10 +13,10 @@ use m3_model::point::Point;
 use m3_model::reason::Reason;
 use m3_model::rules::Rules;
 use m3_outside::disk::Disk;
-use replica_calls::CallErr;
-use replica_calls::call_id::CallId;
 use replica_calls::replicas::Replicas;
-use replica_calls::slot::Slot;
+use replica_exchange::CallErr;
+use replica_exchange::call_id::CallId;
+use replica_exchange::slot::Slot;
 use std::alloc::Global;
 
 // Puts the point on the replica at the slot, which is there.

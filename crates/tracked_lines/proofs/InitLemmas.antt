@@ -15,9 +15,9 @@ use Rattle.m3_outside.specs.declared.disk.Disk.{Ghosts}
 use Rattle.m3_outside.specs.declared.slot.Slot.{Slot as Place}
 use Rattle.cluster_core.proofs.ListLemmas.{some_same}
 use Rattle.replica_machine.specs.Machines.{MachineState}
+use Rattle.replica_exchange.specs.declared.member.Member.{Member}
+use Rattle.replica_exchange.specs.declared.slot.Slot.{Slot}
 use Rattle.replica_calls.specs.Slots.{MemberMap}
-use Rattle.replica_calls.specs.declared.member.Member.{Member}
-use Rattle.replica_calls.specs.declared.slot.Slot.{Slot}
 use Rattle.session_net.specs.Runs.{slot_at}
 use Rattle.told_by.specs.Lines.{InitLine, PlainLine}
 use Rattle.told_moves.specs.Order.{IsInitAct}

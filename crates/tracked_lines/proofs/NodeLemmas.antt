@@ -11,7 +11,7 @@ use Rattle.m3_outside.specs.Depots.{Depot}
 use Rattle.m3_outside.specs.DiskState.{DiskState, IsLawful}
 use Rattle.m3_outside.specs.declared.disk.Disk.{Ghosts}
 use Rattle.cluster_core.specs.declared.event.Event.{Event}
-use Rattle.replica_calls.specs.Calls.{HasRoom}
+use Rattle.replica_exchange.specs.MachineCalls.{HasRoom}
 use Rattle.session_net.specs.Runs.{Ran}
 use Rattle.told_by.specs.Lines.{PlainLine}
 use Rattle.told_by.specs.Makes.{OpensReplicas}

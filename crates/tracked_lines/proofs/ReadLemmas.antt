@@ -18,7 +18,7 @@ use Rattle.m3_outside.specs.Depots.{Depot}
 use Rattle.m3_outside.specs.DiskState.{DiskState, IsLawful}
 use Rattle.m3_outside.specs.declared.disk.Disk.{Ghosts}
 use Rattle.cluster_core.specs.declared.event.Event.{Event}
-use Rattle.replica_calls.specs.declared.call_id.CallId.{CallId}
+use Rattle.replica_exchange.specs.declared.call_id.CallId.{CallId}
 use Rattle.session_net.specs.Reads.{IsCutShort, IsFirstShort, IsFound, IsFull, IsStopped, Wish}
 use Rattle.session_net.specs.Runs.{Ran}
 use Rattle.told_by.specs.Lines.{ReadLine}

@@ -14,8 +14,8 @@ use Rattle.m3_model.specs.declared.rules.Space.{Space}
 use Rattle.m3_outside.specs.DiskState.{DiskState}
 use Rattle.m3_outside.specs.declared.disk.Disk.{Ghosts}
 use Rattle.cluster_core.specs.declared.event.Event.{Event}
+use Rattle.replica_exchange.specs.declared.call_id.CallId.{CallId}
 use Rattle.replica_calls.specs.Calls.{Tracked}
-use Rattle.replica_calls.specs.declared.call_id.CallId.{CallId}
 use Rattle.session_net.specs.Reads.{Wish}
 use Rattle.session_net.specs.Runs.{Ran}
 use Rattle.session_net.specs.declared.net.Net.{Net}

@@ -14,7 +14,7 @@ use Rattle.m3_outside.specs.Depots.{Depot}
 use Rattle.m3_outside.specs.DiskState.{DiskState, IsLawful}
 use Rattle.m3_outside.specs.declared.disk.Disk.{Ghosts}
 use Rattle.placement_core.specs.Shards.{Shard, nodes_of}
-use Rattle.replica_calls.specs.declared.call_id.CallId.{CallId}
+use Rattle.replica_exchange.specs.declared.call_id.CallId.{CallId}
 use Rattle.session_net.specs.Writes.{AreMembers, IsAcknowledged, IsRefused, IsUnmet, IsUnsent, bag_after, shard_of_point}
 use Rattle.session_net.specs.declared.session_err.SessionErr.TheVariants as err
 use Rattle.told_by.proofs.LineLemmas.{take_all}

@@ -8,7 +8,7 @@ use Rattle.m3_model.specs.declared.point.Pick.TheVariants as pick
 use Rattle.m3_outside.specs.Depots.{Depot}
 use Rattle.m3_outside.specs.DiskState.{DiskState}
 use Rattle.m3_outside.specs.declared.disk.Disk.{Ghosts}
-use Rattle.replica_calls.specs.declared.call_id.CallId.{CallId}
+use Rattle.replica_exchange.specs.declared.call_id.CallId.{CallId}
 use Rattle.cluster_members.specs.Calls.{IsFetched, IsWritten}
 use Rattle.cluster_members.specs.Steps.{IsMoved, IsNamed}
 use Rattle.cluster_members.specs.declared.members.Members.{Members}

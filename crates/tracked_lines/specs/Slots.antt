@@ -4,7 +4,7 @@ use Rattle.m3_model.specs.declared.act.Act.{Act}
 use Rattle.m3_model.specs.declared.answer.Answer.{Answer}
 use Rattle.m3_outside.specs.DiskState.{DiskState}
 use Rattle.m3_outside.specs.declared.disk.Disk.{Ghosts}
-use Rattle.replica_calls.specs.declared.call_id.CallId.{CallId}
+use Rattle.replica_exchange.specs.declared.call_id.CallId.{CallId}
 use Rattle.cluster_members.specs.declared.members.Members.{Members}
 use Rattle.node_calls.specs.Halts.{HaveSameSlots}
 use Rattle.tracked_lines.specs.Acts.{Does}

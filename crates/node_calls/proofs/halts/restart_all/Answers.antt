@@ -4,7 +4,7 @@ use Rattle.std.specs.Prelude.{nat_eq}
 use Rattle.std.proofs.lemmas.Bool.{eq-eqb, ne_eqb}
 use Rattle.std.proofs.lemmas.List.{take_all}
 use Rattle.placement_core.proofs.ListLemmas.{IsIn-from_index}
-use Rattle.replica_calls.specs.declared.slot.Slot.{Slot}
+use Rattle.replica_exchange.specs.declared.slot.Slot.{Slot}
 use Rattle.session_net.specs.Runs.{Ran}
 use Rattle.session_net.proofs.ReadyLemmas.{there_after}
 use Rattle.session_net.proofs.RunLemmas.{ran_nothing}

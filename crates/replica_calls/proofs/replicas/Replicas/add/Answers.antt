@@ -1,4 +1,4 @@
-use Rattle.replica_calls.proofs.ExchangeLemmas.{added_alone, full_without_room}
+use Rattle.replica_calls.proofs.AddLemmas.{added_alone, full_without_room}
 use Rattle.replica_calls.proofs.TrackLemmas.{tracked_added}
 use Rattle.replica_calls.proofs.replicas.Replicas.add.Goals as goal
 

@@ -1,8 +1,8 @@
 use Rattle.std.proofs.Common.{refl, inl}
 use Rattle.cluster_core.specs.declared.event.StepCall.TheVariants as call
 use Rattle.cluster_core.specs.declared.event.StepReply.TheVariants as reply
-use Rattle.replica_calls.specs.Calls.{AddsStep}
-use Rattle.replica_calls.specs.Promises.{Reports}
+use Rattle.replica_exchange.specs.MachineCalls.{AddsStep}
+use Rattle.replica_exchange.specs.Promises.{Reports}
 use Rattle.replica_calls.proofs.SlotLemmas.{none_at}
 use Rattle.replica_calls.proofs.TrackLemmas.{at_slot, looked_at, tracked_with, may_call, missing}
 use Rattle.replica_calls.proofs.replicas.Replicas.report.Goals as goal

@@ -1,8 +1,8 @@
 use Rattle.std.proofs.Common.{refl, inl}
 use Rattle.cluster_core.specs.declared.event.StepCall.TheVariants as call
 use Rattle.cluster_core.specs.declared.event.StepReply.TheVariants as reply
-use Rattle.replica_calls.specs.Calls.{AddsBoth}
-use Rattle.replica_calls.specs.Promises.{Restarts}
+use Rattle.replica_exchange.specs.MachineCalls.{AddsBoth}
+use Rattle.replica_exchange.specs.Promises.{Restarts}
 use Rattle.replica_calls.proofs.SlotLemmas.{wrote, none_at}
 use Rattle.replica_calls.proofs.TrackLemmas.{at_slot, tracked_with, may_call, missing}
 use Rattle.replica_calls.proofs.replicas.Replicas.restart.Goals as goal

@@ -1,0 +1,155 @@
+//! Answers as texts.
+use crate::words::letter_of;
+use m3_model::answer::Answer;
+use m3_model::memory::Memory;
+use m3_model::placement::Placement;
+use m3_model::point::Series;
+use m3_model::reason::Reason;
+use m3_model::turn::Reply;
+
+fn letter_of_node(node: u8) -> char {
+    match node {
+        0 => 'a',
+        1 => 'b',
+        2 => 'c',
+        _ => '?',
+    }
+}
+
+/// The letter of a reason.
+pub fn letter_of_reason(reason: &Reason) -> char {
+    match reason {
+        Reason::Cut => 'x',
+        Reason::Down => '-',
+        Reason::Boot => '^',
+        Reason::Disk => '~',
+        Reason::Past => '<',
+        Reason::Future => '>',
+        Reason::NotOwned => 'n',
+        Reason::Stale { .. } => 's',
+        _ => '?',
+    }
+}
+
+/// The version, and the nodes of each shard: `v1[abc]`.
+pub fn spell_placement(out: &mut String, place: &Placement) -> Result<(), Memory> {
+    let version = place.version;
+    write!(out, "v{version}")?;
+    for shard in place.shards.as_slice() {
+        out.push('[')?;
+        for assignment in shard.as_slice() {
+            out.push(letter_of_node(assignment.node))?;
+        }
+        out.push(']')?;
+    }
+    Ok(())
+}
+
+fn spell_series(out: &mut String, series: &Series) -> Result<(), Memory> {
+    out.push(letter_of(series.id.as_str()))?;
+    for (t, v) in series.points.as_slice() {
+        write!(out, "{t}={v},")?;
+    }
+    Ok(())
+}
+
+// Each series by its letter with its points, and whether the read came short: `u100=5,101=6,!`.
+fn spell_found(out: &mut String, found: &[Series], short: bool) -> Result<(), Memory> {
+    for series in found {
+        spell_series(out, series)?;
+    }
+    out.push(if short { '!' } else { '.' })?;
+    Ok(())
+}
+
+fn spell_nodes(out: &mut String, nodes: &[u8]) -> Result<(), Memory> {
+    for node in nodes {
+        out.push(letter_of_node(*node))?;
+    }
+    Ok(())
+}
+
+// How many answered of how many that were needed, and the others with their reasons: `1/2b-c-`, then a shard above 0.
+fn spell_refusal(
+    out: &mut String,
+    got: u32,
+    needed: u32,
+    reasons: &[(u8, Reason)],
+    shard: u32,
+) -> Result<(), Memory> {
+    write!(out, "{got}/{needed}")?;
+    for (node, reason) in reasons {
+        out.push(letter_of_node(*node))?;
+        out.push(letter_of_reason(reason))?;
+    }
+    if shard > 0 {
+        write!(out, "#{shard}")?;
+    }
+    Ok(())
+}
+
+fn spell_outcomes(out: &mut String, outcomes: &[(u8, u32, Option<Reason>)]) -> Result<(), Memory> {
+    for (node, _, outcome) in outcomes {
+        out.push(letter_of_node(*node))?;
+        out.push(match outcome {
+            None => '+',
+            Some(reason) => letter_of_reason(reason),
+        })?;
+    }
+    Ok(())
+}
+
+// Answers that refuse a request as a whole.
+fn spell_other(out: &mut String, answer: &Answer) -> Result<(), Memory> {
+    match answer {
+        Answer::Order => out.push_str("order")?,
+        Answer::Unknown { name } => {
+            out.push('?')?;
+            out.push_str(name.as_str())?;
+        }
+        Answer::State { node } => {
+            out.push('=')?;
+            out.push_str(node.as_str())?;
+        }
+        Answer::Clock { now } => write!(out, "clock{now}")?,
+        Answer::Limit { limit } => write!(out, "limit{limit}")?,
+        Answer::Full => out.push_str("full")?,
+        Answer::Memory => return Err(Memory),
+        _ => out.push_str("other")?,
+    }
+    Ok(())
+}
+
+/// An answer. Want of memory is none, and is handed on.
+pub fn spell(out: &mut String, answer: &Answer) -> Result<(), Memory> {
+    match answer {
+        Answer::Done => out.push_str("ok")?,
+        Answer::Placed { placement, .. } | Answer::Available { placement, .. } => {
+            spell_placement(out, placement)?
+        }
+        Answer::Acks { acks } => spell_nodes(out, acks.as_slice())?,
+        Answer::Found { series, short } => spell_found(out, series.as_slice(), *short)?,
+        Answer::Outcomes { outcomes } => spell_outcomes(out, outcomes.as_slice())?,
+        Answer::Consistency {
+            got,
+            needed,
+            reasons,
+            shard,
+        } => spell_refusal(out, *got, *needed, reasons.as_slice(), *shard)?,
+        Answer::Disk { node, shard } => {
+            out.push('~')?;
+            out.push_str(node.as_str())?;
+            write!(out, "{shard}")?;
+        }
+        _ => spell_other(out, answer)?,
+    }
+    Ok(())
+}
+
+/// A reply to one request.
+pub fn spell_reply(out: &mut String, reply: &Reply) -> Result<(), Memory> {
+    match reply {
+        Reply::One(answer) => spell(out, answer),
+        Reply::Par { .. } => Ok(out.push_str("par")?),
+    }
+}

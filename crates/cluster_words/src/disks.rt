@@ -1,0 +1,69 @@
+//! Disks in memory, of which some fail.
+ghost use Rattle.std.specs.Prelude.{◌≡◌, IfOk};
+ghost use Rattle.m3_outside.specs.Slots.{Out};
+ghost use Rattle.m3_outside.specs.declared.slot.Slot.{Slot as Place};
+ghost use Rattle.mem_disk.specs.Slots.{held_of};
+
+use m3_model::memory::Memory;
+use m3_outside::disk::Disk;
+use m3_outside::slot::Slot;
+use mem_disk::disk::MemDisk;
+use mem_disk::disks::MemDisks;
+use std::alloc::Global;
+
+/// Puts a disk into a slot.
+pub fn put(disks: &mut MemDisks, slot: Slot, disk: MemDisk)
+    requires { (place : Place) → ¬ (held_of disks.old place ≡ Out) }
+    ensures { (place : Place) → ¬ (held_of disks.new place ≡ Out) }
+{
+    drop(disks.put(slot, disk));
+}
+
+/// Disks that never fail, but for that of this node for this shard: of its calls those that are listed fail, and after so many
+/// others all, until it is restarted.
+pub fn disks_with(
+    alloc: Global,
+    place: (u8, u32),
+    fail: &[u64],
+    fuse: Option<u64>,
+) -> Result<MemDisks, Memory>
+    ensures { IfOk result (λ disks. (place : Place) → ¬ (held_of disks place ≡ Out)) }
+{
+    let (node, shard) = place;
+    let disk = MemDisk::new(alloc, fail, fuse)?;
+    let mut disks = MemDisks::new(alloc)?;
+    put(&mut disks, Slot { node, shard }, disk);
+    Ok(disks)
+}
+
+// The faults of the disk in the slot of a node for a shard, which is taken away; none where no disk lies there.
+fn faults_in(
+    alloc: Global,
+    disks: &mut MemDisks,
+    node: u8,
+    shard: u32,
+) -> Result<Option<u64>, Memory> {
+    let other = MemDisk::new(alloc, &[], None)?;
+    let slot = Slot { node, shard };
+    Ok(disks.put(slot, other).map(|disk| disk.faults()))
+}
+
+/// This count of faults, and those of the disks that lie in the slots of four nodes for shard 0 and for shard 1; `-` where there is
+/// none.
+pub fn spell_disks(
+    alloc: Global,
+    count: u64,
+    disks: &mut MemDisks,
+    out: &mut String,
+) -> Result<(), Memory> {
+    write!(out, "{count}:")?;
+    for shard in 0..2u32 {
+        for node in 0..4u8 {
+            match faults_in(alloc, disks, node, shard)? {
+                Some(faults) => write!(out, "{faults}")?,
+                None => out.push('-')?,
+            }
+        }
+    }
+    Ok(())
+}

@@ -1,0 +1,6 @@
+//! A line's bytes, parsed to a tree that borrows its texts from them, and the data that it stands for: what serde_json reads.
+#![tactic(auto)]
+
+pub mod numbers;
+pub mod parse;
+pub mod values;

@@ -1,0 +1,50 @@
+//! Numerals, as serde_json reads them.
+ghost use Rattle.std.specs.Prelude.{◌≡◌, ◌==◌, ◌<◌, length, slice_index, IsTrue, true, false, option_map};
+ghost use Rattle.serde_json.specs.Read.{number_of, number_from, float_of};
+ghost use Rattle.serde_json.specs.View.{number_view};
+
+use fast_float::Numeral;
+use serde_json::Number;
+
+fn has_minus(bytes: &[u8]) -> bool
+    ensures value { result ≡ (slice_index bytes.now 0 == 45) }
+    ensures some { IsTrue result → 0 < length bytes.now }
+{
+    !bytes.is_empty() && bytes[0] == b'-'
+}
+
+fn nearest(negative: bool, numeral: &Numeral<'_>) -> Option<Number>
+    ensures { option_map number_view result ≡ float_of negative numeral.now }
+{
+    Number::from_f64(numeral.to_float::<f64>(negative))
+}
+
+fn without_minus(numeral: &Numeral<'_>) -> Option<Number>
+    ensures { option_map number_view result ≡ number_from false numeral.now }
+{
+    match numeral.to_u64() {
+        Some(n) => Some(Number::from(n)),
+        None => nearest(false, numeral),
+    }
+}
+
+fn with_minus(numeral: &Numeral<'_>) -> Option<Number>
+    ensures { option_map number_view result ≡ number_from true numeral.now }
+{
+    match numeral.to_i64(true) {
+        Some(n) if n < 0 => Some(Number::from(n)),
+        _ => nearest(true, numeral),
+    }
+}
+
+/// The number that a numeral of JSON writes: an integer of 64 bits, or else a float; none where it is too large for one.
+pub fn number_of(text: &str) -> Option<Number>
+    ensures { option_map number_view result ≡ number_of text.now }
+{
+    let bytes = text.as_bytes();
+    if has_minus(bytes) {
+        with_minus(&Numeral::scan(&bytes[1..]))
+    } else {
+        without_minus(&Numeral::scan(bytes))
+    }
+}

@@ -1,0 +1,35 @@
+use Rattle.std.proofs.Common.{refl, ◌∙◌, inr}
+use Rattle.cluster_core.specs.declared.event.StepCall.TheVariants as call
+use Rattle.cluster_core.specs.declared.event.StepReply.TheVariants as reply
+use Rattle.replica_machine.specs.Steps.{reply_by}
+use Rattle.replica_exchange.specs.MachineCalls.{AddsBoth}
+use Rattle.replica_exchange.proofs.ExchangeLemmas.{Went, opened_after, is_answer, went}
+use Rattle.replica_exchange.proofs.exchange.restart_on.Given.{Over}
+use Rattle.replica_exchange.proofs.exchange.restart_on.Goals as goal
+
+pub answer-reply-requires-clause-answers : goal.answer-reply-requires-clause-answers
+answer-reply-requires-clause-answers g c κs lives =
+    is_answer g.D.Disk.state c.args.slot c.args.trail.now c.ask-call.new.trail c.args.member.now c.restart-said.new.self call.Restart call.Restart c.ask-call.result (reply_by (λ _. reply.Done) c.restart-said.result) c.done_reply.result c.ask-call.ensures.asked refl c.ask-call.ensures.call c.done_reply.ensures
+    c.requires.opened tt c.requires.is c.restart-said.ensures.step (λ e. cc)
+
+both : (g : Over) (c : goal.After-done_in g) → Went g.D.Disk.state c.args.slot (AddsBoth c.args.slot) call.Restart (reply_by (λ _. reply.Done) c.restart-said.result) c.args.trail.now c.answer-reply.new.trail (record c.args.member.now { machine = c.restart-said.new.self })
+both g c = went g.D.Disk.state c.args.slot c.args.trail.now c.ask-call.new.trail c.answer-reply.new.trail c.args.member.now (record c.args.member.now { machine = c.restart-said.new.self }) call.Restart call.Restart c.ask-call.result (reply_by (λ _. reply.Done) c.restart-said.result) c.done_reply.result c.ask-call.ensures.asked c.answer-reply.ensures.answered refl c.ask-call.ensures.call c.done_reply.ensures c.requires.is c.restart-said.ensures.step refl
+
+pub returns-clause-is : goal.returns-clause-is
+returns-clause-is g c = (both g c).is
+
+pub returns-clause-others : goal.returns-clause-others
+returns-clause-others g c = (both g c).others
+
+pub returns-clause-opened : goal.returns-clause-opened
+returns-clause-opened g c = opened_after c.requires.opened (both g c).longer
+
+pub returns-clause-answered : goal.returns-clause-answered
+returns-clause-answered g c = inr (record {
+  said = c.restart-said.result;
+  step = c.restart-said.ensures.step;
+  promised = record { ok = c.restart-said.ensures.ok; memory = c.restart-said.ensures.memory; fault = c.restart-said.ensures.fault; err = c.restart-said.ensures.err; disk = c.restart-said.ensures.restarts };
+  first = refl;
+  adds = (both g c).adds;
+  told = c.done_in.ensures.done c.restart-said.result (c.answer-reply.ensures.reply ∙ c.done_reply.ensures);
+})

@@ -1,0 +1,11 @@
+//! One call of one replica's machine: an Ask and a step on the list of a run's events.
+#![tactic(auto)]
+
+mod call_err;
+pub mod call_id;
+pub mod exchange;
+pub mod member;
+mod parts;
+pub mod slot;
+
+pub use call_err::CallErr;
