@@ -1,0 +1,165 @@
+//! Stories over a disk that fails, and disks that were given back.
+use cluster_words::disks::{disks_with, spell_disks};
+use cluster_words::runs::run;
+use m3_model::memory::Memory;
+use m3_outside::disks::Disks;
+use std::alloc::Global;
+use std::test::Fail;
+
+// What is answered where a disk of c fails, and the faults of the disks that were given back.
+fn told(
+    alloc: Global,
+    shard: u32,
+    fail: &[u64],
+    fuse: Option<u64>,
+    words: &str,
+) -> Result<String, Memory> {
+    let mut out = String::new(alloc);
+    let mut disks = disks_with(alloc, (2, shard), fail, fuse)?;
+    run(alloc, &mut disks, words, &mut out)?;
+    out.push('|')?;
+    let faults = disks.faults();
+    spell_disks(alloc, faults, &mut disks, &mut out)?;
+    Ok(out)
+}
+
+// A line for each text that differs from the one before.
+fn add_line(lines: &mut String, text: &str) -> Result<(), Memory> {
+    let (_, last) = lines.as_str().rsplit_once('\n').unwrap_or(("", ""));
+    if last != text {
+        lines.push('\n')?;
+        lines.push_str(text)?;
+    }
+    Ok(())
+}
+
+// Whether the text tells of no fault.
+fn is_faultless(told: &str) -> bool {
+    match told.rsplit_once('|') {
+        Some((_, faults)) => faults.starts_with("0:"),
+        None => true,
+    }
+}
+
+// More calls of a disk than a story makes.
+const MORE_CALLS: u64 = 200;
+
+// What is told where the calls from this one on fail, until the disk is restarted; up to the first that the story doesn't make.
+fn by_fuse(alloc: Global, words: &str, lines: &mut String) -> Result<(), Memory> {
+    for fuse in 0..MORE_CALLS {
+        let told = told(alloc, 0, &[], Some(fuse), words)?;
+        add_line(lines, told.as_str())?;
+        if is_faultless(told.as_str()) {
+            break;
+        }
+    }
+    Ok(())
+}
+
+// The same where this call alone fails.
+fn by_call(alloc: Global, shard: u32, words: &str, lines: &mut String) -> Result<(), Memory> {
+    for call in 0..MORE_CALLS {
+        let told = told(alloc, shard, &[call], None, words)?;
+        add_line(lines, told.as_str())?;
+        if is_faultless(told.as_str()) {
+            break;
+        }
+    }
+    Ok(())
+}
+
+// The disk fails in `init`, in a write or not before it is restarted.
+const BURNT: &str = "i1 nm t100 wmuA100=5 wmuA101=6 sc bc oc rmuA wmuA102=7 rmuA
+v1[abc]:ok:ok:2/3c-:2/3c-:ok:ok:v1[abc]:u100=5,101=6,.:abc:u100=5,101=6,102=7,.:|1:001-----
+v1[abc]:ok:ok:2/3c~:2/3c-:ok:ok:v1[abc]:u100=5,101=6,.:abc:u100=5,101=6,102=7,.:|1:001-----
+v1[abc]:ok:ok:abc:2/3c~:ok:ok:v1[abc]:u100=5,101=6,.:abc:u100=5,101=6,102=7,.:|1:001-----
+v1[abc]:ok:ok:abc:abc:ok:ok:v1[abc]:u100=5,101=6,.:abc:u100=5,101=6,102=7,.:|0:000-----";
+
+#[test]
+fn fuses_are_told(rt: HostRuntime) -> Result<(), Fail> {
+    let (words, _) = BURNT.split_once('\n').expect(&rt, "lines");
+    let mut lines = String::from_str(rt.alloc(), words)?;
+    by_fuse(rt.alloc(), words, &mut lines)?;
+    assert_eq!(rt; lines.as_str(), BURNT);
+    Ok(())
+}
+
+// One call of the disk fails: in `init`, in the first write, in the second one, in the restart, in the bootstrap, or none does.
+const FAILED: &str = "i1 nm t100 wmuA100=5 wmuA101=6 sc bc oc rmuA rmuM
+v1[abc]:ok:ok:2/3c-:2/3c-:ok:ok:v1[abc]:u100=5,101=6,.:u100=5,101=6,.:|1:001-----
+v1[abc]:ok:ok:2/3c~:2/3c-:ok:ok:v1[abc]:u100=5,101=6,.:u100=5,101=6,.:|1:001-----
+v1[abc]:ok:ok:abc:2/3c~:ok:ok:v1[abc]:u100=5,101=6,.:u100=5,101=6,.:|1:001-----
+v1[abc]:ok:ok:abc:abc:ok:~c0:=c:2/3c-:u100=5,101=6,.:|1:001-----
+v1[abc]:ok:ok:abc:abc:ok:ok:~c0:2/3c-:u100=5,101=6,.:|1:001-----
+v1[abc]:ok:ok:abc:abc:ok:ok:v1[abc]:u100=5,101=6,.:u100=5,101=6,.:|0:000-----";
+
+// The same of a disk of shard 1, where the node also has one of shard 0, with the series x in that and u in this shard. A restart
+// that failed leaves the node stopped, and another one starts it; a replica that a bootstrap closed is passed over by the next.
+const OF_ONE_SHARD: &str = "i2 nm t100 wmuA100=5 wmxA101=6 sc bc rmxA bc oc oc rmuA rmxA
+v1[abc][abc]:ok:ok:2/3c-#1:abc:ok:ok:2/3c^:=c:v1[abc][abc]:v1[abc][abc]:u100=5,.:x101=6,.:|1:000-001-
+v1[abc][abc]:ok:ok:2/3c~#1:abc:ok:ok:2/3c^:=c:v1[abc][abc]:v1[abc][abc]:u100=5,.:x101=6,.:|1:000-001-
+v1[abc][abc]:ok:ok:abc:abc:ok:~c1:2/3c-:ok:v1[abc][abc]:v1[abc][abc]:u100=5,.:x101=6,.:|1:000-001-
+v1[abc][abc]:ok:ok:abc:abc:ok:ok:2/3c^:=c:~c1:v1[abc][abc]:2/3c-#1:x101=6,.:|1:000-001-
+v1[abc][abc]:ok:ok:abc:abc:ok:ok:2/3c^:=c:v1[abc][abc]:v1[abc][abc]:u100=5,.:x101=6,.:|0:000-000-";
+
+#[test]
+fn failed_calls_are_told(rt: HostRuntime) -> Result<(), Fail> {
+    let (words, _) = FAILED.split_once('\n').expect(&rt, "lines");
+    let mut lines = String::from_str(rt.alloc(), words)?;
+    by_call(rt.alloc(), 0, words, &mut lines)?;
+    assert_eq!(rt; lines.as_str(), FAILED);
+    Ok(())
+}
+
+#[test]
+fn failed_calls_of_one_shard_are_told(rt: HostRuntime) -> Result<(), Fail> {
+    let (words, _) = OF_ONE_SHARD.split_once('\n').expect(&rt, "lines");
+    let mut lines = String::from_str(rt.alloc(), words)?;
+    by_call(rt.alloc(), 1, words, &mut lines)?;
+    assert_eq!(rt; lines.as_str(), OF_ONE_SHARD);
+    Ok(())
+}
+
+// What two clusters answer, one after the other over the same disks, and the faults of these.
+fn tell_two(alloc: Global, row: &str, out: &mut String) -> Result<(), Memory> {
+    let (fuse, words) = row.split_once('|').unwrap_or(("", ""));
+    let (first, second) = words.split_once('|').unwrap_or(("", ""));
+    let mut disks = disks_with(alloc, (2, 0), &[], fuse.parse::<u64>().ok())?;
+    run(alloc, &mut disks, first, out)?;
+    out.push('|')?;
+    run(alloc, &mut disks, second, out)?;
+    out.push('|')?;
+    let faults = disks.faults();
+    spell_disks(alloc, faults, &mut disks, out)
+}
+
+// Each row's words of two clusters with what is answered to them.
+fn tell_rows(alloc: Global, rows: &str, out: &mut String) -> Result<(), Memory> {
+    for row in rows.lines() {
+        let (told, _) = row.split_once('>').unwrap_or(("", ""));
+        out.push_str(told)?;
+        out.push('>')?;
+        tell_two(alloc, told, out)?;
+        out.push('\n')?;
+    }
+    Ok(())
+}
+
+// After how many calls all calls of the disk of c fail, if they do; the words of two clusters; what these are answered, the second
+// one over the disks that the first one gave back; and the faults of these. What a cluster wrote the next one finds, but neither
+// its moment nor its namespaces, nor its late messages.
+const RUNS: &str = "|d|rmuM>order:|order:|0:--0-----
+|i2|d>v1[abc][abc]:|order:|0:000-000-
+|i1 nm t100 wmuA100=5 wmuM101=6|i1 rmuA nm rmuA t160 rmuA t161 rmuA>v1[abc]:ok:ok:abc:abc:|v1[abc]:?m:ok:u100=5,101=6,.:ok:u101=6,.:ok:.:|0:000-----
+|i1 nm t100 sa wmuM100=5 sb|i1 nm rmuO wmuA10=1 rmuA>v1[abc]:ok:ok:ok:bc:ok:|v1[abc]:ok:u100=5,.:abc:u10=1,100=5,.:|0:000-----
+|i1 nm t100 f00aB,00bB,00cB wmuO100=5|i1 nm d rmuA>v1[abc]:ok:ok:ok:0/1axbxcx:|v1[abc]:ok::.:|0:000-----
+0|i1 nm t100 wmuM100=5|i1 nm wmuA10=6 sc bc oc rmuA>v1[abc]:ok:ok:ab:|v1[abc]:ok:2/3c-:ok:ok:v1[abc]:u10=6,100=5,.:|2:002-----
+0|i1 sc bc oc nm wmuA10=5|i1 nm rmuA>v1[abc]:ok:ok:v1[abc]:ok:abc:|v1[abc]:ok:u10=5,.:|1:001-----";
+
+#[test]
+fn disks_come_back(rt: HostRuntime) -> Result<(), Fail> {
+    let mut out = String::new(rt.alloc());
+    tell_rows(rt.alloc(), RUNS, &mut out)?;
+    assert_eq!(rt; out.as_str().trim_end(), RUNS);
+    Ok(())
+}

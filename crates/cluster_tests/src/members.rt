@@ -1,0 +1,186 @@
+//! A cluster that stands, and what it answers to words.
+ghost use Rattle.std.specs.Prelude.{◌≢◌, IfOk, IsTrue};
+ghost use Rattle.m3_model.specs.Limits.{MeetsLimits};
+ghost use Rattle.m3_outside.specs.Slots.{Out};
+ghost use Rattle.m3_outside.specs.declared.slot.Slot.{Slot as Place};
+ghost use Rattle.node_calls.specs.Halts.{AreManned};
+ghost use Rattle.cluster_tests.specs.Ready.{IsReadyCluster};
+
+use cluster_members::calls::Range;
+use cluster_members::members::Members;
+use cluster_words::acts::act_of;
+use cluster_words::answers::spell;
+use cluster_words::lists::three_nodes;
+use first_cluster::first::first_members;
+use m3_model::act::Act;
+use m3_model::answer::Answer;
+use m3_model::memory::Memory;
+use m3_model::rules::Space;
+use m3_model::text::Text;
+use m3_outside::disk::Disk;
+use m3_outside::disks::Disks;
+use node_calls::boots::{bootstrap, restart};
+use node_calls::nodes::{deliver, set_fates, stop};
+use replica_calls::replicas::Replicas;
+use replica_exchange::call_id::CallId;
+use replica_exchange::slot::Slot;
+use std::alloc::Global;
+
+// Whether each slot has a replica.
+fn are_manned<D: Disk>(slots: &[Slot], replicas: &Replicas<D>) -> bool
+    ensures { IsTrue result → AreManned slots.now replicas.now }
+{
+    match slots.split_first() {
+        None => true,
+        Some((slot, rest)) => replicas.get(*slot).is_some() && are_manned(rest, replicas),
+    }
+}
+
+// `Later` where a slot had no replica.
+fn stop_node<D: Disk>(members: &mut Members<D>, node: Text) -> Answer
+    requires ready { IsReadyCluster members.old }
+    ensures ready { IsReadyCluster members.new }
+{
+    if are_manned(members.slots.as_slice(), &members.net.replicas) {
+        stop(members, node)
+    } else {
+        drop(node);
+        Answer::Later
+    }
+}
+
+// The same of a restart.
+fn restart_node<D: Disk>(members: &mut Members<D>, node: Text, pick: u64) -> Answer
+    requires ready { IsReadyCluster members.old }
+    ensures ready { IsReadyCluster members.new }
+{
+    if are_manned(members.slots.as_slice(), &members.net.replicas) {
+        restart(members, node, pick)
+    } else {
+        drop(node);
+        Answer::Later
+    }
+}
+
+// Changes the rules, the fates or the nodes, or delivers late messages.
+fn change<D: Disk>(alloc: Global, members: &mut Members<D>, act: Act) -> Answer
+    requires limits { MeetsLimits act }
+    requires ready { IsReadyCluster members.old }
+    ensures ready { IsReadyCluster members.new }
+{
+    match act {
+        Act::Namespace {
+            name,
+            block,
+            past,
+            future,
+            retention,
+        } => members.name_space(
+            alloc,
+            Space {
+                name,
+                block,
+                past,
+                future,
+                retention,
+            },
+        ),
+        Act::Now { now } => members.set_moment(alloc, now),
+        Act::Fates { list } => set_fates(members, alloc, list),
+        Act::Bootstrap { node, shard } => bootstrap(members, alloc, node, shard),
+        Act::Deliver => deliver(members, alloc),
+        Act::Stop { node } => stop_node(members, node),
+        Act::Restart { node, pick } => restart_node(members, node, pick),
+        _ => Answer::Later,
+    }
+}
+
+fn call<D: Disk>(alloc: Global, members: &mut Members<D>, id: CallId, act: Act) -> Answer
+    requires limits { MeetsLimits act }
+    requires ready { IsReadyCluster members.old }
+    ensures ready { IsReadyCluster members.new }
+{
+    match act {
+        Act::Write {
+            ns,
+            id: name,
+            t,
+            v,
+            level,
+            ..
+        } => members.write(alloc, id, ns, name, t, v, level),
+        Act::Fetch {
+            ns,
+            id: name,
+            from,
+            to,
+            level,
+            ..
+        } => members.fetch(alloc, id, ns, name, Range { from, to }, level),
+        Act::Match {
+            ns,
+            wanted,
+            from,
+            to,
+            level,
+            ..
+        } => members.find(alloc, id, ns, wanted, Range { from, to }, level),
+        _ => change(alloc, members, act),
+    }
+}
+
+// The answer to a word, as this call, with a colon.
+fn tell_word<D: Disk>(
+    alloc: Global,
+    members: &mut Members<D>,
+    id: CallId,
+    word: &str,
+    out: &mut String,
+) -> Result<(), Memory>
+    requires ready { IsReadyCluster members.old }
+    ensures ready { IsReadyCluster members.new }
+{
+    let act = act_of(alloc, word)?;
+    let answer = call(alloc, members, id, act);
+    spell(out, &answer)?;
+    Ok(out.push(':')?)
+}
+
+/// The answers to words, each ended by a colon. The first one is the client's call of number 0, and so on.
+pub fn tell<D: Disk>(
+    alloc: Global,
+    members: &mut Members<D>,
+    client: u32,
+    words: &str,
+    out: &mut String,
+) -> Result<(), Memory>
+    requires ready { IsReadyCluster members.old }
+    ensures ready { IsReadyCluster members.new }
+{
+    for (number, word) in words.split(' ').enumerate() {
+        let id = CallId {
+            client,
+            number: number as u64,
+        };
+        tell_word(alloc, members, id, word, out)?;
+    }
+    Ok(())
+}
+
+/// The nodes a, b and c, which have the only shard, at moment 0 without namespaces.
+pub fn first<X: Disks>(alloc: Global, disks: &mut X) -> Result<Members<X::D>, Memory>
+    requires free { (place : Place) → X.held disks.old place ≢ Out }
+    ensures ready { IfOk result IsReadyCluster }
+{
+    let nodes = three_nodes(alloc)?;
+    match first_members(alloc, disks, 3, 1, 0, nodes) {
+        Ok((members, placement)) => {
+            drop(placement);
+            Ok(members)
+        }
+        Err(refused) => {
+            drop(refused);
+            Err(Memory)
+        }
+    }
+}

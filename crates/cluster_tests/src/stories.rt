@@ -1,0 +1,92 @@
+//! Stories of requests that a cluster serves.
+use cluster_words::disks::disks_with;
+use cluster_words::runs::run;
+use m3_model::memory::Memory;
+use std::alloc::Global;
+use std::test::Fail;
+
+// Over disks that never fail.
+fn story(alloc: Global, words: &str, out: &mut String) -> Result<(), Memory> {
+    let mut disks = disks_with(alloc, (0, 0), &[], None)?;
+    run(alloc, &mut disks, words, out)
+}
+
+// Each row's words with what is answered to them.
+fn tell_rows(alloc: Global, rows: &str, out: &mut String) -> Result<(), Memory> {
+    for row in rows.lines() {
+        let (words, _) = row.split_once('|').unwrap_or(("", ""));
+        out.push_str(words)?;
+        out.push('|')?;
+        story(alloc, words, out)?;
+        out.push('\n')?;
+    }
+    Ok(())
+}
+
+// Before a placement stands all else is out of order; then a second `init` is, twice. Namespaces with names of their own, up to
+// eight; the higher value stays; ranges; windows and expiry by each namespace's rules.
+const RULES: &str =
+    "p rmuM wmuM100=5 qm=M nm t5 f d sa ba oa i1 p i1 i4 rmuM p|none:order:order:order:order:order:order:order:order:order:order:v1[abc]:v1[abc]:order:order:?m:v1[abc]:
+i1 nm nm nn no np nq nr ns nt nu nm wuuM1=1 wtuM1=1 rtuM|v1[abc]:ok:order:ok:ok:ok:ok:ok:ok:ok:limit8:order:?u:abc:u1=1,.:
+i1 nm t100 wmuM100=-4 wmuM100=9 wmuM100=4 wmuM101=-9223372036854775808 rmuM rmuM100-101 rmuM101-102 rmuM102-1000 rmuM101-100 rmvM|v1[abc]:ok:ok:abc:abc:abc:abc:u100=9,101=-9223372036854775808,.:u100=9,.:u101=-9223372036854775808,.:.:.:.:
+i1 nm nn t100 wmuM50=1 wmuM51=1 wmuM149=1 wmuM150=1 wnuM80=1 wnuM81=2 wnuM119=3 wnuM120=3 rmuM rnuM|v1[abc]:ok:ok:ok:0/2a<b<c<:abc:abc:0/2a>b>c>:0/2a<b<c<:abc:abc:0/2a>b>c>:u51=1,149=1,.:u81=2,119=3,.:
+i1 nm nn t100 wmuM51=1 wmuM149=1 wnuM81=2 wnuM119=3 t99 t110 rmuM rnuM t111 rmuM rnuM t148 rnuM t149 rnuM rmuM t208 rmuM t209 rmuM|v1[abc]:ok:ok:ok:abc:abc:abc:abc:clock100:ok:u51=1,149=1,.:u81=2,119=3,.:ok:u149=1,.:u119=3,.:ok:u119=3,.:ok:.:u149=1,.:ok:u149=1,.:ok:.:";
+
+// Writes, fetches and matches at each level, with all nodes and with more and more of them stopped; then matches over four
+// shards, with the shards of a node begun one after the other.
+const LEVELS: &str =
+    "i1 nm t100 wmuO100=1 wmuM100=2 wmuA100=3 sc wmuO100=4 wmuM100=5 wmuA100=6 sb wmuO100=7 wmuM100=8 wmuA100=9 sa wmuO100=10 wmuM100=11 wmuA100=12|v1[abc]:ok:ok:abc:abc:abc:ok:ab:ab:2/3c-:ok:a:1/2b-c-:1/3b-c-:ok:0/1a-b-c-:0/2a-b-c-:0/3a-b-c-:
+i1 nm t100 wmuA100=5 rmuO rmuU rmuM rmuA sc rmuO rmuU rmuM rmuA sb rmuO rmuU rmuM rmuA sa rmuO rmuU rmuM rmuA|v1[abc]:ok:ok:abc:u100=5,.:u100=5,.:u100=5,.:u100=5,.:ok:u100=5,.:u100=5,.:u100=5,.:2/3c-:ok:u100=5,.:u100=5,!:1/2b-c-:1/3b-c-:ok:0/1a-b-c-:0/1a-b-c-:0/2a-b-c-:0/3a-b-c-:
+i1 nm t100 wmxA100=5 wmuA100=6 qm=O qm=U qm=M qm=A qm!A sc qm=O qm=U qm=M qm=A sb qm=O qm=U qm=M qm=A sa qm=O qm=U qm=M qm=A|v1[abc]:ok:ok:abc:abc:x100=5,.:x100=5,.:x100=5,.:x100=5,.:u100=6,.:ok:x100=5,.:x100=5,.:x100=5,.:2/3c-:ok:x100=5,.:x100=5,!:1/2b-c-:1/3b-c-:ok:0/1a-b-c-:0/1a-b-c-:0/2a-b-c-:0/3a-b-c-:
+i4 nm nn t100 wmuM100=1 wmxM100=2 wmyM101=3 wmvM100=4 wnuM100=9 qm!A qm=A qm!A101-102 qn!A qn=A qo=A|v1[abc][abc][abc][abc]:ok:ok:ok:abc:abc:abc:abc:abc:v100=4,u100=1,y101=3,.:x100=2,.:y101=3,.:u100=9,.:.:?o:
+i4 nm t100 wmuM100=1 sa ba oa1 rmuA rmxA qm!A oa0 qm!A oa2 qm!A oa3 qm!A oa4|v1[abc][abc][abc][abc]:ok:ok:abc:ok:ok:v1[abc][abc][abc][abc]:u100=1,.:2/3a^:2/3a^:v1[abc][abc][abc][abc]:2/3a^#2:v1[abc][abc][abc][abc]:2/3a^#3:v1[abc][abc][abc][abc]:u100=1,.:?4:
+i2 nm t100 wmuA100=1 wmxA100=2 sa ba sb bb oa1 ob1 qm!U qm=U rmuU rmxU qm!O|v1[abc][abc]:ok:ok:abc:abc:ok:ok:ok:ok:v1[abc][abc]:v1[abc][abc]:u100=1,!:x100=2,!:u100=1,.:x100=2,!:u100=1,.:";
+
+// Messages that are lost, late or delivered twice; numbers of calls, which accepted fates begin anew; late writes and what becomes
+// of them at nodes that are stopped, wait or have moved on. What `one` node took is found again with the others' answers.
+const FATES: &str =
+    "i1 nm t100 f00bL,01cB,02aT,03bB,03cB wmuA100=1 wmuA100=2 wmuA100=3 rmuA rmuA d rmuA|v1[abc]:ok:ok:ok:2/3bx:2/3cx:abc:1/3bxcx:u100=3,.:c+:u100=3,.:
+i1 nm t100 f00bL wmuA100=1 f00cL wmuA100=2 f00aL,00xL wmuA100=3 f01aL wmuA100=4 wmuA100=5 f wmuA100=6|v1[abc]:ok:ok:ok:2/3bx:ok:2/3cx:?x:abc:ok:abc:2/3ax:ok:abc:
+i1 nm t100 f01aL wzuA100=1 wmuA100=2 f01aL t100 sb bb ob wmuA100=3 rmuA f10aL wmuA100=4|v1[abc]:ok:ok:ok:?x:2/3ax:ok:ok:ok:ok:v1[abc]:abc:2/3ax:ok:abc:
+i1 nm t100 f00cB,00aB,01bB,02aB,02bB,02cB wmuM100=1 wmuM101=2 wmuO102=3 d rmuA d|v1[abc]:ok:ok:ok:1/2axcx:ac:0/1axbxcx:a+c+b+a+b+c+:u100=1,101=2,102=3,.::
+i1 nm t100 f00bB,00cB,01cB sb wmuO100=1 wmuM149=2 t150 bb d d rmuM rmuO|v1[abc]:ok:ok:ok:ok:a:1/2b-cx:ok:ok:b^c<c+::u100=1,149=2,.:u100=1,149=2,.:
+i1 nm t100 f00aB,00bB wmuO100=1 sa d sc rmuO|v1[abc]:ok:ok:ok:c:ok:a-b+:ok:u100=1,.:
+i1 nm t100 f00aB,00bB,00cB wmuO100=1 f rmuA d rmuA|v1[abc]:ok:ok:ok:0/1axbxcx:ok:.:a+b+c+:u100=1,.:";
+
+// Nodes and shards that aren't there, nodes that run and nodes that don't; what was written is found after all nodes were stopped.
+const NODES: &str =
+    "i2 nm t100 sx bx ox sa sa oa oa9 ba ba ba5 oa oa oa1 oa2 rmuA|v1[abc][abc]:ok:ok:?x:?x:?x:ok:=a:=a:?9:ok:=a:=a:v1[abc][abc]:v1[abc][abc]:v1[abc][abc]:?2:.:
+i1 nm t100 wmuA100=5 wmyM101=6 sa sb sc ba7 bb255 bc rmuO wmuO100=9 oa ob oc0 rmuA wmuA100=6 rmuA rmyA|v1[abc]:ok:ok:abc:abc:ok:ok:ok:ok:ok:ok:0/1a^b^c^:0/1a^b^c^:v1[abc]:v1[abc]:v1[abc]:u100=5,.:abc:u100=6,.:y101=6,.:
+i1 nm t100 sa wmuM100=5 ba oa sb rmuM rmuA sc rmuO|v1[abc]:ok:ok:ok:bc:ok:v1[abc]:ok:u100=5,.:2/3b-:ok:.:";
+
+#[test]
+fn rules_are_told(rt: HostRuntime) -> Result<(), Fail> {
+    let mut out = String::new(rt.alloc());
+    tell_rows(rt.alloc(), RULES, &mut out)?;
+    assert_eq!(rt; out.as_str().trim_end(), RULES);
+    Ok(())
+}
+
+#[test]
+fn levels_are_told(rt: HostRuntime) -> Result<(), Fail> {
+    let mut out = String::new(rt.alloc());
+    tell_rows(rt.alloc(), LEVELS, &mut out)?;
+    assert_eq!(rt; out.as_str().trim_end(), LEVELS);
+    Ok(())
+}
+
+#[test]
+fn fates_are_told(rt: HostRuntime) -> Result<(), Fail> {
+    let mut out = String::new(rt.alloc());
+    tell_rows(rt.alloc(), FATES, &mut out)?;
+    assert_eq!(rt; out.as_str().trim_end(), FATES);
+    Ok(())
+}
+
+#[test]
+fn nodes_are_told(rt: HostRuntime) -> Result<(), Fail> {
+    let mut out = String::new(rt.alloc());
+    tell_rows(rt.alloc(), NODES, &mut out)?;
+    assert_eq!(rt; out.as_str().trim_end(), NODES);
+    Ok(())
+}
