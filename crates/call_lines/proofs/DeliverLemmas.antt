@@ -272,7 +272,7 @@ delivered_tells {D} {ghosts} state old tells start turns new outcomes left ready
         prints = prints_none turns all b refl;
         ends = λ available boot x m. let bad : answer.Outcomes outcomes ≡ answer.Available available boot.place boot.version = boot.answered in cc;
       };
-      serves = λ none. serves_so start turns events act.Deliver b h.puts (λ e m. calm_late start turns rules e (each e m)) (let low = few_puts rules old.bag h.deliveries h.puts delivered in let small = h.few in omega (arith, low, small)) (λ is. absurd is) messages ((left.late).in_order, outcomes_heard)
+      serves = λ none. serves_so start turns events act.Deliver b h.puts (λ e m. calm_late start turns rules e (each e m)) (let low = few_puts rules old.bag h.deliveries h.puts delivered in let small = h.few in omega (arith, low, small)) messages ((left.late).in_order, outcomes_heard)
           (held_one start turns messages old.bag held) (answered start turns events act.Deliver b h.puts (λ e m. calm_late start turns rules e (each e m)) (inr tt) none);
       delivered = delivered_so turns act.Deliver b messages (λ m i. let late = held_one start turns messages old.bag held m i in (line_below turns m.place (late.1).made, refl));
     }
@@ -357,4 +357,4 @@ nothing_tells start turns events a b h = record {
 
 pub nothing_serves : NothingServes
 nothing_serves tells was past start turns events a were =
-    serves_so start turns events a answer.Memory [] (λ e m. absurd m) (omega arith) (λ is place e. absurd (let bad : None ≡ Some place = e in cc)) [] tt (λ x m. absurd m) (inl refl) tells was past were
+    serves_so start turns events a answer.Memory [] (λ e m. absurd m) (omega arith) [] tt (λ x m. absurd m) (inl refl) tells was past were

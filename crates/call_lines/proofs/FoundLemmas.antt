@@ -133,7 +133,7 @@ module _ {D : Type 0} {ghosts : Ghosts D} (state : D → DiskState) (tells : Boo
       (line start turns old id a w level r b h.reads listed h.events [] h.are of_asked (inl (λ e m. absurd m)) (λ nodes e. cc) refl (λ i j e is at. cc) (λ j n t x at. cc) hears_found finds_so)
       (calm start turns old id a w level r b h.reads listed h.events [] h.are (λ e m. absurd m))
       (let few = few_read start turns old id a w level r b h.reads listed (length old.replicas.events) h.events h.are in let most = few_shards start turns old id a w level r b in let long = length-append h.events [] in omega (arith, few, most, long))
-      (λ place e. cc) (inr (found_kind start (place_after turns a b) a old.state.rules.spaces (record { pick = w.pick; from = w.from; to = w.to; level = level }) r.of_act series short)) tt
+      (inr (found_kind start (place_after turns a b) a old.state.rules.spaces (record { pick = w.pick; from = w.from; to = w.to; level = level }) r.of_act series short)) tt
 
 pub found_tells : {D : Type 0} {ghosts : Ghosts D} (state : D → DiskState) (old : Net D ghosts) → FoundTells state old
 found_tells {D} {ghosts} state old tells start turns new id a w level series short r legal h = found_leaves state tells start turns old new id a w level series short r legal h

@@ -337,12 +337,12 @@ module _ {D : Type 0} {ghosts : Ghosts D} (start : Option MetaState) (turns : Li
       finds = finds;
     }
 
-  pub leaves : (new : Net D ghosts) (more : List Event) → new.replicas.events ≡ events ++ more → ReadLine start turns events a b more → ((e : Event) → IsIn more e → IsCalm e) → length more ≤ MOST_REQUEST_EVENTS → ((place : Placement) → printed b ≡ Some place → ⊥)
+  pub leaves : (new : Net D ghosts) (more : List Event) → new.replicas.events ≡ events ++ more → ReadLine start turns events a b more → ((e : Event) → IsIn more e → IsCalm e) → length more ≤ MOST_REQUEST_EVENTS
       → (b ≡ answer.Memory) ⊎ IsOfKind [] start here a b → HearsOf start (InStretch (events ++ more) (length events) (length (events ++ more))) here [] b → LeavesLine ReadLine start turns [] net a b new
-  leaves new more grew line calm few no_place kind heard = record {
+  leaves new more grew line calm few kind heard = record {
     more = more;
     grew = grew;
     line = line;
-    serves = λ none. serves_so start turns events a b more calm few (λ is place e. absurd (no_place place e)) [] heard (λ x m. absurd m) (answered start turns events a b more calm kind none);
+    serves = λ none. serves_so start turns events a b more calm few [] heard (λ x m. absurd m) (answered start turns events a b more calm kind none);
     delivered = delivered_so turns a b [] (λ x m. absurd m);
   }

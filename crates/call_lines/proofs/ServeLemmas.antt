@@ -30,7 +30,7 @@ use Rattle.told_by.proofs.OneLemmas.{among_back}
 use Rattle.replica_exchange.specs.MachineCalls.{HasRoom}
 use Rattle.told_runs.specs.Answers.{HearsOf, IsAnswered, IsDecidedBy, IsOfKind, MayLackRoom}
 use Rattle.told_runs.specs.Bounds.{writes_taken}
-use Rattle.told_runs.specs.Lines.{AddsInOrder, OpensNext, PrintsByInit, ServesOne, delivered_on}
+use Rattle.told_runs.specs.Lines.{AddsInOrder, OpensNext, ServesOne, delivered_on}
 use Rattle.transcripts.specs.Caused.{acts_in}
 use Rattle.transcripts.specs.Deliveries.{IsSameMessage, LateMessage, delivers_nothing}
 use Rattle.transcripts.specs.Record.{IsTurnPlace, Record, TurnPlace, inner_turns, line_of}
@@ -112,11 +112,10 @@ module _ (start : Option MetaState) (turns : List Turn) (events : List Event) (a
   answered (inl memory) none = inl memory
   answered (inr kind) none = inr (inr (inner_turns turns, record { others = []; some_of = tt; are = sym (append-nil (inner_turns turns)) }, subst (IsDecidedBy [] start (place_after turns a b)) (sym none) kind))
 
-  pub serves_so : length more ≤ MOST_REQUEST_EVENTS → PrintsByInit a b → (messages : List LateMessage) → HearsOf start (InStretch (events ++ more) (length events) (length (events ++ more))) (place_after turns a b) messages b
+  pub serves_so : length more ≤ MOST_REQUEST_EVENTS → (messages : List LateMessage) → HearsOf start (InStretch (events ++ more) (length events) (length (events ++ more))) (place_after turns a b) messages b
       → ((x : LateMessage) → IsIn messages x → (late : LateWrite) × IsHeldBack start turns x late) → IsAnswered [] start (length (events ++ more)) (place_after turns a b) → (tells : Bool) (was : TurnPlace → List LateMessage) (past : List Record) → WereDelivered turns was
       → ServesOne tells [] messages was past start turns events a b more
-  serves_so few inits messages heard held is_answered tells was past were = record {
-    inits = inits;
+  serves_so few messages heard held is_answered tells was past were = record {
     adds = in_order;
     opens = λ is. opens_none;
     answered = is_answered;

@@ -127,7 +127,7 @@ module _ {D : Type 0} {ghosts : Ghosts D} (start : Option MetaState) (turns : Li
       → LeavesLine ReadLine start turns [] old a b new
   leaves_so new grew short no_acks no_place no_found kind delivers hears = leaves start turns old id a w level r b new (whole ++ tail) grew
       (line start turns old id a w level r b reads before whole tail were.are before_asked (inr cut) no_acks no_place may no_restart hears (λ found is. absurd (let bad : None ≡ Some found = sym no_found ∙ is in cc)))
-      (calm start turns old id a w level r b reads before whole tail were.are calm_tail) (few_so short) (λ place is. let bad : None ≡ Some place = sym no_place ∙ is in cc) kind delivers
+      (calm start turns old id a w level r b reads before whole tail were.are calm_tail) (few_so short) kind delivers
 
 -- ---- too few
 
@@ -191,7 +191,7 @@ module _ {D : Type 0} {ghosts : Ghosts D} (state : D → DiskState) (start : Opt
       let parts : length (asked_shards old.state w.pick) ≡ length h.before + length h.after = ap length (h.were).asked ∙ length-append h.before h.after in
       let long = length-append h.events [] in
       omega (arith, few, most, parts, long))
-      (λ place is. cc) (inl refl) tt
+      (inl refl) tt
 
   -- within one
   cut_short : IsCut state old.state old.fates id w (needed_read level old.state.place.rf) old.replicas new.replicas → LeavesLine ReadLine start turns [] old a answer.Memory new
@@ -228,6 +228,6 @@ full_tells {D} {ghosts} state old start turns new id a w level r h =
       more = more;
       grew = grew;
       line = stopped_line state start turns old new id a w level r answer.Full tt h.before (h.here ∷ h.after) h.reads h.events h.were;
-      serves = serves_so start turns events a answer.Full more is_calm fits (λ is place e. absurd (let bad : None ≡ Some place = e in cc)) [] tt (λ x m. absurd m) (inr (inl (refl, lacks)));
+      serves = serves_so start turns events a answer.Full more is_calm fits [] tt (λ x m. absurd m) (inr (inl (refl, lacks)));
       delivered = delivered_so turns a answer.Full [] (λ x m. absurd m);
     }

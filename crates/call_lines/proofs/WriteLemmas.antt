@@ -392,7 +392,7 @@ serves_write {D} {ghosts} start turns old new id a point level w b more calm few
       more = more;
       grew = grew;
       line = line;
-      serves = λ none. serves_so start turns old.replicas.events written b more calm few (λ is. absurd is) [] heard (λ x m. absurd m) (answered start turns old.replicas.events written b more calm kind none);
+      serves = λ none. serves_so start turns old.replicas.events written b more calm few [] heard (λ x m. absurd m) (answered start turns old.replicas.events written b more calm kind none);
       delivered = delivered_so turns written b [] (λ x m. absurd m);
     })
 

@@ -6,7 +6,7 @@ use Rattle.transcripts.specs.Caused.{Caused, IsCalled, IsBootstrapped}
 use Rattle.transcripts.specs.Calls.{call_of}
 use Rattle.transcripts.specs.Levels.{IsAcked, MissesLevel}
 use Rattle.transcripts.specs.Reasons.{MayRefuse, MayServe, TakesPoint}
-use Rattle.transcripts.specs.Placements.{placement_after, placements, seed_at, HadReplica}
+use Rattle.transcripts.specs.Placements.{placement_after, placement_at, placements, seed_at, HadReplica}
 use Rattle.transcripts.specs.Faults.{Fault}
 use Rattle.transcripts.specs.Fates.{reaches}
 use Rattle.m3_model.specs.Levels.{needed_write}
@@ -51,8 +51,8 @@ c_called : (p : TurnPlace) → placement_after None (inner_turns p.lines ++ (p.e
 c_called p place_is = record { place = place; stands = stood p place place_is; named = of_node _ 2 _ refl refl }
 
 -- a bootstrap that turns nothing available leaves the placement
-bootstrapped : (p : TurnPlace) (name : List ℕ) (asked : Option ℕ) → placement_after None (inner_turns p.lines ++ (p.earlier ++ [])) ≡ Some place → IsBootstrapped None p name asked [] place 1
-bootstrapped p name asked place_is = record { before = place; stands = stood p place place_is; left = refl; version_is = refl }
+bootstrapped : (p : TurnPlace) (name : List ℕ) (asked : Option ℕ) → placement_after None (inner_turns p.lines ++ (p.earlier ++ [])) ≡ Some place → placement_at None p ≡ Some place → IsBootstrapped None p name asked [] place 1
+bootstrapped p name asked place_is before_is = record { before = place; stands = stood p place place_is; made = inl before_is; left = refl; version_is = refl }
 
 pub stopped_and_back-caused : Caused true (life_of stopped_and_back) []
 stopped_and_back-caused =
@@ -62,7 +62,7 @@ stopped_and_back-caused =
     also only (due true [] [] _ _ _ (found_when _ read_level.Majority false 2 refl refl refl (omega arith) (λ e. cc) (λ e f. cc)))
     also only (due true [] [] _ _ _ tt)
     also only (due true [] [] _ _ _ (c_missed _ _ refl refl refl refl refl takes_all (λ told. of_node _ 2 _ refl refl)))
-    also only (due true [] [] _ _ _ (bootstrapped _ _ _ refl))
+    also only (due true [] [] _ _ _ (bootstrapped _ _ _ refl refl))
     also only (due true [] [] _ _ _ (all_took _ refl refl refl refl refl takes_all))
     also tt)
 
@@ -74,7 +74,7 @@ failed_and_back-caused =
     also only (due true (fails 3 2 ∷ []) [] _ _ _ tt)
     also only (due true (fails 3 2 ∷ []) [] _ _ _ tt)
     also only (due true (fails 3 2 ∷ []) [] _ _ _ (c_missed _ _ refl refl refl refl refl takes_all (λ told. of_node _ 2 _ refl refl)))
-    also only (due true (fails 3 2 ∷ []) [] _ _ _ (bootstrapped _ _ _ refl))
+    also only (due true (fails 3 2 ∷ []) [] _ _ _ (bootstrapped _ _ _ refl refl))
     also only (due true (fails 3 2 ∷ []) [] _ _ _ (all_took _ refl refl refl refl refl takes_all))
     also tt)
 
@@ -117,6 +117,6 @@ boot_of_another-caused =
     begun_caused_over [] 100 _ tt refl (
     only (due true [] [] _ _ _ tt)
     also only (due true [] [] _ _ _ tt)
-    also only (due true [] [] _ _ _ (bootstrapped _ _ _ refl))
+    also only (due true [] [] _ _ _ (bootstrapped _ _ _ refl refl))
     also only (due true [] [] _ _ _ (c_missed _ _ refl refl refl refl refl takes_all (λ told. of_node _ 2 _ refl refl)))
     also tt)

@@ -240,7 +240,6 @@ module _ {D : Type 0} {G : Ghosts D} (state : D → DiskState) (m : Members D G)
 
     serves_so : (was : TurnPlace → List LateMessage) (past : List Record) → WereDelivered turns was → ServesOne tells [] [] was past None turns [] a b all
     serves_so was past were = record {
-      inits = λ is other print. refl;
       adds = in_order;
       opens = opens_so;
       answered = decided turns rf shards seed nodes b [] (length all) none (first.initial, refl);

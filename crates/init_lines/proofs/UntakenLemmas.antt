@@ -64,7 +64,6 @@ module _ (turns : List Turn) (rf shards seed : ℕ) (nodes : List (List ℕ × L
   module _ (none : NoneStands turns) (node : ℕ) (named : NamesNode nodes name node) (low : shard < shards) where
     serves_so : (tells : Bool) (was : TurnPlace → List LateMessage) (past : List Record) → WereDelivered turns was → ServesOne tells (untaken_at turns node shard ∷ []) [] was past None turns [] a b []
     serves_so tells was past were = record {
-      inits = λ is place e. absurd (let bad : None ≡ Some place = e in cc);
       adds = record { lawful = λ i place done adds. absurd (nothing_at i _ adds.1); one = λ i place done adds. absurd (nothing_at i _ adds.1); ends = λ i n s r adds. absurd (nothing_at i _ adds.1) };
       opens = λ is. record { fenced = λ i n s tenure fence points adds. absurd (nothing_at i _ adds.1); owned = λ i n s tenure adds. absurd (nothing_at i _ adds.1) };
       answered = decided turns rf shards seed nodes b (untaken_at turns node shard ∷ []) 0 none (node, named, low, inl refl);

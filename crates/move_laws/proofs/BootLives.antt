@@ -13,15 +13,16 @@ use Rattle.placement_core.specs.Shards.{Shard, shard_at}
 use Rattle.placement_core.specs.Steps.{Ends}
 use Rattle.placement_plan.specs.First.{first_instances}
 use Rattle.placement_plan.specs.Plans.{EndsAsNamed, IsAvailable, IsJoiningPair}
-use Rattle.transcripts.specs.Caused.{Caused, EndsMoves, IsBootstrapped, IsDueBy, IsLeftBy, refusal_after}
+use Rattle.transcripts.specs.Caused.{Caused, CausedAt, EndsInto, EndsMoves, IsBootstrapped, IsDueBy, IsLeftBy, refusal_after}
 use Rattle.transcripts.specs.Fates.{OfNode}
 use Rattle.transcripts.specs.Faults.{Fault}
+use Rattle.transcripts.specs.Record.{AreSomeOf, InnerTurn, TurnPlace}
 use Rattle.transcripts.specs.Waiting.{is_covering}
 use Rattle.model_laws.specs.Building.{begun, life_of, nodes, place}
 use Rattle.fault_laws.specs.Faulty.{bootstrap_c}
 use Rattle.model_laws.proofs.EachLemmas.{◌also◌, each_in, ascends_by, same_of_some, texts_differ}
 use Rattle.model_laws.proofs.PlaceLemmas.{place_after, place_after-stands, after_all, caused_by_places, due_after, due_from, due_here, only, only_used, used_from}
-use Rattle.move_laws.specs.Moving.{both_moving, both_on_a, both_to_a, first_on_a, held, holding, leaving, reopened_with, b_to_a, on_a, joining, a_took, a_joined, bootstrap, reopened_moving}
+use Rattle.move_laws.specs.Moving.{both_moving, both_on_a, both_to_a, first_on_a, held, holding, leaving, reopened_with, b_to_a, on_a, joining, a_took, a_joined, both_print, bootstrap, reopened_moving}
 use Rattle.move_laws.proofs.MovingLemmas.{of_name}
 
 -- ---- accepted
@@ -53,13 +54,13 @@ opened : (from : Placement) (name : List ℕ) (asked : Option ℕ) (b : Answer) 
 opened from name asked b here = caused_by_places true [] (reopened_with from (bootstrap name asked b ∷ [])) tt refl (only (due_from true [] [] (Some (held from)) [] [] _ _ here) also tt)
 
 pub ended-caused : Caused true (reopened_moving (a_joined ∷ [])) []
-ended-caused = opened b_to_a (codes "a") None a_took (record { before = b_to_a; stands = ([], after_all [] _ _, refl); left = ends None refl; version_is = refl })
+ended-caused = opened b_to_a (codes "a") None a_took (record { before = b_to_a; stands = ([], after_all [] _ _, refl); made = inl refl; left = ends None refl; version_is = refl })
 
 pub passed_over-caused : Caused true (reopened_moving (bootstrap (codes "a") None (answer.Available [] b_to_a 2) ∷ [])) []
-passed_over-caused = opened b_to_a (codes "a") None (answer.Available [] b_to_a 2) (record { before = b_to_a; stands = ([], after_all [] _ _, refl); left = refl; version_is = refl })
+passed_over-caused = opened b_to_a (codes "a") None (answer.Available [] b_to_a 2) (record { before = b_to_a; stands = ([], after_all [] _ _, refl); made = inl refl; left = refl; version_is = refl })
 
 pub of_shard-caused : Caused true (reopened_moving (bootstrap (codes "a") (Some 1) a_took ∷ [])) []
-of_shard-caused = opened b_to_a (codes "a") (Some 1) a_took (record { before = b_to_a; stands = ([], after_all [] _ _, refl); left = ends (Some 1) refl; version_is = refl })
+of_shard-caused = opened b_to_a (codes "a") (Some 1) a_took (record { before = b_to_a; stands = ([], after_all [] _ _, refl); made = inl refl; left = ends (Some 1) refl; version_is = refl })
 
 -- ---- refused
 
@@ -169,6 +170,7 @@ both-caused =
     opened both_to_a (codes "a") None (answer.Available available both_on_a 3) (record {
       before = both_to_a;
       stands = ([], after_all [] _ _, refl);
+      made = inl refl;
       left = record {
         node = 0;
         named = record { instance_ = _; stands = refl; holds = refl };
@@ -186,6 +188,7 @@ first-caused =
     opened both_to_a (codes "a") (Some 0) (answer.Available available first_on_a 3) (record {
       before = both_to_a;
       stands = ([], after_all [] _ _, refl);
+      made = inl refl;
       left = record {
         node = 0;
         named = record { instance_ = _; stands = refl; holds = refl };
@@ -205,3 +208,37 @@ left_out-refused faults caused =
     let kept : holding 0 2 ∷ [] ≡ leaving 1 1 ∷ joining 0 2 1 ∷ [] = (left_of both_to_a faults (codes "a") None ((0, 1 ∷ []) ∷ []) both_on_a 3 refl caused).next.follows.shards.each 1 (leaving 1 1 ∷ joining 0 2 1 ∷ []) (holding 0 2 ∷ []) refl refl in
     let bad : 1 ≡ 2 = ap (λ (s : Shard). length s) kept in
     omega (arith, bad)
+
+-- ---- beside each other
+
+abbrev first_boot : InnerTurn
+first_boot = record { act = act.Bootstrap (codes "a") None; answer = answer.Available [] on_a 3 }
+
+abbrev second_boot : InnerTurn
+second_boot = record { act = act.Bootstrap (codes "b") None; answer = answer.Available [] on_a 3 }
+
+abbrev first_worker : TurnPlace
+first_worker = record { lines = []; line = both_print on_a; client = 1; earlier = []; beside = second_boot ∷ []; turn = first_boot }
+
+pub nobody-refused : (faults : List Fault) → ¬ Caused true (reopened_moving (both_print on_a ∷ [])) faults
+nobody-refused faults caused = by_answer (caused.each first_worker (record { after = []; in_run = refl; stands = record { front = []; later = []; back = (second_boot ∷ []) ∷ []; in_line = refl; others = refl; client_is = refl } }))
+  where
+    by_boot : IsBootstrapped (Some (held b_to_a)) first_worker (codes "a") None [] on_a 3 → ⊥
+    by_boot told = elim told.made as (λ _. ⊥) [
+      | inl base ↦ let same : b_to_a ≡ told.before = same_of_some b_to_a told.before base in omega (arith, ap (λ (q : Placement). q.version) (same ∙ sym told.left))
+      | inr t ↦ elim t.1 as (λ _. ⊥) [ inl same ↦ subst (λ (u : InnerTurn). EndsInto u.answer told.before) (sym same) t.2 | inr none ↦ none ]
+    ]
+
+    by_due : (others turns : List InnerTurn) → AreSomeOf others (second_boot ∷ []) → turns ≡ others → IsDueBy true faults (Some (held b_to_a)) (caused.delivered first_worker) first_worker (refusal_after (Some (held b_to_a)) first_worker turns) → ⊥
+    by_due [] turns some are due = by_boot (subst (λ ts. IsDueBy true faults (Some (held b_to_a)) (caused.delivered first_worker) first_worker (refusal_after (Some (held b_to_a)) first_worker ts)) are due)
+    by_due (x ∷ []) turns (inl own) are due =
+        by_boot (subst (λ (y : InnerTurn). IsDueBy true faults (Some (held b_to_a)) (caused.delivered first_worker) first_worker (refusal_after (Some (held b_to_a)) first_worker (y ∷ []))) own.0
+        (subst (λ ts. IsDueBy true faults (Some (held b_to_a)) (caused.delivered first_worker) first_worker (refusal_after (Some (held b_to_a)) first_worker ts)) are due))
+    by_due (x ∷ []) turns (inr none) are due = absurd none
+    by_due (x ∷ (y ∷ others)) turns (inl own) are due = absurd own.1
+    by_due (x ∷ (y ∷ others)) turns (inr none) are due = absurd none
+
+    by_answer : CausedAt true faults [] (Some (held b_to_a)) (caused.delivered first_worker) first_worker → ⊥
+    by_answer (inl memory) = cc
+    by_answer (inr (inl full)) = let bad = full.0 in cc
+    by_answer (inr (inr due)) = by_due (due.1).others due.0 (due.1).some_of (due.1).are due.2

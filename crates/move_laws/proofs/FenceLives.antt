@@ -21,7 +21,7 @@ use Rattle.transcripts.specs.Record.{InnerTurn, TurnPlace, inner_turns}
 use Rattle.model_laws.specs.Building.{place_of_two, two_made}
 use Rattle.model_laws.proofs.EachLemmas.{Each, ◌also◌, each_in, same_of_some, texts_differ}
 use Rattle.model_laws.proofs.PlaceLemmas.{only_used, stands_then}
-use Rattle.move_laws.specs.Moving.{asked_after, asked_before, cancelled, b_to_a, on_a, joining, bootstrap, b_drained, a_joined, a_joins, a_refused, moved_to_a, call_at, MayRefuseAfter, MayRefuseBeside}
+use Rattle.move_laws.specs.Moving.{asked_after, asked_before, cancelled, b_to_a, on_a, joining, bootstrap, b_drained, a_joined, a_joins, a_prints_move, a_refused, moved_to_a, call_at, MayRefuseAfter, MayRefuseBeside}
 use Rattle.model_laws.proofs.CausedLives.{each_at}
 use Rattle.model_laws.proofs.OwnerLemmas.{first_placements, standing_known, turn_in}
 use Rattle.move_laws.proofs.MovingLemmas.{of_name}
@@ -61,7 +61,7 @@ beside-caused told = record {
   place = b_to_a;
   may_stand = (inner_turns (two_made ++ b_drained ∷ []), record { others = []; some_of = tt; are = refl }, refl);
   not_above = omega arith;
-  cause = inr (a_joining _ a_joins (inr (inl refl, (inner_turns (two_made ++ b_drained ∷ []), record { others = []; some_of = tt; are = refl }, refl))) (refl, refl));
+  cause = inr (a_joining _ a_joins (inr (inl refl, refl)) (refl, refl));
 }
 
 -- ---- bounds
@@ -154,6 +154,15 @@ cancelled-refused faults may =
           also (λ stood taken. asks_none (inner_turns (take 1 (drop 3 asked_after))) ((λ name asks. asks) also tt) of.turn taken of.place of.node of.asks)
           also (λ stood taken. gives_none cancelled of.place of.node ((λ e. omega (arith, e)) also tt) stood of.assigned)
           also tt) is.number is.line is.stands is.stood is.taken
+    ]
+
+-- beside the call a placement with the move is printed, which didn't stand when the line began
+pub own_line-refused : (faults : List Fault) → ¬ MayRefuseBeside true faults two_made (a_prints_move ∷ []) place_of_two 1 (reason.Stale 2)
+own_line-refused faults may =
+    let of = of_move (record (call_at two_made place_of_two 1 (reason.Stale 2)) { beside = a_prints_move ∷ [] }) place_of_two 1 2 (may refl) in
+    elim of.taken as (λ _. ⊥) [
+      | inl is ↦ asks_none (inner_turns two_made) ((λ name asks. asks) also (λ name asks. asks) also tt) of.turn (turn_in two_made is.number is.line is.stands of.turn is.taken) of.place of.node of.asks
+      | inr own ↦ gives_none place_of_two of.place of.node ((λ e. omega (arith, e)) also tt) (inl own.1) of.assigned
     ]
 
 -- the lines in which the other node's bootstrap was asked, and that of another shard

@@ -8,6 +8,8 @@ use Rattle.m3_model.specs.declared.placement.Placement.{Placement}
 use Rattle.m3_model.specs.declared.placement.ShardState.TheVariants.{Initializing, Available, Leaving}
 use Rattle.m3_model.specs.declared.reason.Reason.{Reason}
 use Rattle.m3_model.specs.declared.rules.MetaState.{MetaState}
+use Rattle.m3_model.specs.declared.turn.Reply.TheVariants as replies
+use Rattle.m3_model.specs.declared.turn.Request.TheVariants as request
 use Rattle.m3_model.specs.declared.turn.Turn.{Turn}
 use Rattle.transcripts.specs.Faults.{Fault, Failing}
 use Rattle.transcripts.specs.Reasons.{MayRefuse}
@@ -189,3 +191,14 @@ first_on_a = at_both 3 (holding 0 2 ∷ []) (leaving 1 1 ∷ joining 0 2 1 ∷ [
 -- a run that begins while b is to give both to a, in which a bootstrap of a prints these shards and this placement
 abbrev pub both_moving : Option ℕ → List (ℕ × List ℕ) → Placement → Life
 both_moving shard available place = reopened_with both_to_a (bootstrap (codes "a") shard (answer.Available available place 3) ∷ [])
+
+-- the bootstraps of two workers beside each other print this placement, and no shard
+abbrev pub both_print : Placement → Turn
+both_print place = record {
+  request = request.Par [] ((act.Bootstrap (codes "a") None ∷ []) ∷ (act.Bootstrap (codes "b") None ∷ []) ∷ []);
+  reply = replies.Par [] ((answer.Available [] place 3 ∷ []) ∷ (answer.Available [] place 3 ∷ []) ∷ []);
+}
+
+-- a bootstrap of a, as a turn, that prints the placement in which a is to have the shard
+abbrev pub a_prints_move : InnerTurn
+a_prints_move = record { act = act.Bootstrap (codes "a") None; answer = answer.Available [] b_to_a 2 }

@@ -6,7 +6,7 @@ ghost use Rattle.transcripts.specs.Faults.{Fault};
 ghost use Rattle.placement_plan.specs.First.{first_instances};
 ghost use Rattle.model_laws.specs.Building.{life_of, nodes, place, begun};
 ghost use Rattle.fault_laws.specs.Faulty.{bootstrap_c};
-ghost use Rattle.move_laws.specs.Moving.{both_moving, both_on_a, first_on_a, b_to_a, on_a, a_took, a_joined, bootstrap, reopened_moving};
+ghost use Rattle.move_laws.specs.Moving.{both_moving, both_on_a, first_on_a, b_to_a, on_a, a_took, a_joined, both_print, bootstrap, reopened_moving};
 
 /// A bootstrap that ends a move prints its shard, and the next placement; one that ends none prints the placement that stands.
 pub fn bootstrap_prints_moves()
@@ -48,4 +48,9 @@ pub fn shards_out_of_order()
     ensures twice { (faults : List Fault) → (peers others : List ℕ) → ¬ Caused true (reopened_moving (bootstrap (codes "a") None (answer.Available ((1, peers) ∷ (1, others) ∷ []) on_a 3) ∷ [])) faults }
     ensures order { (faults : List Fault) → (peers others : List ℕ) → ¬ Caused true (reopened_moving (bootstrap (codes "a") None (answer.Available ((1, peers) ∷ (0, others) ∷ []) on_a 3) ∷ [])) faults }
     ensures missing { (faults : List Fault) → (peers others : List ℕ) → ¬ Caused true (reopened_moving (bootstrap (codes "a") None (answer.Available ((1, peers) ∷ (2, others) ∷ []) on_a 3) ∷ [])) faults }
+{}
+
+/// Two bootstraps beside each other print a placement that neither of them made, each as the other's.
+pub fn placement_of_nobody()
+    ensures { (faults : List Fault) → ¬ Caused true (reopened_moving (both_print on_a ∷ [])) faults }
 {}

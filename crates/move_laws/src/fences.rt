@@ -9,7 +9,7 @@ ghost use Rattle.transcripts.specs.Moves.{IsFencedAbove, IsOfMove};
 ghost use Rattle.transcripts.specs.Reasons.{MayRefuse};
 ghost use Rattle.transcripts.specs.Record.{TurnPlace};
 ghost use Rattle.model_laws.specs.Building.{place_of_two, two_made};
-ghost use Rattle.move_laws.specs.Moving.{asked_after, asked_before, b_to_a, b_drained, a_joins, a_refused, bootstrap, moved_to_a, call_at, MayRefuseAfter, MayRefuseBeside};
+ghost use Rattle.move_laws.specs.Moving.{asked_after, asked_before, b_to_a, b_drained, a_joins, a_prints_move, a_refused, bootstrap, moved_to_a, call_at, MayRefuseAfter, MayRefuseBeside};
 
 /// A move fences its shard from when its bootstrap is asked on, whatever is answered, also where it is asked beside the call.
 pub fn fence_of_move()
@@ -52,4 +52,10 @@ pub fn fence_of_another_shard()
 pub fn left_fence_is_not_above()
     ensures { (state : MetaState) → (p : TurnPlace) → (used : Placement) → (shard fence : ℕ) → state.place.version ≤ used.version
         → IsFencedAbove (Some state) p used shard fence → IsOfMove (Some state) p shard fence }
+{}
+
+/// A fence is of a move that didn't go on when the call's line began, though a bootstrap beside the call prints a placement
+/// with it.
+pub fn fence_of_own_line()
+    ensures { (faults : List Fault) → ¬ MayRefuseBeside true faults two_made (a_prints_move ∷ []) place_of_two 1 (reason.Stale 2) }
 {}

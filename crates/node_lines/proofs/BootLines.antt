@@ -221,7 +221,6 @@ module _ {D : Type 0} {G : Ghosts D} (state : D → DiskState) (tells : Bool) (s
 
   pub serves : HearsOf start (InStretch whole (length events) (length whole)) p [] b → (b ≡ answer.Memory) ⊎ IsOfKind [] start p a b → IsNotRefused start turns a b → (was : TurnPlace → List LateMessage) (past : List Record) → WereDelivered turns was → ServesOne tells [] [] was past start turns events a b more
   serves heard kind none was past were = record {
-    inits = λ is. absurd is;
     adds = in_order;
     opens = opens;
     answered = answered kind none;

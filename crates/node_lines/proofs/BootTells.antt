@@ -130,7 +130,7 @@ available_tells {D} {G} state old tells start turns new name asked available sho
     let step : IsIn (begin_at node b.0) e = inr (inl (ap (λ (x : Assigned). event.Step node x.shard (call.Begin x.tenure) (b.0).reply) b.2)) in
     let here : IsIn h.begins e = subst (λ es. IsIn es e) (sym h.begun.are) (flat-IsIn (begin_at node) h.begun.begun b.0 e b.1 step) in
     ((b.0).reply, passed_begun state old.net.replicas.members node events h.begun.begun h.begun.passed b.0 b.1, (call.Begin tenure, refl, subst (λ i. Happens (InStretch whole (length events) (length whole)) (event.Step i s (call.Begin tenure) (b.0).reply)) (sym is_node) (happens_in events h.begins e here))))
-    tt (inr (record { before = place; stands = (inner_turns turns, record { others = []; some_of = tt; are = sym (append-nil (inner_turns turns)) }, stands.left.place); left = subst (λ xs. MovesLeft place name asked xs shown) (sym none) same; version_is = version_is ∙ ap (λ (q : Placement). q.version) (sym same) }))
+    tt (inr (record { before = place; stands = (inner_turns turns, record { others = []; some_of = tt; are = sym (append-nil (inner_turns turns)) }, stands.left.place); made = inl stands.left.place; left = subst (λ xs. MovesLeft place name asked xs shown) (sym none) same; version_is = version_is ∙ ap (λ (q : Placement). q.version) (sym same) }))
 
 -- ---- one that is held up
 

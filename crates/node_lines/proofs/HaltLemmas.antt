@@ -44,7 +44,6 @@ use Rattle.told_by.specs.Spans.{From}
 use Rattle.told_by.specs.Writes.{IsUnmetWrite}
 use Rattle.told_by.proofs.LeaveLemmas.{place_there}
 use Rattle.told_by.proofs.OneLemmas.{among_back, at_back, back_at}
-use Rattle.told_moves.specs.Order.{IsInitAct}
 use Rattle.told_runs.specs.Answers.{HearsOf, IsOfKind}
 use Rattle.transcripts.specs.Deliveries.{delivers_nothing}
 use Rattle.transcripts.specs.Fates.{is_stopped}
@@ -206,12 +205,12 @@ module _ {D : Type 0} {G : Ghosts D} (state : D → DiskState) (start : Option M
   calm : (e : Event) → IsIn more e → IsCalm e
   calm e m = halt_calm Kind of_kind own_slots e (halts e m)
 
-  pub leaves : PlainLine start turns events a b more → length more ≤ MOST_REQUEST_EVENTS → (IsInitAct a → ⊥) → HearsOf start (InStretch whole (length events) (length whole)) p [] b → (b ≡ answer.Memory) ⊎ IsOfKind [] start p a b → LeavesLine PlainLine start turns [] old.net a b new.net
-  leaves line few no_init heard kind = record {
+  pub leaves : PlainLine start turns events a b more → length more ≤ MOST_REQUEST_EVENTS → HearsOf start (InStretch whole (length events) (length whole)) p [] b → (b ≡ answer.Memory) ⊎ IsOfKind [] start p a b → LeavesLine PlainLine start turns [] old.net a b new.net
+  leaves line few heard kind = record {
     more = more;
     grew = ran.grew;
     line = line;
-    serves = λ none. serves_so start turns events a b more calm few (λ is place e. absurd (no_init is)) [] heard (λ x m. absurd m) (answered start turns events a b more calm kind none);
+    serves = λ none. serves_so start turns events a b more calm few [] heard (λ x m. absurd m) (answered start turns events a b more calm kind none);
     delivered = delivered_so turns a b [] (λ m i. absurd i);
   }
 
@@ -282,7 +281,7 @@ stopped_tells {D} {G} state old start turns new name stands h =
           (line state start turns old new stands name false n a answer.Done (stop_answer name) IsStop (λ c k. inl k) more h.stopped halts asks h.keeps
           (λ k s slot. happens_in events more (event.Step k s call.Stop reply.Done) (flat-IsIn stop_at slots (slot_at k s) (event.Step k s call.Stop reply.Done) (slot_here start turns old stands name false n k s slot.named slot.has) (inr (inl refl))))
           (λ i k s r le at. inl refl))
-          (let long = flat_long stop_at (λ s. refl) slots in let few = few_own old n.node in omega (arith, long, few)) (λ is. is) tt (inr tt);
+          (let long = flat_long stop_at (λ s. refl) slots in let few = few_own old n.node in omega (arith, long, few)) tt (inr tt);
       stands = stands_so state start turns old new stands name false n a answer.Done (stop_answer name) IsStop (λ c k. inl k) more h.stopped halts asks h.keeps (stops_quiet slots)
           (stopped_set start turns old stands name false n new true a answer.Done h.stopped_now (ap (λ (s : MetaState). s.place) h.keeps.state) (λ own x. refl));
     }
@@ -319,7 +318,7 @@ restarted_tells {D} {G} state old start turns new name pick stands h =
           (line state start turns old new stands name true n a answer.Done (restart_answer name pick) IsRestart (λ c k. inr k) more h.restarted halts asks h.keeps
           (λ k s slot. happens_in events more (event.Step k s call.Restart reply.Done) (flat-IsIn restart_at slots (slot_at k s) (event.Step k s call.Restart reply.Done) (slot_here start turns old stands name true n k s slot.named slot.has) (inr (inl refl))))
           (λ i k s r le at. inl refl))
-          (let long = flat_long restart_at (λ s. refl) slots in let few = few_own old n.node in omega (arith, long, few)) (λ is. is) tt (inr tt);
+          (let long = flat_long restart_at (λ s. refl) slots in let few = few_own old n.node in omega (arith, long, few)) tt (inr tt);
       stands = stands_so state start turns old new stands name true n a answer.Done (restart_answer name pick) IsRestart (λ c k. inr k) more h.restarted halts asks h.keeps (restarts_quiet slots)
           (stopped_set start turns old stands name true n new false a answer.Done h.stopped_now (ap (λ (s : MetaState). s.place) h.keeps.state) (λ own x. refl));
     }
@@ -380,7 +379,7 @@ module _ {D : Type 0} {G : Ghosts D} (state : D → DiskState) (start : Option M
   kept_line hears heard kind = record {
     line = leaves state start turns old new stands name true h.was (act.Restart name pick) b answers IsHaltCall (λ c k. k) came h.stopped each asks h.keeps
         (line state start turns old new stands name true h.was (act.Restart name pick) b answers IsHaltCall (λ c k. k) came h.stopped each asks h.keeps hears again)
-        (let long = flat_long stop_at (λ s. refl) slots in let both = length-append h.tried stops in let tried = unrestarted_few slots shard why h.tried h.refused in let few = few_own old h.was.node in omega (arith, long, both, tried, few)) (λ is. is) heard kind;
+        (let long = flat_long stop_at (λ s. refl) slots in let both = length-append h.tried stops in let tried = unrestarted_few slots shard why h.tried h.refused in let few = few_own old h.was.node in omega (arith, long, both, tried, few)) heard kind;
     stands = stands_so state start turns old new stands name true h.was (act.Restart name pick) b answers IsHaltCall (λ c k. k) came h.stopped each asks h.keeps
         (quiet_both h.tried stops (unrestarted_quiet slots shard why h.tried h.refused) (stops_quiet slots)) (flags_stay turns (act.Restart name pick) b old new halts_so (ap (λ (s : MetaState). s.place) h.keeps.state) h.stays stands.stopped);
   }

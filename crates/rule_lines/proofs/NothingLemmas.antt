@@ -1,5 +1,5 @@
 -- Lines by which nothing came to the list: the refusal that is due was answered, or there was no room.
-use Rattle.std.proofs.Common.{◌≡◌, ℕ, ◌*◌, List, [], ◌++◌, length, map, refl, sym, subst, ◌∙◌, inl, inr, arith, Bool, true, false}
+use Rattle.std.proofs.Common.{◌≡◌, ℕ, ◌*◌, List, [], ◌++◌, length, map, refl, sym, subst, inl, inr, arith, Bool, true, false}
 use Rattle.std.specs.Prelude.{⊤, Option, Some, None, option_map}
 use Rattle.std.specs.Option.{option_or}
 use Rattle.std.proofs.lemmas.List.{append-nil}
@@ -239,13 +239,13 @@ refused_line start turns events a b h = record {
 }
 
 -- nothing came, the line is told, and its answer stands for itself
-served_nothing : (start : Option MetaState) (turns : List Turn) (events : List Event) (a : Act) (b : Answer) → PlainLine start turns events a b [] → printed b ≡ None → ((Here : ℕ → Event → Type 0) → HearsOf start Here (place_after turns a b) [] b)
+served_nothing : (start : Option MetaState) (turns : List Turn) (events : List Event) (a : Act) (b : Answer) → PlainLine start turns events a b [] → ((Here : ℕ → Event → Type 0) → HearsOf start Here (place_after turns a b) [] b)
     → IsAnswered [] start (length (events ++ [])) (place_after turns a b) → LeavesServed PlainLine start turns [] events a b events
-served_nothing start turns events a b line no_place says answered = record {
+served_nothing start turns events a b line says answered = record {
   more = [];
   grew = sym (append-nil events);
   line = line;
-  serves = serves_so start turns events a b [] (λ e m. absurd m) (omega arith) (λ is place e. absurd (let bad : None ≡ Some place = sym no_place ∙ e in cc)) [] (says (InStretch (events ++ []) (length events) (length (events ++ [])))) (λ x m. absurd m) answered;
+  serves = serves_so start turns events a b [] (λ e m. absurd m) (omega arith) [] (says (InStretch (events ++ []) (length events) (length (events ++ [])))) (λ x m. absurd m) answered;
   delivered = delivered_so turns a b [] (λ x m. absurd m);
 }
 
@@ -253,7 +253,7 @@ pub refused_tells : RefusedTells
 refused_tells start turns events a b due =
     let kind = refusal_kind (placement_after (start_placement start) (inner_turns turns)) (map (λ (place : Placement). place.version) (placements start (inner_turns turns))) (rules_after (start_rules start) (inner_turns turns)) (is_stopped (inner_turns turns)) a b due in
     record {
-      line = served_nothing start turns events a b (refused_line start turns events a b kind) (prints_nothing b kind) (λ Here. says_nothing start Here (place_after turns a b) [] b kind)
+      line = served_nothing start turns events a b (refused_line start turns events a b kind) (λ Here. says_nothing start Here (place_after turns a b) [] b kind)
           (inr (inr (inner_turns turns, record { others = []; some_of = tt; are = sym (append-nil (inner_turns turns)) }, decided due)));
       sets_none = sets_none_so b kind;
       delivers_none = delivers_none_so b kind;
@@ -266,7 +266,7 @@ refused_tells start turns events a b due =
 
 pub no_room_tells : NoRoomTells
 no_room_tells start turns events a n few none = record {
-  line = served_nothing start turns events a answer.Full (nothing_tells start turns events a answer.Full tt) refl (λ Here. tt) (inr (inl (refl, subst (λ es. MayLackRoom (length es)) (sym (append-nil events)) (may_lack n events few none))));
+  line = served_nothing start turns events a answer.Full (nothing_tells start turns events a answer.Full tt) (λ Here. tt) (inr (inl (refl, subst (λ es. MayLackRoom (length es)) (sym (append-nil events)) (may_lack n events few none))));
   sets_none = tt;
   delivers_none = tt;
 }

@@ -114,7 +114,7 @@ module _ (start : Option MetaState) (turns : List Turn) (events : List Event) (a
     more = more;
     grew = grew;
     line = clock_line;
-    serves = serves_so start turns events a answer.Done more calm_clock (omega arith) (λ is place e. absurd (let bad : None ≡ Some place = e in cc)) [] tt (λ x m. absurd m) (answered start turns events a answer.Done more calm_clock (inr kind) free);
+    serves = serves_so start turns events a answer.Done more calm_clock (omega arith) [] tt (λ x m. absurd m) (answered start turns events a answer.Done more calm_clock (inr kind) free);
     delivered = delivered_so turns a answer.Done [] (λ x m. absurd m);
   }
 
@@ -213,7 +213,7 @@ fates_tell {D} {G} old start turns list new stands set =
         more = [];
         grew = ap (λ t. t.events) set.replicas ∙ sym (append-nil events);
         line = fates_line start turns events list;
-        serves = serves_so start turns events a answer.Done [] (λ e m. absurd m) (omega arith) (λ yes place e. absurd (let bad : None ≡ Some place = e in cc)) [] tt (λ x m. absurd m) (answered start turns events a answer.Done [] (λ e m. absurd m) (inr tt) due);
+        serves = serves_so start turns events a answer.Done [] (λ e m. absurd m) (omega arith) [] tt (λ x m. absurd m) (answered start turns events a answer.Done [] (λ e m. absurd m) (inr tt) due);
         delivered = delivered_so turns a answer.Done [] (λ x m. absurd m);
       };
       stands = stands_grown start turns old stands a answer.Done new same_place [] (ap (λ (t : Tracked D). t.events) set.replicas ∙ sym (append-nil events)) (λ e m. absurd m) (λ n s c r m. absurd m) set.slots

@@ -45,8 +45,8 @@ use Rattle.told_by.proofs.LineLemmas.{line_below, take_front}
 use Rattle.told_by.proofs.OpeningLemmas.{first_event}
 use Rattle.told_by.proofs.PrintedLemmas.{after_up, ends_within, placements_stand}
 use Rattle.told_by.proofs.TurnLemmas.{alone_is, at_cut, cut_at, own_list, place_in}
-use Rattle.told_causes.proofs.AloneLemmas.{alone_turns, lines_before, own_place, take_none}
-use Rattle.told_causes.proofs.StoodLemmas.{may_at, met}
+use Rattle.told_causes.proofs.AloneLemmas.{alone_turns, lines_before, take_none}
+use Rattle.told_causes.proofs.StoodLemmas.{member_before, member_met}
 use Rattle.told_causes.specs.Boot.{BootHasCause, BootIsSaid, IsBootAct, ArePlacesInOrder, IsKnownSlot, WasMember}
 use Rattle.told_causes.specs.Standing.{IsHaltAct}
 use Rattle.told_causes.proofs.HaltLemmas.{last_name, late_step, one_line, opening_low}
@@ -395,13 +395,10 @@ module _ {tells : Bool} (start : Option MetaState) (turns : List Turn) (events :
       ∙ or_right _ _ (ap (waits_after x stays (inner_turns (line.0 ∷ []))) waits ∙ waits_on x stays (inner_turns (line.0 ∷ [])) (λ t m h. none line.0 line.1 t (subst (λ ts. IsIn ts t) (append-nil (joined (lists_of line.0))) m) h))
       )
     where
-      -- what stands where a turn of the line begins is what stood before the line, or stands behind it
+      -- a member before the line and behind it is one where a turn of it begins
       by_met : (q : TurnPlace) → IsTurnPlace turns q → length q.lines ≡ k → is_member x (placed x start turns k) ≡ true → is_member x (placed x start turns (suc k)) ≡ true → (place : Placement) → last_place (take ((told.spans).from q) events) ≡ Some place → has_replica (Some place) s n ≡ true
       by_met q at line_is before behind place last =
-          elim (met start turns events legal told places k less ((told.spans).from q) (omega (arith, (told.lines).low q at, ap told.ends line_is)) (omega (arith, (told.tells).order.not_back q at, (told.lines).high q at, ap (λ m. told.ends (suc m)) line_is)) place last) as (λ _. has_replica (Some place) s n ≡ true) [
-            | inl is ↦ ap (is_member x) (sym is) ∙ before
-            | inr z ↦ ap (is_member x) (sym z.5) ∙ behind
-          ]
+          member_met start turns events legal told places k less ((told.spans).from q) (omega (arith, (told.lines).low q at, ap told.ends line_is)) (omega (arith, (told.tells).order.not_back q at, (told.lines).high q at, ap (λ m. told.ends (suc m)) line_is)) place last n s before behind
 
       none : (line : Turn) → At turns k line → (t : InnerTurn) → IsIn (joined (lists_of line)) t → EndsWait x (is_member x (placed x start turns k) && is_member x (placed x start turns (suc k))) t → ⊥
       none line there t m h =
@@ -465,43 +462,30 @@ module _ {tells : Bool} (start : Option MetaState) (turns : List Turn) (events :
       front : take (length p.lines) turns ≡ p.lines
       front = lines_before start turns events legal told p at
 
-      -- no Place of the line stands before a turn earlier in its list that prints one
-      by_met : (q : TurnPlace) → IsTurnPlace turns q → length q.lines ≡ length p.lines → (told.spans).to q ≤ (told.spans).from p → is_member x (placed x start turns (length p.lines)) ≡ true
-          → (t : InnerTurn) → IsIn p.earlier t → (next : Placement) → printed t.answer ≡ Some next → (place : Placement) → last_place (take ((told.spans).from q) events) ≡ Some place → has_replica (Some place) s n ≡ true
-      by_met q at_q same before_p member t m next prints place last =
-          let k = length p.lines in
-          let within = (told.tells).order.not_back q at_q in
-          elim (met start turns events legal told places k (line_below turns p at) ((told.spans).from q) (omega (arith, (told.lines).low q at_q, ap told.ends same)) (omega (arith, within, (told.lines).high q at_q, ap (λ m. told.ends (suc m)) same)) place last) as (λ _. has_replica (Some place) s n ≡ true) [
-            | inl is ↦ ap (is_member x) (sym is) ∙ member
-            | inr z ↦
-                let above = z.2 in
-                let below = z.3 in
-                let high_z : z.0 < told.ends (suc k) = omega (arith, below, within, (told.lines).high q at_q, ap (λ m. told.ends (suc m)) same) in
-                elim (may_at start turns events legal told places p at z.0 place z.1 above high_z z.4) as (λ _. has_replica (Some place) s n ≡ true) [
-                  | inl one ↦ absurd (omega (arith, (own_place start turns events legal told p at one z.0 place z.1 above high_z z.4).0, below, within, before_p))
-                  | inr h ↦ absurd (let bad : None ≡ Some next = sym (h.1 t m) ∙ prints in cc)
-                ]
-          ]
+      stood_before : (waiting_after x start p.lines).place ≡ placed x start turns (length p.lines)
+      stood_before = ap (λ ls. (waiting_after x start ls).place) (sym front) ∙ place_is (length p.lines) (omega (arith, line_below turns p at))
 
       -- no bootstrap earlier in its list began the slot, where that is at boot since the line began
-      none_earlier : ((m : ℕ) → told.ends (length p.lines) ≤ m → m ≤ i → BootAt m) → (after : Option Placement) (t : InnerTurn) → IsIn p.earlier t → EndsWait x (is_member x (waiting_after x start p.lines).place && is_member x after) t → ⊥
-      none_earlier boots after t m h =
+      none_earlier : ((m : ℕ) → told.ends (length p.lines) ≤ m → m ≤ i → BootAt m) → (after : Option Placement) → after ≡ placement_after (placed x start turns (length p.lines)) (p.earlier ++ p.beside) → (t : InnerTurn) → IsIn p.earlier t → EndsWait x (is_member x (waiting_after x start p.lines).place && is_member x after) t → ⊥
+      none_earlier boots after after_is t m h =
           let q = own_list turns p at t m in
           let k = length p.lines in
-          let before : (waiting_after x start p.lines).place ≡ placed x start turns k = ap (λ ls. (waiting_after x start ls).place) (sym front) ∙ place_is k (omega (arith, line_below turns p at)) in
           let before_p = (told.tells).order.order q.place p q.in_run at (inr (ap length q.lines_are, q.client_is, q.earlier)) in
           let finishes : (told.spans).to q.place ≤ i = omega (arith, before_p, low) in
           let ends = and_both _ _ h.ends in
           let named = and_both (pointwise nat_eq name h.node) (is_covering s h.asked) ends.1 in
-          let member : is_member x (placed x start turns k) ≡ true = ap (is_member x) (sym before) ∙ (and_both _ _ ends.0).0 in
-          boot_clash k i boots q.place q.in_run (ap length q.lines_are) finishes member (by_met q.place q.in_run (ap length q.lines_are) before_p member t m h.place (ap printed h.answered)) h.node h.asked h.available h.place h.version (ap (λ (u : InnerTurn). u.act) q.turn_is ∙ h.act_is)
+          let both = and_both (is_member x (waiting_after x start p.lines).place) (is_member x after) ends.0 in
+          let member : is_member x (placed x start turns k) ≡ true = ap (is_member x) (sym stood_before) ∙ both.0 in
+          boot_clash k i boots q.place q.in_run (ap length q.lines_are) finishes member
+          (λ place last. member_before start turns events legal told places p at ((told.spans).from q.place) (omega (arith, (told.lines).low q.place q.in_run, ap (λ ls. told.ends (length ls)) q.lines_are)) (omega (arith, (told.tells).order.not_back q.place q.in_run, before_p)) place last n s member (ap (is_member x) (sym after_is) ∙ both.1))
+          h.node h.asked h.available h.place h.version (ap (λ (u : InnerTurn). u.act) q.turn_is ∙ h.act_is)
           (ap (λ (u : InnerTurn). u.answer) q.turn_is ∙ h.answered) (name_is name h.node named.0) named.1
 
       by_waits : ((m : ℕ) → told.ends (length p.lines) ≤ m → m ≤ i → BootAt m) → Waits (length p.lines) → waits_at x start p ≡ true
       by_waits boots (inl waits) =
           let before = waiting_after x start p.lines in
           let stays = is_member x before.place && is_member x (placement_after before.place (p.earlier ++ p.beside)) in
-          ap (waits_after x stays p.earlier) (ap (λ ls. (waiting_after x start ls).waits) (sym front) ∙ waits) ∙ waits_on x stays p.earlier (none_earlier boots (placement_after before.place (p.earlier ++ p.beside)))
+          ap (waits_after x stays p.earlier) (ap (λ ls. (waiting_after x start ls).waits) (sym front) ∙ waits) ∙ waits_on x stays p.earlier (none_earlier boots (placement_after before.place (p.earlier ++ p.beside)) (ap (λ o. placement_after o (p.earlier ++ p.beside)) stood_before))
       by_waits boots (inr never) =
           let j = was.lines in
           let not_later = was.not_later in

@@ -44,7 +44,7 @@ module _ {tells : Bool} (start : Option MetaState) (turns : List Turn) (events :
 
   -- the node is called so in the placement that stands where it begins
   called : (node : ℕ) (name : List ℕ) → IsNamedLast (take ((told.spans).from p) events) node name → IsCalled start p name node
-  called node name h = record { place = h.place; stands = may_stand start turns events legal told places p at quiet ((told.spans).from p) begins within h.place h.last; named = h.named }
+  called node name h = record { place = h.place; stands = may_stand start turns events legal told places p at quiet ((told.spans).from p) (omega arith) within h.place h.last; named = h.named }
 
   on_disk : (name : List ℕ) (shard : ℕ) (Kind : StepCall → Type 0) (Reached : Placement → ℕ → Type 0) (Holds : ℕ → Type 0) → ((node : ℕ) → (last : IsNamedLast (take ((told.spans).from p) events) node name) → Reached last.place node → HasStep (Within events told.spans p) Kind node shard (reply.Refused reason.Disk) → Holds node)
       → HearsRefused (take ((told.spans).from p) events) (Within events told.spans p) Reached name shard Kind reason.Disk → OnDisk faults start p Holds name shard

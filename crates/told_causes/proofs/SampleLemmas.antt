@@ -28,7 +28,7 @@ use Rattle.told_by.proofs.LegalSampleLemmas.{asked_at, lawful_place}
 use Rattle.told_by.proofs.LineLemmas.{line_told, line_told_from, line_told_to, told_found}
 use Rattle.told_by.proofs.OneLemmas.{is_last}
 use Rattle.told_by.proofs.SampleLemmas.{Each, each_at, makes_each, restarts_none}
-use Rattle.told_causes.specs.Boot.{ArePlacesInOrder, IsKnownSlot, MayPlace}
+use Rattle.told_causes.specs.Boot.{ArePlacesInOrder, IsKnownSlot, HasOneTurn}
 use Rattle.told_causes.specs.Sample.{BootIsHeard, events, found, swept, ticking, turns}
 
 abbrev opening : List Event
@@ -92,15 +92,15 @@ at_first i p done there = let here : 0 + i ≡ i = omega arith in subst (λ k. k
 
 -- its one line has one turn, and no Place
 places : (told : ToldBy (Some found) turns events) → ArePlacesInOrder (Some found) turns events told
-places told = record { one = one; may = may }
+places told = record { alone = alone; beside = λ k i p done less many. absurd (many (one k less)) }
   where
-    one : (k i : ℕ) (p : Placement) (done : List (ℕ × ℕ)) → k < length turns → told.ends k ≤ i → i < told.ends (suc k) → At events i (event.Place p done) → last_place (take (told.ends (suc k)) events) ≡ Some p
-    one zero i p done less low high there = absurd (omega (arith, low, (told.lines).first, at_first i p done there))
-    one (suc k) i p done less low high there = absurd (omega (arith, less))
+    alone : (k i : ℕ) (p : Placement) (done : List (ℕ × ℕ)) → k < length turns → HasOneTurn turns k → told.ends k ≤ i → i < told.ends (suc k) → At events i (event.Place p done) → last_place (take (told.ends (suc k)) events) ≡ Some p
+    alone zero i p done less only low high there = absurd (omega (arith, low, (told.lines).first, at_first i p done there))
+    alone (suc k) i p done less only low high there = absurd (omega (arith, less))
 
-    may : (k i : ℕ) (p : Placement) (done : List (ℕ × ℕ)) → k < length turns → told.ends k ≤ i → i < told.ends (suc k) → At events i (event.Place p done) → MayPlace turns k (take i events) p
-    may zero i p done less low high there = inl (line_of act.Tick swept, record { act = act.Tick; answer = swept }, refl, refl)
-    may (suc k) i p done less low high there = absurd (omega (arith, less))
+    one : (k : ℕ) → k < length turns → HasOneTurn turns k
+    one zero less = (line_of act.Tick swept, record { act = act.Tick; answer = swept }, refl, refl)
+    one (suc k) less = absurd (omega (arith, less))
 
 last : IsLastTurnPlace [] (line_of act.Tick swept) ticking
 last = is_last (Some found) [] opening act.Tick swept more

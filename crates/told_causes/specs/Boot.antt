@@ -1,6 +1,5 @@
 -- Why a replica isn't begun: it waits for a bootstrap since the run opened, since it was assigned, or since its node was restarted.
-use Rattle.std.specs.Prelude.{◌≡◌, ◌⊎◌, ◌≤◌, ◌<◌, ℕ, suc, ⊤, List, [], ◌∷◌, ◌++◌, length, take, Option, Some, None, true, IsTrue, Bool}
-use Rattle.m3_model.specs.Members.{IsIn}
+use Rattle.std.specs.Prelude.{◌≡◌, ◌⊎◌, ◌≤◌, ◌<◌, ℕ, suc, ⊤, List, [], ◌∷◌, length, take, Option, Some, true, IsTrue, Bool}
 use Rattle.m3_model.specs.declared.act.Act.{Act}
 use Rattle.m3_model.specs.declared.act.Act.TheVariants as act
 use Rattle.m3_model.specs.declared.placement.Placement.{Placement}
@@ -22,6 +21,7 @@ use Rattle.transcripts.specs.Waiting.{WaitsForBoot, waits_at}
 use Rattle.told_by.specs.Hears.{Happens, InStretch, IsNamedBy}
 use Rattle.told_by.specs.Makes.{IsAssigned}
 use Rattle.told_by.specs.Openings.{sets_seed}
+use Rattle.told_by.specs.Spans.{IsWithin, Spans}
 use Rattle.told_by.specs.Told.{ToldBy}
 use Rattle.told_causes.specs.Standing.{IsHaltAct}
 
@@ -38,18 +38,19 @@ HasOneTurn turns k = (line : Turn) × (turn : InnerTurn) × At turns k line × (
 abbrev pub GivesNone : List Event → Placement → Type 0
 GivesNone past place = (last : Placement) → last_place past ≡ Some last → (n s tenure : ℕ) → IsAssigned place n s tenure → IsAssigned last n s tenure
 
--- in each list of the line what stands before another turn prints no placement
-abbrev pub PrintsLast : Turn → Type 0
-PrintsLast line = (earlier later : List InnerTurn) (t u : InnerTurn) → IsIn (lists_of line) (earlier ++ t ∷ later) → IsIn earlier u → printed u.answer ≡ None
+-- a turn of this line prints the placement, and the place lies within its stretch
+pub record IsPrintedIn (turns : List Turn) (spans : Spans) (k i : ℕ) (place : Placement) : Type 0 where
+  pub printer : TurnPlace
+  pub in_run : IsTurnPlace turns printer
+  pub of_line : length printer.lines ≡ k
+  pub within : IsWithin spans printer i
+  pub prints : printed printer.turn.answer ≡ Some place
 
--- the line has one turn; or the Place gives nobody a shard, and nothing follows in its list a turn that prints a placement
-abbrev pub MayPlace : List Turn → ℕ → List Event → Placement → Type 0
-MayPlace turns k past place = HasOneTurn turns k ⊎ (GivesNone past place × ((line : Turn) × At turns k line × PrintsLast line))
-
--- a line has one Place at most, which it may make so
+-- a line of one turn has one Place at most; in any other each Place is printed by a turn in whose stretch it stands, and gives nobody a shard
 pub record ArePlacesInOrder (start : Option MetaState) (turns : List Turn) (events : List Event) (told : ToldBy start turns events) : Type 0 where
-  pub one : (k i : ℕ) (place : Placement) (done : List (ℕ × ℕ)) → k < length turns → told.ends k ≤ i → i < told.ends (suc k) → At events i (event.Place place done) → last_place (take (told.ends (suc k)) events) ≡ Some place
-  pub may : (k i : ℕ) (place : Placement) (done : List (ℕ × ℕ)) → k < length turns → told.ends k ≤ i → i < told.ends (suc k) → At events i (event.Place place done) → MayPlace turns k (take i events) place
+  pub alone : (k i : ℕ) (place : Placement) (done : List (ℕ × ℕ)) → k < length turns → HasOneTurn turns k → told.ends k ≤ i → i < told.ends (suc k) → At events i (event.Place place done) → last_place (take (told.ends (suc k)) events) ≡ Some place
+  pub beside : (k i : ℕ) (place : Placement) (done : List (ℕ × ℕ)) → k < length turns → ¬ HasOneTurn turns k → told.ends k ≤ i → i < told.ends (suc k) → At events i (event.Place place done)
+      → GivesNone (take i events) place × IsPrintedIn turns told.spans k i place
 
 -- the turn begins replicas over this placement: a bootstrap over the one that stands, an `init` over the one that it prints
 abbrev pub BeginsOver : List Event → ℕ → TurnPlace → Placement → Type 0

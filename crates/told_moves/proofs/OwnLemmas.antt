@@ -41,11 +41,11 @@ use Rattle.told_by.proofs.PrintedLemmas.{ends_grow, ends_within, placements_stan
 use Rattle.told_by.proofs.TurnLemmas.{cut_at, own_list, place_in}
 use Rattle.told_causes.proofs.AloneLemmas.{stands_from}
 use Rattle.told_causes.proofs.BootLemmas.{HasBegun, covered_begun, true_or_not}
-use Rattle.told_causes.proofs.StoodLemmas.{back, gives_none, had_before, met}
+use Rattle.told_causes.proofs.StoodLemmas.{alone_last, alone_or_beside, back, gives_none, had_before, held_before, member_before, member_met}
 use Rattle.told_causes.proofs.HaltLemmas.{late_step, opening_two}
 use Rattle.told_causes.proofs.NameLemmas.{any_found, name_is}
 use Rattle.told_causes.proofs.RefusalLemmas.{first_down, refused_law}
-use Rattle.told_causes.proofs.WaitLemmas.{EndsWait, and_both, assigned_by, is_member_of, member_given}
+use Rattle.told_causes.proofs.WaitLemmas.{EndsWait, and_both, assigned_by, is_member_of, member_given, member_place}
 use Rattle.told_moves.specs.Moves.{IsQuiet, IsRefusedAt, NotOwnedIsSaid}
 use Rattle.told_moves.specs.Order.{IsInOrder}
 use Rattle.told_moves.proofs.AskLemmas.{begin_asked}
@@ -124,11 +124,17 @@ module _ {tells : Bool} (start : Option MetaState) (turns : List Turn) (events :
           | inl same ↦
               let is : placed k ≡ Some was = sym (placements_stand start turns events legal told k (omega (arith, high))) ∙ same in
               here was is (ap (is_member x) is ∙ gone)
-          | inr z ↦
-              let one = order.places.one k z.0 was z.1 (omega (arith, high)) z.2 (omega (arith, z.3, before)) z.4 in
-              let is : placed (suc k) ≡ Some was = sym (placements_stand start turns events legal told (suc k) high) ∙ one in
-              let bad : true ≡ false = sym member ∙ ap (is_member x) is ∙ gone in
-              cc
+          | inr z ↦ elim (alone_or_beside start turns events legal told order.places k (omega (arith, high))) as (λ _. WasAssigned x e (suc k)) [
+            | inl one ↦
+                let is : placed (suc k) ≡ Some was = alone_last start turns events legal told order.places k (omega (arith, high)) one z.0 was z.1 z.2 (omega (arith, z.3, before)) z.4 in
+                let bad : true ≡ false = sym member ∙ ap (is_member x) is ∙ gone in
+                cc
+            | inr many ↦
+                let next = member_place (placed (suc k)) x.shard x.node member in
+                let has = held_before start turns events legal told order.places k (omega (arith, high)) many.1 z.0 was z.1 z.2 z.4 (told.ends (suc k)) (omega (arith, z.3, before)) (omega arith) next.0 (placements_stand start turns events legal told (suc k) high ∙ next.1) x.node x.shard (ap (is_member x) (sym next.1) ∙ member) in
+                let bad : true ≡ false = sym has ∙ gone in
+                cc
+          ]
         ]
       ]
     where
@@ -210,10 +216,7 @@ module _ {tells : Bool} (start : Option MetaState) (turns : List Turn) (events :
 
         by_met : (q : TurnPlace) → IsTurnPlace turns q → length q.lines ≡ k → (place : Placement) → last_place (take ((told.spans).from q) events) ≡ Some place → has_replica (Some place) s n ≡ true
         by_met q at line_is place last =
-            elim (met start turns events legal told order.places k less ((told.spans).from q) (omega (arith, (told.lines).low q at, ap told.ends line_is)) (omega (arith, (told.tells).order.not_back q at, (told.lines).high q at, ap (λ j. told.ends (suc j)) line_is)) place last) as (λ _. has_replica (Some place) s n ≡ true) [
-              | inl now ↦ ap (is_member x) (sym now) ∙ stays.0
-              | inr z ↦ ap (is_member x) (sym z.5) ∙ stays.1
-            ]
+            member_met start turns events legal told order.places k less ((told.spans).from q) (omega (arith, (told.lines).low q at, ap told.ends line_is)) (omega (arith, (told.tells).order.not_back q at, (told.lines).high q at, ap (λ j. told.ends (suc j)) line_is)) place last n s stays.0 stays.1
 
     -- so a member whose tenure ended is new since the line that assigned it
     is_new : (p : TurnPlace) → IsTurnPlace turns p → printed p.turn.answer ≡ None → (i : ℕ) → (told.spans).from p ≤ i → i ≤ length events → (e : EndedAt events legal n s i) → WasAssigned x e.place (length p.lines) → IsNew tells x start p
@@ -222,27 +225,14 @@ module _ {tells : Bool} (start : Option MetaState) (turns : List Turn) (events :
       earlier = w.early;
       assigned = let early = w.early in ap (λ o. is_assigned x o (placement_by start p.lines (suc w.line))) (same w.line (omega (arith, early))) ∙ ap (is_assigned x (placed w.line)) (same (suc w.line) early) ∙ w.assigned;
       not_since = λ is k line above there. by_line is k line above there (at_within p.lines k line there);
-      not_beside = λ is. none_begun x (placement_by start p.lines (length p.lines)) (placement_after (placement_by start p.lines (length p.lines)) (p.earlier ++ p.beside)) p.earlier (by_earlier is (placement_after (placement_by start p.lines (length p.lines)) (p.earlier ++ p.beside)));
+      not_beside = λ is. none_begun x (placement_by start p.lines (length p.lines)) (placement_after (placement_by start p.lines (length p.lines)) (p.earlier ++ p.beside)) p.earlier (by_earlier is (placement_after (placement_by start p.lines (length p.lines)) (p.earlier ++ p.beside)) (ap (λ o. placement_after o (p.earlier ++ p.beside)) (same (length p.lines) (omega arith))));
     }
       where
         same : (j : ℕ) → j ≤ length p.lines → placement_by start p.lines j ≡ placed j
         same j le = ap (λ ls. placement_after (start_placement start) (inner_turns ls)) (sym (ap (take j) at.in_run ∙ take_front p.lines (p.line ∷ at.after) j le))
 
-        by_met : (q : TurnPlace) → IsTurnPlace turns q → length q.lines ≡ length p.lines → (told.spans).to q ≤ (told.spans).from p → is_member x (placed (length p.lines)) ≡ true
-            → (t : InnerTurn) → IsIn p.earlier t → (next : Placement) → printed t.answer ≡ Some next → (place : Placement) → last_place (take ((told.spans).from q) events) ≡ Some place → has_replica (Some place) s n ≡ true
-        by_met q at_q same_line before_p member t m next prints place last =
-            let k = length p.lines in
-            let within = (told.tells).order.not_back q at_q in
-            elim (met start turns events legal told order.places k (line_below turns p at) ((told.spans).from q) (omega (arith, (told.lines).low q at_q, ap told.ends same_line)) (omega (arith, within, (told.lines).high q at_q, ap (λ j. told.ends (suc j)) same_line)) place last) as (λ _. has_replica (Some place) s n ≡ true) [
-              | inl now ↦ ap (is_member x) (sym now) ∙ member
-              | inr z ↦
-                  let below = z.3 in
-                  let none = (gives_none start turns events legal told order.places p at quiet z.0 place z.1 z.2 (omega (arith, below, within, (told.lines).high q at_q, ap (λ j. told.ends (suc j)) same_line)) z.4).1 t m in
-                  absurd (let bad : None ≡ Some next = sym none ∙ prints in cc)
-            ]
-
-        by_earlier : tells ≡ true → (after : Option Placement) → (t : InnerTurn) → IsIn p.earlier t → EndsWait x (is_member x (placement_by start p.lines (length p.lines)) && is_member x after) t → ⊥
-        by_earlier is after t m h =
+        by_earlier : tells ≡ true → (after : Option Placement) → after ≡ placement_after (placed (length p.lines)) (p.earlier ++ p.beside) → (t : InnerTurn) → IsIn p.earlier t → EndsWait x (is_member x (placement_by start p.lines (length p.lines)) && is_member x after) t → ⊥
+        by_earlier is after after_is t m h =
             let k = length p.lines in
             let q = own_list turns p at t m in
             let less : k < length turns = line_below turns p at in
@@ -251,8 +241,10 @@ module _ {tells : Bool} (start : Option MetaState) (turns : List Turn) (events :
             let finishes = (told.tells).order.order q.place p q.in_run at (inr (ap length q.lines_are, q.client_is, q.earlier)) in
             let stays = is_member x (placement_by start p.lines k) && is_member x after in
             let ends = and_both stays (pointwise nat_eq name h.node && is_covering s h.asked) h.ends in
-            let member : is_member x (placed k) ≡ true = ap (is_member x) (sym (same k (omega arith))) ∙ (and_both (is_member x (placement_by start p.lines k)) (is_member x after) ends.0).0 in
-            turn_clash is i bound e q.place q.in_run k less begins (ap length q.lines_are) (omega (arith, finishes, low)) (by_met q.place q.in_run (ap length q.lines_are) finishes member t m h.place (ap printed h.answered)) stays (subst (EndsWait x stays) (sym q.turn_is) h)
+            let both = and_both (is_member x (placement_by start p.lines k)) (is_member x after) ends.0 in
+            let member : is_member x (placed k) ≡ true = ap (is_member x) (sym (same k (omega arith))) ∙ both.0 in
+            turn_clash is i bound e q.place q.in_run k less begins (ap length q.lines_are) (omega (arith, finishes, low))
+            (λ place last. member_before start turns events legal told order.places p at ((told.spans).from q.place) (omega (arith, (told.lines).low q.place q.in_run, ap (λ ls. told.ends (length ls)) q.lines_are)) (omega (arith, (told.tells).order.not_back q.place q.in_run, finishes)) place last n s member (ap (is_member x) (sym after_is) ∙ both.1)) stays (subst (EndsWait x stays) (sym q.turn_is) h)
 
         by_line : tells ≡ true → (k : ℕ) (line : Turn) → w.line < k → At p.lines k line → k < length p.lines → is_begun_in x (placement_by start p.lines k) (placement_by start p.lines (suc k)) (inner_turns (line ∷ [])) ≡ false
         by_line is k line above there early =

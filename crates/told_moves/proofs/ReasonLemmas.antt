@@ -150,4 +150,4 @@ refused_in {tells} start turns events legal told order p at quiet used s n why i
     let law = refused_law tells (take i events) n s r h.asked why (lawful_step events legal i n s h.asked (reply.Refused why) there) in
     let move = refused_move r h.asked used.version why h.at_version is (first_is tells (take i events) s r h.asked used.version why h.at_version is law) in
     let place = stands_at start turns events legal told order i n s h.asked (reply.Refused why) there in
-    record { at = i; low = low; high = high; bound = omega (arith, high, (told.tells).order.not_above p at); place = place.0; last = place.1; stands = may_stand start turns events legal told order.places p at quiet.prints_none i (omega (arith, (told.lines).low p at, low)) (omega (arith, high)) place.0 place.1; open_ = move.0; founds = move.1 }
+    record { at = i; low = low; high = high; bound = omega (arith, high, (told.tells).order.not_above p at); place = place.0; last = place.1; stands = may_stand start turns events legal told order.places p at quiet.prints_none i low (omega (arith, high)) place.0 place.1; open_ = move.0; founds = move.1 }

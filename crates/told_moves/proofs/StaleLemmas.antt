@@ -1,8 +1,9 @@
 -- A put or a read that is refused for a fence is so for one that a bootstrap of the shard asked for, or that an earlier run left.
 use Rattle.std.proofs.Common.{◌≡◌, ℕ, suc, ◌<◌, ◌≤◌, List, [], ◌∷◌, ◌++◌, length-append, take, length, sym, ap, ◌∙◌, subst, inl, inr, arith, true, append-nil}
-use Rattle.std.specs.Prelude.{◌⊎◌, Option, Some, None}
+use Rattle.std.specs.Prelude.{◌⊎◌, Option, Some, None, IsTrue}
 use Rattle.m3_model.specs.Members.{IsIn}
 use Rattle.m3_model.proofs.MemberLemmas.{IsIn-append_left, IsIn-append_right}
+use Rattle.m3_model.specs.declared.act.Act.TheVariants as act
 use Rattle.m3_model.specs.declared.placement.Placement.{Placement}
 use Rattle.m3_model.specs.declared.reason.Reason.TheVariants as reason
 use Rattle.m3_model.specs.declared.rules.MetaState.{MetaState}
@@ -13,23 +14,27 @@ use Rattle.cluster_core.specs.Lists.{At}
 use Rattle.cluster_core.specs.declared.event.Event.{Event}
 use Rattle.cluster_core.specs.declared.event.Event.TheVariants as event
 use Rattle.cluster_core.proofs.ListLemmas.{at_take, at_within, fold_suc, some_same}
+use Rattle.transcripts.specs.Fates.{OfNode}
 use Rattle.transcripts.specs.Moves.{IsBootstrapFor, IsFencedAbove, IsLeftFence, IsOfMove, IsTakenBy, IsTakenIn, placement_by}
 use Rattle.transcripts.specs.Placements.{placement_after, printed, start_placement}
 use Rattle.transcripts.specs.Record.{TurnPlace, IsTurnPlace, inner_turns, joined, lists_of}
+use Rattle.transcripts.specs.Waiting.{is_covering}
+use Rattle.told_by.specs.Makes.{IsAssigned}
 use Rattle.told_by.specs.Told.{ToldBy}
 use Rattle.told_by.proofs.LeaveLemmas.{place_there}
 use Rattle.told_by.proofs.LineLemmas.{at_front, line_below, take_front}
-use Rattle.told_by.proofs.PrintedLemmas.{ends_within, greatest_so_far, placements_stand}
+use Rattle.told_by.proofs.PrintedLemmas.{greatest_so_far, placements_stand}
 use Rattle.told_by.proofs.TurnLemmas.{at_cut, cut_before, flat_map-IsIn, in_cut, in_its_line, stands, before_line, before_there, in_other_list, is_it, comes_later}
-use Rattle.told_causes.specs.Boot.{IsBootAct}
-use Rattle.told_causes.proofs.AloneLemmas.{stands_from}
-use Rattle.told_causes.proofs.StoodLemmas.{may_stand}
+use Rattle.told_causes.specs.Boot.{HasOneTurn, IsBootAct}
+use Rattle.told_causes.proofs.AloneLemmas.{alone_place, lines_before, one_alone}
+use Rattle.told_causes.proofs.StoodLemmas.{alone_last, alone_or_beside, back, line_base, met}
+use Rattle.told_causes.proofs.WaitLemmas.{is_member_of}
 use Rattle.told_moves.specs.Moves.{IsPlaced, IsQuiet, StaleIsSaid}
 use Rattle.told_moves.specs.Order.{IsInOrder, IsInitAct, OpensWithin}
 use Rattle.told_moves.proofs.AskLemmas.{IsBootOf, IsMoveAsk}
 use Rattle.told_moves.proofs.FenceLemmas.{MovesBefore, fence_source}
 use Rattle.told_moves.proofs.ReasonLemmas.{RefusedIn, refused_in}
-use Rattle.told_moves.proofs.TenureLemmas.{assigned_low, assigned_so}
+use Rattle.told_moves.proofs.TenureLemmas.{assigned_low, assigned_so, member_named, name_everywhere}
 
 -- ---- turns
 
@@ -52,48 +57,80 @@ module _ (start : Option MetaState) (turns : List Turn) (events : List Event) (l
         | comes_later later ↦ absurd (omega (arith, (told.tells).order.order p q at at_q later, begins))
       ]
 
-  -- a placement that stands somewhere in the stretch of a turn of an earlier line stood when that line began, or when it ended
-  taken_in : (p : TurnPlace) → IsTurnPlace turns p → (q : TurnPlace) → IsTurnPlace turns q → length q.lines < length p.lines → (k : ℕ) → (told.spans).from q ≤ k → k < told.ends (suc (length q.lines)) → (place : Placement) → last_place (take k events) ≡ Some place → IsTakenIn start p.lines place q.turn
-  taken_in p at q at_q early k low high place last =
+  stood_front : (p : TurnPlace) → IsTurnPlace turns p → (m : ℕ) → m ≤ length p.lines → placement_by start turns m ≡ placement_by start p.lines m
+  stood_front p at m within = ap (λ ls. placement_after (start_placement start) (inner_turns ls)) (ap (take m) at.in_run ∙ take_front p.lines (p.line ∷ at.after) m within)
+
+  -- a turn of an earlier line was taken with a placement that stood when that line began, or when it ended
+  taken_in : (p : TurnPlace) → IsTurnPlace turns p → (q : TurnPlace) → IsTurnPlace turns q → length q.lines < length p.lines → (place : Placement) → (placement_by start turns (length q.lines) ≡ Some place) ⊎ (placement_by start turns (suc (length q.lines)) ≡ Some place) → IsTakenIn start p.lines place q.turn
+  taken_in p at q at_q early place stood =
       let n = length q.lines in
-      let less : n < length turns = line_below turns q at_q in
-      let bound = ends_within start turns events told (suc n) less in
-      let begins = (told.lines).low q at_q in
-      let front : (m : ℕ) → m ≤ length p.lines → take m turns ≡ take m p.lines = λ m within. ap (take m) at.in_run ∙ take_front p.lines (p.line ∷ at.after) m within in
       let there : At turns n q.line = subst (λ ts. At ts n q.line) (sym at_q.in_run) (at_cut q.lines q.line at_q.after) in
       record {
         number = n;
         line = q.line;
         stands = at_front p.lines (p.line ∷ at.after) n q.line (subst (λ ts. At ts n q.line) at.in_run there) early;
         taken = subst (λ ts. IsIn ts q.turn) (sym (append-nil (joined (lists_of q.line)))) (in_its_line q at_q.stands);
-        stood = elim (stands_from events legal (told.ends n) k (omega (arith, begins, low)) (omega (arith, high, bound)) place last) as (λ _. (placement_by start p.lines n ≡ Some place) ⊎ (placement_by start p.lines (suc n) ≡ Some place)) [
-          | inl same ↦ inl (ap (λ ls. placement_after (start_placement start) (inner_turns ls)) (sym (front n (omega (arith, early)))) ∙ sym (placements_stand start turns events legal told n (omega (arith, less))) ∙ same)
-          | inr z ↦
-              inr (ap (λ ls. placement_after (start_placement start) (inner_turns ls)) (sym (front (suc n) early)) ∙ sym (placements_stand start turns events legal told (suc n) less)
-              ∙ order.places.one n z.0 place z.1 less z.2 (omega (arith, z.3, high)) z.4)
+        stood = elim stood as (λ _. (placement_by start p.lines n ≡ Some place) ⊎ (placement_by start p.lines (suc n) ≡ Some place)) [
+          | inl begins ↦ inl (sym (stood_front p at n (omega (arith, early))) ∙ begins)
+          | inr ends ↦ inr (sym (stood_front p at (suc n) early) ∙ ends)
         ];
       }
+
+  -- a bootstrap of the node and shard was taken with this placement, which gives the node the shard with the fence as tenure
+  of_move : (p : TurnPlace) (s fence node : ℕ) (place : Placement) (q : TurnPlace) (name : List ℕ) (only : Option ℕ) → q.turn.act ≡ act.Bootstrap name only → IsTrue (is_covering s only) → OfNode place node (λ own. own ≡ name) → IsAssigned place node s fence
+      → IsTakenBy start p place q.turn → IsOfMove start p s fence
+  of_move p s fence node place q name only act_is covers named given taken = record {
+    place = place;
+    node = node;
+    assigned = assigned_so place node s fence given;
+    turn = q.turn;
+    taken = taken;
+    asks = record { instance_ = named.instance_; stands = named.stands; holds = subst (IsBootstrapFor s (named.instance_).name) (sym act_is) (sym named.holds, covers) };
+  }
 
   -- what a turn asked for before isn't above the placement that stands; the bootstrap that asked for it is before the turn
   boot_moves : (p : TurnPlace) → IsTurnPlace turns p → IsQuiet p → (s fence k node : ℕ) → k < (told.spans).to p → (ask : IsMoveAsk start turns events legal told k node s fence) → IsBootOf ask.q ask.place node s → IsOfMove start p s fence
   boot_moves p at quiet s fence k node high ask boot =
-      let there = place_there (take k events) ask.place ask.last in
-      let stands = at_take events there.0 k (event.Place ask.place there.1) there.2 in
-      let named = boot.named in
-      let early = asked_earlier p ask.q at ask.in_run quiet (subst IsBootAct (sym boot.act_is) tt) (omega (arith, (ask.within).0, high)) in
-      record {
-        place = ask.place;
-        node = node;
-        assigned = assigned_so ask.place node s fence ask.assigned;
-        turn = (ask.q).turn;
-        taken = elim early as (λ _. IsTakenBy start p ask.place (ask.q).turn) [
-          | inl lt ↦ inl (taken_in p at ask.q ask.in_run lt k (ask.within).0 (omega (arith, (ask.within).1, (told.lines).high ask.q ask.in_run)) ask.place ask.last)
-          | inr line ↦
-              let begins : told.ends (length p.lines) ≤ k = omega (arith, (told.lines).low ask.q ask.in_run, ap told.ends line.0, (ask.within).0) in
-              inr (line.1, may_stand start turns events legal told order.places p at quiet.prints_none k begins (omega (arith, high)) ask.place ask.last)
-        ];
-        asks = record { instance_ = named.instance_; stands = named.stands; holds = subst (IsBootstrapFor s (named.instance_).name) (sym boot.act_is) (sym named.holds, boot.covers) };
-      }
+      elim (alone_or_beside start turns events legal told order.places n less) as (λ _. IsOfMove start p s fence) [
+        | inl one ↦ elim early as (λ _. IsOfMove start p s fence) [
+          | inl lt ↦ of_move p s fence node ask.place ask.q boot.name boot.only boot.act_is boot.covers boot.named ask.assigned (inl (taken_in p at ask.q ask.in_run lt ask.place (stood one)))
+          | inr line ↦ absurd (quiet.begins_none (subst (λ (x : TurnPlace). IsBootAct x.turn.act) (sym (alone_place turns ask.q p (one_alone turns ask.q ask.in_run one) ask.in_run at (sym line.0))) (subst IsBootAct (sym boot.act_is) tt)))
+        ]
+        | inr many ↦
+            let was = line_base start turns events legal told order.places n less many.0 k low line_end ask.place ask.last in
+            let given = back start turns events legal told order.places n less (λ z next done from below at. (many.1 z next done from below at).0) (told.ends n) k (omega arith) low line_end was.0 ask.place was.1 ask.last node s fence ask.assigned in
+            let stood_is : placement_by start turns n ≡ Some was.0 = sym (placements_stand start turns events legal told n (omega (arith, less))) ∙ was.1 in
+            let there = place_there (take (told.ends n) events) was.0 was.1 in
+            let here = at_take events there.0 (told.ends n) (event.Place was.0 there.1) there.2 in
+            let there_ask = place_there (take k events) ask.place ask.last in
+            let placed : IsPlaced events ask.place = record { place_at = there_ask.0; done = there_ask.1; there = (at_take events there_ask.0 k (event.Place ask.place there_ask.1) there_ask.2).0 } in
+            let named = member_named start turns events legal told order there.0 node s was.0 there.1 boot.name here.0 (name_everywhere events legal node ask.place boot.name placed boot.named) (is_member_of was.0 s node fence given) in
+            of_move p s fence node was.0 ask.q boot.name boot.only boot.act_is boot.covers named given (elim early as (λ _. IsTakenBy start p was.0 (ask.q).turn) [
+              | inl lt ↦ inl (taken_in p at ask.q ask.in_run lt was.0 (inl stood_is))
+              | inr line ↦ inr (line.1, ap (λ ls. placement_after (start_placement start) (inner_turns ls)) (sym (lines_before start turns events legal told p at)) ∙ ap (placement_by start turns) (sym line.0) ∙ stood_is)
+            ])
+      ]
+    where
+      n : ℕ
+      n = length (ask.q).lines
+
+      less : n < length turns
+      less = line_below turns ask.q ask.in_run
+
+      low : told.ends n ≤ k
+      low = omega (arith, (told.lines).low ask.q ask.in_run, (ask.within).0)
+
+      line_end : k ≤ told.ends (suc n)
+      line_end = omega (arith, (ask.within).1, (told.lines).high ask.q ask.in_run)
+
+      early : (length (ask.q).lines < length p.lines) ⊎ ((length (ask.q).lines ≡ length p.lines) × IsIn (p.earlier ++ p.beside) (ask.q).turn)
+      early = asked_earlier p ask.q at ask.in_run quiet (subst IsBootAct (sym boot.act_is) tt) (omega (arith, (ask.within).0, high))
+
+      stood : HasOneTurn turns n → (placement_by start turns n ≡ Some ask.place) ⊎ (placement_by start turns (suc n) ≡ Some ask.place)
+      stood one = elim (met start turns events legal told order.places n less k low line_end ask.place ask.last) as (λ _. (placement_by start turns n ≡ Some ask.place) ⊎ (placement_by start turns (suc n) ≡ Some ask.place)) [
+        | inl same ↦ inl same
+        | inr z ↦ inr (alone_last start turns events legal told order.places n less one z.0 ask.place z.1 z.2 (omega (arith, z.3, line_end)) z.4)
+      ]
 
   -- an `init` asks for the tenures of the list's first placement, which are above no version
   init_low : (used : Placement) → IsPlaced events used → (s fence k node : ℕ) → k ≤ length events → (ask : IsMoveAsk start turns events legal told k node s fence) → IsInitAct (ask.q).turn.act → printed (ask.q).turn.answer ≡ Some ask.place → fence ≤ used.version

@@ -1,8 +1,9 @@
 -- The placements that a transcript knows by a line, or by a turn.
-use Rattle.std.proofs.Common.{◌≡◌, ℕ, zero, suc, ◌<◌, ◌≤◌, List, [], ◌∷◌, take, length, refl, sym, ap, ◌∙◌, subst, inl, inr, arith, Bool}
+use Rattle.std.proofs.Common.{◌≡◌, ℕ, zero, suc, ◌<◌, ◌≤◌, List, [], ◌∷◌, take, length, refl, sym, ap, ◌∙◌, subst, inl, inr, arith, append-nil, Bool}
 use Rattle.std.specs.Prelude.{Some, None, Option}
 use Rattle.std.proofs.lemmas.Bool.{cases_lt}
 use Rattle.m3_model.specs.Members.{IsIn}
+use Rattle.m3_model.proofs.MemberLemmas.{IsIn-append_right}
 use Rattle.m3_model.specs.declared.placement.Placement.{Placement}
 use Rattle.m3_model.specs.declared.rules.MetaState.{MetaState}
 use Rattle.m3_model.specs.declared.turn.Turn.{Turn}
@@ -12,14 +13,21 @@ use Rattle.cluster_core.specs.declared.event.Event.{Event}
 use Rattle.cluster_core.specs.declared.event.Event.TheVariants as event
 use Rattle.cluster_core.proofs.ListLemmas.{at_same, at_some}
 use Rattle.transcripts.specs.Placements.{placements, start_placement}
-use Rattle.transcripts.specs.Record.{inner_turns}
+use Rattle.transcripts.specs.Record.{TurnPlace, IsTurnPlace, inner_turns, joined, lists_of}
 use Rattle.transcripts.proofs.PlacementLemmas.{after_from, known_first, known_more, known_printed}
 use Rattle.told_by.specs.Openings.{opening_length}
 use Rattle.told_by.specs.Told.{ToldBy}
-use Rattle.told_by.proofs.PrintedLemmas.{placements_stand}
-use Rattle.told_by.proofs.TurnLemmas.{inner-append}
+use Rattle.told_by.proofs.TurnLemmas.{at_cut, in_its_line, inner-append}
 use Rattle.told_causes.proofs.NameLemmas.{take_line}
+use Rattle.told_causes.proofs.StoodLemmas.{alone_last, alone_or_beside}
 use Rattle.told_moves.specs.Order.{IsInOrder}
+
+-- a turn is one of the lines up to its own
+in_front : (turns : List Turn) (q : TurnPlace) → IsTurnPlace turns q → IsIn (inner_turns (take (suc (length q.lines)) turns)) q.turn
+in_front turns q at =
+    let there : At turns (length q.lines) q.line = subst (λ ts. At ts (length q.lines) q.line) (sym at.in_run) (at_cut q.lines q.line at.after) in
+    subst (λ ts. IsIn ts q.turn) (sym (ap inner_turns (take_line turns (length q.lines) q.line there) ∙ inner-append (take (length q.lines) turns) (q.line ∷ [])))
+    (IsIn-append_right (inner_turns (take (length q.lines) turns)) (inner_turns (q.line ∷ [])) q.turn (subst (λ ts. IsIn ts q.turn) (sym (append-nil (joined (lists_of q.line)))) (in_its_line q at.stands)))
 
 -- ---- the list
 
@@ -43,9 +51,11 @@ module _ {tells : Bool} (start : Option MetaState) (turns : List Turn) (events :
             subst (λ ts. IsIn (placements start ts) place) (sym (ap inner_turns (take_line turns k line.0 line.1) ∙ inner-append (take k turns) (line.0 ∷ [])))
             (known_more start (inner_turns (take k turns)) (inner_turns (line.0 ∷ [])) place (known_before k (omega (arith, high)) z place done there lt))
         | inr ge ↦
-            let last = order.places.one k z place done (omega (arith, high)) ge before there in
-            elim (after_from (inner_turns (take (suc k) turns)) (start_placement start) place (sym (placements_stand start turns events legal told (suc k) high) ∙ last)) as (λ _. IsIn (placements start (inner_turns (take (suc k) turns))) place) [
-              | inl found ↦ known_first start (inner_turns (take (suc k) turns)) place found
-              | inr t ↦ known_printed start (inner_turns (take (suc k) turns)) t.0 place t.1 t.2
+            elim (alone_or_beside start turns events legal told order.places k (omega (arith, high))) as (λ _. IsIn (placements start (inner_turns (take (suc k) turns))) place) [
+              | inl one ↦ elim (after_from (inner_turns (take (suc k) turns)) (start_placement start) place (alone_last start turns events legal told order.places k (omega (arith, high)) one z place done ge before there)) as (λ _. IsIn (placements start (inner_turns (take (suc k) turns))) place) [
+                | inl found ↦ known_first start (inner_turns (take (suc k) turns)) place found
+                | inr t ↦ known_printed start (inner_turns (take (suc k) turns)) t.0 place t.1 t.2
+              ]
+              | inr many ↦ let g = (many.1 z place done ge before there).1 in known_printed start (inner_turns (take (suc k) turns)) (g.printer).turn place (subst (λ m. IsIn (inner_turns (take (suc m) turns)) (g.printer).turn) g.of_line (in_front turns g.printer g.in_run)) g.prints
             ]
       ]

@@ -15,7 +15,7 @@ use Rattle.placement_core.specs.Shards.{Shard, nodes_of}
 use Rattle.placement_core.specs.Steps.{Begins, IsShardStep, done_at, settled, turned}
 use Rattle.placement_core.proofs.ChangeLemmas.{settled_was, turned_node, turned_tenure}
 use Rattle.placement_core.proofs.HolderLemmas.{same_node}
-use Rattle.placement_core.proofs.ListLemmas.{IsIn-from_Any}
+use Rattle.placement_core.proofs.ListLemmas.{Any-from_IsIn, IsIn-from_Any}
 use Rattle.cluster_core.specs.Earlier.{last_place, place_after}
 use Rattle.cluster_core.specs.Legal.{Legal}
 use Rattle.cluster_core.specs.Lists.{At}
@@ -35,8 +35,10 @@ use Rattle.told_by.specs.Told.{ToldBy}
 use Rattle.told_by.proofs.LeaveLemmas.{place_there}
 use Rattle.told_by.proofs.OpeningLemmas.{FirstEvent, first_event}
 use Rattle.told_by.proofs.PrintedLemmas.{ends_within}
+use Rattle.told_causes.specs.Boot.{HasOneTurn}
 use Rattle.told_causes.proofs.AloneLemmas.{stands_from}
 use Rattle.told_causes.proofs.HaltLemmas.{late_step}
+use Rattle.told_causes.proofs.StoodLemmas.{alone_or_beside, back}
 use Rattle.told_causes.proofs.WaitLemmas.{member_at, shard_is}
 use Rattle.told_moves.specs.Moves.{IsPlaced}
 use Rattle.told_moves.specs.Order.{IsInOrder}
@@ -58,7 +60,7 @@ turned_was from st old x w m e = record {
   tenure_is = sym (ap (λ (z : Assignment). z.tenure) e ∙ turned_tenure from st w);
 }
 
-settled_had : (gone stays : ℕ) (old next : Shard) (x : Assignment) → next ≡ settled gone stays old → IsIn next x → HasTenure old x.node x.tenure
+pub settled_had : (gone stays : ℕ) (old next : Shard) (x : Assignment) → next ≡ settled gone stays old → IsIn next x → HasTenure old x.node x.tenure
 settled_had gone stays old next x is m = let w = settled_was gone stays old x (subst (λ z. IsIn z x) is m) in turned_was stays Available old x w.0 w.1 w.3
 
 -- the node comes with this version
@@ -233,12 +235,18 @@ module _ {tells : Bool} (start : Option MetaState) (turns : List Turn) (events :
       let p = placed_at events legal first.place [] first.there i (omega (arith, late)) (omega (arith, at_within events i (event.Step n s c a) there)) in
       (p.0, p.1)
 
-  -- a node that has a shard has it with no higher tenure further on in the line, which has one Place at most
+  -- a node that has a shard has it with no higher tenure further on in the line: that has one Place at most, or its Places give nobody a shard
   pub line_low : (k : ℕ) → k < length turns → (f i n s was is : ℕ) → told.ends k ≤ f → f ≤ i → i ≤ told.ends (suc k) → GivenAt events legal n s f was → GivenAt events legal n s i is → is ≤ was
   line_low k less f i n s was is begins low high g h =
-      elim (stands_from events legal (f) i low (omega (arith, high, bound)) (h.is).place (h.is).last) as (λ _. is ≤ was) [
-        | inl same ↦ tenure_grows events legal n s (f) (f) is was some (omega arith) (omega (arith, low, high, bound)) (record { version = h.version; shard = h.shard; is = record { place = (h.is).place; last = same; version_is = (h.is).version_is; shard_is = (h.is).shard_is }; has = h.has }) g
-        | inr z ↦ by_place z.0 z.1 z.2 z.3 z.4
+      elim (alone_or_beside start turns events legal told order.places k less) as (λ _. is ≤ was) [
+        | inl one ↦ elim (stands_from events legal (f) i low (omega (arith, high, bound)) (h.is).place (h.is).last) as (λ _. is ≤ was) [
+          | inl same ↦ tenure_grows events legal n s (f) (f) is was some (omega arith) (omega (arith, low, high, bound)) (record { version = h.version; shard = h.shard; is = record { place = (h.is).place; last = same; version_is = (h.is).version_is; shard_is = (h.is).shard_is }; has = h.has }) g
+          | inr z ↦ by_place one z.0 z.1 z.2 z.3 z.4
+        ]
+        | inr many ↦
+            let given : IsAssigned (h.is).place n s is = (h.shard, (h.is).shard_is, Any-from_IsIn (λ (a : Assignment). (a.node ≡ n) × (a.tenure ≡ is)) h.shard (h.has).assigned (h.has).among ((h.has).of_node, (h.has).tenure_is)) in
+            let before = back start turns events legal told order.places k less (λ z next done from below at. (many.1 z next done from below at).0) f i begins low high (g.is).place (h.is).place (g.is).last (h.is).last n s is given in
+            tenure_grows events legal n s f f is was some (omega arith) (omega (arith, low, high, bound)) (given_by events legal n s f is (g.is).place (g.is).last before) g
       ]
     where
       bound : told.ends (suc k) ≤ length events
@@ -258,17 +266,17 @@ module _ {tells : Bool} (start : Option MetaState) (turns : List Turn) (events :
             | inr new ↦ absurd (new.free (subst (IsIn (nodes_of g.shard)) ((g.has).of_node ∙ sym (h.has).of_node) (map-IsIn (λ (a : Assignment). a.node) g.shard (g.has).assigned (g.has).among)))
           ]
 
-      by_place : (z : ℕ) (done : List (ℕ × ℕ)) → f ≤ z → z < i → At events z (event.Place (h.is).place done) → is ≤ was
-      by_place zero done above below there = absurd (omega (arith, above, some))
-      by_place (suc z) done above below there =
+      by_place : HasOneTurn turns k → (z : ℕ) (done : List (ℕ × ℕ)) → f ≤ z → z < i → At events z (event.Place (h.is).place done) → is ≤ was
+      by_place only zero done above below there = absurd (omega (arith, above, some))
+      by_place only (suc z) done above below there =
           let law = lawful_place events legal z (h.is).place done there in
           elim (stands_from events legal (f) (suc z) above (omega (arith, below, high, bound)) law.last law.last_is) as (λ _. is ≤ was) [
             | inl same ↦
                 let it : law.last ≡ (g.is).place = some_same law.last (g.is).place (sym same ∙ (g.is).last) in
                 by_step (done_at s done) ((law.step).each s g.shard h.shard (subst (λ q. At q.shards s g.shard) (sym it) (g.is).shard_is) (h.is).shard_is)
             | inr y ↦
-                let one = order.places.one k y.0 law.last y.1 less (omega (arith, begins, y.2)) (omega (arith, y.3, below, high)) y.4 in
-                let other = order.places.one k (suc z) (h.is).place done less (omega (arith, begins, above)) (omega (arith, below, high)) there in
+                let one = order.places.alone k y.0 law.last y.1 less only (omega (arith, begins, y.2)) (omega (arith, y.3, below, high)) y.4 in
+                let other = order.places.alone k (suc z) (h.is).place done less only (omega (arith, begins, above)) (omega (arith, below, high)) there in
                 let it : law.last ≡ (h.is).place = some_same law.last (h.is).place (sym one ∙ other) in
                 absurd (omega (arith, (law.step).version, ap (λ (q : Placement). q.version) it))
           ]

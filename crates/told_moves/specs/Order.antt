@@ -27,7 +27,7 @@ abbrev pub IsInitAct : Act → Type 0
 IsInitAct (act.Init rf shards seed nodes) = ⊤
 IsInitAct _ = ⊥
 
--- a line has one Place at most, which it may make so; an `init` that prints a placement is answered ok; each Place is a lawful placement; a tenure ends
+-- Places are in order; an `init` that prints a placement is answered ok; each Place is a lawful placement; a tenure ends
 -- where the placement that stands has no replica of the slot
 pub record IsInOrder (start : Option MetaState) (turns : List Turn) (events : List Event) (told : ToldBy start turns events) : Type 0 where
   pub places : ArePlacesInOrder start turns events told

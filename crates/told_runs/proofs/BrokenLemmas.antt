@@ -10,7 +10,7 @@ use Rattle.told_by.specs.Sample.{events as short_events, fetched, turns as short
 use Rattle.told_by.proofs.OneLemmas.{is_last}
 use Rattle.told_causes.proofs.AloneLemmas.{only_cut}
 use Rattle.told_runs.specs.Answers.{IsAnswered, IsDecidedBy}
-use Rattle.told_runs.specs.Broken.{DeliversAgain, IsNeverServed, GivesBeside, TakesElsewhere, UndueOrder}
+use Rattle.told_runs.specs.Broken.{DeliversAgain, IsNeverServed, PlacesBeside, TakesElsewhere, UndueOrder}
 
 pub never_again : IsNeverServed DeliversAgain
 never_again tells untaken now was past start turns events line more adds serves d =
@@ -19,9 +19,10 @@ never_again tells untaken now was past start turns events line more adds serves 
 pub never_elsewhere : IsNeverServed TakesElsewhere
 never_elsewhere tells untaken now was past start turns events line more adds serves t = t.elsewhere ((serves.answers).untaken_are t.fault t.among).1
 
-pub never_beside : IsNeverServed GivesBeside
+pub never_beside : IsNeverServed PlacesBeside
 never_beside tells untaken now was past start turns events line more adds serves b =
-    elim ((serves.order).may b.place_at b.place b.done b.made) as (λ _. ⊥) [ inl one ↦ by_one one.0 one.1 | inr h ↦ b.new (h.0 b.last b.last_is b.node b.shard b.tenure b.given) ]
+    let printed_by = (serves.order).beside (λ one. by_one one.0 one.1) b.place_at b.place b.done b.made in
+    b.unprinted printed_by.printer printed_by.here printed_by.prints
   where
     by_one : (t : InnerTurn) → lists_of line ≡ (t ∷ []) ∷ [] → ⊥
     by_one t alone =

@@ -11,9 +11,10 @@ use Rattle.transcripts.specs.Record.{Life, TurnPlace, IsTurnPlace}
 use Rattle.told_by.specs.Told.{ToldBy}
 use Rattle.told_moves.proofs.OwnLemmas.{not_owned_said}
 use Rattle.told_moves.proofs.StaleLemmas.{stale_said}
-use Rattle.told_runs.specs.Laws.{IsCausedWhereTold, IsServed}
+use Rattle.told_runs.specs.Laws.{IsCausedWhereTold, IsGivenAlone, IsServed}
 use Rattle.told_runs.proofs.AnswerLemmas.{AreKnown, caused}
 use Rattle.told_runs.proofs.KnownLemmas.{are_known}
+use Rattle.told_runs.proofs.OrderLemmas.{in_order}
 use Rattle.told_runs.proofs.OwnsLemmas.{owns}
 use Rattle.told_runs.proofs.SilentLemmas.{call_silent}
 
@@ -22,10 +23,16 @@ pub known_run : {tells : Bool} → (life : Life) (events : List Event) → Legal
     → AreKnown tells life.present.start life.present.turns events told
 known_run life events legal told taking delivered served =
     let run = life.present in
+    let order = in_order taking run.start run.turns events legal told (served.answers).each served.order in
     let silent : (q : TurnPlace) → IsTurnPlace run.turns q → IsTrue (is_call q.turn.act) → printed q.turn.answer ≡ None = λ q at calls. call_silent taking run.start q ((told.spans).to q) calls ((served.answers).each q at) in
-    are_known run.start run.turns events legal told served.order served.halts served.opens (λ is. owns run.start run.turns events (subst (λ (known : Bool). Legal known events) is legal) told served.order (served.owned is)) not_owned_said stale_said silent
+    are_known run.start run.turns events legal told order served.halts served.opens (λ is. owns run.start run.turns events (subst (λ (known : Bool). Legal known events) is legal) told order (served.owned is)) not_owned_said stale_said silent
 
 pub told_caused : {tells : Bool} → IsCausedWhereTold tells
 told_caused life events legal told taking delivered served =
     let run = life.present in
-    caused taking run.start run.turns events legal told served.order served.halts (known_run life events legal told taking delivered served) life.past served.bound run.unanswered delivered served.answers
+    caused taking run.start run.turns events legal told (in_order taking run.start run.turns events legal told (served.answers).each served.order) served.halts (known_run life events legal told taking delivered served) life.past served.bound run.unanswered delivered served.answers
+
+pub given_alone : {tells : Bool} → IsGivenAlone tells
+given_alone life events legal told taking delivered served k i place done less many low high there =
+    let run = life.present in
+    ((in_order taking run.start run.turns events legal told (served.answers).each served.order).places.beside k i place done less many low high there).0

@@ -10,7 +10,6 @@ use Rattle.m3_model.specs.declared.answer.Answer.{Answer}
 use Rattle.m3_model.specs.declared.answer.Answer.TheVariants as answer
 use Rattle.m3_model.specs.declared.limits.TheConstants.{MOST_REQUEST_EVENTS}
 use Rattle.m3_model.specs.declared.placement.Instance.{Instance}
-use Rattle.m3_model.specs.declared.placement.Placement.{Placement}
 use Rattle.m3_model.specs.declared.reason.Reason.{Reason}
 use Rattle.m3_model.specs.declared.reason.Reason.TheVariants as reason
 use Rattle.m3_model.specs.declared.turn.Turn.{Turn}
@@ -27,11 +26,10 @@ use Rattle.cluster_core.proofs.ListLemmas.{at_append}
 use Rattle.cluster_core.proofs.UntoldLemmas.{legal_untold}
 use Rattle.transcripts.specs.Caused.{acts_in}
 use Rattle.transcripts.specs.Deliveries.{IsLateMessage, IsSamePlace, LateMessage}
-use Rattle.transcripts.specs.Placements.{IsCounted, has_replica, printed}
+use Rattle.transcripts.specs.Placements.{IsCounted, has_replica}
 use Rattle.transcripts.specs.Record.{IsAfter, IsLastTurnPlace, TurnPlace, inner_turns, line_of, lists_of}
 use Rattle.told_by.specs.Hears.{InStretch, IsHeard}
 use Rattle.told_by.specs.Lines.{MayChange, PlainLine, place_after}
-use Rattle.told_by.specs.Openings.{sets_seed}
 use Rattle.told_by.specs.Sample.{begun, events as short_events, name, of_init, of_read, of_space, of_write, place, placed, point, put, spaced, written}
 use Rattle.told_by.specs.Spans.{Spans}
 use Rattle.told_by.specs.Told.{TellsLine}
@@ -42,7 +40,6 @@ use Rattle.told_by.proofs.OneLemmas.{is_own}
 use Rattle.told_by.proofs.SampleLemmas.{ask_or_step, each_at, init_line, makes_each, restarts_none, shard_zero, space_line}
 use Rattle.told_causes.proofs.KnownLemmas.{never_refused, one_place}
 use Rattle.told_causes.specs.Standing.{IsHaltAct}
-use Rattle.told_moves.specs.Order.{IsInitAct}
 use Rattle.told_runs.specs.Answers.{Delivers, HearsOf, IsAnswered}
 use Rattle.told_runs.specs.Bounds.{writes_taken}
 use Rattle.told_runs.specs.LateSample.{DeliveryIsKnown, LateIsServed, came, delivering, events, events_to_space, events_to_write, fated, lines_to_fates, lines_to_write, message, missed, of_delivery, turns}
@@ -195,18 +192,15 @@ quiet was lines a b all spans answered delivers = record {
 }
 
 module _ {tells : Bool} (now was : TurnPlace → List LateMessage) (lines : List Turn) (a : Act) (b : Answer) (before more : List Event) (adds : TellsLine None lines before (line_of a b) more) where
-  serves : ((i : ℕ) (e : Event) → At (before ++ more) i e → At short_events i e) → last_place (before ++ more) ≡ Some place → (IsInitAct a → sets_seed a b ≡ true) → AreNextAnswers [] now was None lines (before ++ more) (line_of a b) adds.spans
+  serves : ((i : ℕ) (e : Event) → At (before ++ more) i e → At short_events i e) → last_place (before ++ more) ≡ Some place → AreNextAnswers [] now was None lines (before ++ more) (line_of a b) adds.spans
       → length (before ++ more) ≤ length before + (MOST_REQUEST_EVENTS * length (acts_in (line_of a b ∷ []))) * (writes_taken [] (lines ++ line_of a b ∷ []) + 1) → ServesLine tells [] now was [] None lines before (line_of a b) more adds
-  serves short last inits answers bound = record {
+  serves short last answers bound = record {
     order = record {
       halts = only (λ q. IsHaltAct q.turn.act → lists_of (line_of a b) ≡ (q.turn ∷ []) ∷ []) lines a b (λ halts. refl);
-      may = λ i p done added. inl (record { act = a; answer = b }, refl);
-      inits = only (λ q. IsInitAct q.turn.act → (p : Placement) → printed q.turn.answer ≡ Some p → sets_seed q.turn.act q.turn.answer ≡ true) lines a b (λ is p prints. inits is);
-      adds = record {
-        lawful = λ i p done added. subst IsLawful (one_place i p done (short i (event.Place p done) added.1)) lawful_place;
-        one = λ i p done added. last ∙ ap Some (one_place i p done (short i (event.Place p done) added.1));
-        ends = λ i n s r added. absurd (never_ends i n s r (short i (event.Step n s call.End r) added.1));
-      };
+      alone = λ single i p done added. last ∙ ap Some (one_place i p done (short i (event.Place p done) added.1));
+      beside = λ many. absurd (many (record { act = a; answer = b }, refl));
+      lawful = λ i p done added. subst IsLawful (one_place i p done (short i (event.Place p done) added.1)) lawful_place;
+      ends = λ i n s r added. absurd (never_ends i n s r (short i (event.Step n s call.End r) added.1));
     };
     opens = λ is. record {
       fenced = λ i n s tenure fence points added unbegun. inl (began_so i n s tenure fence points (short i (event.Step n s (call.Begin tenure) (reply.Began fence points)) added.1));
@@ -250,26 +244,26 @@ module _ (tells : Bool) where
   served_init : IsToldAndServed tells [] was_init [] None one_line None of_init
   served_init =
       served_line [] None [] None None [] (line_of begun placed) of_init [] [] nothing_delivered nothing_delivered (served_first [] None) init_line
-      (serves nothing_delivered nothing_delivered [] begun placed [] of_init init_line (in_front of_init ((of_space ++ of_write) ++ of_read) refl) refl (λ is. refl)
+      (serves nothing_delivered nothing_delivered [] begun placed [] of_init init_line (in_front of_init ((of_space ++ of_write) ++ of_read) refl) refl
       (quiet nothing_delivered [] begun placed of_init init_line.spans (inr (inr ([], alone [] begun placed, (initial, refl)))) tt) (omega arith))
 
   served_space : IsToldAndServed tells [] was_space [] None two_lines None events_to_space
   served_space =
       served_line [] None one_line None None of_init (line_of spaced answer.Done) of_space [] [] nothing_delivered was_init served_init space_line
-      (serves nothing_delivered was_init one_line spaced answer.Done of_init of_space space_line (in_front events_to_space (of_write ++ of_read) refl) refl (λ is. absurd is)
+      (serves nothing_delivered was_init one_line spaced answer.Done of_init of_space space_line (in_front events_to_space (of_write ++ of_read) refl) refl
       (quiet was_init one_line spaced answer.Done events_to_space space_line.spans (inr (inr (inner_turns one_line, alone one_line spaced answer.Done, tt))) tt) (omega arith))
 
   served_fates : IsToldAndServed tells [] was_fates [] None lines_to_fates None events_to_space
   served_fates =
       served_line [] None two_lines None None events_to_space (line_of fated answer.Done) [] [] [] nothing_delivered was_space served_space fates_line
-      (serves nothing_delivered was_space two_lines fated answer.Done events_to_space [] fates_line (in_front events_to_space (of_write ++ of_read) refl) refl (λ is. absurd is)
+      (serves nothing_delivered was_space two_lines fated answer.Done events_to_space [] fates_line (in_front events_to_space (of_write ++ of_read) refl) refl
       (quiet was_space two_lines fated answer.Done events_to_space fates_line.spans (inr (inr (inner_turns two_lines, alone two_lines fated answer.Done, tt))) tt) (omega arith))
 
   served_write : IsToldAndServed tells [] was_write [] None lines_to_write None events_to_write
   served_write =
       served_line [] None lines_to_fates None None events_to_space (line_of written missed) (event.Send 1 0 point ∷ []) [] [] nothing_delivered was_fates served_fates write_line
       (serves nothing_delivered was_fates lines_to_fates written missed events_to_space (event.Send 1 0 point ∷ []) write_line
-      (in_front events_to_write (event.Ask (asked.Step 0 0 put) ∷ event.Step 0 0 put reply.Done ∷ event.Ack 6 (0 ∷ []) ∷ of_read) refl) refl (λ is. absurd is)
+      (in_front events_to_write (event.Ask (asked.Step 0 0 put) ∷ event.Step 0 0 put reply.Done ∷ event.Ack 6 (0 ∷ []) ∷ of_read) refl) refl
       (quiet was_fates lines_to_fates written missed events_to_write write_line.spans (inr (inr (inner_turns lines_to_fates, alone lines_to_fates written missed, tt))) tt) (omega arith))
 
   abbrev delivers_it : TurnPlace → List LateMessage
@@ -287,7 +281,7 @@ module _ (tells : Bool) where
   served_delivery : IsToldAndServed tells [] (delivered_on lines_to_write was_write delivers_it) [] None turns None events
   served_delivery =
       served_line [] None lines_to_write None None events_to_write (line_of act.Deliver came) of_delivery [] [] delivers_it was_write served_write delivery_line
-      (serves delivers_it was_write lines_to_write act.Deliver came events_to_write of_delivery delivery_line (in_front events (event.Ack 6 (0 ∷ []) ∷ of_read) refl) refl (λ is. absurd is)
+      (serves delivers_it was_write lines_to_write act.Deliver came events_to_write of_delivery delivery_line (in_front events (event.Ack 6 (0 ∷ []) ∷ of_read) refl) refl
       (record {
         each = only (λ q. IsAnswered [] None (delivery_line.spans.to q) q) lines_to_write act.Deliver came (inr (inr (inner_turns lines_to_write, alone lines_to_write act.Deliver came, tt)));
         delivers = only (λ q. Delivers None events delivery_line.spans q (message ∷ [])) lines_to_write act.Deliver came delivers_so;

@@ -4,10 +4,14 @@ pub mod MemberLemmas
 pub mod AnswerLemmas
 pub mod KnownLemmas
 pub mod SilentLemmas
+pub mod OrderLemmas
 pub mod OwnsLemmas
 pub mod CausedLemmas
 pub mod SampleLemmas
 pub mod LineLemmas
 pub mod LateLemmas
+pub mod BesideLegalLemmas
+pub mod BesideToldLemmas
+pub mod BesideServedLemmas
 pub mod BrokenLemmas
 pub mod CountedLemmas

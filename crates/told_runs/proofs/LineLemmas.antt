@@ -1,5 +1,5 @@
 -- What is known of a run that is told goes on by one line.
-use Rattle.std.proofs.Common.{◌≡◌, ◌≤◌, ◌<◌, ◌+◌, ◌*◌, ℕ, suc, List, [], ◌∷◌, ◌++◌, take, length, refl, sym, ap, ◌∙◌, subst, inl, inr, arith, Bool, true, false, length-append}
+use Rattle.std.proofs.Common.{◌≡◌, ◌≤◌, ◌<◌, ◌+◌, ◌*◌, ℕ, suc, List, [], ◌∷◌, ◌++◌, take, length, refl, sym, ap, ◌∙◌, subst, inl, inr, arith, Bool, true, false, append_assoc, length-append}
 use Rattle.std.specs.Prelude.{◌≢◌, ◌⊎◌, Option, Some, None, if◌then◌else◌}
 use Rattle.std.proofs.lemmas.Bool.{cases_lt, le-ltb, lt-ltb}
 use Rattle.m3_model.proofs.MemberLemmas.{IsIn-append_cases, IsIn-append_left, IsIn-append_right}
@@ -36,7 +36,6 @@ use Rattle.transcripts.proofs.MoreFaults.{AreAmong, different_both}
 use Rattle.transcripts.proofs.PlaceLemmas.{at_push}
 use Rattle.told_by.specs.Hears.{InStretch}
 use Rattle.told_by.specs.Lines.{ClockLine, InitLine, PlainLine, ReadLine, WriteLine, place_after}
-use Rattle.told_by.specs.Openings.{sets_seed}
 use Rattle.told_by.specs.Spans.{IsAlone}
 use Rattle.told_by.specs.Told.{TellsLine, ToldBy}
 use Rattle.told_by.proofs.HearLemmas.{outcomes_on}
@@ -46,13 +45,13 @@ use Rattle.told_by.proofs.OneLemmas.{each}
 use Rattle.told_by.proofs.PrintedLemmas.{ends_within}
 use Rattle.told_by.proofs.SampleLemmas.{each_at}
 use Rattle.told_by.proofs.TurnLemmas.{at_cut}
-use Rattle.told_causes.specs.Boot.{GivesNone, MayPlace}
+use Rattle.told_causes.specs.Boot.{HasOneTurn, IsPrintedIn}
 use Rattle.told_causes.specs.Standing.{HaltsAlone, IsHaltAct}
-use Rattle.told_moves.specs.Order.{IsInOrder, OpensWithin}
+use Rattle.told_moves.specs.Order.{OpensWithin}
 use Rattle.told_runs.specs.Answers.{AreAnswered, Delivers, HearsOf, IsAnswered, IsDecidedBy, IsOfKind}
 use Rattle.told_runs.specs.Bounds.{IsBounded, writes_taken}
-use Rattle.told_runs.specs.Laws.{IsServed, OwnsFiles}
-use Rattle.told_runs.specs.Lines.{Adds, IsServedAfresh, IsServedAtFirst, IsServedLineByLine, IsToldAndServed, KindServes, PrintsByInit, ServesLine, ServesOne, delivered_on, life_of}
+use Rattle.told_runs.specs.Laws.{IsMadeInOrder, IsServed, OwnsFiles}
+use Rattle.told_runs.specs.Lines.{Adds, IsServedAfresh, IsServedAtFirst, IsOneTurn, IsServedLineByLine, IsToldAndServed, KindServes, ServesLine, ServesOne, delivered_on, life_of}
 
 -- ---- answers
 
@@ -127,31 +126,57 @@ module _ {tells : Bool} (past : List Record) (start : Option MetaState) (turns :
             subst (λ m. P m i place) (sym is) (new i place done (begins, there))
       ]
 
-  order_on : IsInOrder start long all after
+  push_old : (p : TurnPlace) → IsTurnPlace turns p → IsTurnPlace long p
+  push_old p at = record { after = at.after ++ line ∷ []; in_run = ap (λ ls. ls ++ line ∷ []) at.in_run ∙ append_assoc p.lines (p.line ∷ at.after) (line ∷ []); stands = at.stands }
+
+  push_new : (p : TurnPlace) → IsLastTurnPlace turns line p → IsTurnPlace long p
+  push_new p at = record { after = []; in_run = ap (λ ls. ls ++ line ∷ []) (sym at.lines_are) ∙ ap (λ l. p.lines ++ l ∷ []) (sym at.line_is); stands = at.stands }
+
+  old_one : (k : ℕ) → k < length turns → HasOneTurn long k → HasOneTurn turns k
+  old_one k old one = (one.0, one.1, at_front turns (line ∷ []) k one.0 one.2 old, one.3)
+
+  long_one : (k : ℕ) → HasOneTurn turns k → HasOneTurn long k
+  long_one k one = (one.0, one.1, at_append turns (line ∷ []) k one.0 one.2, one.3)
+
+  new_one : HasOneTurn long (length turns) → IsOneTurn line
+  new_one one = (one.1, ap lists_of (at_same long (length turns) line one.0 (at_cut turns line []) one.2) ∙ one.3)
+
+  order_on : IsMadeInOrder start long all after
   order_on = record {
-    places = record {
-      one = each_place (λ k i place. last_place (take (after.ends (suc k)) all) ≡ Some place)
-          (λ k i place done old low high there.
-          ap (λ n. last_place (take n all)) (ends_were (suc k) old) ∙ ap last_place (front (told.ends (suc k)) (ends_within start turns events told (suc k) old)) ∙ ((served.order).places).one k i place done old low high there)
-          (λ i place done new. ap (λ n. last_place (take n all)) (ends_now (length turns) refl) ∙ ap last_place (take_all all) ∙ ((serves.order).adds).one i place done new);
-      may = each_place (λ k i place. MayPlace long k (take i all) place)
-          (λ k i place done old low high there.
-          elim (((served.order).places).may k i place done old low high there) as (λ _. MayPlace long k (take i all) place) [
-            | inl one ↦ inl (one.0, one.1, at_append turns (line ∷ []) k one.0 one.2, one.3)
-            | inr h ↦ inr (subst (λ es. GivesNone es place) (sym (front i (let w = at_within events i (event.Place place done) there in omega (arith, w)))) h.0, ((h.1).0, at_append turns (line ∷ []) k (h.1).0 (h.1).1, (h.1).2))
-          ])
-          (λ i place done new. elim ((serves.order).may i place done new) as (λ _. MayPlace long (length turns) (take i all) place) [
-            | inl one ↦ inl (line, one.0, at_cut turns line [], one.1)
-            | inr h ↦ inr (h.0, (line, at_cut turns line [], h.1))
-          ]);
-    };
-    inits = λ q at is place prints. elim (which q at) as (λ _. sets_seed q.turn.act q.turn.answer ≡ true) [ inl k ↦ (served.order).inits q k is place prints | inr k ↦ (serves.order).inits q k is place prints ];
-    lawful = λ i place done there. elim (event_cases i (event.Place place done) there) as (λ _. IsLawful place) [ inl old ↦ (served.order).lawful i place done old.1 | inr new ↦ ((serves.order).adds).lawful i place done new ];
+    alone = λ k i place done less one low high there. each_place (λ k i place. HasOneTurn long k → last_place (take (after.ends (suc k)) all) ≡ Some place)
+        (λ k i place done old low high there one.
+        ap (λ n. last_place (take n all)) (ends_were (suc k) old) ∙ ap last_place (front (told.ends (suc k)) (ends_within start turns events told (suc k) old)) ∙ (served.order).alone k i place done old (old_one k old one) low high there)
+        (λ i place done new one. ap (λ n. last_place (take n all)) (ends_now (length turns) refl) ∙ ap last_place (take_all all) ∙ (serves.order).alone (new_one one) i place done new)
+        k i place done less low high there one;
+    beside = λ k i place done less many low high there. each_place (λ k i place. ¬ HasOneTurn long k → IsPrintedIn long after.spans k i place)
+        (λ k i place done old low high there many.
+        let e = (served.order).beside k i place done old (λ one. many (long_one k one)) low high there in
+        record {
+          printer = e.printer;
+          in_run = push_old e.printer e.in_run;
+          of_line = e.of_line;
+          within = within_on (line_told_was_from start turns events line more told adds e.printer e.in_run) (line_told_was_to start turns events line more told adds e.printer e.in_run) e.within;
+          prints = e.prints;
+        })
+        (λ i place done new many.
+        let e = (serves.order).beside (λ one. many (line, one.0, at_cut turns line [], one.1)) i place done new in
+        record {
+          printer = e.printer;
+          in_run = push_new e.printer e.here;
+          of_line = ap length (e.here).lines_are;
+          within = within_on (line_told_from start turns events line more told adds e.printer e.here) (line_told_to start turns events line more told adds e.printer e.here) e.within;
+          prints = e.prints;
+        })
+        k i place done less low high there many;
+    lawful = λ i place done there. elim (event_cases i (event.Place place done) there) as (λ _. IsLawful place) [ inl old ↦ (served.order).lawful i place done old.1 | inr new ↦ (serves.order).lawful i place done new ];
     ends = λ i n s a there place last. elim (event_cases i (event.Step n s call.End a) there) as (λ _. has_replica (Some place) s n ≡ false) [
       | inl old ↦ (served.order).ends i n s a old.1 place (ap last_place (sym (front i (omega (arith, old.0)))) ∙ last)
-      | inr new ↦ ((serves.order).adds).ends i n s a new place last
+      | inr new ↦ (serves.order).ends i n s a new place last
     ];
   }
+    where
+      within_on : {i from to from_now to_now : ℕ} → from_now ≡ from → to_now ≡ to → (from ≤ i) × (i < to) → (from_now ≤ i) × (i < to_now)
+      within_on e f w = (omega (arith, e, w.0), omega (arith, f, w.1))
 
   halts_on : HaltsAlone long
   halts_on q at h = elim (which q at) as (λ _. IsAlone long q) [ inl k ↦ alone_stays turns line q (served.halts q k h) | inr k ↦ here_alone q k ((serves.order).halts q k h) ]
@@ -284,9 +309,10 @@ module _ (tells : Bool) (past : List Record) (start : Option MetaState) (turns :
   serves_so adds from to one = record {
     order = record {
       halts = each_turn (λ q. IsHaltAct q.turn.act → lists_of (line_of a b) ≡ (q.turn ∷ []) ∷ []) (λ halts. refl);
-      may = λ i place done adds. inl (own.turn, refl);
-      inits = each_turn (λ q. PrintsByInit q.turn.act q.turn.answer) one.inits;
-      adds = one.adds;
+      alone = λ single. (one.adds).one;
+      beside = λ many. absurd (many (own.turn, refl));
+      lawful = (one.adds).lawful;
+      ends = (one.adds).ends;
     };
     opens = one.opens;
     answers = record {
@@ -336,8 +362,8 @@ served_first past unanswered = (
   told_at_first,
   record {
     order = record {
-      places = record { one = λ k i place done less. absurd (omega (arith, less)); may = λ k i place done less. absurd (omega (arith, less)) };
-      inits = λ q at. absurd (no_place q at);
+      alone = λ k i place done less. absurd (omega (arith, less));
+      beside = λ k i place done less. absurd (omega (arith, less));
       lawful = λ i place done there. absurd (nothing_at i (event.Place place done) there);
       ends = λ i n s a there. absurd (nothing_at i (event.Step n s call.End a) there);
     };
@@ -357,8 +383,8 @@ served_afresh past state unanswered lawful = (
   told_found state,
   record {
     order = record {
-      places = record { one = λ k i place done less. absurd (omega (arith, less)); may = λ k i place done less. absurd (omega (arith, less)) };
-      inits = λ q at. absurd (no_place q at);
+      alone = λ k i place done less. absurd (omega (arith, less));
+      beside = λ k i place done less. absurd (omega (arith, less));
       lawful = λ i place done there. each_at (λ k x. x ≡ event.Place place done → IsLawful place) 0 opening ((λ e. let same : state.place ≡ place = cc in subst IsLawful same lawful), ((λ e. cc), tt)) i (event.Place place done) there refl;
       ends = λ i n s a there. absurd (no_step i n s call.End a there);
     };

@@ -24,7 +24,7 @@ use Rattle.told_by.specs.Told.{ToldBy}
 use Rattle.told_by.proofs.LeaveLemmas.{place_there}
 use Rattle.told_by.proofs.LineLemmas.{line_below}
 use Rattle.told_by.proofs.PrintedLemmas.{ends_within}
-use Rattle.told_causes.specs.Boot.{IsBootAct, OwnsWhereBegun}
+use Rattle.told_causes.specs.Boot.{HasOneTurn, IsBootAct, OwnsWhereBegun}
 use Rattle.told_causes.proofs.RefusalLemmas.{refused_law}
 use Rattle.told_moves.specs.Order.{IsInOrder}
 use Rattle.told_runs.specs.Laws.{OwnsFiles}
@@ -66,20 +66,21 @@ module _ (start : Option MetaState) (turns : List Turn) (events : List Event) (l
       let low : told.ends k ≤ 0 = omega (arith, (told.lines).low q at, init.from_is) in
       let high : i < told.ends (suc k) = omega (arith, here.1, (told.lines).high q at) in
       let bound = ends_within start turns events told (suc k) less in
-      let last = order.places.one k 0 init.place [] less low (omega (arith, high)) init.placed in
+      let one : HasOneTurn turns k = ((init.alone).0, q.turn, (init.alone).1, (init.alone).2) in
+      let last = order.places.alone k 0 init.place [] less one low (omega (arith, high)) init.placed in
       owned_begin n s i tenure here.2 (λ own tries.
       let b = tried_began events legal n s own i (omega (arith, high, bound)) tries in
       let below = b.below in
       let was = begin_given start turns events legal told order n s b.place own b.answer b.there in
       let g = was.3 in
-      by_given own was.0 (omega (arith, was.1, below, high)) was.2 g low high less last same bound)
+      by_given own one was.0 (omega (arith, was.1, below, high)) was.2 g low high less last same bound)
     where
-      by_given : (own z : ℕ) → z < told.ends (suc (length q.lines)) → 1 ≤ z → GivenAt events legal n s z own → told.ends (length q.lines) ≤ 0 → i < told.ends (suc (length q.lines)) → length q.lines < length turns
+      by_given : (own : ℕ) → HasOneTurn turns (length q.lines) → (z : ℕ) → z < told.ends (suc (length q.lines)) → 1 ≤ z → GivenAt events legal n s z own → told.ends (length q.lines) ≤ 0 → i < told.ends (suc (length q.lines)) → length q.lines < length turns
           → {first : Placement} → last_place (take (told.ends (suc (length q.lines))) events) ≡ Some first → first ≡ place → told.ends (suc (length q.lines)) ≤ length events → own ≤ tenure
-      by_given own z before some g low high less {first} last same bound =
+      by_given own only z before some g low high less {first} last same bound =
           let stood = place_there (take z events) (g.is).place (g.is).last in
           let there = at_take events stood.0 z (event.Place (g.is).place stood.1) stood.2 in
-          let one = order.places.one (length q.lines) stood.0 (g.is).place stood.1 less (omega (arith, low)) (omega (arith, there.1, before)) there.0 in
+          let one = order.places.alone (length q.lines) stood.0 (g.is).place stood.1 less only (omega (arith, low)) (omega (arith, there.1, before)) there.0 in
           let is : (g.is).place ≡ place = some_same (g.is).place first (sym one ∙ last) ∙ same in
           tenure_grows events legal n s z z own tenure some (omega arith) (omega (arith, before, bound)) g (given_by events legal n s z tenure place ((g.is).last ∙ ap Some is) given)
 

@@ -40,8 +40,9 @@ use Rattle.told_by.proofs.SampleLemmas.{each_at, sample_told}
 use Rattle.told_by.proofs.TurnLemmas.{in_cut}
 use Rattle.told_causes.proofs.AloneLemmas.{quiet_places}
 use Rattle.told_causes.proofs.KnownLemmas.{never_refused, one_place}
-use Rattle.told_causes.specs.Boot.{MayPlace}
-use Rattle.told_moves.specs.Order.{IsInOrder, OpensWithin}
+use Rattle.told_causes.specs.Boot.{HasOneTurn}
+use Rattle.told_moves.specs.Order.{OpensWithin}
+use Rattle.told_runs.specs.Laws.{IsMadeInOrder}
 use Rattle.told_runs.specs.Answers.{AreAnswered, Delivers, IsAnswered}
 use Rattle.told_runs.specs.Bounds.{IsBounded, writes_taken}
 use Rattle.told_runs.specs.Sample.{ShortIsServed}
@@ -93,21 +94,18 @@ began_so i n s tenure fence points there =
     i (event.Step n s (call.Begin tenure) (reply.Began fence points)) there refl
 
 -- each of its lines has one turn
-may : (k i : ℕ) (p : Placement) (done : List (ℕ × ℕ)) → k < length turns → sample_told.ends k ≤ i → i < sample_told.ends (suc k) → At events i (event.Place p done) → MayPlace turns k (take i events) p
-may zero i p done less low high there = inl (line_of begun placed, record { act = begun; answer = placed }, refl, refl)
-may (suc zero) i p done less low high there = inl (line_of spaced answer.Done, record { act = spaced; answer = answer.Done }, refl, refl)
-may (suc (suc zero)) i p done less low high there = inl (line_of written (answer.Acks (0 ∷ [])), record { act = written; answer = answer.Acks (0 ∷ []) }, refl, refl)
-may (suc (suc (suc zero))) i p done less low high there = inl (line_of fetched found, record { act = fetched; answer = found }, refl, refl)
-may (suc (suc (suc (suc k)))) i p done less low high there = absurd (omega (arith, less))
+one_turn : (k : ℕ) → k < length turns → HasOneTurn turns k
+one_turn zero less = (line_of begun placed, record { act = begun; answer = placed }, refl, refl)
+one_turn (suc zero) less = (line_of spaced answer.Done, record { act = spaced; answer = answer.Done }, refl, refl)
+one_turn (suc (suc zero)) less = (line_of written (answer.Acks (0 ∷ [])), record { act = written; answer = answer.Acks (0 ∷ []) }, refl, refl)
+one_turn (suc (suc (suc zero))) less = (line_of fetched found, record { act = fetched; answer = found }, refl, refl)
+one_turn (suc (suc (suc (suc k)))) less = absurd (omega (arith, less))
 
-order : IsInOrder None turns events sample_told
+order : IsMadeInOrder None turns events sample_told
 order = record {
-  places = record {
-    one = λ k i other done less low high there.
-        stands (sample_told.ends (suc k)) (omega (arith, high)) (ends_within None turns events sample_told (suc k) less) ∙ ap Some (one_place i other done there);
-    may = may;
-  };
-  inits = each_turn _ (λ h p e. refl) (λ h. absurd h) (λ h. absurd h) (λ h. absurd h);
+  alone = λ k i other done less single low high there.
+      stands (sample_told.ends (suc k)) (omega (arith, high)) (ends_within None turns events sample_told (suc k) less) ∙ ap Some (one_place i other done there);
+  beside = λ k i other done less many. absurd (many (one_turn k less));
   lawful = λ i other done there. subst IsLawful (one_place i other done there) lawful_place;
   ends = λ i n s a there stood last. absurd (never_ends i n s a there);
 }

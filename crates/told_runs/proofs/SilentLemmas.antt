@@ -43,7 +43,7 @@ state_silent stopped (act.Restart node pick) r e = if_silent _ _ r refl e
 state_silent stopped _ r e = cc
 
 -- a refusal that is due prints no placement
-refusal_silent : (place : Option Placement) (versions : List ℕ) (rules : Rules) (stopped : List ℕ → Bool) (a : Act) (r : Answer) → refusal_by place versions rules stopped a ≡ Some r → printed r ≡ None
+pub refusal_silent : (place : Option Placement) (versions : List ℕ) (rules : Rules) (stopped : List ℕ → Bool) (a : Act) (r : Answer) → refusal_by place versions rules stopped a ≡ Some r → printed r ≡ None
 refusal_silent place versions rules stopped a r e =
     let order = answer_if (is_out_of_order place rules.spaces a) answer.Order in
     let name = option_map (λ n. answer.Unknown n) (missing_name place versions rules.spaces a) in

@@ -22,12 +22,12 @@ use Rattle.told_by.proofs.LineLemmas.{line_below}
 use Rattle.told_by.proofs.PrintedLemmas.{ends_grow, placements_stand}
 use Rattle.told_by.proofs.TurnLemmas.{earlier_line, place_in}
 use Rattle.told_causes.proofs.AloneLemmas.{take_none}
-use Rattle.told_causes.proofs.StoodLemmas.{had_before, in_line, printed_in}
+use Rattle.told_causes.proofs.StoodLemmas.{alone_last, alone_or_beside, back, line_base, had_before, in_line, printed_in}
 use Rattle.told_causes.proofs.WaitLemmas.{is_member_of, member_given}
 use Rattle.told_moves.specs.Order.{IsInOrder}
 
 -- some of a list are among it
-some_in : (xs ys : List InnerTurn) (t : InnerTurn) → AreSomeOf xs ys → IsIn xs t → IsIn ys t
+pub some_in : (xs ys : List InnerTurn) (t : InnerTurn) → AreSomeOf xs ys → IsIn xs t → IsIn ys t
 some_in [] ys t some m = absurd m
 some_in (x ∷ xs) [] t some m = absurd some
 some_in (x ∷ xs) (y ∷ ys) t (inl both) (inl same) = inl (sym both.0 ∙ same)
@@ -71,9 +71,25 @@ module _ {tells : Bool} (start : Option MetaState) (turns : List Turn) (events :
       elim (line_of_place (length p.lines) z high before) as (λ _. IsKnownPlace start turns events told p place) [
         | inl opening ↦ by_start start refl opening
         | inr line ↦
-            let stood : placement_after (start_placement start) (inner_turns (take (suc line.0) turns)) ≡ Some place =
-            sym (placements_stand start turns events legal told (suc line.0) (omega (arith, line.1, high))) ∙ order.places.one line.0 z place done (omega (arith, line.1, high)) line.2 line.3 there in
-            record { place_at = z; done = done; there = there; members = λ s n member. (suc line.0, omega (arith, line.1), ap (λ o. has_replica o s n) stood ∙ member) }
+            let less : line.0 < length turns = omega (arith, line.1, high) in
+            elim (alone_or_beside start turns events legal told order.places line.0 less) as (λ _. IsKnownPlace start turns events told p place) [
+              | inl one ↦
+                  let stood = alone_last start turns events legal told order.places line.0 less one z place done line.2 line.3 there in
+                  record { place_at = z; done = done; there = there; members = λ s n member. (suc line.0, omega (arith, line.1), ap (λ o. has_replica o s n) stood ∙ member) }
+              | inr many ↦
+                  let last = fold_suc place_after None events z (event.Place place done) there in
+                  let was = line_base start turns events legal told order.places line.0 less many.0 (suc z) (omega (arith, line.2)) line.3 place last in
+                  let stood = sym (placements_stand start turns events legal told line.0 (omega (arith, less))) ∙ was.1 in
+                  record {
+                    place_at = z;
+                    done = done;
+                    there = there;
+                    members = λ s n member.
+                        let given = member_given place s n member in
+                        let old = back start turns events legal told order.places line.0 less (λ y next dones from below at. (many.1 y next dones from below at).0) (told.ends line.0) (suc z) (omega arith) (omega (arith, line.2)) line.3 was.0 place was.1 last n s given.0 given.1 in
+                        (line.0, omega (arith, line.1), ap (λ o. has_replica o s n) stood ∙ is_member_of was.0 s n given.0 old);
+                  }
+            ]
       ]
     where
       by_start : (o : Option MetaState) → start ≡ o → z < told.ends 0 → IsKnownPlace start turns events told p place

@@ -1,18 +1,17 @@
 -- Lines that leave a run not known to be served.
-use Rattle.std.specs.Prelude.{◌≡◌, ◌++◌, ℕ, List, take, Some, Option, None, Bool, ◌≢◌, length}
+use Rattle.std.specs.Prelude.{ℕ, List, Option, Some, None, Bool, ◌≢◌, length}
 use Rattle.m3_model.specs.Members.{IsIn}
 use Rattle.m3_model.specs.declared.answer.Answer.TheVariants as answer
 use Rattle.m3_model.specs.declared.placement.Placement.{Placement}
 use Rattle.m3_model.specs.declared.rules.MetaState.{MetaState}
 use Rattle.m3_model.specs.declared.turn.Turn.{Turn}
-use Rattle.cluster_core.specs.Earlier.{last_place}
 use Rattle.cluster_core.specs.declared.event.Event.{Event}
 use Rattle.cluster_core.specs.declared.event.Event.TheVariants as event
 use Rattle.transcripts.specs.Deliveries.{LateMessage}
 use Rattle.transcripts.specs.Faults.{Fault}
+use Rattle.transcripts.specs.Placements.{printed}
 use Rattle.transcripts.specs.Record.{InnerTurn, Record, TurnPlace, IsLastTurnPlace, IsTurnPlace, line_of}
 use Rattle.told_by.specs.Sample.{events as short_events, fetched, turns as short_turns}
-use Rattle.told_by.specs.Makes.{IsAssigned}
 use Rattle.told_by.specs.Told.{TellsLine}
 use Rattle.told_runs.specs.Lines.{Adds, ServesLine}
 
@@ -38,8 +37,8 @@ pub record TakesElsewhere (untaken : List Fault) (now was : TurnPlace → List L
   pub among : IsIn untaken fault
   pub elsewhere : fault.line ≢ length turns
 
--- a Place that gives a node a shard is made in a line where turns stand beside each other
-pub record GivesBeside (untaken : List Fault) (now was : TurnPlace → List LateMessage) (turns : List Turn) (events : List Event) (line : Turn) (more : List Event) : Type 0 where
+-- a Place is made in a line where turns stand beside each other, and none of them prints it
+pub record PlacesBeside (untaken : List Fault) (now was : TurnPlace → List LateMessage) (turns : List Turn) (events : List Event) (line : Turn) (more : List Event) : Type 0 where
   pub q : TurnPlace
   pub here : IsLastTurnPlace turns line q
   pub other : InnerTurn
@@ -48,13 +47,7 @@ pub record GivesBeside (untaken : List Fault) (now was : TurnPlace → List Late
   pub place : Placement
   pub done : List (ℕ × ℕ)
   pub made : Adds events more place_at (event.Place place done)
-  pub last : Placement
-  pub last_is : last_place (take place_at (events ++ more)) ≡ Some last
-  pub node : ℕ
-  pub shard : ℕ
-  pub tenure : ℕ
-  pub given : IsAssigned place node shard tenure
-  pub new : ¬ IsAssigned last node shard tenure
+  pub unprinted : (p : TurnPlace) → IsLastTurnPlace turns line p → printed p.turn.answer ≢ Some place
 
 -- After the short run a read isn't refused for its order: its namespace and a placement stand.
 abbrev pub UndueOrder : Type 0

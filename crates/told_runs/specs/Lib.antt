@@ -4,5 +4,6 @@ pub mod Laws
 pub mod Lines
 pub mod Sample
 pub mod LateSample
+pub mod BesideSample
 pub mod Broken
 pub mod Counted

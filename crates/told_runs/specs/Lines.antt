@@ -27,12 +27,9 @@ use Rattle.transcripts.specs.Placements.{has_replica, printed}
 use Rattle.transcripts.specs.Record.{InnerTurn, Life, Record, TurnPlace, IsTurnPlace, IsLastTurnPlace, line_of, lists_of}
 use Rattle.told_by.specs.Hears.{InStretch}
 use Rattle.told_by.specs.Lines.{place_after}
-use Rattle.told_by.specs.Openings.{sets_seed}
-use Rattle.told_by.specs.Spans.{Spans}
+use Rattle.told_by.specs.Spans.{IsWithin, Spans}
 use Rattle.told_by.specs.Told.{TellsLine, ToldBy}
-use Rattle.told_causes.specs.Boot.{GivesNone, PrintsLast}
 use Rattle.told_causes.specs.Standing.{IsHaltAct}
-use Rattle.told_moves.specs.Order.{IsInitAct}
 use Rattle.told_runs.specs.Answers.{Delivers, HearsOf, IsAnswered}
 use Rattle.told_runs.specs.Bounds.{writes_taken}
 use Rattle.told_runs.specs.Laws.{IsServed}
@@ -49,20 +46,25 @@ pub record AddsInOrder (events more : List Event) : Type 0 where
   pub one : (i : ℕ) (place : Placement) (done : List (ℕ × ℕ)) → Adds events more i (event.Place place done) → last_place (events ++ more) ≡ Some place
   pub ends : (i node shard : ℕ) (a : StepReply) → Adds events more i (event.Step node shard call.End a) → (place : Placement) → last_place (take i (events ++ more)) ≡ Some place → has_replica (Some place) shard node ≡ false
 
--- an `init` that prints a placement is answered ok
-abbrev pub PrintsByInit : Act → Answer → Type 0
-PrintsByInit a b = IsInitAct a → (place : Placement) → printed b ≡ Some place → sets_seed a b ≡ true
+-- the line has one turn
+abbrev pub IsOneTurn : Turn → Type 0
+IsOneTurn line = (turn : InnerTurn) × (lists_of line ≡ (turn ∷ []) ∷ [])
 
--- the line has one turn; or the Place gives nobody a shard, and nothing follows in its list a turn that prints a placement
-abbrev pub MayAdd : Turn → List Event → Placement → Type 0
-MayAdd line past place = ((turn : InnerTurn) × (lists_of line ≡ (turn ∷ []) ∷ [])) ⊎ (GivesNone past place × PrintsLast line)
+-- a turn of the line prints the placement, and the place lies within its stretch
+pub record IsPrintedBy (turns : List Turn) (line : Turn) (spans : Spans) (i : ℕ) (place : Placement) : Type 0 where
+  pub printer : TurnPlace
+  pub here : IsLastTurnPlace turns line printer
+  pub within : IsWithin spans printer i
+  pub prints : printed printer.turn.answer ≡ Some place
 
--- The line is served in order: one that stops or restarts a node has one turn, and it may add the Place that it adds.
-pub record IsNextInOrder (turns : List Turn) (events : List Event) (line : Turn) (more : List Event) : Type 0 where
+-- The line is served in order: one that stops or restarts a node has one turn; one of one turn adds one Place at most, and in any other each Place is printed by a
+-- turn in whose stretch it stands; each is a lawful placement; and tenures end only where the placement that stands has no replica of the slot.
+pub record IsNextInOrder (turns : List Turn) (events : List Event) (line : Turn) (more : List Event) (spans : Spans) : Type 0 where
   pub halts : (q : TurnPlace) → IsLastTurnPlace turns line q → IsHaltAct q.turn.act → lists_of line ≡ (q.turn ∷ []) ∷ []
-  pub may : (i : ℕ) (place : Placement) (done : List (ℕ × ℕ)) → Adds events more i (event.Place place done) → MayAdd line (take i (events ++ more)) place
-  pub inits : (q : TurnPlace) → IsLastTurnPlace turns line q → PrintsByInit q.turn.act q.turn.answer
-  pub adds : AddsInOrder events more
+  pub alone : IsOneTurn line → (i : ℕ) (place : Placement) (done : List (ℕ × ℕ)) → Adds events more i (event.Place place done) → last_place (events ++ more) ≡ Some place
+  pub beside : ¬ IsOneTurn line → (i : ℕ) (place : Placement) (done : List (ℕ × ℕ)) → Adds events more i (event.Place place done) → IsPrintedBy turns line spans i place
+  pub lawful : (i : ℕ) (place : Placement) (done : List (ℕ × ℕ)) → Adds events more i (event.Place place done) → IsLawful place
+  pub ends : (i node shard : ℕ) (a : StepReply) → Adds events more i (event.Step node shard call.End a) → (place : Placement) → last_place (take i (events ++ more)) ≡ Some place → has_replica (Some place) shard node ≡ false
 
 -- ---- files
 
@@ -93,7 +95,7 @@ pub record AreNextAnswers (untaken : List Fault) (now was : TurnPlace → List L
 -- A line that is served leaves what is known of the run known.
 pub record ServesLine (tells : Bool) (untaken : List Fault) (now was : TurnPlace → List LateMessage) (past : List Record) (start : Option MetaState) (turns : List Turn) (events : List Event) (line : Turn) (more : List Event)
     (adds : TellsLine start turns events line more) : Type 0 where
-  pub order : IsNextInOrder turns events line more
+  pub order : IsNextInOrder turns events line more adds.spans
   pub opens : tells ≡ true → OpensNext start events more
   pub answers : AreNextAnswers untaken now was start turns (events ++ more) line adds.spans
   pub bound : length (events ++ more) ≤ length events + (MOST_REQUEST_EVENTS * length (acts_in (line ∷ []))) * (writes_taken past (turns ++ line ∷ []) + 1)
@@ -115,7 +117,6 @@ IsServedLineByLine tells =
 -- What a line outside `par` says: its turn is its only one, and its stretch has all that the line adds.
 pub record ServesOne (tells : Bool) (untaken : List Fault) (messages : List LateMessage) (was : TurnPlace → List LateMessage) (past : List Record) (start : Option MetaState) (turns : List Turn) (events : List Event) (a : Act) (b : Answer)
     (more : List Event) : Type 0 where
-  pub inits : PrintsByInit a b
   pub adds : AddsInOrder events more
   pub opens : tells ≡ true → OpensNext start events more
   pub answered : IsAnswered untaken start (length (events ++ more)) (place_after turns a b)

@@ -1,7 +1,8 @@
 //! Why each answer of a run is what it is.
 ghost use Rattle.std.specs.Prelude.{Bool};
+ghost use Rattle.told_runs.specs.BesideSample.{BesideIsKept, BesideIsServed};
 ghost use Rattle.told_runs.specs.Counted.{AreFew, AreOfRun, OfServed};
-ghost use Rattle.told_runs.specs.Laws.{IsCausedWhereTold};
+ghost use Rattle.told_runs.specs.Laws.{IsCausedWhereTold, IsGivenAlone};
 ghost use Rattle.told_runs.specs.LateSample.{DeliveryIsKnown, LateIsServed};
 ghost use Rattle.told_runs.specs.Sample.{ShortIsServed};
 
@@ -10,6 +11,12 @@ ghost use Rattle.told_runs.specs.Sample.{ShortIsServed};
 /// replicas tell. Where the disks tell what they hold, they are to hold no more than earlier runs left, and more is said.
 pub fn told_is_caused()
     ensures { (tells : Bool) → IsCausedWhereTold tells }
+{}
+
+/// In such a run a placement gives a node a shard only in a line of one turn: what bootstraps make beside other turns ends
+/// moves alone.
+pub fn shards_are_given_alone()
+    ensures { (tells : Bool) → IsGivenAlone tells }
 {}
 
 /// The faults by which it is caused are of its lines; and of one kind, of one slot or in all no more of them are faults of
@@ -29,4 +36,11 @@ pub fn short_is_served()
 pub fn late_is_served()
     ensures served { (tells : Bool) → LateIsServed tells }
     ensures known { (tells : Bool) → DeliveryIsKnown tells }
+{}
+
+/// And by a run in which two clients write and read beside a worker whose bootstrap ends the move of their shard: its list
+/// is legal and tells of it, so it is kept and caused.
+pub fn beside_is_served()
+    ensures served { (tells : Bool) → BesideIsServed tells }
+    ensures kept { BesideIsKept }
 {}

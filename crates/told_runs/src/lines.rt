@@ -1,6 +1,7 @@
 //! What is known of a run that is told goes on line by line.
 ghost use Rattle.std.specs.Prelude.{Bool};
-ghost use Rattle.told_runs.specs.Broken.{GivesBeside, DeliversAgain, IsNeverServed, TakesElsewhere, UndueOrder};
+ghost use Rattle.told_runs.specs.BesideSample.{LeavingAcks, PlacedForNothing};
+ghost use Rattle.told_runs.specs.Broken.{PlacesBeside, DeliversAgain, IsNeverServed, TakesElsewhere, UndueOrder};
 ghost use Rattle.told_runs.specs.Lines.{IsServedAfresh, IsServedAtFirst, IsServedLineByLine, KindServes};
 ghost use Rattle.told_by.specs.Lines.{ClockLine, InitLine, PlainLine, ReadLine, WriteLine};
 
@@ -22,11 +23,19 @@ pub fn lines_serve()
 {}
 
 /// Broken lines aren't served: one that delivers a late message again, one that tells of a disk that couldn't be taken in
-/// another line, a Place that gives a node a shard in a line where turns stand beside each other, and a read that is
-/// refused for its order after its namespace was made.
+/// another line, a Place in a line where turns stand beside each other that none of them prints, and a
+/// read that is refused for its order after its namespace was made.
 pub fn broken_lines_are_refused()
     ensures again { IsNeverServed DeliversAgain }
     ensures elsewhere { IsNeverServed TakesElsewhere }
-    ensures beside { IsNeverServed GivesBeside }
+    ensures beside { IsNeverServed PlacesBeside }
     ensures order { UndueOrder }
+{}
+
+/// Of the run of two clients beside a worker two broken ones are refused: no list tells of one in which the node that leaves
+/// acknowledges the write, and over a legal list one isn't served whose line has a Place though its bootstrap prints no
+/// shard as turned available.
+pub fn broken_sides_are_refused()
+    ensures leaving { LeavingAcks }
+    ensures placed { PlacedForNothing }
 {}

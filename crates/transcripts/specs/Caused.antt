@@ -75,10 +75,20 @@ abbrev pub IsLeftBy : Placement → List ℕ → Option ℕ → List (ℕ × Lis
 IsLeftBy before name asked [] place = place ≡ before
 IsLeftBy before name asked (x ∷ available) place = EndsMoves before name asked (x ∷ available) place
 
--- a bootstrap prints what it leaves of a placement that stands, and the shards that turned available by it
+-- the answer prints this placement, with shards that turned available
+abbrev pub EndsInto : Answer → Placement → Type 0
+EndsInto (answer.Available (x ∷ available) next version) place = next ≡ place
+EndsInto _ place = ⊥
+
+-- the placement stood before the turn's line, or a turn before it in its list or beside it ended moves into it
+abbrev pub IsMade : Option MetaState → TurnPlace → Placement → Type 0
+IsMade start p place = (placement_at start p ≡ Some place) ⊎ ((turn : InnerTurn) × IsIn (p.earlier ++ p.beside) turn × EndsInto turn.answer place)
+
+-- a bootstrap prints what it leaves of a placement that stands and that was made, and the shards that turned available by it
 pub record IsBootstrapped (start : Option MetaState) (p : TurnPlace) (name : List ℕ) (asked : Option ℕ) (available : List (ℕ × List ℕ)) (place : Placement) (version : ℕ) : Type 0 where
   pub before : Placement
   pub stands : MayStand start p before
+  pub made : IsMade start p before
   pub left : IsLeftBy before name asked available place
   pub version_is : version ≡ place.version
 

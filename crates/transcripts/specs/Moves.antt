@@ -10,7 +10,7 @@ use Rattle.m3_model.specs.declared.rules.MetaState.{MetaState}
 use Rattle.m3_model.specs.declared.turn.Turn.{Turn}
 use Rattle.placement_core.specs.Shards.{shard_at}
 use Rattle.transcripts.specs.Fates.{OfNode}
-use Rattle.transcripts.specs.Placements.{MayStand, has_replica, placement_after, start_placement}
+use Rattle.transcripts.specs.Placements.{MayStand, has_replica, placement_after, placement_at, start_placement}
 use Rattle.transcripts.specs.Record.{InnerTurn, TurnPlace, inner_turns}
 use Rattle.transcripts.specs.Waiting.{Replica, is_assigned, is_begun_by, is_covering, is_member}
 
@@ -64,11 +64,11 @@ pub record IsTakenIn (start : Option MetaState) (lines : List Turn) (place : Pla
   pub taken : IsIn (inner_turns (line ∷ [])) turn
   pub stood : (placement_by start lines number ≡ Some place) ⊎ (placement_by start lines (suc number) ≡ Some place)
 
--- the turn was taken before this one or beside it, while the placement stood
+-- the turn was taken before this one or beside it: in an earlier line so, or in its own line, at whose beginning the placement stood
 abbrev pub IsTakenBy : Option MetaState → TurnPlace → Placement → InnerTurn → Type 0
-IsTakenBy start p place turn = IsTakenIn start p.lines place turn ⊎ (IsIn (p.earlier ++ p.beside) turn × MayStand start p place)
+IsTakenBy start p place turn = IsTakenIn start p.lines place turn ⊎ (IsIn (p.earlier ++ p.beside) turn × (placement_at start p ≡ Some place))
 
--- a placement assigns the shard with the fence as tenure, and while it stood a bootstrap of that node and shard was asked, before the turn or beside it
+-- a placement assigns the shard with the fence as tenure, and a bootstrap of that node and shard was taken with it, before the turn or beside it
 pub record IsOfMove (start : Option MetaState) (p : TurnPlace) (shard fence : ℕ) : Type 0 where
   pub place : Placement
   pub node : ℕ
