@@ -234,8 +234,8 @@ prints_none turns events b none = record {
   not_earlier = λ p at was is e f. absurd (let bad : None ≡ Some is = sym none ∙ f in cc);
 }
 
-pub delivered_tells : {D : Type 0} {ghosts : Ghosts D} (state : D → DiskState) (old : Net D ghosts) → DeliveredTells state old
-delivered_tells {D} {ghosts} state old tells start turns new outcomes left ready legal h =
+pub delivered_tells : {D : Type 0} {G : Ghosts D} (state : D → DiskState) (old : Net D G) → DeliveredTells state old
+delivered_tells {D} {G} state old tells start turns new outcomes left ready legal h =
     let b : Answer = answer.Outcomes outcomes in
     let rules = old.state.rules in
     let events = old.replicas.events in

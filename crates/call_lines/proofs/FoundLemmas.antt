@@ -49,7 +49,7 @@ found_kind start p (act.Fetch ns id from to level version) spaces r e series sho
 found_kind start p (act.Match ns wanted from to level version) spaces r e series short = tt
 found_kind start p _ spaces r e series short = cc
 
-module _ {D : Type 0} {ghosts : Ghosts D} (state : D → DiskState) (tells : Bool) (start : Option MetaState) (turns : List Turn) (old new : Net D ghosts) (id : CallId) (a : Act) (w : Wish) (level : ReadLevel) (series : List Series) (short : Bool) (r : IsRead start turns old id a w level)
+module _ {D : Type 0} {G : Ghosts D} (state : D → DiskState) (tells : Bool) (start : Option MetaState) (turns : List Turn) (old new : Net D G) (id : CallId) (a : Act) (w : Wish) (level : ReadLevel) (series : List Series) (short : Bool) (r : IsRead start turns old id a w level)
     (legal : Legal tells new.replicas.events) (h : IsFound state old id w level series short new) where
   abbrev b : Answer
   b = answer.Found series short
@@ -135,5 +135,5 @@ module _ {D : Type 0} {ghosts : Ghosts D} (state : D → DiskState) (tells : Boo
       (let few = few_read start turns old id a w level r b h.reads listed (length old.replicas.events) h.events h.are in let most = few_shards start turns old id a w level r b in let long = length-append h.events [] in omega (arith, few, most, long))
       (inr (found_kind start (place_after turns a b) a old.state.rules.spaces (record { pick = w.pick; from = w.from; to = w.to; level = level }) r.of_act series short)) tt
 
-pub found_tells : {D : Type 0} {ghosts : Ghosts D} (state : D → DiskState) (old : Net D ghosts) → FoundTells state old
-found_tells {D} {ghosts} state old tells start turns new id a w level series short r legal h = found_leaves state tells start turns old new id a w level series short r legal h
+pub found_tells : {D : Type 0} {G : Ghosts D} (state : D → DiskState) (old : Net D G) → FoundTells state old
+found_tells {D} {G} state old tells start turns new id a w level series short r legal h = found_leaves state tells start turns old new id a w level series short r legal h

@@ -130,8 +130,8 @@ module _ (start : Option MetaState) (turns : List Turn) (a : Act) (b : Answer) (
   fates_on = ap (λ n. n.fates) (numbering_next start turns a b) ∙ ap (λ o. (numbering_by o (calls_in (client_acts 0 (request.One a))) (numbering_after 0 turns)).fates) sets.fates
 
   -- all but the bag
-  pub left_on : {D : Type 0} {ghosts : Ghosts D} (old new : Net D ghosts) → IsLeftBy start turns old → FieldsStay old new → HoldsBack start (longer start turns a b) new.bag → IsLeftBy start (longer start turns a b) new
-  left_on {D} {ghosts} old new left stay late = record {
+  pub left_on : {D : Type 0} {G : Ghosts D} (old new : Net D G) → IsLeftBy start turns old → FieldsStay old new → HoldsBack start (longer start turns a b) new.bag → IsLeftBy start (longer start turns a b) new
+  left_on {D} {G} old new left stay late = record {
     rules = rules_on ∙ left.rules ∙ ap (λ s. s.rules) (sym stay.state);
     place = place_next start turns a b sets.place ∙ left.place ∙ ap (λ s. Some s.place) (sym stay.state);
     seed = seed_on ∙ left.seed ∙ ap (λ s. s.seed) (sym stay.state);
@@ -140,12 +140,12 @@ module _ (start : Option MetaState) (turns : List Turn) (a : Act) (b : Answer) (
     late = late;
   }
 
-pub left_as_before : {D : Type 0} {ghosts : Ghosts D} (old : Net D ghosts) → LeftAsBefore old
-left_as_before {D} {ghosts} old start turns new a b left stay sets quiet same = left_on start turns a b sets old new left stay
+pub left_as_before : {D : Type 0} {G : Ghosts D} (old : Net D G) → LeftAsBefore old
+left_as_before {D} {G} old start turns new a b left stay sets quiet same = left_on start turns a b sets old new left stay
     (subst (HoldsBack start (turns ++ line_of a b ∷ [])) (sym same) (holds_on start turns a b quiet old.bag left.late))
 
-pub left_by_delivery : {D : Type 0} {ghosts : Ghosts D} (old : Net D ghosts) → LeftByDelivery old
-left_by_delivery {D} {ghosts} old start turns new a b left stay sets none = left_on start turns a b sets old new left stay (subst (HoldsBack start (turns ++ line_of a b ∷ [])) (sym none) (record { messages = []; in_order = tt; held = tt }))
+pub left_by_delivery : {D : Type 0} {G : Ghosts D} (old : Net D G) → LeftByDelivery old
+left_by_delivery {D} {G} old start turns new a b left stay sets none = left_on start turns a b sets old new left stay (subst (HoldsBack start (turns ++ line_of a b ∷ [])) (sym none) (record { messages = []; in_order = tt; held = tt }))
 
 -- ---- a bag to which late messages of a write come
 
@@ -206,7 +206,7 @@ none_behind (suc k) (x ∷ xs) few y i = none_behind k xs (omega (arith, few)) y
 
 -- ---- the write
 
-module _ {D : Type 0} {ghosts : Ghosts D} (start : Option MetaState) (turns : List Turn) (old : Net D ghosts) (id : CallId) (a : Act) (b : Answer) (point : Point) (level : WriteLevel) (w : IsWrite start turns old id a point level) (sets : SetsNothing a b) (sent : was_sent b ≡ true)
+module _ {D : Type 0} {G : Ghosts D} (start : Option MetaState) (turns : List Turn) (old : Net D G) (id : CallId) (a : Act) (b : Answer) (point : Point) (level : WriteLevel) (w : IsWrite start turns old id a point level) (sets : SetsNothing a b) (sent : was_sent b ≡ true)
     (quiet : IsTrue (delivers_nothing (line_of a b))) where
   abbrev on : List Turn
   on = turns ++ line_of a b ∷ []
@@ -285,6 +285,6 @@ module _ {D : Type 0} {ghosts : Ghosts D} (start : Option MetaState) (turns : Li
         held = held_append start on messages (map message_to first) old.bag (map late_one first) was new;
       })
 
-pub left_by_write : {D : Type 0} {ghosts : Ghosts D} (old : Net D ghosts) → LeftByWrite old
-left_by_write {D} {ghosts} old start turns new id a b point level members k w stay sets sent quiet are bag =
+pub left_by_write : {D : Type 0} {G : Ghosts D} (old : Net D G) → LeftByWrite old
+left_by_write {D} {G} old start turns new id a b point level members k w stay sets sent quiet are bag =
     left_on start turns a b sets old new w.left stay (subst (HoldsBack start (turns ++ line_of a b ∷ [])) (sym bag) (holds_more start turns old id a b point level w sets sent quiet members k are))

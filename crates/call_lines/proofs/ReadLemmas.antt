@@ -62,7 +62,7 @@ use Rattle.call_lines.proofs.ActLemmas.{is_call_of, never_writes, read_sets_none
 
 -- ---- the read
 
-module _ {D : Type 0} {ghosts : Ghosts D} (start : Option MetaState) (turns : List Turn) (net : Net D ghosts) (id : CallId) (a : Act) (w : Wish) (level : ReadLevel) (r : IsRead start turns net id a w level) (b : Answer) where
+module _ {D : Type 0} {G : Ghosts D} (start : Option MetaState) (turns : List Turn) (net : Net D G) (id : CallId) (a : Act) (w : Wish) (level : ReadLevel) (r : IsRead start turns net id a w level) (b : Answer) where
   abbrev pub here : TurnPlace
   here = place_after turns a b
 
@@ -337,7 +337,7 @@ module _ {D : Type 0} {ghosts : Ghosts D} (start : Option MetaState) (turns : Li
       finds = finds;
     }
 
-  pub leaves : (new : Net D ghosts) (more : List Event) → new.replicas.events ≡ events ++ more → ReadLine start turns events a b more → ((e : Event) → IsIn more e → IsCalm e) → length more ≤ MOST_REQUEST_EVENTS
+  pub leaves : (new : Net D G) (more : List Event) → new.replicas.events ≡ events ++ more → ReadLine start turns events a b more → ((e : Event) → IsIn more e → IsCalm e) → length more ≤ MOST_REQUEST_EVENTS
       → (b ≡ answer.Memory) ⊎ IsOfKind [] start here a b → HearsOf start (InStretch (events ++ more) (length events) (length (events ++ more))) here [] b → LeavesLine ReadLine start turns [] net a b new
   leaves new more grew line calm few kind heard = record {
     more = more;

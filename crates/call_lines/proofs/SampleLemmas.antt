@@ -48,8 +48,8 @@ fare : (fates : FateMap) → ((client call : ℕ) → fate_of fates (record { cl
 fare fates are client call zero own stands = are client call ∙ ap (λ (i : Instance). fate_in (numbering_after 0 lines_to_write).fates client call i.name) (some_same node own stands)
 fare fates are client call (suc n) own stands = cc
 
-pub sample_is_left : {D : Type 0} {ghosts : Ghosts D} (net : Net D ghosts) → SampleIsLeft net
-sample_is_left {D} {ghosts} net s = record {
+pub sample_is_left : {D : Type 0} {G : Ghosts D} (net : Net D G) → SampleIsLeft net
+sample_is_left {D} {G} net s = record {
   rules = sym s.rules;
   place = ap Some (sym s.place);
   seed = sym s.seed;

@@ -63,7 +63,7 @@ take_few (suc k) (x ∷ ns) = let rest = take_few k ns in omega (arith, rest)
 
 -- ---- behind whole reads, one that began
 
-module _ {D : Type 0} {ghosts : Ghosts D} (start : Option MetaState) (turns : List Turn) (old : Net D ghosts) (id : CallId) (a : Act) (w : Wish) (level : ReadLevel) (r : IsRead start turns old id a w level) (b : Answer) (before : List ℕ) (one : ℕ) (after : List ℕ)
+module _ {D : Type 0} {G : Ghosts D} (start : Option MetaState) (turns : List Turn) (old : Net D G) (id : CallId) (a : Act) (w : Wish) (level : ReadLevel) (r : IsRead start turns old id a w level) (b : Answer) (before : List ℕ) (one : ℕ) (after : List ℕ)
     (reads : ℕ → ShardRead) (whole : List Event) (were : WereRead old.state old.fates id w (needed_read level old.state.place.rf) (length old.replicas.events) before (one ∷ after) reads whole) (nodes : List ℕ) (own : List Event)
     (each : (e : Event) → IsIn own e → IsExchangedBy old.fates id one (read_call id old.state.rules old.state.place.version w) nodes e) (within : (n : ℕ) → IsIn nodes n → IsCounted old.state.place one n) where
   abbrev pub tail : List Event
@@ -122,7 +122,7 @@ module _ {D : Type 0} {ghosts : Ghosts D} (start : Option MetaState) (turns : Li
       let long = length-append whole tail in
       omega (arith, few, most, parts, long, short)
 
-  pub leaves_so : (new : Net D ghosts) → new.replicas.events ≡ whole_list → length own ≤ 24 → ((nodes : List ℕ) → b ≡ answer.Acks nodes → ⊥) → printed b ≡ None → found_of b ≡ None → (b ≡ answer.Memory) ⊎ IsOfKind [] start (place_after turns a b) a b
+  pub leaves_so : (new : Net D G) → new.replicas.events ≡ whole_list → length own ≤ 24 → ((nodes : List ℕ) → b ≡ answer.Acks nodes → ⊥) → printed b ≡ None → found_of b ≡ None → (b ≡ answer.Memory) ⊎ IsOfKind [] start (place_after turns a b) a b
       → HearsOf start (InStretch whole_list (length old.replicas.events) (length whole_list)) (place_after turns a b) [] b → HearsBy start old.replicas.events (InStretch whole_list (length old.replicas.events) (length whole_list)) (place_after turns a b) a b
       → LeavesLine ReadLine start turns [] old a b new
   leaves_so new grew short no_acks no_place no_found kind delivers hears = leaves start turns old id a w level r b new (whole ++ tail) grew
@@ -131,8 +131,8 @@ module _ {D : Type 0} {ghosts : Ghosts D} (start : Option MetaState) (turns : Li
 
 -- ---- too few
 
-pub first_short_tells : {D : Type 0} {ghosts : Ghosts D} (state : D → DiskState) (old : Net D ghosts) → FirstShortTells state old
-first_short_tells {D} {ghosts} state old tells start turns new id a w level shard due got reasons r legal h =
+pub first_short_tells : {D : Type 0} {G : Ghosts D} (state : D → DiskState) (old : Net D G) → FirstShortTells state old
+first_short_tells {D} {G} state old tells start turns new id a w level shard due got reasons r legal h =
     let b : Answer = answer.Consistency got due reasons shard in
     let x = h.last in
     let one = h.here in
@@ -175,7 +175,7 @@ first_short_tells {D} {ghosts} state old tells start turns new id a w level shar
 
 -- ---- ended early
 
-module _ {D : Type 0} {ghosts : Ghosts D} (state : D → DiskState) (start : Option MetaState) (turns : List Turn) (old new : Net D ghosts) (id : CallId) (a : Act) (w : Wish) (level : ReadLevel) (r : IsRead start turns old id a w level) where
+module _ {D : Type 0} {G : Ghosts D} (state : D → DiskState) (start : Option MetaState) (turns : List Turn) (old new : Net D G) (id : CallId) (a : Act) (w : Wish) (level : ReadLevel) (r : IsRead start turns old id a w level) where
   -- between two shards
   stopped_line : (b : Answer) → IsGivenUp b → (before after : List ℕ) (reads : ℕ → ShardRead) (whole : List Event) → WereRead old.state old.fates id w (needed_read level old.state.place.rf) (length old.replicas.events) before after reads whole
       → ReadLine start turns old.replicas.events a b (whole ++ [])
@@ -205,13 +205,13 @@ module _ {D : Type 0} {ghosts : Ghosts D} (state : D → DiskState) (start : Opt
       (let few = few_events reply.Found old.fates id h.here c nodes x.heard x.reads asked.heard in let six = few_nodes start turns old id a w level r answer.Memory h.here x.nodes (asked.counted).same in let some = take_few h.k x.nodes in omega (arith, few, six, some))
       (λ nodes e. cc) refl refl (inl refl) tt (hears_nothing start old.replicas.events (InStretch (old.replicas.events ++ (h.events ++ start_of old.state w h.here ∷ x.reads)) (length old.replicas.events) (length (old.replicas.events ++ (h.events ++ start_of old.state w h.here ∷ x.reads)))) (place_after turns a answer.Memory) a answer.Memory tt)
 
-pub ended_tells : {D : Type 0} {ghosts : Ghosts D} (state : D → DiskState) (old : Net D ghosts) → EndedTells state old
-ended_tells {D} {ghosts} state old start turns new id a w level r (inl h) = stopped state start turns old new id a w level r h
-ended_tells {D} {ghosts} state old start turns new id a w level r (inr h) = cut_short state start turns old new id a w level r h
+pub ended_tells : {D : Type 0} {G : Ghosts D} (state : D → DiskState) (old : Net D G) → EndedTells state old
+ended_tells {D} {G} state old start turns new id a w level r (inl h) = stopped state start turns old new id a w level r h
+ended_tells {D} {G} state old start turns new id a w level r (inr h) = cut_short state start turns old new id a w level r h
 
 -- before a shard for which the list has no room
-pub full_tells : {D : Type 0} {ghosts : Ghosts D} (state : D → DiskState) (old : Net D ghosts) → FullTells state old
-full_tells {D} {ghosts} state old start turns new id a w level r h =
+pub full_tells : {D : Type 0} {G : Ghosts D} (state : D → DiskState) (old : Net D G) → FullTells state old
+full_tells {D} {G} state old start turns new id a w level r h =
     let events = old.replicas.events in
     let more = h.events ++ [] in
     let grew : new.replicas.events ≡ events ++ more = (h.ran).grew ∙ ap (λ es. events ++ es) (sym (append-nil h.events)) in

@@ -76,7 +76,7 @@ use Rattle.call_lines.proofs.ShardLemmas.{AreHeardOf, IsCallBy, MaySay, answerin
 
 -- ---- what a call of the next line meets
 
-module _ {D : Type 0} {ghosts : Ghosts D} (start : Option MetaState) (turns : List Turn) (net : Net D ghosts) (id : CallId) (left : IsLeftBy start turns net) (next : IsNextCall turns id) where
+module _ {D : Type 0} {G : Ghosts D} (start : Option MetaState) (turns : List Turn) (net : Net D G) (id : CallId) (left : IsLeftBy start turns net) (next : IsNextCall turns id) where
   pub number_here : (a : Act) (b : Answer) → id.number ≡ call_number (place_after turns a b)
   number_here a b = next.1 ∙ more_none (numbering_after 0 turns).calls
     where
@@ -121,7 +121,7 @@ needs_some writing.All rf some = some
 
 -- ---- the write
 
-module _ {D : Type 0} {ghosts : Ghosts D} (start : Option MetaState) (turns : List Turn) (net : Net D ghosts) (id : CallId) (a : Act) (point : Point) (level : WriteLevel) (w : IsWrite start turns net id a point level) (b : Answer) where
+module _ {D : Type 0} {G : Ghosts D} (start : Option MetaState) (turns : List Turn) (net : Net D G) (id : CallId) (a : Act) (point : Point) (level : WriteLevel) (w : IsWrite start turns net id a point level) (b : Answer) where
   abbrev written : Act
   written = act.Write w.ns w.name w.t w.v level w.version
 
@@ -382,11 +382,11 @@ no_restart send acks zero n s r at = cc
 no_restart send acks (suc k) n s r at = cc
 
 -- a write's line is served
-serves_write : {D : Type 0} {ghosts : Ghosts D} (start : Option MetaState) (turns : List Turn) (old new : Net D ghosts) (id : CallId) (a : Act) (point : Point) (level : WriteLevel) (w : IsWrite start turns old id a point level) (b : Answer) (more : List Event) → ((e : Event) → IsIn more e → IsCalm e)
+serves_write : {D : Type 0} {G : Ghosts D} (start : Option MetaState) (turns : List Turn) (old new : Net D G) (id : CallId) (a : Act) (point : Point) (level : WriteLevel) (w : IsWrite start turns old id a point level) (b : Answer) (more : List Event) → ((e : Event) → IsIn more e → IsCalm e)
     → length more ≤ MOST_REQUEST_EVENTS → (b ≡ answer.Memory) ⊎ IsOfKind [] start (place_after turns (act.Write w.ns w.name w.t w.v level w.version) b) (act.Write w.ns w.name w.t w.v level w.version) b
     → HearsOf start (InStretch (old.replicas.events ++ more) (length old.replicas.events) (length (old.replicas.events ++ more))) (place_after turns (act.Write w.ns w.name w.t w.v level w.version) b) [] b → new.replicas.events ≡ old.replicas.events ++ more
     → WriteLine start turns old.replicas.events (act.Write w.ns w.name w.t w.v level w.version) b more → LeavesLine WriteLine start turns [] old a b new
-serves_write {D} {ghosts} start turns old new id a point level w b more calm few kind heard grew line =
+serves_write {D} {G} start turns old new id a point level w b more calm few kind heard grew line =
     let written : Act = act.Write w.ns w.name w.t w.v level w.version in
     subst (λ x. LeavesLine WriteLine start turns [] old x b new) (sym w.act_is) (record {
       more = more;
@@ -400,8 +400,8 @@ calm_ack : (at : ℕ) (acks : List ℕ) (e : Event) → IsIn (event.Ack at acks 
 calm_ack at acks e (inl is) = subst IsCalm is tt
 calm_ack at acks e (inr none) = absurd none
 
-pub acked_tells : {D : Type 0} {ghosts : Ghosts D} (state : D → DiskState) (old : Net D ghosts) → AcknowledgedTells state old
-acked_tells {D} {ghosts} state old start turns new id a point level acks w h =
+pub acked_tells : {D : Type 0} {G : Ghosts D} (state : D → DiskState) (old : Net D G) → AcknowledgedTells state old
+acked_tells {D} {G} state old start turns new id a point level acks w h =
     let b : Answer = answer.Acks acks in
     let last : List Event = event.Ack (length old.replicas.events) acks ∷ [] in
     let send = send_of old point in
@@ -427,8 +427,8 @@ acked_tells {D} {ghosts} state old start turns new id a point level acks w h =
     by start low many acks all here counts zero e at = subst (MayMake start (take (low + suc (many + 0)) all) here) (some_same (event.Ack low acks) e at) (counts (low + suc (many + 0)) (omega arith))
     by start low many acks all here counts (suc k) e at = cc
 
-pub unmet_tells : {D : Type 0} {ghosts : Ghosts D} (state : D → DiskState) (old : Net D ghosts) → UnmetTells state old
-unmet_tells {D} {ghosts} state old tells start turns new id a point level shard needed got reasons w legal h =
+pub unmet_tells : {D : Type 0} {G : Ghosts D} (state : D → DiskState) (old : Net D G) → UnmetTells state old
+unmet_tells {D} {G} state old tells start turns new id a point level shard needed got reasons w legal h =
     let b : Answer = answer.Consistency got needed reasons shard in
     let send = send_of old point in
     let same = ((h.is_sent).members).same in
@@ -456,8 +456,8 @@ unmet_tells {D} {ghosts} state old tells start turns new id a point level shard 
       first = λ lower below also. absurd (let one : lower ≡ shard = also ∙ sym asks in omega (arith, one, below));
     }))
 
-pub unsent_tells : {D : Type 0} {ghosts : Ghosts D} (state : D → DiskState) (old : Net D ghosts) → UnsentTells state old
-unsent_tells {D} {ghosts} state old start turns new id a point level w h =
+pub unsent_tells : {D : Type 0} {G : Ghosts D} (state : D → DiskState) (old : Net D G) → UnsentTells state old
+unsent_tells {D} {G} state old start turns new id a point level w h =
     let send = send_of old point in
     serves_write start turns old new id a point level w answer.Memory (send ∷ []) (calm start turns old id a point level w answer.Memory h.members (h.are).same [] [] (λ e m. absurd m) (λ e m. absurd m)) (omega arith) (inl refl) tt (h.ran).grew
     (line start turns old id a point level w answer.Memory h.members (h.are).same [] [] (λ e m. absurd m) refl refl refl refl refl (λ k e at. cc) (λ k n s r at. cc) tt)

@@ -50,7 +50,7 @@ abbrev pub IsNotRefused : Option MetaState → List Turn → Act → Answer → 
 IsNotRefused start turns a b = refusal_after start (place_after turns a b) (inner_turns turns) ≡ None
 
 -- What came to the list tells of the turn's line; and where no refusal was due, the line is served: it delivers these messages.
-pub record LeavesLine {D : Type 0} {ghosts : Ghosts D} (Line : Kind) (start : Option MetaState) (turns : List Turn) (messages : List LateMessage) (old : Net D ghosts) (a : Act) (b : Answer) (new : Net D ghosts) : Type 0 where
+pub record LeavesLine {D : Type 0} {G : Ghosts D} (Line : Kind) (start : Option MetaState) (turns : List Turn) (messages : List LateMessage) (old : Net D G) (a : Act) (b : Answer) (new : Net D G) : Type 0 where
   pub more : List Event
   pub grew : new.replicas.events ≡ old.replicas.events ++ more
   pub line : Line start turns old.replicas.events a b more
@@ -68,7 +68,7 @@ pub record LeavesServed (Line : Kind) (start : Option MetaState) (turns : List T
 -- ---- writes
 
 -- the next turn is a write of this point, made as this call where calls may be made
-pub record IsWrite {D : Type 0} {ghosts : Ghosts D} (start : Option MetaState) (turns : List Turn) (net : Net D ghosts) (id : CallId) (a : Act) (point : Point) (level : WriteLevel) : Type 0 where
+pub record IsWrite {D : Type 0} {G : Ghosts D} (start : Option MetaState) (turns : List Turn) (net : Net D G) (id : CallId) (a : Act) (point : Point) (level : WriteLevel) : Type 0 where
   pub left : IsLeftBy start turns net
   pub ready : IsReady net.state net.replicas net.bag
   pub next : IsNextCall turns id
@@ -82,29 +82,29 @@ pub record IsWrite {D : Type 0} {ghosts : Ghosts D} (start : Option MetaState) (
   pub of_act : point_of net.state.rules.spaces a ≡ Some point
 
 -- one that was acknowledged tells of its line
-abbrev pub AcknowledgedTells : {D : Type 0} {ghosts : Ghosts D} → (D → DiskState) → Net D ghosts → Type 0
-AcknowledgedTells {D} {ghosts} state old =
-    (start : Option MetaState) (turns : List Turn) (new : Net D ghosts) (id : CallId) (a : Act) (point : Point) (level : WriteLevel) (acks : List ℕ)
+abbrev pub AcknowledgedTells : {D : Type 0} {G : Ghosts D} → (D → DiskState) → Net D G → Type 0
+AcknowledgedTells {D} {G} state old =
+    (start : Option MetaState) (turns : List Turn) (new : Net D G) (id : CallId) (a : Act) (point : Point) (level : WriteLevel) (acks : List ℕ)
     → IsWrite start turns old id a point level → IsAcknowledged state old id point level acks new → LeavesLine WriteLine start turns [] old a (answer.Acks acks) new
 
 -- so does one that too few took, where the list is legal
-abbrev pub UnmetTells : {D : Type 0} {ghosts : Ghosts D} → (D → DiskState) → Net D ghosts → Type 0
-UnmetTells {D} {ghosts} state old =
-    (tells : Bool) (start : Option MetaState) (turns : List Turn) (new : Net D ghosts) (id : CallId) (a : Act) (point : Point) (level : WriteLevel) (shard needed got : ℕ) (reasons : List (ℕ × Reason))
+abbrev pub UnmetTells : {D : Type 0} {G : Ghosts D} → (D → DiskState) → Net D G → Type 0
+UnmetTells {D} {G} state old =
+    (tells : Bool) (start : Option MetaState) (turns : List Turn) (new : Net D G) (id : CallId) (a : Act) (point : Point) (level : WriteLevel) (shard needed got : ℕ) (reasons : List (ℕ × Reason))
     → IsWrite start turns old id a point level → Legal tells new.replicas.events → IsUnmet state old id point level shard needed got reasons new → LeavesLine WriteLine start turns [] old a (answer.Consistency got needed reasons shard) new
 
 -- and one that wanted memory once it was sent
-abbrev pub UnsentTells : {D : Type 0} {ghosts : Ghosts D} → (D → DiskState) → Net D ghosts → Type 0
-UnsentTells {D} {ghosts} state old =
-    (start : Option MetaState) (turns : List Turn) (new : Net D ghosts) (id : CallId) (a : Act) (point : Point) (level : WriteLevel)
+abbrev pub UnsentTells : {D : Type 0} {G : Ghosts D} → (D → DiskState) → Net D G → Type 0
+UnsentTells {D} {G} state old =
+    (start : Option MetaState) (turns : List Turn) (new : Net D G) (id : CallId) (a : Act) (point : Point) (level : WriteLevel)
     → IsWrite start turns old id a point level → IsUnsent state old id point new → LeavesLine WriteLine start turns [] old a answer.Memory new
 
 -- ---- deliveries
 
 -- The late writes that were delivered are late messages of the turns, and what came to the list tells of the delivery's line.
-abbrev pub DeliveredTells : {D : Type 0} {ghosts : Ghosts D} → (D → DiskState) → Net D ghosts → Type 0
-DeliveredTells {D} {ghosts} state old =
-    (tells : Bool) (start : Option MetaState) (turns : List Turn) (new : Net D ghosts) (outcomes : List (ℕ × ℕ × Option Reason))
+abbrev pub DeliveredTells : {D : Type 0} {G : Ghosts D} → (D → DiskState) → Net D G → Type 0
+DeliveredTells {D} {G} state old =
+    (tells : Bool) (start : Option MetaState) (turns : List Turn) (new : Net D G) (outcomes : List (ℕ × ℕ × Option Reason))
     → (left : IsLeftBy start turns old) → IsReady old.state old.replicas old.bag → Legal tells new.replicas.events → IsDelivered state old outcomes new
     → LeavesLine PlainLine start turns (left.late).messages old act.Deliver (answer.Outcomes outcomes) new
 

@@ -64,7 +64,7 @@ abbrev pub FareAsSet : List Turn → Placement → FateMap → Type 0
 FareAsSet turns place fates = (client call node : ℕ) (own : Instance) → slice_get place.instances node ≡ Some own → fate_of fates (record { client = client; call = call; node = node }) ≡ fate_in (numbering_after 0 turns).fates client call own.name
 
 -- The rules, the placement, the seed, the fates and the late writes are what the turns left.
-pub record IsLeftBy {D : Type 0} {ghosts : Ghosts D} (start : Option MetaState) (turns : List Turn) (net : Net D ghosts) : Type 0 where
+pub record IsLeftBy {D : Type 0} {G : Ghosts D} (start : Option MetaState) (turns : List Turn) (net : Net D G) : Type 0 where
   pub rules : rules_after (start_rules start) (inner_turns turns) ≡ net.state.rules
   pub place : placement_after (start_placement start) (inner_turns turns) ≡ Some net.state.place
   pub seed : seed_after start (inner_turns turns) ≡ net.state.seed

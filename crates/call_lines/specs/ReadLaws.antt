@@ -22,7 +22,7 @@ use Rattle.call_lines.specs.Laws.{LeavesLine, LeavesServed}
 use Rattle.call_lines.specs.Left.{IsLeftBy, IsNextCall, MayUseIt}
 
 -- the next turn is a read of what this wish wants, made as this call where calls may be made
-pub record IsRead {D : Type 0} {ghosts : Ghosts D} (start : Option MetaState) (turns : List Turn) (net : Net D ghosts) (id : CallId) (a : Act) (w : Wish) (level : ReadLevel) : Type 0 where
+pub record IsRead {D : Type 0} {G : Ghosts D} (start : Option MetaState) (turns : List Turn) (net : Net D G) (id : CallId) (a : Act) (w : Wish) (level : ReadLevel) : Type 0 where
   pub left : IsLeftBy start turns net
   pub ready : IsReady net.state net.replicas net.bag
   pub next : IsNextCall turns id
@@ -33,27 +33,27 @@ pub record IsRead {D : Type 0} {ghosts : Ghosts D} (start : Option MetaState) (t
   pub of_act : read_of net.state.rules.spaces a ≡ Some (record { pick = w.pick; from = w.from; to = w.to; level = level })
 
 -- one that was answered tells of its line
-abbrev pub FoundTells : {D : Type 0} {ghosts : Ghosts D} → (D → DiskState) → Net D ghosts → Type 0
-FoundTells {D} {ghosts} state old =
-    (tells : Bool) (start : Option MetaState) (turns : List Turn) (new : Net D ghosts) (id : CallId) (a : Act) (w : Wish) (level : ReadLevel) (series : List Series) (short : Bool)
+abbrev pub FoundTells : {D : Type 0} {G : Ghosts D} → (D → DiskState) → Net D G → Type 0
+FoundTells {D} {G} state old =
+    (tells : Bool) (start : Option MetaState) (turns : List Turn) (new : Net D G) (id : CallId) (a : Act) (w : Wish) (level : ReadLevel) (series : List Series) (short : Bool)
     → IsRead start turns old id a w level → Legal tells new.replicas.events → IsFound state old id w level series short new → LeavesLine ReadLine start turns [] old a (answer.Found series short) new
 
 -- so does one that too few answered
-abbrev pub FirstShortTells : {D : Type 0} {ghosts : Ghosts D} → (D → DiskState) → Net D ghosts → Type 0
-FirstShortTells {D} {ghosts} state old =
-    (tells : Bool) (start : Option MetaState) (turns : List Turn) (new : Net D ghosts) (id : CallId) (a : Act) (w : Wish) (level : ReadLevel) (shard needed got : ℕ) (reasons : List (ℕ × Reason))
+abbrev pub FirstShortTells : {D : Type 0} {G : Ghosts D} → (D → DiskState) → Net D G → Type 0
+FirstShortTells {D} {G} state old =
+    (tells : Bool) (start : Option MetaState) (turns : List Turn) (new : Net D G) (id : CallId) (a : Act) (w : Wish) (level : ReadLevel) (shard needed got : ℕ) (reasons : List (ℕ × Reason))
     → IsRead start turns old id a w level → Legal tells new.replicas.events → IsFirstShort state old.state old.fates id w (needed_read level old.state.place.rf) old.replicas new.replicas shard needed got reasons
     → LeavesLine ReadLine start turns [] old a (answer.Consistency got needed reasons shard) new
 
 -- and one that ended early for want of memory, between two shards or within one
-abbrev pub EndedTells : {D : Type 0} {ghosts : Ghosts D} → (D → DiskState) → Net D ghosts → Type 0
-EndedTells {D} {ghosts} state old =
-    (start : Option MetaState) (turns : List Turn) (new : Net D ghosts) (id : CallId) (a : Act) (w : Wish) (level : ReadLevel) → IsRead start turns old id a w level
+abbrev pub EndedTells : {D : Type 0} {G : Ghosts D} → (D → DiskState) → Net D G → Type 0
+EndedTells {D} {G} state old =
+    (start : Option MetaState) (turns : List Turn) (new : Net D G) (id : CallId) (a : Act) (w : Wish) (level : ReadLevel) → IsRead start turns old id a w level
     → IsStopped state old.state old.fates id w (needed_read level old.state.place.rf) old.replicas new.replicas ⊎ IsCutShort state old.state old.fates id w (needed_read level old.state.place.rf) old.replicas new.replicas
     → LeavesLine ReadLine start turns [] old a answer.Memory new
 
 -- One for which the list had no room tells of its line too, which is served.
-abbrev pub FullTells : {D : Type 0} {ghosts : Ghosts D} → (D → DiskState) → Net D ghosts → Type 0
-FullTells {D} {ghosts} state old =
-    (start : Option MetaState) (turns : List Turn) (new : Net D ghosts) (id : CallId) (a : Act) (w : Wish) (level : ReadLevel) → IsRead start turns old id a w level
+abbrev pub FullTells : {D : Type 0} {G : Ghosts D} → (D → DiskState) → Net D G → Type 0
+FullTells {D} {G} state old =
+    (start : Option MetaState) (turns : List Turn) (new : Net D G) (id : CallId) (a : Act) (w : Wish) (level : ReadLevel) → IsRead start turns old id a w level
     → IsFull state old.state old.fates id w (needed_read level old.state.place.rf) old.replicas new.replicas → LeavesServed ReadLine start turns [] old.replicas.events a answer.Full new.replicas.events

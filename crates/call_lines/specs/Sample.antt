@@ -15,7 +15,7 @@ abbrev pub held : LateWrite
 held = record { client = 0; number = 0; node = 0; shard = 0; version = 1; point = point }
 
 -- the fields are these
-pub record IsSampleNet {D : Type 0} {ghosts : Ghosts D} (net : Net D ghosts) : Type 0 where
+pub record IsSampleNet {D : Type 0} {G : Ghosts D} (net : Net D G) : Type 0 where
   pub rules : net.state.rules ≡ rules
   pub place : net.state.place ≡ place
   pub seed : net.state.seed ≡ 0
@@ -23,5 +23,5 @@ pub record IsSampleNet {D : Type 0} {ghosts : Ghosts D} (net : Net D ghosts) : T
   pub bag : net.bag ≡ held ∷ []
 
 -- and they are what the turns to that write left
-abbrev pub SampleIsLeft : {D : Type 0} {ghosts : Ghosts D} → Net D ghosts → Type 0
+abbrev pub SampleIsLeft : {D : Type 0} {G : Ghosts D} → Net D G → Type 0
 SampleIsLeft net = IsSampleNet net → IsLeftBy None lines_to_write net

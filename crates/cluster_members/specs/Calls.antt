@@ -26,7 +26,7 @@ answer_of err.Memory = answer.Memory
 answer_of err.Full = answer.Full
 
 -- the state by which calls go, the fates, the slots and which nodes are stopped stay
-pub record KeepsCluster {D : Type 0} {ghosts : Ghosts D} (old new : Members D ghosts) : Type 0 where
+pub record KeepsCluster {D : Type 0} {G : Ghosts D} (old new : Members D G) : Type 0 where
   pub state : new.net.state ≡ old.net.state
   pub fates : new.net.fates ≡ old.net.fates
   pub slots : new.slots.items ≡ old.slots.items
@@ -46,7 +46,7 @@ abbrev pub placed : NamedPoint → ℕ → Point
 placed p ns = record { ns = ns; id = p.id; t = p.t; v = p.v }
 
 -- a write was acknowledged or refused
-abbrev pub IsWriteAnswer : {D : Type 0} {ghosts : Ghosts D} → (D → DiskState) → Net D ghosts → CallId → Point → WriteLevel → Answer → Net D ghosts → Type 0
+abbrev pub IsWriteAnswer : {D : Type 0} {G : Ghosts D} → (D → DiskState) → Net D G → CallId → Point → WriteLevel → Answer → Net D G → Type 0
 IsWriteAnswer state old id p level (answer.Acks acks) new = IsAcknowledged state old id p level acks new
 IsWriteAnswer state old id p level (answer.Consistency got needed reasons shard) new = IsRefused state old id p level new (err.Consistency shard needed got reasons)
 IsWriteAnswer state old id p level answer.Memory new = IsRefused state old id p level new err.Memory
@@ -54,14 +54,14 @@ IsWriteAnswer state old id p level answer.Full new = IsRefused state old id p le
 IsWriteAnswer state old id p level _ new = ⊥
 
 -- a write went to the members of its shard
-pub record IsPut {D : Type 0} {ghosts : Ghosts D} (state : D → DiskState) (old : Members D ghosts) (id : CallId) (point : NamedPoint) (level : WriteLevel) (answered : Answer) (new : Members D ghosts) : Type 0 where
+pub record IsPut {D : Type 0} {G : Ghosts D} (state : D → DiskState) (old : Members D G) (id : CallId) (point : NamedPoint) (level : WriteLevel) (answered : Answer) (new : Members D G) : Type 0 where
   pub place : ℕ
   pub found : namespace_place point.ns (spaces_in old) ≡ Some place
   pub answers : IsWriteAnswer state old.net id (placed point place) level answered new.net
   pub keeps : KeepsCluster old new
 
 -- the namespace isn't there, or the write went to the members of its shard
-abbrev pub IsWritten : {D : Type 0} {ghosts : Ghosts D} → (D → DiskState) → Members D ghosts → CallId → NamedPoint → WriteLevel → Answer → Members D ghosts → Type 0
+abbrev pub IsWritten : {D : Type 0} {G : Ghosts D} → (D → DiskState) → Members D G → CallId → NamedPoint → WriteLevel → Answer → Members D G → Type 0
 IsWritten state old id point level answered new =
     ((namespace_place point.ns (spaces_in old) ≡ None) × (answered ≡ answer.Unknown point.ns) × (new ≡ old)) ⊎ IsPut state old id point level answered new
 
@@ -72,7 +72,7 @@ abbrev pub wish : Pick → Range → Wish
 wish pick range = record { pick = pick; from = range.from; to = range.to }
 
 -- a read found what the nodes that count answered, or it was refused
-abbrev pub IsReadAnswer : {D : Type 0} {ghosts : Ghosts D} → (D → DiskState) → Net D ghosts → CallId → Wish → ReadLevel → Answer → Net D ghosts → Type 0
+abbrev pub IsReadAnswer : {D : Type 0} {G : Ghosts D} → (D → DiskState) → Net D G → CallId → Wish → ReadLevel → Answer → Net D G → Type 0
 IsReadAnswer state old id w level (answer.Found series short) new = IsFound state old id w level series short new
 IsReadAnswer state old id w level (answer.Consistency got needed reasons shard) new = IsRefusedRead state old id w level new (err.Consistency shard needed got reasons)
 IsReadAnswer state old id w level answer.Memory new = IsRefusedRead state old id w level new err.Memory
@@ -80,7 +80,7 @@ IsReadAnswer state old id w level answer.Full new = IsRefusedRead state old id w
 IsReadAnswer state old id w level _ new = ⊥
 
 -- the nodes that count were asked
-pub record IsRead {D : Type 0} {ghosts : Ghosts D} (state : D → DiskState) (old : Members D ghosts) (id : CallId) (ns : List ℕ) (pick : ℕ → Pick) (range : Range) (level : ReadLevel) (answered : Answer) (new : Members D ghosts) : Type 0 where
+pub record IsRead {D : Type 0} {G : Ghosts D} (state : D → DiskState) (old : Members D G) (id : CallId) (ns : List ℕ) (pick : ℕ → Pick) (range : Range) (level : ReadLevel) (answered : Answer) (new : Members D G) : Type 0 where
   pub place : ℕ
   pub found : namespace_place ns (spaces_in old) ≡ Some place
   pub answers : IsReadAnswer state old.net id (wish (pick place) range) level answered new.net
@@ -88,6 +88,6 @@ pub record IsRead {D : Type 0} {ghosts : Ghosts D} (state : D → DiskState) (ol
   pub bag : new.net.bag ≡ old.net.bag
 
 -- the namespace isn't there, or the nodes that count were asked
-abbrev pub IsFetched : {D : Type 0} {ghosts : Ghosts D} → (D → DiskState) → Members D ghosts → CallId → List ℕ → (ℕ → Pick) → Range → ReadLevel → Answer → Members D ghosts → Type 0
+abbrev pub IsFetched : {D : Type 0} {G : Ghosts D} → (D → DiskState) → Members D G → CallId → List ℕ → (ℕ → Pick) → Range → ReadLevel → Answer → Members D G → Type 0
 IsFetched state old id ns pick range level answered new =
     ((namespace_place ns (spaces_in old) ≡ None) × (answered ≡ answer.Unknown ns) × (new ≡ old)) ⊎ IsRead state old id ns pick range level answered new

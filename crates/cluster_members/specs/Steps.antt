@@ -15,7 +15,7 @@ use Rattle.replica_exchange.specs.MachineCalls.{HasRoom}
 use Rattle.session_net.specs.Runs.{Ran}
 use Rattle.cluster_members.specs.declared.members.Members.{Members}
 
-abbrev pub spaces_in : {D : Type 0} {ghosts : Ghosts D} → Members D ghosts → List Space
+abbrev pub spaces_in : {D : Type 0} {G : Ghosts D} → Members D G → List Space
 spaces_in m = m.net.state.rules.spaces
 
 -- a Clock of the rules is asked for, and added
@@ -23,7 +23,7 @@ abbrev pub clock_events : Rules → List Event
 clock_events rules = event.Ask (asked.Clock rules) ∷ event.Clock rules ∷ []
 
 -- the rules are set by a Clock, and all else stays
-pub record SetsRules {D : Type 0} {ghosts : Ghosts D} (state : D → DiskState) (rules : Rules) (old new : Members D ghosts) : Type 0 where
+pub record SetsRules {D : Type 0} {G : Ghosts D} (state : D → DiskState) (rules : Rules) (old new : Members D G) : Type 0 where
   pub state_is : new.net.state ≡ record old.net.state { rules = rules }
   pub ran : Ran state old.net.replicas (clock_events rules) new.net.replicas
   pub fates : new.net.fates ≡ old.net.fates
@@ -32,7 +32,7 @@ pub record SetsRules {D : Type 0} {ghosts : Ghosts D} (state : D → DiskState) 
   pub stopped : new.stopped.items ≡ old.stopped.items
 
 -- the list has no room for a Clock and its Ask, and nothing changed
-abbrev pub LacksRoom : {D : Type 0} {ghosts : Ghosts D} → Members D ghosts → Members D ghosts → Type 0
+abbrev pub LacksRoom : {D : Type 0} {G : Ghosts D} → Members D G → Members D G → Type 0
 LacksRoom old new = (new ≡ old) × ¬ HasRoom 2 old.net.replicas.events
 
 -- ---- namespaces
@@ -47,7 +47,7 @@ pub record MayName (spaces : List Space) (space : Space) : Type 0 where
   pub few : length spaces < MOST_NAMESPACES
 
 -- a namespace is made; one of a name that is there is out of order, and there is a limit to them
-abbrev pub IsNamed : {D : Type 0} {ghosts : Ghosts D} → (D → DiskState) → Members D ghosts → Space → Answer → Members D ghosts → Type 0
+abbrev pub IsNamed : {D : Type 0} {G : Ghosts D} → (D → DiskState) → Members D G → Space → Answer → Members D G → Type 0
 IsNamed state old space answer.Done new = MayName (spaces_in old) space × SetsRules state (with_space space old.net.state.rules) old new
 IsNamed state old space answer.Order new = IsSome (namespace_place space.name (spaces_in old)) × (new ≡ old)
 IsNamed state old space (answer.Limit limit) new = (namespace_place space.name (spaces_in old) ≡ None) × (MOST_NAMESPACES ≤ length (spaces_in old)) × (limit ≡ MOST_NAMESPACES) × (new ≡ old)
@@ -62,7 +62,7 @@ abbrev pub at_moment : ℕ → Rules → Rules
 at_moment now rules = record rules { now = now }
 
 -- the moment moves on; it never falls
-abbrev pub IsMoved : {D : Type 0} {ghosts : Ghosts D} → (D → DiskState) → Members D ghosts → ℕ → Answer → Members D ghosts → Type 0
+abbrev pub IsMoved : {D : Type 0} {G : Ghosts D} → (D → DiskState) → Members D G → ℕ → Answer → Members D G → Type 0
 IsMoved state old now answer.Done new = (old.net.state.rules.now ≤ now) × SetsRules state (at_moment now old.net.state.rules) old new
 IsMoved state old now (answer.Clock moment) new = (now < old.net.state.rules.now) × (moment ≡ old.net.state.rules.now) × (new ≡ old)
 IsMoved state old now answer.Memory new = (old.net.state.rules.now ≤ now) × (new ≡ old)

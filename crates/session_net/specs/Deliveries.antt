@@ -38,7 +38,7 @@ AreDelivered rules (one ∷ late) (d ∷ deliveries) events =
 AreDelivered rules _ _ events = ⊥
 
 -- all late writes of the bag, which were few, were delivered, and it is empty
-pub record IsDelivered {D : Type 0} {ghosts : Ghosts D} (state : D → DiskState) (old : Net D ghosts) (outcomes : List (ℕ × ℕ × Option Reason)) (new : Net D ghosts) : Type 0 where
+pub record IsDelivered {D : Type 0} {G : Ghosts D} (state : D → DiskState) (old : Net D G) (outcomes : List (ℕ × ℕ × Option Reason)) (new : Net D G) : Type 0 where
   pub few : length old.bag ≤ MOST_LATE_WRITES
   pub deliveries : List (LateWrite × Result ⊤ Reason)
   pub puts : List Event
@@ -49,7 +49,7 @@ pub record IsDelivered {D : Type 0} {ghosts : Ghosts D} (state : D → DiskState
 
 -- no replica was asked: for want of memory, after which the late writes are still there or all lost; or as the list had no room for what they add, and
 -- nothing changed
-abbrev pub IsUndelivered : {D : Type 0} {ghosts : Ghosts D} → Net D ghosts → Net D ghosts → SessionErr → Type 0
+abbrev pub IsUndelivered : {D : Type 0} {G : Ghosts D} → Net D G → Net D G → SessionErr → Type 0
 IsUndelivered old new err.Memory = (new.replicas ≡ old.replicas) × ((new.bag ≡ old.bag) ⊎ (new.bag ≡ []))
 IsUndelivered old new err.Full = (new ≡ old) × ¬ HasRoom (2 * MOST_LATE_WRITES) old.replicas.events
 IsUndelivered old new _ = ⊥

@@ -126,7 +126,7 @@ pub record AreTogether (ns : ℕ) (shards : List ℕ) (reads : ℕ → ShardRead
 
 -- Enough nodes of each shard that is asked answered, and the series are all answers together. They are short exactly where the level is unstrict and fewer
 -- than a majority of one of the shards answered.
-pub record IsFound {D : Type 0} {ghosts : Ghosts D} (disk : D → DiskState) (old : Net D ghosts) (id : CallId) (w : Wish) (level : ReadLevel) (series : List Series) (short : Bool) (new : Net D ghosts) : Type 0 where
+pub record IsFound {D : Type 0} {G : Ghosts D} (disk : D → DiskState) (old : Net D G) (id : CallId) (w : Wish) (level : ReadLevel) (series : List Series) (short : Bool) (new : Net D G) : Type 0 where
   pub reads : ℕ → ShardRead
   pub events : List Event
   pub are : AreRead old.state old.fates id w (needed_read level old.state.place.rf) (length old.replicas.events) (asked_shards old.state w.pick) reads events
@@ -200,5 +200,5 @@ module _ {D : Type 0} (disk : D → DiskState) (state : MetaState) (fates : Fate
   IsUnfound err.Memory = IsStopped ⊎ IsCutShort
   IsUnfound err.Full = IsFull
 
-abbrev pub IsRefusedRead : {D : Type 0} {ghosts : Ghosts D} → (D → DiskState) → Net D ghosts → CallId → Wish → ReadLevel → Net D ghosts → SessionErr → Type 0
+abbrev pub IsRefusedRead : {D : Type 0} {G : Ghosts D} → (D → DiskState) → Net D G → CallId → Wish → ReadLevel → Net D G → SessionErr → Type 0
 IsRefusedRead disk old id w level new e = IsUnfound disk old.state old.fates id w (needed_read level old.state.place.rf) old.replicas new.replicas e

@@ -66,7 +66,7 @@ abbrev pub filled : List LateWrite → List LateWrite → List LateWrite
 filled bag more = fold kept_in bag more
 
 -- the bag after the write's messages to these nodes
-abbrev pub bag_after : {D : Type 0} {ghosts : Ghosts D} → Net D ghosts → CallId → Point → List ℕ → List LateWrite
+abbrev pub bag_after : {D : Type 0} {G : Ghosts D} → Net D G → CallId → Point → List ℕ → List LateWrite
 bag_after net id p nodes = filled net.bag (late_among net.fates id (shard_of_point net.state p) net.state.place.version p nodes)
 
 -- ---- a write
@@ -96,7 +96,7 @@ abbrev pub told_in : Sent → List Told
 told_in sent = map told_of (counted_among sent.members sent.heard)
 
 -- the write went to all members of its shard
-pub record IsSent {D : Type 0} {ghosts : Ghosts D} (net : Net D ghosts) (id : CallId) (p : Point) (sent : Sent) : Type 0 where
+pub record IsSent {D : Type 0} {G : Ghosts D} (net : Net D G) (id : CallId) (p : Point) (sent : Sent) : Type 0 where
   pub members : AreMembers net.state.place (shard_of_point net.state p) sent.members
   pub heard : AreHeard (λ (u : ⊤). reply.Done) net.fates id (shard_of_point net.state p) (put_of id net.state.rules net.state.place.version p) (nodes_of sent.members) sent.heard sent.puts
 
@@ -131,12 +131,12 @@ IsUnsettled disk fates w members needed old new bag later err.Memory =
 IsUnsettled disk fates w members needed old new bag later err.Full = ⊥
 
 -- the Send of the write
-abbrev pub send_of : {D : Type 0} {ghosts : Ghosts D} → Net D ghosts → Point → Event
+abbrev pub send_of : {D : Type 0} {G : Ghosts D} → Net D G → Point → Event
 send_of net p = event.Send net.state.place.version (shard_of_point net.state p) p
 
 -- As many of the nodes that count as the level needs took the point; they are named in their order. The Send came to the list before any message, and the Ack
 -- after all.
-pub record IsAcknowledged {D : Type 0} {ghosts : Ghosts D} (state : D → DiskState) (old : Net D ghosts) (id : CallId) (p : Point) (level : WriteLevel) (acks : List ℕ) (new : Net D ghosts) : Type 0 where
+pub record IsAcknowledged {D : Type 0} {G : Ghosts D} (state : D → DiskState) (old : Net D G) (id : CallId) (p : Point) (level : WriteLevel) (acks : List ℕ) (new : Net D G) : Type 0 where
   pub sent : Sent
   pub is_sent : IsSent old id p sent
   pub acks_are : acks ≡ answering (told_in sent)
@@ -145,7 +145,7 @@ pub record IsAcknowledged {D : Type 0} {ghosts : Ghosts D} (state : D → DiskSt
   pub bag : new.bag ≡ bag_after old id p (nodes_of sent.members)
 
 -- too few of the nodes that count took it, and there is no Ack
-pub record IsUnmet {D : Type 0} {ghosts : Ghosts D} (state : D → DiskState) (old : Net D ghosts) (id : CallId) (p : Point) (level : WriteLevel) (shard needed got : ℕ) (reasons : List (ℕ × Reason)) (new : Net D ghosts) : Type 0 where
+pub record IsUnmet {D : Type 0} {G : Ghosts D} (state : D → DiskState) (old : Net D G) (id : CallId) (p : Point) (level : WriteLevel) (shard needed got : ℕ) (reasons : List (ℕ × Reason)) (new : Net D G) : Type 0 where
   pub sent : Sent
   pub is_sent : IsSent old id p sent
   pub too_few : IsTooFew (needed_write level old.state.place.rf) (shard_of_point old.state p) (told_in sent) shard needed got reasons
@@ -153,7 +153,7 @@ pub record IsUnmet {D : Type 0} {ghosts : Ghosts D} (state : D → DiskState) (o
   pub bag : new.bag ≡ bag_after old id p (nodes_of sent.members)
 
 -- memory was wanted before any replica was asked: the Send may be in the list, and then the late ones of the messages to some first members in the bag
-pub record IsUnsent {D : Type 0} {ghosts : Ghosts D} (state : D → DiskState) (old : Net D ghosts) (id : CallId) (p : Point) (new : Net D ghosts) : Type 0 where
+pub record IsUnsent {D : Type 0} {G : Ghosts D} (state : D → DiskState) (old : Net D G) (id : CallId) (p : Point) (new : Net D G) : Type 0 where
   pub members : Shard
   pub are : AreMembers old.state.place (shard_of_point old.state p) members
   pub k : ℕ
@@ -165,7 +165,7 @@ abbrev pub most_added : Shard → ℕ
 most_added members = 2 + 4 * length members
 
 -- too few took it; or memory was wanted and nothing was put; or the list had no room, and nothing changed
-abbrev pub IsRefused : {D : Type 0} {ghosts : Ghosts D} → (D → DiskState) → Net D ghosts → CallId → Point → WriteLevel → Net D ghosts → SessionErr → Type 0
+abbrev pub IsRefused : {D : Type 0} {G : Ghosts D} → (D → DiskState) → Net D G → CallId → Point → WriteLevel → Net D G → SessionErr → Type 0
 IsRefused state old id p level new (err.Consistency shard needed got reasons) = IsUnmet state old id p level shard needed got reasons new
 IsRefused state old id p level new err.Memory = (new ≡ old) ⊎ IsUnsent state old id p new
 IsRefused state old id p level new err.Full = (new ≡ old) × ((members : Shard) × AreMembers old.state.place (shard_of_point old.state p) members × ¬ HasRoom (most_added members) old.replicas.events)

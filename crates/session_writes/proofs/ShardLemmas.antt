@@ -63,7 +63,7 @@ goes_to state p s made members is are same =
     let given : AreMembers state.place s members = subst (AreMembers state.place s) (sym same) are in
     record { shard = is; are = given; here = subst (λ k. AreMembers state.place k members) is given }
 
-module _ {D : Type 0} {ghosts : Ghosts D} (net : Net D ghosts) (ready : IsReady net.state net.replicas net.bag) (p : Point) (s : ℕ) (members : Shard) (to : GoesTo net.state p s members) where
+module _ {D : Type 0} {G : Ghosts D} (net : Net D G) (ready : IsReady net.state net.replicas net.bag) (p : Point) (s : ℕ) (members : Shard) (to : GoesTo net.state p s members) where
   low : s < length net.state.place.shards
   low = subst (λ k. k < length net.state.place.shards) (sym to.shard) (shard_low p.id net.state.seed (length net.state.place.shards) net.some_shards)
 

@@ -26,14 +26,14 @@ use Rattle.session_writes.proofs.LeftLemmas.{IsBoundedLate}
 use Rattle.session_writes.proofs.ShardLemmas.{GoesTo}
 
 -- where no field of it changed, it is the same, whatever proves its facts
-pub same_net : {D : Type 0} {ghosts : Ghosts D} (new old : Net D ghosts) → new.state ≡ old.state → new.replicas ≡ old.replicas → new.fates ≡ old.fates → new.bag ≡ old.bag → new ≡ old
-same_net {D} {ghosts} new old state_is replicas_is fates_is bag_is =
+pub same_net : {D : Type 0} {G : Ghosts D} (new old : Net D G) → new.state ≡ old.state → new.replicas ≡ old.replicas → new.fates ≡ old.fates → new.bag ≡ old.bag → new ≡ old
+same_net {D} {G} new old state_is replicas_is fates_is bag_is =
     subst Same (λ i. (sym state_is i, sym replicas_is i, sym fates_is i, sym bag_is i)) own new.some_shards new.few_shards new.bounded_late
   where
     Same : MetaState × Tracked D × FateMap × List LateWrite → Type 0
     Same f =
         (some : 0 < length f.0.place.shards) (few : length f.0.place.shards < 2 ^ 32) (bounded : All IsBoundedLate f.3)
-        → ◌≡◌ {A = Net D ghosts} (record { state = f.0; replicas = f.1; fates = f.2; bag = f.3; some_shards = some; few_shards = few; bounded_late = bounded }) old
+        → ◌≡◌ {A = Net D G} (record { state = f.0; replicas = f.1; fates = f.2; bag = f.3; some_shards = some; few_shards = few; bounded_late = bounded }) old
 
     some_prop : IsProp (0 < length old.state.place.shards)
     some_prop = Prim.hlevel props
@@ -56,14 +56,14 @@ same_net {D} {ghosts} new old state_is replicas_is fates_is bag_is =
     }
 
 -- what the messages of a write share
-abbrev pub putting : {D : Type 0} {ghosts : Ghosts D} → Net D ghosts → CallId → Point → ℕ → Putting
+abbrev pub putting : {D : Type 0} {G : Ghosts D} → Net D G → CallId → Point → ℕ → Putting
 putting net id p s = record { id = id; rules = net.state.rules; version = net.state.place.version; shard = s; point = p }
 
 -- memory was wanted before anything changed
-pub wanted : {D : Type 0} {ghosts : Ghosts D} (disk : D → DiskState) (old new : Net D ghosts) (id : CallId) (p : Point) (level : WriteLevel) (result : Result (List ℕ) SessionErr) → result ≡ Err err.Memory → new ≡ old → IfErr result (IsRefused disk old id p level new)
+pub wanted : {D : Type 0} {G : Ghosts D} (disk : D → DiskState) (old new : Net D G) (id : CallId) (p : Point) (level : WriteLevel) (result : Result (List ℕ) SessionErr) → result ≡ Err err.Memory → new ≡ old → IfErr result (IsRefused disk old id p level new)
 wanted disk old new id p level result is same = subst (λ r. IfErr r (IsRefused disk old id p level new)) (sym is) (inl same)
 
-module _ {D : Type 0} {ghosts : Ghosts D} (disk : D → DiskState) (old new : Net D ghosts) (id : CallId) (p : Point) (level : WriteLevel) (s : ℕ) (members : Shard) (needed : ℕ) (to : GoesTo old.state p s members) (due : needed ≡ needed_write level old.state.place.rf) where
+module _ {D : Type 0} {G : Ghosts D} (disk : D → DiskState) (old new : Net D G) (id : CallId) (p : Point) (level : WriteLevel) (s : ℕ) (members : Shard) (needed : ℕ) (to : GoesTo old.state p s members) (due : needed ≡ needed_write level old.state.place.rf) where
   sent_so : (sent : Sent) (last : List Event) → sent.members ≡ members → HasSent disk old.fates (putting old id p (shard_of_point old.state p)) sent last old.replicas new.replicas old.bag new.bag → IsSent old id p sent
   sent_so sent last is h = record { members = subst (AreMembers old.state.place (shard_of_point old.state p)) (sym is) to.here; heard = h.heard }
 
