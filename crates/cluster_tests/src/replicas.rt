@@ -6,8 +6,8 @@ ghost use Rattle.cluster_tests.specs.Ready.{IsReadyCluster};
 
 use crate::members::{first, tell};
 use cluster_members::members::Members;
+use cluster_runs::disks::disks_with;
 use cluster_words::answers::letter_of_reason;
-use cluster_words::disks::disks_with;
 use cluster_words::words::{number, text};
 use m3_model::memory::Memory;
 use m3_model::replica::{Report, Standing};

@@ -6,7 +6,7 @@ ghost use Rattle.cluster_tests.specs.Ready.{IsReadyCluster};
 
 use crate::members::{first, tell};
 use cluster_members::members::Members;
-use cluster_words::disks::disks_with;
+use cluster_runs::disks::disks_with;
 use cluster_words::words::number;
 use m3_model::memory::Memory;
 use m3_outside::disk::Disk;

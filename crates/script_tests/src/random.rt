@@ -6,8 +6,8 @@ ghost use Rattle.mem_disk.specs.Slots.{held_of};
 
 use crate::model::first_wrong;
 use crate::scripts::{Dice, script};
-use cluster_words::disks::put;
-use cluster_words::runs::run;
+use cluster_runs::disks::put;
+use cluster_runs::runs::run;
 use m3_model::memory::Memory;
 use m3_outside::disks::Disks;
 use m3_outside::slot::Slot;

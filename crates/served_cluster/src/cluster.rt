@@ -41,7 +41,6 @@ use net_plan::calls::Calls;
 use node_calls::boots::{bootstrap, restart};
 use node_calls::nodes::{deliver, set_fates, stop};
 use replica_exchange::call_id::CallId;
-use session_net::net::Net;
 use std::alloc::Global;
 use std::mem::replace;
 
@@ -230,28 +229,29 @@ impl<D: Disk> Cluster<D> {
     {
         let number = self.calls.next(0);
         let Some(members) = &mut self.members else {
+            drop(act);
             return Answer::Order;
         };
         if number == LAST_NUMBER {
+            drop(act);
             return Answer::Memory;
         }
         make_call(members, alloc, call_of(number), act)
     }
 
-    // Answers what changes the rules, the messages' fates or the nodes.
+    // Answers what changes the rules or the nodes, or delivers late messages.
     fn answer_change(&mut self, alloc: Global, act: Act) -> Answer
         requires limits { MeetsLimits act }
         requires served { IsServedAct act }
         requires no_init { is_init act ≡ false }
         requires change { is_call act ≡ false }
+        requires no_fates { sets_fates act ≡ false }
         requires ready { AreReady self.old.members }
         ensures ready { AreReady self.new.members }
         ensures answers { Answers D.state self.old act result self.new }
     {
-        if let Act::Fates { list } = act {
-            return self.set_fates(alloc, list);
-        }
         let Some(members) = &mut self.members else {
+            drop(act);
             return Answer::Order;
         };
         make_change(members, alloc, act)
@@ -270,6 +270,7 @@ impl<D: Disk> Cluster<D> {
             Act::Write { .. } | Act::Fetch { .. } | Act::Match { .. } => self.answer_call(
                 alloc, act,
             ),
+            Act::Fates { list } => self.set_fates(alloc, list),
             _ => self.answer_change(alloc, act),
         }
     }
@@ -332,10 +333,10 @@ impl<D: Disk> Cluster<D> {
         ensures later { X.all_faults disks.old ≤ X.all_faults disks.new }
     {
         let Cluster { members, .. } = self;
-        if let Some(members) = members {
-            let Members { net, slots, .. } = members;
-            let Net { mut replicas, .. } = net;
-            give_all(disks, slots.as_slice(), &mut replicas);
+        if let Some(mut members) = members {
+            let lent = &mut members;
+            give_all(disks, lent.slots.as_slice(), &mut lent.net.replicas);
+            drop(members);
         }
     }
 }

@@ -5,8 +5,8 @@ ghost use Rattle.m3_outside.specs.Slots.{Out};
 ghost use Rattle.m3_outside.specs.declared.slot.Slot.{Slot as Place};
 ghost use Rattle.mem_disk.specs.Slots.{held_of};
 
-use cluster_words::disks::spell_disks;
-use cluster_words::runs::run;
+use cluster_runs::disks::spell_disks;
+use cluster_runs::runs::run;
 use m3_model::memory::Memory;
 use m3_outside::disk_err::DiskErr;
 use m3_outside::disks::Disks;

@@ -4,8 +4,8 @@ ghost use Rattle.m3_outside.specs.Slots.{Out};
 ghost use Rattle.m3_outside.specs.declared.slot.Slot.{Slot as Place};
 ghost use Rattle.served_cluster.specs.Owned.{MayServe};
 
-use crate::acts::act_of;
-use crate::answers::{spell_placement, spell_reply};
+use cluster_words::acts::act_of;
+use cluster_words::answers::{spell_placement, spell_reply};
 use m3_model::memory::Memory;
 use m3_model::turn::{Reply, Request};
 use m3_outside::disk::Disk;

@@ -1,6 +1,6 @@
 //! Stories of requests that a cluster serves.
-use cluster_words::disks::disks_with;
-use cluster_words::runs::run;
+use cluster_runs::disks::disks_with;
+use cluster_runs::runs::run;
 use m3_model::memory::Memory;
 use std::alloc::Global;
 use std::test::Fail;

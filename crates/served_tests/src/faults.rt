@@ -1,6 +1,6 @@
 //! Stories over a disk that fails, and disks that were given back.
-use cluster_words::disks::{disks_with, spell_disks};
-use cluster_words::runs::run;
+use cluster_runs::disks::{disks_with, spell_disks};
+use cluster_runs::runs::run;
 use m3_model::memory::Memory;
 use m3_outside::disks::Disks;
 use std::alloc::Global;
