@@ -16,6 +16,8 @@ mod levels;
 #[cfg(test)]
 mod matches;
 #[cfg(test)]
+mod merges;
+#[cfg(test)]
 mod replicas;
 #[cfg(test)]
 mod tags;

@@ -1,15 +1,13 @@
 -- The nodes of a shard are asked, one after the other, and their answers joined.
-use Rattle.std.proofs.Common.{◌≡◌, ℕ, ℤ, ◌+◌, ◌<◌, List, [], ◌∷◌, ◌++◌, length, take, get_or, refl, sym, ap, ◌∙◌, subst, inl, inr, arith, length-append}
-use Rattle.std.specs.Prelude.{◌⊎◌, None, Some, Result, Ok, Err, OnErr, IsErrOf}
-use Rattle.std.specs.FinMap.{get, empty, get-empty}
+use Rattle.std.proofs.Common.{◌≡◌, ℕ, ◌+◌, ◌<◌, List, [], ◌∷◌, ◌++◌, length, take, get_or, refl, sym, ap, ◌∙◌, subst, inl, inr, arith, length-append}
+use Rattle.std.specs.Prelude.{◌⊎◌, Some, Result, Ok, Err, OnErr, IsErrOf}
 use Rattle.std.specs.List.{filter_map}
 use Rattle.std.specs.Result.{result_ok}
 use Rattle.std.proofs.lemmas.List.{take_more}
 use Rattle.m3_model.specs.Answers.{HasPoint}
-use Rattle.m3_model.specs.Contents.{Contents, Holds, raised, key_of}
-use Rattle.m3_model.specs.Keys.{key_cmp}
+use Rattle.m3_model.specs.Contents.{Holds, content_of}
 use Rattle.m3_model.specs.Members.{IsIn}
-use Rattle.m3_model.specs.Reads.{points_in}
+use Rattle.m3_model.specs.Reads.{IsOrdered, points_in}
 use Rattle.m3_model.specs.declared.act.Fate.{Fate}
 use Rattle.m3_model.specs.declared.point.Point.{Point}
 use Rattle.m3_model.specs.declared.point.Series.{Series}
@@ -18,10 +16,11 @@ use Rattle.m3_model.specs.declared.reason.Reason.{Reason}
 use Rattle.m3_model.specs.declared.reason.Reason.TheVariants as reason
 use Rattle.replica_machine.specs.Damages.{IsFormDamage}
 use Rattle.session_net.specs.Reads.{AreForms}
-use Rattle.m3_model.proofs.JoinLemmas.{raised_holds, raised_keeps, raised_source}
 use Rattle.m3_model.proofs.MemberLemmas.{IsIn-append_left, IsIn-append_right, IsIn-append_cases, IsIn-filter_map, filter_map-IsIn}
 use Rattle.m3_outside.specs.DiskState.{DiskState}
-use Rattle.block_buffer.specs.Joins.{joined}
+use Rattle.series_merge.specs.Merges.{IsMergeOf}
+use Rattle.series_merge.proofs.JoinLemmas.{joined_stays, joined_has, joined_from, nothing_held}
+use Rattle.series_merge.proofs.OrderLemmas.{merge_joins}
 use Rattle.cluster_core.specs.declared.event.StepCall.{StepCall}
 use Rattle.cluster_core.specs.declared.event.StepReply.TheVariants as reply
 use Rattle.net_plan.specs.Fates.{FateMap}
@@ -31,33 +30,7 @@ use Rattle.session_net.specs.Brought.{Brought}
 use Rattle.session_net.specs.Messages.{IsHeard, Heard, fate_to}
 use Rattle.session_net.proofs.DeliveryLemmas.{heard_more}
 use Rattle.session_net.proofs.RunLemmas.{ran_nothing, ran_then}
-use Rattle.session_reads.specs.Gathering.{AreBefore, points_said, IsContentOf, WereAsked}
-
--- ---- points joined to a content
-
--- what was held stays held
-pub joined_stays : (points : List Point) (c : Contents) (p : Point) → Holds c p → Holds (joined c points) p
-joined_stays [] c p h = h
-joined_stays (q ∷ points) c p h = joined_stays points (raised c q) p (raised_keeps c q p h)
-
--- each of the points is held
-pub joined_has : (points : List Point) (c : Contents) (p : Point) → IsIn points p → Holds (joined c points) p
-joined_has [] c p m = absurd m
-joined_has (q ∷ points) c p m = elim m as (λ _. Holds (joined (raised c q) points) p) [
-  | inl same ↦ joined_stays points (raised c q) p (subst (λ x. Holds (raised c q) x) same (raised_holds c q))
-  | inr rest ↦ joined_has points (raised c q) p rest
-]
-
--- nothing else is
-pub joined_from : (points : List Point) (c : Contents) (p : Point) → HasPoint (joined c points) p → HasPoint c p ⊎ IsIn points p
-joined_from [] c p h = inl h
-joined_from (q ∷ points) c p h = elim (joined_from points (raised c q) p h) as (λ _. HasPoint c p ⊎ ((q ≡ p) ⊎ IsIn points p)) [
-  | inl here ↦ elim (raised_source c q (key_of p) p.v here) as (λ _. HasPoint c p ⊎ ((q ≡ p) ⊎ IsIn points p)) [
-    | inl same ↦ inr (inl same)
-    | inr before ↦ inl before
-  ]
-  | inr rest ↦ inr (inr rest)
-]
+use Rattle.session_reads.specs.Gathering.{TakesIn, IsContentOf, WereAsked}
 
 -- ---- answers
 
@@ -88,41 +61,60 @@ answer_last heard n answer = filter_map-IsIn (λ (x : Heard (List Series)). resu
 
 -- ---- what was heard, joined
 
--- an empty content has no points
-pub nothing_held : (c : Contents) → c ≡ empty → (p : Point) → HasPoint c p → ⊥
-nothing_held c is p here = let none = get-empty {X = ℤ} key_cmp (key_of p) in let bad : None ≡ Some p.v = sym none ∙ ap (λ (b : Contents). get b (key_of p)) (sym is) ∙ here in cc
+-- nothing was joined
+pub content_none : (ns : ℕ) (series : List Series) → series ≡ [] → IsContentOf ns [] (content_of (points_in ns series))
+content_none ns series is = record {
+  covers = λ answer m p here. absurd m;
+  nothing_else = λ p here. absurd (nothing_held (content_of (points_in ns series)) (ap (λ xs. content_of (points_in ns xs)) is) p here);
+}
 
--- nothing was joined to it
-pub content_none : (ns : ℕ) (c : Contents) → c ≡ empty → IsContentOf ns [] c
-content_none ns c is = record { covers = λ answer m p here. absurd m; nothing_else = λ p here. absurd (nothing_held c is p here) }
-
-pub before_none : (ns to : ℕ) (answer : List Series) → IsIn [] answer → AreBefore ns to answer
-before_none ns to answer m = absurd m
+pub ordered_none : (series : List Series) → series ≡ [] → IsOrdered series
+ordered_none series is = subst IsOrdered (sym is) (record { ids = tt; times = λ s m. absurd m; none_empty = λ s m. absurd m })
 
 pub forms_none : AreForms []
 forms_none x m = absurd m
 
+-- the series have at least what they had
+joined_keeps : (ns : ℕ) (old new : List Series) (said : Result (List Series) Reason) (p : Point) → TakesIn old said new → Holds (content_of (points_in ns old)) p → Holds (content_of (points_in ns new)) p
+joined_keeps ns old new (Ok answer) p takes h = subst (λ c. Holds c p) (sym (merge_joins ns old answer new takes)) (joined_stays (points_in ns answer) (content_of (points_in ns old)) p h)
+joined_keeps ns old new (Err why) p same h = subst (λ xs. Holds (content_of (points_in ns xs)) p) (sym same) h
+
+-- and all of the answer
+joined_takes : (ns : ℕ) (old new answer : List Series) (said : Result (List Series) Reason) (p : Point) → said ≡ Ok answer → TakesIn old said new → IsIn (points_in ns answer) p → Holds (content_of (points_in ns new)) p
+joined_takes ns old new answer said p is takes m =
+    let merge : IsMergeOf old answer new = subst (λ r. TakesIn old r new) is takes in
+    subst (λ c. Holds c p) (sym (merge_joins ns old answer new merge)) (joined_has (points_in ns answer) (content_of (points_in ns old)) p m)
+
+-- a point of one of these answers
+abbrev IsOfOne : ℕ → List (List Series) → Point → Type 0
+IsOfOne ns answers p = (answer : List Series) × IsIn answers answer × IsIn (points_in ns answer) p
+
 -- what one more node said was joined
-pub content_more : (ns n : ℕ) (heard : List (Heard (List Series))) (said : Result (List Series) Reason) (old new : Contents) → IsContentOf ns (answers_of heard) old → new ≡ joined old (points_said ns said) → IsContentOf ns (answers_of (heard ++ (n, said) ∷ [])) new
-content_more ns n heard said old new was is = record {
-  covers = λ answer m p here. elim (answer_cases heard n said answer m) as (λ _. Holds new p) [
-    | inl before ↦ subst (λ c. Holds c p) (sym is) (joined_stays (points_said ns said) old p (was.covers answer before p here))
-    | inr last ↦ subst (λ c. Holds c p) (sym is) (joined_has (points_said ns said) old p (subst (λ said. IsIn (points_said ns said) p) (sym last) here))
+pub content_more : (ns n : ℕ) (heard : List (Heard (List Series))) (said : Result (List Series) Reason) (old new : List Series) → IsContentOf ns (answers_of heard) (content_of (points_in ns old)) → TakesIn old said new
+    → IsContentOf ns (answers_of (heard ++ (n, said) ∷ [])) (content_of (points_in ns new))
+content_more ns n heard said old new was takes = record {
+  covers = λ answer m p here. elim (answer_cases heard n said answer m) as (λ _. Holds (content_of (points_in ns new)) p) [
+    | inl before ↦ joined_keeps ns old new said p takes (was.covers answer before p here)
+    | inr last ↦ joined_takes ns old new answer said p last takes here
   ];
-  nothing_else = λ p here. elim (joined_from (points_said ns said) old p (subst (λ c. HasPoint c p) is here)) as (λ _. (answer : List Series) × IsIn (answers_of (heard ++ (n, said) ∷ [])) answer × IsIn (points_in ns answer) p) [
-    | inl before ↦ let found = was.nothing_else p before in (found.0, answer_stays heard (n, said) found.0 found.1, found.2)
-    | inr given ↦ from said refl given
-  ];
+  nothing_else = λ p here. from said refl takes p here;
 }
   where
-    from : (s : Result (List Series) Reason) → said ≡ s → {p : Point} → IsIn (points_said ns s) p → (answer : List Series) × IsIn (answers_of (heard ++ (n, said) ∷ [])) answer × IsIn (points_in ns answer) p
-    from (Ok series) e given = (series, subst (λ s. IsIn (answers_of (heard ++ (n, s) ∷ [])) series) (sym e) (answer_last heard n series), given)
-    from (Err why) e given = absurd given
+    earlier : (p : Point) → HasPoint (content_of (points_in ns old)) p → IsOfOne ns (answers_of (heard ++ (n, said) ∷ [])) p
+    earlier p here = let found = was.nothing_else p here in (found.0, answer_stays heard (n, said) found.0 found.1, found.2)
 
--- each answer is earlier than `to`
-pub before_more : (ns to n : ℕ) (heard : List (Heard (List Series))) (said : Result (List Series) Reason) → ((answer : List Series) → IsIn (answers_of heard) answer → AreBefore ns to answer) → ((answer : List Series) → said ≡ Ok answer → AreBefore ns to answer)
-    → (answer : List Series) → IsIn (answers_of (heard ++ (n, said) ∷ [])) answer → AreBefore ns to answer
-before_more ns to n heard said was last answer m = elim (answer_cases heard n said answer m) as (λ _. AreBefore ns to answer) [ inl before ↦ was answer before | inr here ↦ last answer here ]
+    from : (r : Result (List Series) Reason) → said ≡ r → TakesIn old r new → (p : Point) → HasPoint (content_of (points_in ns new)) p → IsOfOne ns (answers_of (heard ++ (n, said) ∷ [])) p
+    from (Ok answer) e merge p here =
+        elim (joined_from (points_in ns answer) (content_of (points_in ns old)) p (subst (λ c. HasPoint c p) (merge_joins ns old answer new merge) here)) as (λ _. IsOfOne ns (answers_of (heard ++ (n, said) ∷ [])) p) [
+          | inl before ↦ earlier p before
+          | inr given ↦ (answer, subst (λ r. IsIn (answers_of (heard ++ (n, r) ∷ [])) answer) (sym e) (answer_last heard n answer), given)
+        ]
+    from (Err why) e same p here = earlier p (subst (λ xs. HasPoint (content_of (points_in ns xs)) p) same here)
+
+-- it stays in order
+pub ordered_more : (old new : List Series) (said : Result (List Series) Reason) → IsOrdered old → TakesIn old said new → IsOrdered new
+ordered_more old new (Ok answer) was merge = merge.ordered
+ordered_more old new (Err why) was same = subst IsOrdered (sym same) was
 
 -- each damage is of a form
 pub forms_more : (n : ℕ) (heard : List (Heard (List Series))) (said : Result (List Series) Reason) → AreForms heard → ((damage : Damage) → IsErrOf said (reason.Corrupt damage) → IsFormDamage damage) → AreForms (heard ++ (n, said) ∷ [])

@@ -1,11 +1,11 @@
 -- The reads of shards, one after the other, and what they give together.
-use Rattle.std.proofs.Common.{◌≡◌, ℕ, zero, suc, ◌+◌, ◌<◌, ◌≤◌, List, [], ◌∷◌, ◌++◌, length, Bool, true, false, cond, eqb, refl, sym, ap, ◌∙◌, subst, inl, inr, arith, append_assoc, length-append}
+use Rattle.std.proofs.Common.{◌≡◌, ℕ, zero, suc, ◌+◌, ◌<◌, ◌≤◌, List, [], ◌∷◌, ◌++◌, fold, length, Bool, true, false, cond, eqb, refl, sym, ap, ◌∙◌, subst, inl, inr, arith, append_assoc, length-append}
 use Rattle.std.specs.Prelude.{◌⊎◌, ◌&&◌, Result, Ok, Err, IfOk, IfErr}
 use Rattle.std.specs.FinMap.{empty}
 use Rattle.std.proofs.lemmas.Bool.{eqb-true, eq-eqb}
 use Rattle.std.proofs.lemmas.Int.{ints}
 use Rattle.m3_model.specs.Answers.{HasPoint}
-use Rattle.m3_model.specs.Contents.{Contents, Holds}
+use Rattle.m3_model.specs.Contents.{Contents, Holds, content_of, raised}
 use Rattle.m3_model.specs.Members.{IsIn}
 use Rattle.m3_model.specs.Reads.{IsOrdered, points_in, space_picked}
 use Rattle.m3_model.specs.declared.point.Point.{Point}
@@ -14,7 +14,6 @@ use Rattle.m3_model.specs.declared.rules.MetaState.{MetaState}
 use Rattle.m3_model.proofs.MemberLemmas.{IsIn-append_left, IsIn-append_cases, IsIn-push}
 use Rattle.m3_model.proofs.RangeLemmas.{both_true}
 use Rattle.m3_outside.specs.DiskState.{DiskState}
-use Rattle.block_buffer.specs.Joins.{joined}
 use Rattle.cluster_core.specs.declared.event.Event.{Event}
 use Rattle.net_plan.specs.Fates.{FateMap}
 use Rattle.replica_exchange.specs.MachineCalls.{HasRoom}
@@ -26,10 +25,11 @@ use Rattle.session_net.specs.Runs.{Ran}
 use Rattle.session_net.specs.declared.session_err.SessionErr.{SessionErr}
 use Rattle.session_net.specs.declared.session_err.SessionErr.TheVariants as err
 use Rattle.session_net.proofs.RunLemmas.{ran_nothing, ran_then}
-use Rattle.session_reads.specs.Gathering.{AreBefore, IsSeries, IsShardRead, IsUnread, IsGathered}
+use Rattle.series_merge.proofs.JoinLemmas.{joined_stays, joined_has, joined_from, nothing_held}
+use Rattle.series_merge.proofs.OrderLemmas.{ordered_has}
+use Rattle.session_reads.specs.Gathering.{IsShardRead, IsUnread, IsGathered}
 use Rattle.session_reads.specs.declared.shard.Gave.{Gave}
-use Rattle.session_reads.proofs.AskLemmas.{nothing_held, joined_stays, joined_has, joined_from}
-use Rattle.session_reads.proofs.ShardLemmas.{points_space, held_covered}
+use Rattle.session_reads.proofs.ShardLemmas.{held_covered}
 
 -- ---- numbers of shards
 
@@ -127,6 +127,10 @@ module _ (state : MetaState) (fates : FateMap) (id : CallId) (w : Wish) (needed 
 
 -- ---- several shards
 
+-- no series stand for no point
+pub nothing_there : (ns : ℕ) (series : List Series) → series ≡ [] → (p : Point) → HasPoint (content_of (points_in ns series)) p → ⊥
+nothing_there ns series is p h = nothing_held (content_of (points_in ns series)) (ap (λ xs. content_of (points_in ns xs)) is) p h
+
 -- these shards were read, and this is the content of their series
 pub record SoFar {D : Type 0} (disk : D → DiskState) (state : MetaState) (fates : FateMap) (id : CallId) (w : Wish) (needed most : ℕ) (old now : Tracked D) (shards : List ℕ) (whole : Bool) (c : Contents) : Type 0 where
   pub reads : ℕ → ShardRead
@@ -135,7 +139,6 @@ pub record SoFar {D : Type 0} (disk : D → DiskState) (state : MetaState) (fate
   pub ran : Ran disk old events now
   pub covers : (s : ℕ) → IsIn shards s → (p : Point) → IsIn (points_in (space_picked w.pick) (reads s).series) p → Holds c p
   pub nothing_else : (p : Point) → HasPoint c p → (s : ℕ) × IsIn shards s × IsIn (points_in (space_picked w.pick) (reads s).series) p
-  pub before : (s : ℕ) → IsIn shards s → AreBefore (space_picked w.pick) w.to (reads s).series
   pub all_whole : whole ≡ true → (s : ℕ) → IsIn shards s → most ≤ length (answering (told_in (reads s)))
   pub some_short : whole ≡ false → (s : ℕ) × IsIn shards s × (length (answering (told_in (reads s))) < most)
 
@@ -156,7 +159,6 @@ module _ {D : Type 0} (disk : D → DiskState) (state : MetaState) (fates : Fate
     ran = ran_nothing disk old;
     covers = λ s m. absurd m;
     nothing_else = λ p h. absurd (none p h);
-    before = λ s m. absurd m;
     all_whole = λ e s m. absurd m;
     some_short = λ e. cc;
   }
@@ -177,7 +179,7 @@ module _ {D : Type 0} (disk : D → DiskState) (state : MetaState) (fates : Fate
     ran_more = ran_then disk was.events (whole_read state fates id w needed s next.read) old mid new was.ran next.ran
 
     -- one more was
-    pub so_far_more : (then_has : Contents) → then_has ≡ joined c (points_in (space_picked w.pick) series) → SoFar disk state fates id w needed most old new (shards ++ s ∷ []) (whole && test) then_has
+    pub so_far_more : (then_has : Contents) → then_has ≡ fold raised c (points_in (space_picked w.pick) series) → SoFar disk state fates id w needed most old new (shards ++ s ∷ []) (whole && test) then_has
     so_far_more then_has is =
         let ns = space_picked w.pick in
         let points = points_in ns series in
@@ -195,7 +197,6 @@ module _ {D : Type 0} (disk : D → DiskState) (state : MetaState) (fates : Fate
             | inr given ↦
                 (s, IsIn-push shards s, subst (λ (r : ShardRead). IsIn (points_in ns r.series) p) (sym (read_here was.reads s next.read)) (subst (λ xs. IsIn (points_in ns xs) p) next.series_are given))
           ];
-          before = each_more (λ j r. AreBefore ns w.to r.series) was.reads s next.read shards fresh was.before (subst (AreBefore ns w.to) next.series_are next.before);
           all_whole = λ e. let both = both_true whole test e in each_more (λ j r. most ≤ length (answering (told_in r))) was.reads s next.read shards fresh (was.all_whole both.0) (next.all_whole both.1);
           some_short = λ e. elim (not_both whole test e) as (λ _. (j : ℕ) × IsIn (shards ++ s ∷ []) j × (length (answering (told_in (with_read was.reads s next.read j))) < most)) [
             | inl earlier ↦
@@ -215,10 +216,6 @@ module _ {D : Type 0} (disk : D → DiskState) (state : MetaState) (fates : Fate
       were = record { asked = asked ∙ sym (append_assoc shards (s ∷ []) after); are = are_more };
       ran = ran_more;
     })
-
-  -- it stops behind these
-  pub stopped_here : (new : Tracked D) (shards after : List ℕ) (whole : Bool) (c : Contents) → asked_shards state w.pick ≡ shards ++ after → SoFar disk state fates id w needed most old new shards whole c → IsUnfound disk state fates id w needed old new err.Memory
-  stopped_here new shards after whole c asked was = inl (record { before = shards; after = after; reads = was.reads; events = was.events; were = record { asked = asked; are = was.are }; ran = was.ran })
 
   -- the next one wasn't read to its end
   pub unread : (mid new : Tracked D) (shards after : List ℕ) (whole : Bool) (c : Contents) (s : ℕ) (e : SessionErr) → asked_shards state w.pick ≡ shards ++ s ∷ after → SoFar disk state fates id w needed most old mid shards whole c
@@ -271,23 +268,25 @@ module _ {D : Type 0} (disk : D → DiskState) (state : MetaState) (fates : Fate
   -- ---- together
 
   -- all were read
-  pub gathered_all : (new : Tracked D) (shards : List ℕ) (whole : Bool) (c : Contents) (ns : ℕ) (series : List Series) → ns ≡ space_picked w.pick → SoFar disk state fates id w needed most old new shards whole c → IsSeries c ns w.to series
+  pub gathered_all : (new : Tracked D) (shards : List ℕ) (whole : Bool) (series : List Series) → SoFar disk state fates id w needed most old new shards whole (content_of (points_in (space_picked w.pick) series)) → IsOrdered series
       → IsGathered disk state fates id w needed most shards series whole old new
-  gathered_all new shards whole c ns series ns_is was h =
-      let own : IsSeries c (space_picked w.pick) w.to series = subst (λ n. IsSeries c n w.to series) ns_is h in
-      record {
-        reads = was.reads;
-        events = was.events;
-        are = was.are;
-        ran = was.ran;
-        together = record {
-          nothing_else = λ p m. was.nothing_else p (own.nothing_else p m).0;
-          all_there = λ s m p here. held_covered c (space_picked w.pick) w.to series p own (was.covers s m p here) (points_space (space_picked w.pick) (was.reads s).series p here) (was.before s m p here);
-          ordered = own.ordered;
-        };
-        all_whole = was.all_whole;
-        some_short = was.some_short;
-      }
+  gathered_all new shards whole series was ordered = record {
+    reads = was.reads;
+    events = was.events;
+    are = was.are;
+    ran = was.ran;
+    together = record {
+      nothing_else = λ p m. was.nothing_else p (ordered_has (space_picked w.pick) series p ordered m);
+      all_there = λ s m p here. held_covered (space_picked w.pick) series p (was.covers s m p here);
+      ordered = ordered;
+    };
+    all_whole = was.all_whole;
+    some_short = was.some_short;
+  }
+
+  -- the series of a shard are in order
+  pub shard_ordered : (mid new : Tracked D) (s : ℕ) (series : List Series) (whole : Bool) → IsShardRead disk state fates id w s needed most series whole mid new → IsOrdered series
+  shard_ordered mid new s series whole h = subst IsOrdered (sym h.series_are) h.ended.joined.ordered
 
   -- one was, and its series are all
   pub gathered_one : (new : Tracked D) (s : ℕ) (series : List Series) (whole : Bool) → IsShardRead disk state fates id w s needed most series whole old new → IsGathered disk state fates id w needed most (s ∷ []) series whole old new
@@ -299,7 +298,7 @@ module _ {D : Type 0} (disk : D → DiskState) (state : MetaState) (fates : Fate
     together = record {
       nothing_else = λ p m. (s, inl refl, subst (λ xs. IsIn (points_in (space_picked w.pick) xs) p) h.series_are m);
       all_there = λ j m p here. record { value = p.v; at_least = grind (arith, ints); stands = subst (λ xs. IsIn (points_in (space_picked w.pick) xs) p) (sym h.series_are) here };
-      ordered = subst IsOrdered (sym h.series_are) h.ended.joined.ordered;
+      ordered = shard_ordered old new s series whole h;
     };
     all_whole = λ e j m. h.all_whole e;
     some_short = λ e. (s, inl refl, h.fewer e);

@@ -8,13 +8,12 @@ use Rattle.std.proofs.lemmas.Result.{err_from_is_err_and}
 use Rattle.std.specs.declared.cmp.Ordering.TheVariants.{Less, Equal}
 use Rattle.std.proofs.lemmas.Bool.{leb-true, leb-false}
 use Rattle.std.proofs.lemmas.Cmp.{nat_list_cmp_total}
-use Rattle.std.proofs.lemmas.List.{take_all}
 use Rattle.std.proofs.lemmas.List.Edits.{length-swap}
 use Rattle.std.proofs.lemmas.List.Sorted.{IsPermutation-keeps}
 use Rattle.m3_model.specs.Ascends.{Ascends}
-use Rattle.m3_model.specs.Contents.{Contents, Holds}
+use Rattle.m3_model.specs.Contents.{Holds, content_of}
 use Rattle.m3_model.specs.Members.{IsIn}
-use Rattle.m3_model.specs.Reads.{Covers, points_in, space_picked}
+use Rattle.m3_model.specs.Reads.{Covers, IsOrdered, points_in, space_picked}
 use Rattle.m3_model.specs.Tags.{IsBelow}
 use Rattle.m3_model.specs.declared.act.Fate.{Fate}
 use Rattle.m3_model.specs.declared.act.Fate.TheVariants as fate
@@ -26,7 +25,7 @@ use Rattle.m3_model.specs.declared.point.Series.{Series}
 use Rattle.m3_model.specs.declared.reason.Reason.{Reason}
 use Rattle.m3_model.specs.declared.reason.Reason.TheVariants as reason
 use Rattle.m3_model.specs.declared.rules.MetaState.{MetaState}
-use Rattle.m3_model.proofs.MemberLemmas.{IsIn-append_left, IsIn-append_right, IsIn-append_cases, IsIn-map, map-IsIn}
+use Rattle.m3_model.proofs.MemberLemmas.{IsIn-append_left, IsIn-append_right, IsIn-map, map-IsIn}
 use Rattle.m3_outside.specs.DiskState.{DiskState}
 use Rattle.cluster_core.specs.Answers.{IsJoin}
 use Rattle.cluster_core.specs.Earlier.{HasShard, PlacesShard, CountsNodes, GaveAnswer}
@@ -54,7 +53,8 @@ use Rattle.session_net.specs.declared.session_err.SessionErr.{SessionErr}
 use Rattle.session_net.specs.declared.session_err.SessionErr.TheVariants as err
 use Rattle.session_net.proofs.ReadyLemmas.{any_after, place_there}
 use Rattle.session_net.proofs.RunLemmas.{ran_then}
-use Rattle.session_reads.specs.Gathering.{AreBefore, IsContentOf, IsSeries, WereAsked, IsShardRead, IsHalfRead, IsUnread}
+use Rattle.series_merge.proofs.OrderLemmas.{content_in, ordered_has}
+use Rattle.session_reads.specs.Gathering.{IsContentOf, WereAsked, IsShardRead, IsHalfRead, IsUnread}
 use Rattle.session_reads.specs.declared.shard.Gave.{Gave}
 use Rattle.session_reads.proofs.AskLemmas.{answers_of}
 
@@ -142,35 +142,19 @@ module _ (state : MetaState) (fates : FateMap) (id : CallId) (w : Wish) (s : ℕ
 
 -- ---- the join
 
-pub points_space : (ns : ℕ) (series : List Series) (p : Point) → IsIn (points_in ns series) p → p.ns ≡ ns
-points_space ns [] p h = absurd h
-points_space ns (one ∷ series) p h =
-    elim (IsIn-append_cases (map (λ (x : ℕ × _). record { ns = ns; id = one.id; t = x.0; v = x.1 }) one.points) (points_in ns series) p h) as (λ _. p.ns ≡ ns) [
-      | inl here ↦ let from = IsIn-map (λ (x : ℕ × _). record { ns = ns; id = one.id; t = x.0; v = x.1 }) one.points p here in sym (ap (λ (q : Point). q.ns) from.2)
-      | inr later ↦ points_space ns series p later
-    ]
+-- what an ordered list stands for is covered by its points
+pub held_covered : (ns : ℕ) (series : List Series) (p : Point) → Holds (content_of (points_in ns series)) p → Covers (points_in ns series) p
+held_covered ns series p holds = record { value = holds.value; at_least = holds.at_least; stands = content_in (points_in ns series) (record p { v = holds.value }) holds.stands }
 
--- what is held is covered
-pub held_covered : (c : Contents) (ns to : ℕ) (series : List Series) (p : Point) → IsSeries c ns to series → Holds c p → p.ns ≡ ns → p.t < to → Covers (points_in ns series) p
-held_covered c ns to series p h holds here below = record {
-  value = holds.value;
-  at_least = holds.at_least;
-  stands = h.whole (record p { v = holds.value }) holds.stands here (omega arith, below);
-}
-
--- the series of the content of answers are their join
-pub joined_answers : (c : Contents) (ns to : ℕ) (answers : List (List Series)) (series : List Series) → IsContentOf ns answers c → ((answer : List Series) → IsIn answers answer → AreBefore ns to answer) → IsSeries c ns to series → IsJoin ns answers series
-joined_answers c ns to answers series content before h = record {
+-- series that stand for answers are their join
+pub joined_answers : (ns : ℕ) (answers : List (List Series)) (series : List Series) → IsContentOf ns answers (content_of (points_in ns series)) → IsOrdered series → IsJoin ns answers series
+joined_answers ns answers series content ordered = record {
   nothing_else = All-from_each (λ p. Any (λ answer. IsIn (points_in ns answer) p) answers) (points_in ns series)
-      (λ p m. let found = content.nothing_else p (h.nothing_else p m).0 in Any-from_IsIn (λ answer. IsIn (points_in ns answer) p) answers found.0 found.1 found.2);
+      (λ p m. let found = content.nothing_else p (ordered_has ns series p ordered m) in Any-from_IsIn (λ answer. IsIn (points_in ns answer) p) answers found.0 found.1 found.2);
   all_there = All-from_each (λ answer. All (λ p. Covers (points_in ns series) p) (points_in ns answer)) answers
-      (λ answer m. All-from_each (λ p. Covers (points_in ns series) p) (points_in ns answer)
-      (λ p here. held_covered c ns to series p h (content.covers answer m p here) (points_space ns answer p here) (before answer m p here)));
-  ordered = h.ordered;
+      (λ answer m. All-from_each (λ p. Covers (points_in ns series) p) (points_in ns answer) (λ p here. held_covered ns series p (content.covers answer m p here)));
+  ordered = ordered;
 }
-
-pub series_before : (c : Contents) (ns to : ℕ) (series : List Series) → IsSeries c ns to series → AreBefore ns to series
-series_before c ns to series h p m = (h.nothing_else p m).2.1
 
 -- ---- in the list
 
@@ -229,24 +213,23 @@ module _ {D : Type 0} (disk : D → DiskState) (state : MetaState) (fates : Fate
         ),
       )
 
-  module _ (forms : AreForms heard) (c : Contents) (content : IsContentOf (space_picked w.pick) (answers_of heard) c) (before : (answer : List Series) → IsIn (answers_of heard) answer → AreBefore (space_picked w.pick) w.to answer) (ns : ℕ) (ns_is : ns ≡ space_picked w.pick)
+  module _ (forms : AreForms heard) (series : List Series) (content : IsContentOf (space_picked w.pick) (answers_of heard) (content_of (points_in (space_picked w.pick) series))) (ordered : IsOrdered series)
       (answered : List ℕ) (reasons : List (ℕ × Reason)) (answered_are : answered ≡ answering (map told_of heard)) (reasons_are : reasons ≡ refusing (map told_of heard)) (place : ℕ) (is : place ≡ length old.events) where
-    joined_here : (series : List Series) → IsSeries c ns w.to series → IsJoin (space_picked w.pick) (answers_of heard) series
-    joined_here series h = joined_answers c (space_picked w.pick) w.to (answers_of heard) series content before (subst (λ n. IsSeries c n w.to series) ns_is h)
+    joined_here : IsJoin (space_picked w.pick) (answers_of heard) series
+    joined_here = joined_answers (space_picked w.pick) (answers_of heard) series content ordered
 
-    pub may_end_so : (series : List Series) → IsSeries c ns w.to series → IsFetched after.events place answered series
-    may_end_so series h = may_end place is answered answered_are series (joined_here series h)
+    pub may_end_so : IsFetched after.events place answered series
+    may_end_so = may_end place is answered answered_are series joined_here
 
     module _ (new : Tracked D) (needed most : ℕ) where
       -- it ended
-      pub ended : (result : Result Gave SessionErr) → IfOk result (λ gave. IsSeries c ns w.to gave.series × (needed ≤ length answered) × (gave.whole ≡ nat_le most (length answered)) × Ran disk after (event.FetchDone place answered gave.series ∷ []) new)
+      pub ended : (result : Result Gave SessionErr) → IfOk result (λ gave. (gave.series ≡ series) × (needed ≤ length answered) × (gave.whole ≡ nat_le most (length answered)) × Ran disk after (event.FetchDone place answered gave.series ∷ []) new)
           → IfOk result (λ gave. IsShardRead disk state fates id w s needed most gave.series gave.whole old new)
       ended (Ok gave) h = record {
         read = record { begun = length old.events; nodes = nodes; heard = heard; reads = told.reads; series = gave.series };
         asked = record { counted = counts; heard = told.are; forms = forms };
-        ended = record { begun = refl; enough = subst (λ ns. needed ≤ length ns) answered_are h.1; joined = joined_here gave.series h.0 };
+        ended = record { begun = refl; enough = subst (λ ns. needed ≤ length ns) answered_are h.1; joined = subst (IsJoin (space_picked w.pick) (answers_of heard)) (sym h.0) joined_here };
         series_are = refl;
-        before = series_before c (space_picked w.pick) w.to gave.series (subst (λ n. IsSeries c n w.to gave.series) ns_is h.0);
         all_whole = λ e. subst (λ ns. most ≤ length ns) answered_are (leb-true most (length answered) (sym h.2 ∙ e));
         fewer = λ e. subst (λ ns. length ns < most) answered_are (leb-false most (length answered) (sym h.2 ∙ e));
         ran = subst (λ ns. Ran disk old (start_of state w s ∷ (told.reads ++ event.FetchDone (length old.events) ns gave.series ∷ [])) new) answered_are
@@ -256,21 +239,10 @@ module _ {D : Type 0} (disk : D → DiskState) (state : MetaState) (fates : Fate
       ended (Err e) h = h
 
       -- or it didn't
-      pub unended : (result : Result Gave SessionErr) → IfErr result (λ e. ((e ≡ err.Memory) ⊎ IsShortOf needed s answered reasons e) × (new ≡ after)) → IfErr result (IsUnread disk state fates id w s needed old new)
+      pub unended : (result : Result Gave SessionErr) → IfErr result (λ e. IsShortOf needed s answered reasons e × (new ≡ after)) → IfErr result (IsUnread disk state fates id w s needed old new)
       unended (Ok gave) h = h
-      unended (Err e) h = elim h.0 as (λ _. IsUnread disk state fates id w s needed old new e) [
-        | inl memory ↦ subst (IsUnread disk state fates id w s needed old new) (sym memory) (inr half)
-        | inr short ↦ short_by e short
-      ]
+      unended (Err e) h = short_by e h.0
         where
-          half : IsHalfRead disk state fates id w s old new
-          half = record {
-            read = record { begun = length old.events; nodes = nodes; heard = heard; reads = told.reads; series = [] };
-            k = length nodes;
-            is = record { counted = counts; heard = subst (λ ns. AreHeard reply.Found fates id s (read_of id state.rules state.place.version w) ns heard told.reads) (sym (take_all (length nodes) nodes (omega arith))) told.are };
-            ran = subst (λ t. Ran disk old (start_of state w s ∷ told.reads) t) (sym h.1) ran_start;
-          }
-
           short_by : (e : SessionErr) → IsShortOf needed s answered reasons e → IsUnread disk state fates id w s needed old new e
           short_by (err.Consistency shard due got others) short = record {
             read = record { begun = length old.events; nodes = nodes; heard = heard; reads = told.reads; series = [] };

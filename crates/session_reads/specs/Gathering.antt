@@ -1,12 +1,10 @@
 -- What the nodes of a shard give, and what several shards give.
 use Rattle.std.specs.Prelude.{◌≡◌, ◌⊎◌, ℕ, ◌<◌, ◌≤◌, ◌*◌, List, [], ◌∷◌, ◌++◌, length, Bool, true, false, Result, Ok, Err}
-use Rattle.block_buffer.specs.Ranges.{IsRangeOf}
 use Rattle.m3_model.specs.Answers.{HasPoint}
 use Rattle.m3_model.specs.Contents.{Contents, Holds}
 use Rattle.m3_model.specs.Members.{IsIn}
 use Rattle.m3_model.specs.Reads.{points_in, space_picked}
 use Rattle.m3_model.specs.declared.point.Pick.{Pick}
-use Rattle.m3_model.specs.declared.point.Pick.TheVariants as pick
 use Rattle.m3_model.specs.declared.point.Point.{Point}
 use Rattle.m3_model.specs.declared.point.Series.{Series}
 use Rattle.m3_model.specs.declared.reason.Reason.{Reason}
@@ -23,6 +21,7 @@ use Rattle.session_net.specs.Messages.{Heard, AreHeard}
 use Rattle.session_net.specs.Outcomes.{answering, AreCounted, IsTooFew}
 use Rattle.session_net.specs.Reads.{Wish, ShardRead, told_in, IsAsked, IsPartlyAsked, IsEnded, start_of, done_of, most_added, AreRead, AreTogether}
 use Rattle.session_net.specs.Runs.{Ran}
+use Rattle.series_merge.specs.Merges.{IsMergeOf}
 use Rattle.session_net.specs.declared.session_err.SessionErr.{SessionErr}
 use Rattle.session_net.specs.declared.session_err.SessionErr.TheVariants as err
 use Rattle.session_reads.specs.declared.ask.Asking.{Asking}
@@ -32,23 +31,15 @@ wish_of pick asking = record { pick = pick; from = asking.from; to = asking.to }
 
 -- ---- contents
 
--- each point of the series is earlier
-abbrev pub AreBefore : ℕ → ℕ → List Series → Type 0
-AreBefore ns to series = (p : Point) → IsIn (points_in ns series) p → p.t < to
-
--- the points of an answer, if there is one
-abbrev pub points_said : ℕ → Result (List Series) Reason → List Point
-points_said ns (Ok series) = points_in ns series
-points_said ns (Err why) = []
+-- an answer is joined to the series, and a refusal leaves them
+abbrev pub TakesIn : List Series → Result (List Series) Reason → List Series → Type 0
+TakesIn old (Ok answer) new = IsMergeOf old answer new
+TakesIn old (Err why) new = new ≡ old
 
 -- the content is that of these answers, joined
 pub record IsContentOf (ns : ℕ) (answers : List (List Series)) (c : Contents) : Type 0 where
   pub covers : (answer : List Series) → IsIn answers answer → (p : Point) → IsIn (points_in ns answer) p → Holds c p
   pub nothing_else : (p : Point) → HasPoint c p → (answer : List Series) × IsIn answers answer × IsIn (points_in ns answer) p
-
--- the series are the points that the content has of the namespace below `to`, in order
-abbrev pub IsSeries : Contents → ℕ → ℕ → List Series → Type 0
-IsSeries c ns to series = IsRangeOf c (pick.Match ns []) 0 to series
 
 -- ---- the nodes of a shard
 
@@ -67,7 +58,6 @@ pub record IsShardRead {D : Type 0} (disk : D → DiskState) (state : MetaState)
   pub asked : IsAsked state fates id w shard read
   pub ended : IsEnded w needed (length old.events) read
   pub series_are : series ≡ read.series
-  pub before : AreBefore (space_picked w.pick) w.to series
   pub all_whole : whole ≡ true → most ≤ length (answering (told_in read))
   pub fewer : whole ≡ false → length (answering (told_in read)) < most
   pub ran : Ran disk old (start_of state w shard ∷ (read.reads ++ done_of read ∷ [])) new

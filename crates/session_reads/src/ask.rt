@@ -4,12 +4,12 @@ ghost use Rattle.std.specs.FinMap as finite;
 ghost use Rattle.std.specs.List.{filter_map};
 ghost use Rattle.std.specs.Result.{result_ok, result_err};
 ghost use Rattle.m3_model.specs.Members.{IsIn};
-ghost use Rattle.m3_model.specs.Reads.{points_in, space_picked};
+ghost use Rattle.m3_model.specs.Contents.{content_of};
+ghost use Rattle.m3_model.specs.Reads.{IsOrdered, points_in, space_picked};
 ghost use Rattle.m3_model.specs.declared.reason.Damage.{Damage};
 ghost use Rattle.m3_model.specs.declared.reason.Reason.TheVariants as reason;
 ghost use Rattle.replica_machine.specs.Damages.{IsFormDamage};
 ghost use Rattle.m3_model.specs.declared.point.Series.{Series as Found};
-ghost use Rattle.block_buffer.specs.Joins.{joined};
 ghost use Rattle.cluster_core.specs.Earlier.{HasClock};
 ghost use Rattle.cluster_core.specs.declared.event.StepReply.TheVariants as reply;
 ghost use Rattle.replica_exchange.specs.MachineCalls.{HasRoom};
@@ -19,9 +19,9 @@ ghost use Rattle.session_net.specs.Outcomes.{Told, told_of, answering, refusing}
 ghost use Rattle.session_net.specs.Reads.{read_of, AreForms};
 ghost use Rattle.session_net.specs.Runs.{slot_at};
 ghost use Rattle.session_net.specs.Tallies.{HasRoom as Counts};
-ghost use Rattle.session_reads.specs.Gathering.{wish_of, points_said, AreBefore, IsContentOf, WereAsked};
+ghost use Rattle.series_merge.specs.Merges.{IsMergeOf};
+ghost use Rattle.session_reads.specs.Gathering.{wish_of, TakesIn, IsContentOf, WereAsked};
 
-use block_buffer::buffer::Buffer;
 use m3_model::act::Fate;
 use m3_model::memory::Memory;
 use m3_model::point::{Pick, Series};
@@ -34,9 +34,11 @@ use replica_calls::replicas::Replicas;
 use replica_exchange::CallErr;
 use replica_exchange::call_id::CallId;
 use replica_exchange::slot::Slot;
+use series_merge::merging::merge;
 use session_net::messages::fate_to;
 use session_net::tally::Tally;
 use std::alloc::Global;
+use std::mem::replace;
 
 // How many nodes of a shard a read asks for.
 #[derive(Clone, Copy)]
@@ -56,23 +58,19 @@ pub(crate) struct Asking {
     pub(crate) quorum: Quorum,
 }
 
-// The namespace of a pick.
-pub(crate) fn space_of(pick: &Pick) -> u8
-    ensures { result ≡ space_picked pick.now }
+// Joins an answer to those before it.
+pub(crate) fn join_answer(
+    alloc: Global,
+    into: &mut Seq<Series>,
+    answer: Seq<Series>,
+) -> Result<(), Memory>
+    requires into { IsOrdered into.old }
+    requires answer { IsOrdered answer }
+    ensures { OnOk result (IsMergeOf into.old answer into.new) }
 {
-    match pick {
-        Pick::One { ns, .. } => *ns,
-        Pick::Match { ns, .. } => *ns,
-    }
-}
-
-// Joins the points of an answer.
-pub(crate) fn join_all(into: &mut Buffer, ns: u8, series: &[Series]) -> Result<(), Memory>
-    ensures { OnOk result (into.new.points ≡ joined into.old.points (points_in ns series.now)) }
-{
-    for one in series {
-        into.join(ns, one)?;
-    }
+    let before = replace(into, Seq::new(alloc));
+    let joined = merge(alloc, before, answer)?;
+    drop(replace(into, joined));
     Ok(())
 }
 
@@ -90,7 +88,7 @@ fn read_once<D: Disk>(
     requires room { HasRoom 2 replicas.old.events }
     requires known { space_picked pick.now < length state.now.rules.spaces }
     ensures delivered { Delivered D.state reply.Found slot.node slot.shard (read_of asking.now.id state.entry.now.rules state.entry.now.place.version (wish_of pick.now asking.now)) result replicas.old replicas.new }
-    ensures before { IfOk result (AreBefore (space_picked pick.now) asking.now.to) }
+    ensures ordered { IfOk result IsOrdered }
     ensures form { (damage : Damage) → IsErrOf result (reason.Corrupt damage) → IsFormDamage damage }
 {
     match replicas.read(
@@ -125,7 +123,7 @@ fn read_by_fate<D: Disk>(
     requires room { HasRoom 4 replicas.old.events }
     requires known { space_picked pick.now < length state.now.rules.spaces }
     ensures brought { Brought D.state reply.Found fate slot.node slot.shard (read_of asking.now.id state.entry.now.rules state.entry.now.place.version (wish_of pick.now asking.now)) result replicas.old replicas.new }
-    ensures before { IfOk result (AreBefore (space_picked pick.now) asking.now.to) }
+    ensures ordered { IfOk result IsOrdered }
     ensures form { (damage : Damage) → IsErrOf result (reason.Corrupt damage) → IsFormDamage damage }
 {
     match fate {
@@ -141,21 +139,23 @@ fn read_by_fate<D: Disk>(
 
 // Counts what a node said, and joins its answer where it has one.
 fn take_answer(
-    into: &mut Buffer,
+    alloc: Global,
+    into: &mut Seq<Series>,
     tally: &mut Tally,
-    ns: u8,
     node: u8,
     said: Result<Seq<Series>, Reason>,
 ) -> Result<(), Memory>
-    requires { Counts 1 tally.old }
+    requires counts { Counts 1 tally.old }
+    requires ordered { IsOrdered into.old }
+    requires answer { IfOk said IsOrdered }
     ensures room { (n : ℕ) → Counts (suc n) tally.old → OnOk result (Counts n tally.new) }
     ensures answered { (told : List Told) → tally.old.answered.items ≡ answering told → OnOk result (tally.new.answered.items ≡ answering (told ++ (node, result_err said) ∷ [])) }
     ensures reasons { (told : List Told) → tally.old.reasons.items ≡ refusing told → OnOk result (tally.new.reasons.items ≡ refusing (told ++ (node, result_err said) ∷ [])) }
-    ensures joins { OnOk result (into.new.points ≡ joined into.old.points (points_said ns said)) }
+    ensures joins { OnOk result (TakesIn into.old said into.new) }
 {
     match said {
         Ok(series) => {
-            join_all(into, ns, series.as_slice())?;
+            join_answer(alloc, into, series)?;
             tally.add(node, None);
         }
         Err(why) => tally.add(node, Some(why)),
@@ -174,7 +174,7 @@ pub(crate) fn ask_nodes<D: Disk>(
     shard: u32,
     nodes: &[u8],
     tally: &mut Tally,
-    into: &mut Buffer,
+    into: &mut Seq<Series>,
 ) -> Result<(), Memory>
     requires clock { HasClock replicas.old.events state.now.rules }
     requires there { (n : ℕ) → IsIn nodes.now n → finite.get replicas.old.members (slot_at n shard) ≢ None }
@@ -183,18 +183,17 @@ pub(crate) fn ask_nodes<D: Disk>(
     requires counts { Counts (length nodes.now) tally.old }
     requires none_answered { tally.old.answered.items ≡ [] }
     requires none_refused { tally.old.reasons.items ≡ [] }
-    requires nothing { into.old.points ≡ finite.empty }
+    requires nothing { into.old ≡ [] }
     ensures ok { OnOk result ((heard : List (Heard (List Found))) × WereAsked D.state fates.now asking.now.id shard (read_of asking.now.id state.entry.now.rules state.entry.now.place.version (wish_of pick.now asking.now)) nodes.now heard replicas.old replicas.new
-        × (tally.new.answered.items ≡ answering (map told_of heard)) × (tally.new.reasons.items ≡ refusing (map told_of heard)) × IsContentOf (space_picked pick.now) (filter_map (λ x. result_ok x.1) heard) into.new.points
-        × ((answer : List Found) → IsIn (filter_map (λ x. result_ok x.1) heard) answer → AreBefore (space_picked pick.now) asking.now.to answer) × AreForms heard) }
+        × (tally.new.answered.items ≡ answering (map told_of heard)) × (tally.new.reasons.items ≡ refusing (map told_of heard)) × IsOrdered into.new
+        × IsContentOf (space_picked pick.now) (filter_map (λ x. result_ok x.1) heard) (content_of (points_in (space_picked pick.now) into.new)) × AreForms heard) }
     ensures err { OnErr result ((k : ℕ) × (heard : List (Heard (List Found))) × WereAsked D.state fates.now asking.now.id shard (read_of asking.now.id state.entry.now.rules state.entry.now.place.version (wish_of pick.now asking.now)) (take k nodes.now) heard replicas.old replicas.new) }
 {
-    let ns = space_of(pick);
     for node in nodes {
         let slot = Slot { shard, node: *node };
         let fate = fate_to(fates, asking.id, *node);
         let said = read_by_fate(alloc, replicas, fate, slot, state, asking, pick);
-        take_answer(into, tally, ns, *node, said)?;
+        take_answer(alloc, into, tally, *node, said)?;
     }
     Ok(())
 }

@@ -7,11 +7,11 @@ ghost use Rattle.session_net.specs.Ready.{IsReady};
 ghost use Rattle.session_net.specs.Reads.{asked_shards, IsUnfound};
 ghost use Rattle.session_reads.specs.Gathering.{wish_of, IsGathered};
 
-use crate::ask::{Asking, join_all, space_of};
-use crate::shard::{Gave, ask_shard, series_below};
-use block_buffer::buffer::Buffer;
+use crate::ask::{Asking, join_answer};
+use crate::shard::{Gave, ask_shard};
 use m3_model::point::Pick;
 use m3_model::rules::MetaState;
+use m3_model::seq::Seq;
 use m3_outside::disk::Disk;
 use net_plan::fates::Fates;
 use replica_calls::replicas::Replicas;
@@ -35,16 +35,21 @@ fn gather_all<D: Disk>(
     ensures ok { IfOk result (λ gave. IsGathered D.state state.entry.now fates.now asking.now.id (wish_of pick.now asking.now) asking.now.quorum.needed asking.now.quorum.majority (asked_shards state.entry.now pick.now) gave.series gave.whole replicas.old replicas.new) }
     ensures err { IfErr result (IsUnfound D.state state.entry.now fates.now asking.now.id (wish_of pick.now asking.now) asking.now.quorum.needed replicas.old replicas.new) }
 {
-    let ns = space_of(pick);
-    let mut joined = Buffer::new(alloc);
+    let mut joined = Seq::new(alloc);
     let mut whole = true;
     for shard in 0..state.place.shards.len() as u32 {
         let gave = ask_shard(alloc, replicas, state, fates, asking, pick, shard)?;
-        join_all(&mut joined, ns, gave.series.as_slice())?;
-        whole &= gave.whole;
+        let Gave {
+            series,
+            whole: enough,
+        } = gave;
+        whole &= enough;
+        join_answer(alloc, &mut joined, series)?;
     }
-    let series = series_below(alloc, joined, ns, asking.to)?;
-    Ok(Gave { series, whole })
+    Ok(Gave {
+        series: joined,
+        whole,
+    })
 }
 
 // Reads the shards that are asked: that of the identifier, whose series are the answer, or all where matchers pick the

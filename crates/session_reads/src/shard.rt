@@ -1,6 +1,5 @@
 //! The read of one shard, from its start in the list to its end.
-ghost use Rattle.std.specs.Prelude.{◌≡◌, ◌⊎◌, ◌<◌, ◌≤◌, ◌+◌, ◌*◌, ℕ, List, [], ◌∷◌, length, true, false, IfOk, IfErr, OnErr, nat_le};
-ghost use Rattle.std.specs.FinMap as finite;
+ghost use Rattle.std.specs.Prelude.{◌≡◌, ◌<◌, ◌≤◌, ◌+◌, ◌*◌, ℕ, List, [], ◌∷◌, length, IfOk, IfErr, OnErr, nat_le};
 ghost use Rattle.m3_model.specs.Reads.{space_picked};
 ghost use Rattle.m3_model.specs.declared.point.Series.{Series as Found};
 ghost use Rattle.cluster_core.specs.Earlier.{HasClock, HasShard};
@@ -12,12 +11,10 @@ ghost use Rattle.session_net.specs.Outcomes.{AreCounted, IsShortOf};
 ghost use Rattle.session_net.specs.Reads.{most_added};
 ghost use Rattle.session_net.specs.Tallies.{HasRoom as Counts};
 ghost use Rattle.session_net.specs.Ready.{IsReady};
-ghost use Rattle.session_net.specs.declared.session_err.SessionErr.TheVariants as err;
 ghost use Rattle.session_net.specs.Runs.{Ran};
-ghost use Rattle.session_reads.specs.Gathering.{wish_of, IsSeries, IsShardRead, IsUnread};
+ghost use Rattle.session_reads.specs.Gathering.{wish_of, IsShardRead, IsUnread};
 
-use crate::ask::{Asking, ask_nodes, space_of};
-use block_buffer::buffer::Buffer;
+use crate::ask::{Asking, ask_nodes};
 use cluster_core::event::Event;
 use m3_model::duplicate::Duplicate;
 use m3_model::memory::Memory;
@@ -120,46 +117,27 @@ fn finish<D: Disk>(
     series_in(done)
 }
 
-// The joined points below `to` as series.
-pub(crate) fn series_below(
-    alloc: Global,
-    joined: Buffer,
-    ns: u8,
-    to: u64,
-) -> Result<Seq<Series>, Memory>
-    ensures { IfOk result (IsSeries joined.points ns to) }
-{
-    let all = Pick::Match {
-        ns,
-        wanted: Seq::new(alloc),
-    };
-    joined.range(alloc, &all, 0, to)
-}
-
 // Ends the read of the shard that began at this place, where enough nodes answered: then the list has its FetchDone.
 fn settle<D: Disk>(
-    alloc: Global,
     replicas: &mut Replicas<D>,
     start: u64,
     shard: u32,
     asking: &Asking,
     tally: Tally,
-    joined: Buffer,
-    ns: u8,
+    joined: Seq<Series>,
 ) -> Result<Gave, SessionErr>
-    requires ends { (series : List Found) → IsSeries joined.points ns asking.now.to series → IsFetched replicas.old.events start tally.answered.items series }
+    requires ends { IsFetched replicas.old.events start tally.answered.items joined }
     requires room { HasRoom 1 replicas.old.events }
-    ensures ok { IfOk result (λ gave. IsSeries joined.points ns asking.now.to gave.series × (asking.now.quorum.needed ≤ length tally.answered.items) × (gave.whole ≡ nat_le asking.now.quorum.majority (length tally.answered.items))
+    ensures ok { IfOk result (λ gave. (gave.series ≡ joined) × (asking.now.quorum.needed ≤ length tally.answered.items) × (gave.whole ≡ nat_le asking.now.quorum.majority (length tally.answered.items))
         × Ran D.state replicas.old (event.FetchDone start tally.answered.items gave.series ∷ []) replicas.new) }
-    ensures err { IfErr result (λ e. ((e ≡ err.Memory) ⊎ IsShortOf asking.now.quorum.needed shard tally.answered.items tally.reasons.items e) × (replicas.new ≡ replicas.old)) }
+    ensures err { IfErr result (λ e. IsShortOf asking.now.quorum.needed shard tally.answered.items tally.reasons.items e × (replicas.new ≡ replicas.old)) }
 {
     if tally.answered.len() < asking.quorum.needed as usize {
         return Err(tally.too_few(shard, asking.quorum.needed));
     }
     let whole = asking.quorum.majority as usize <= tally.answered.len();
     let Tally { answered, .. } = tally;
-    let series = series_below(alloc, joined, ns, asking.to)?;
-    let series = finish(replicas, start, Seq::from_vec(answered), series);
+    let series = finish(replicas, start, Seq::from_vec(answered), joined);
     Ok(Gave { series, whole })
 }
 
@@ -194,7 +172,7 @@ fn read_nodes<D: Disk>(
     ensures err { IfErr result (IsUnread D.state state.entry.now fates.now asking.now.id (wish_of pick.now asking.now) shard asking.now.quorum.needed replicas.old replicas.new) }
 {
     let place = start(alloc, replicas, state, asking, pick, shard)?;
-    let mut joined = Buffer::new(alloc);
+    let mut joined = Seq::new(alloc);
     ask_nodes(
         alloc,
         replicas,
@@ -207,8 +185,7 @@ fn read_nodes<D: Disk>(
         &mut tally,
         &mut joined,
     )?;
-    let ns = space_of(pick);
-    settle(alloc, replicas, place, shard, asking, tally, joined, ns)
+    settle(replicas, place, shard, asking, tally, joined)
 }
 
 // Reads one shard: its FetchStart comes to the list first, then what each message to a node that counts brings, and at

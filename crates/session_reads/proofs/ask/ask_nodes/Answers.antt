@@ -1,19 +1,18 @@
-use Rattle.std.proofs.Common.{◌≡◌, suc, ◌+◌, ◌<◌, List, [], ◌∷◌, ◌++◌, length, get_or, map, sym, ap, ◌∙◌, subst, arith}
-use Rattle.std.specs.Prelude.{IfOk, Result}
+use Rattle.std.proofs.Common.{◌≡◌, suc, ◌+◌, ◌<◌, List, [], ◌∷◌, ◌++◌, length, get_or, map, sym, ap, ◌∙◌, arith}
+use Rattle.std.specs.Prelude.{Result}
 use Rattle.std.specs.Result.{result_err}
 use Rattle.std.proofs.lemmas.List.{map-append}
 use Rattle.m3_model.specs.Reads.{space_picked}
 use Rattle.m3_model.specs.declared.point.Series.{Series}
 use Rattle.m3_model.specs.declared.reason.Reason.{Reason}
-use Rattle.block_buffer.specs.Joins.{joined}
 use Rattle.cluster_core.specs.Earlier.{IsClock}
 use Rattle.placement_core.proofs.ListLemmas.{IsIn-from_index}
 use Rattle.session_net.specs.Outcomes.{told_of, answering, refusing}
 use Rattle.session_net.specs.Reads.{read_of}
 use Rattle.session_net.specs.Runs.{slot_at}
 use Rattle.session_net.proofs.ReadyLemmas.{any_after, there_after}
-use Rattle.session_reads.specs.Gathering.{wish_of, AreBefore, points_said}
-use Rattle.session_reads.proofs.AskLemmas.{content_none, before_none, forms_none, content_more, before_more, asked_none, asked_more, always_err, forms_more}
+use Rattle.session_reads.specs.Gathering.{wish_of}
+use Rattle.session_reads.proofs.AskLemmas.{content_none, ordered_none, forms_none, content_more, ordered_more, asked_none, asked_more, always_err, forms_more}
 use Rattle.session_reads.proofs.ask.ask_nodes.Goals as goal
 
 pub loop-node-init : goal.loop-node-init
@@ -25,8 +24,8 @@ loop-node-init g c =
       asked = asked_none g.D.Disk.state c.args.fates.now asking.id c.args.shard (read_of asking.id c.args.state.now.rules c.args.state.now.place.version (wish_of c.args.pick.now asking)) c.args.replicas.now;
       answered = c.requires.none_answered;
       refused = c.requires.none_refused;
-      content = content_none (space_picked c.args.pick.now) c.args.into.now.points c.requires.nothing;
-      before = before_none (space_picked c.args.pick.now) asking.to;
+      ordered = ordered_none c.args.into.now c.requires.nothing;
+      content = content_none (space_picked c.args.pick.now) c.args.into.now c.requires.nothing;
       forms = forms_none;
     }
 
@@ -41,8 +40,8 @@ read_by_fate-said-requires-clause-there g c κs within =
     let n = get_or c.args.nodes.now c.loop-node.node-index 0 in
     there_after g.D.Disk.state c.args.replicas.now c.loop-node.replicas was.asked.reads (slot_at n c.args.shard) was.asked.ran (c.requires.there n (IsIn-from_index c.args.nodes.now c.loop-node.node-index 0 (omega arith)))
 
-pub take_answer-requires : goal.take_answer-requires
-take_answer-requires g c = c.loop-node.invariant.room 1 (omega arith)
+pub take_answer-requires-clause-counts : goal.take_answer-requires-clause-counts
+take_answer-requires-clause-counts g c = c.loop-node.invariant.room 1 (omega arith)
 
 pub returns-in_err-take_answer-clause-err : goal.returns-in_err-take_answer-clause-err
 returns-in_err-take_answer-clause-err g c =
@@ -74,7 +73,7 @@ loop-node-preserved g c =
           c.args.replicas.now c.loop-node.replicas c.read_by_fate-said.new.replicas below c.fate_to-fate.ensures was.asked c.read_by_fate-said.ensures.brought;
       answered = c.in_ok-take_answer.ensures.answered (map told_of was.heard) was.answered ∙ ap answering (sym told);
       refused = c.in_ok-take_answer.ensures.reasons (map told_of was.heard) was.refused ∙ ap refusing (sym told);
-      content = content_more ns n was.heard said c.loop-node.into.points c.take_answer.new.into.points was.content (c.in_ok-take_answer.ensures.joins ∙ ap (λ k. joined c.loop-node.into.points (points_said k said)) c.space_of-ns.ensures);
-      before = before_more ns asking.to n was.heard said was.before (λ answer is. subst (λ (r : Result (List Series) Reason). IfOk r (AreBefore ns asking.to)) is c.read_by_fate-said.ensures.before);
+      ordered = ordered_more c.loop-node.into c.take_answer.new.into said was.ordered c.in_ok-take_answer.ensures.joins;
+      content = content_more ns n was.heard said c.loop-node.into c.take_answer.new.into was.content c.in_ok-take_answer.ensures.joins;
       forms = forms_more n was.heard said was.forms c.read_by_fate-said.ensures.form;
     }

@@ -41,7 +41,7 @@ settle-requires-clause-ends g c κs within =
     may_end_so g.D.Disk.state state c.args.fates.now asking.id w c.args.shard c.args.nodes.now c.args.replicas.now c.start.new.replicas c.ask_nodes.new.replicas asked.0 c.requires.ready c.requires.shard c.requires.counted
     (c.in_ok-place.ensures.ok).1
     asked.1
-    asked.6 c.ask_nodes.new.into.points asked.4 asked.5 c.space_of-ns.result c.space_of-ns.ensures c.ask_nodes.new.tally.answered.items c.ask_nodes.new.tally.reasons.items asked.2 asked.3 c.in_ok-place.place (c.in_ok-place.ensures.ok).0
+    asked.6 c.ask_nodes.new.into asked.5 asked.4 c.ask_nodes.new.tally.answered.items c.ask_nodes.new.tally.reasons.items asked.2 asked.3 c.in_ok-place.place (c.in_ok-place.ensures.ok).0
 
 pub returns-clause-ok : goal.returns-clause-ok
 returns-clause-ok g c =
@@ -52,7 +52,7 @@ returns-clause-ok g c =
     ended g.D.Disk.state state c.args.fates.now asking.id w c.args.shard c.args.nodes.now c.args.replicas.now c.start.new.replicas c.ask_nodes.new.replicas asked.0 c.requires.ready c.requires.shard c.requires.counted
     (c.in_ok-place.ensures.ok).1
     asked.1
-    asked.6 c.ask_nodes.new.into.points asked.4 asked.5 c.space_of-ns.result c.space_of-ns.ensures c.ask_nodes.new.tally.answered.items c.ask_nodes.new.tally.reasons.items asked.2 asked.3 c.in_ok-place.place (c.in_ok-place.ensures.ok).0
+    asked.6 c.ask_nodes.new.into asked.5 asked.4 c.ask_nodes.new.tally.answered.items c.ask_nodes.new.tally.reasons.items asked.2 asked.3 c.in_ok-place.place (c.in_ok-place.ensures.ok).0
     c.settle.new.replicas c.args.asking.now.quorum.needed c.args.asking.now.quorum.majority c.settle.result c.settle.ensures.ok
 
 pub returns-clause-err : goal.returns-clause-err
@@ -64,5 +64,5 @@ returns-clause-err g c =
     unended g.D.Disk.state state c.args.fates.now asking.id w c.args.shard c.args.nodes.now c.args.replicas.now c.start.new.replicas c.ask_nodes.new.replicas asked.0 c.requires.ready c.requires.shard c.requires.counted
     (c.in_ok-place.ensures.ok).1
     asked.1
-    asked.6 c.ask_nodes.new.into.points asked.4 asked.5 c.space_of-ns.result c.space_of-ns.ensures c.ask_nodes.new.tally.answered.items c.ask_nodes.new.tally.reasons.items asked.2 asked.3 c.in_ok-place.place (c.in_ok-place.ensures.ok).0
+    asked.6 c.ask_nodes.new.into asked.5 asked.4 c.ask_nodes.new.tally.answered.items c.ask_nodes.new.tally.reasons.items asked.2 asked.3 c.in_ok-place.place (c.in_ok-place.ensures.ok).0
     c.settle.new.replicas c.args.asking.now.quorum.needed c.args.asking.now.quorum.majority c.settle.result c.settle.ensures.err

@@ -1,0 +1,5 @@
+pub mod Merges
+pub mod Parts
+pub mod Pairs
+pub mod Runs
+pub mod Laws
