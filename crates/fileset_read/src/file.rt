@@ -33,7 +33,7 @@ fn read_sized<D: Disk>(
 ///
 /// A fault, by which the disk's count rose in this call. Want of memory. After either the files, and what a stop leaves of
 /// them, are as they were.
-pub(crate) fn read_file<D: Disk>(
+pub fn read_file<D: Disk>(
     alloc: Global,
     disk: &mut D,
     name: FileName,

@@ -1,4 +1,5 @@
-//! Volumes read: which count, all series of one, or the series of one identifier.
+//! Volumes read: which count, all series of one, or the series of one identifier; and what a check of a volume reads with, a file
+//! in one piece and the series in the bytes of data.
 #![tactic(auto)]
 
 mod file;
@@ -9,6 +10,9 @@ mod row_err;
 mod series;
 mod volume;
 
+pub use file::read_file;
 pub use file_err::FileErr;
 pub use names::counted;
+pub use row_err::RowErr;
+pub use series::rows_in;
 pub use volume::{row, rows};

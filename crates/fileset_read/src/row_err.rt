@@ -4,7 +4,7 @@ use wire_bytes::WireErr;
 
 /// Why bytes aren't read as series.
 #[derive(Clone, Copy)]
-pub(crate) enum RowErr {
+pub enum RowErr {
     /// Want of memory.
     Memory,
     /// They are none.

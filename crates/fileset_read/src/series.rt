@@ -54,7 +54,7 @@ fn has_id(bytes: &[u8], found: RowAt, id: &str) -> bool
 }
 
 /// The series whose records the bytes are, one after another.
-pub(crate) fn rows_in(alloc: Global, bytes: &[u8]) -> Result<Seq<Series>, RowErr>
+pub fn rows_in(alloc: Global, bytes: &[u8]) -> Result<Seq<Series>, RowErr>
     ensures { (rows : List Row) → AreSpelled rows → bytes.now ≡ data_bytes rows → Gives result (λ read. read ≡ rows) }
 {
     let mut rows = Vec::new(alloc);

@@ -1,0 +1,14 @@
+pub mod LawfulLemmas
+pub mod StopLemmas
+pub mod OptionLemmas
+pub mod NumberLemmas
+pub mod HeadLemmas
+pub mod GateLemmas
+pub mod FirstLemmas
+pub mod DigestLemmas
+pub mod FiveLemmas
+pub mod PartLemmas
+pub mod DerivedLemmas
+pub mod BodyLemmas
+pub mod WholeLemmas
+pub mod LawLemmas
