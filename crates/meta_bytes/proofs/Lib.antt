@@ -1,0 +1,12 @@
+pub mod FairForms
+pub mod FormLemmas
+pub mod NameLemmas
+pub mod SourceLemmas
+pub mod ListLemmas
+pub mod OneLemmas
+pub mod StateLemmas
+pub mod PartLemmas
+pub mod ReadLemmas
+pub mod LengthLemmas
+pub mod LimitLemmas
+pub mod RuleLemmas
