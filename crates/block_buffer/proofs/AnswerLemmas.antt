@@ -1,16 +1,21 @@
 -- The series of a range hold exactly the points that are asked for.
-use Rattle.std.proofs.Common.{◌≡◌, ℕ, ◌<◌, ◌≤◌, ℤ, List, [], ◌∷◌, ◌++◌, map, refl, sym, ap, ◌∙◌, subst, inl, inr, Bool, true, false, cond, ◌&&◌, T, length, arith}
-use Rattle.std.specs.Prelude.{◌⊎◌, Option, Some, None, nat_le, nat_lt, nat_eq}
-use Rattle.std.specs.List.{filter_map, cons_option, flat_map}
+use Rattle.std.proofs.Common.{◌≡◌, ℕ, ◌<◌, ◌≤◌, ℤ, List, [], ◌∷◌, ◌++◌, map, refl, sym, ap, ◌∙◌, subst, inl, inr, Bool, true, false, cond, ◌&&◌, T, length, IsPermutation, IsSortedByKey, arith}
+use Rattle.std.specs.Prelude.{Option, Some, None, nat_le, nat_lt, nat_eq}
+use Rattle.std.specs.List.{filter_map, cons_option, flat_map, AllByRecursion, IsDistinct}
+use Rattle.std.specs.List.Sorted.{IsStrictlySortedBy}
+use Rattle.std.specs.Map.{keys_of}
 use Rattle.std.specs.FinMap as finite
 use Rattle.std.specs.FinMap.{is_sorted, entries, entries_sorted, nat_cmp-IsAntisymmetric}
 use Rattle.std.specs.FinMap.Entries.{below_all}
-use Rattle.std.specs.Cmp.{nat_cmp_total, tied_itself}
-use Rattle.std.specs.Cmp.Lexicographic.{slice_cmp}
-use Rattle.std.specs.Ordering.{nat_cmp, ordering_then}
+use Rattle.std.specs.Cmp.{IsTotalOrder, nat_cmp_total}
+use Rattle.std.specs.Cmp.Lexicographic.{slice_cmp, pointwise, texts_ties}
+use Rattle.std.specs.Ordering.{nat_cmp, eq_by_cmp}
+use Rattle.std.specs.declared.cmp.Ordering.{Ordering}
 use Rattle.std.specs.declared.cmp.Ordering.TheVariants.{Less}
-use Rattle.std.proofs.lemmas.Cmp.{ranked}
+use Rattle.std.proofs.lemmas.Cmp.{ranked, on_total, nat_list_cmp_total}
 use Rattle.std.proofs.lemmas.Bool.{eqb-true, eq-eqb, leb-true, le-leb, ltb-true, lt-ltb}
+use Rattle.std.proofs.lemmas.List.Sorted.{IsPermutation-sym}
+use Rattle.std.proofs.lemmas.Map.Keys.{IsDistinct-IsPermutation}
 use Rattle.m3_model.specs.declared.point.Point.{Point}
 use Rattle.m3_model.specs.declared.point.Series.{Series}
 use Rattle.m3_model.specs.declared.point.Pick.TheVariants as pick
@@ -20,14 +25,18 @@ use Rattle.m3_model.specs.Tags.{IsBelow}
 use Rattle.m3_model.specs.Contents.{key_of}
 use Rattle.m3_model.specs.Reads.{points_in}
 use Rattle.m3_model.proofs.FindLemmas.{both_hold, below_member, get-IsIn, IsIn-get}
-use Rattle.m3_model.proofs.MemberLemmas.{IsIn-append_left, IsIn-append_right, IsIn-append_cases, IsIn-filter_map, filter_map-IsIn, IsIn-map, map-IsIn}
+use Rattle.m3_model.proofs.MemberLemmas.{IsIn-filter_map, filter_map-IsIn, IsIn-map, map-IsIn}
 use Rattle.m3_model.proofs.RangeLemmas.{both_true}
 use Rattle.block_buffer.specs.declared.series_key.SeriesKey.{SeriesKey}
-use Rattle.block_buffer.specs.SeriesKeys.{series_cmp, series_cmp_total, series_of}
+use Rattle.block_buffer.specs.SeriesKeys.{series_cmp, series_cmp_total, series_eq, series_of}
 use Rattle.block_buffer.specs.Slots.{Slots, settled, value_at, valued, valued_in}
 use Rattle.block_buffer.specs.Points.{AllSlots, points_of, slot_in, value_of}
+use Rattle.block_buffer.specs.Places.{Places, slots_of}
 use Rattle.block_buffer.specs.Ranges.{IsRangeOf, some_series, series_in}
+use Rattle.block_buffer.proofs.HashLemmas.{strictly_of, flips_of}
+use Rattle.block_buffer.proofs.MoveLemmas.{IsIn-moved, IsIn-flat, flat-IsIn}
 use Rattle.block_buffer.proofs.PointLemmas.{series_cmp-IsAntisymmetric, get-points}
+use Rattle.block_buffer.proofs.SeriesLemmas.{places_move}
 
 abbrev pub pairs_of : ℕ → ℕ → Slots → List (ℕ × ℤ)
 pairs_of from to s = filter_map (valued_in from to) (entries s)
@@ -122,22 +131,6 @@ stands_one id (p ∷ ps) x h = inl refl
 abbrev points_by : ℕ → Series → List Point
 points_by ns s = map (λ (x : ℕ × ℤ). record { ns = ns; id = s.id; t = x.0; v = x.1 }) s.points
 
-flat-IsIn : {X Y : Type 0} (f : X → List Y) (xs : List X) (x : X) (y : Y) → IsIn xs x → IsIn (f x) y → IsIn (flat_map f xs) y
-flat-IsIn f [] x y h m = absurd h
-flat-IsIn f (z ∷ xs) x y h m =
-    elim h as (λ _. IsIn (f z ++ flat_map f xs) y) [
-      | inl e ↦ IsIn-append_left (f z) (flat_map f xs) y (subst (λ w. IsIn (f w) y) (sym e) m)
-      | inr r ↦ IsIn-append_right (f z) (flat_map f xs) y (flat-IsIn f xs x y r m)
-    ]
-
-IsIn-flat : {X Y : Type 0} (f : X → List Y) (xs : List X) (y : Y) → IsIn (flat_map f xs) y → (x : X) × IsIn xs x × IsIn (f x) y
-IsIn-flat f [] y h = absurd h
-IsIn-flat f (z ∷ xs) y h =
-    elim (IsIn-append_cases (f z) (flat_map f xs) y h) as (λ _. (x : _) × ((z ≡ x) ⊎ IsIn xs x) × IsIn (f x) y) [
-      | inl m ↦ (z, inl refl, m)
-      | inr r ↦ let found = IsIn-flat f xs y r in (found.0, inr found.1, found.2)
-    ]
-
 -- a point of an answer is a pair of one of its series
 pub point_in : (ns : ℕ) (series : List Series) (p : Point) → IsIn (points_in ns series) p → (s : Series) × IsIn series s × (p.ns ≡ ns) × (p.id ≡ s.id) × IsIn s.points (p.t, p.v)
 point_in ns series p h =
@@ -213,58 +206,99 @@ all_answered ns from to es s h =
     let is = answered ns from to found.0 s found.2 in
     record { key = found.0.0; slots = found.0.1; entry = found.1; of_space = is.0; stands = is.1 }
 
--- of two series of one namespace the earlier one has the lower identifier
-id_below : (a b : SeriesKey) → a.ns ≡ b.ns → series_cmp a b ≡ Less → IsBelow a.id b.id
-id_below a b e h =
-    sym (ap (λ o. ordering_then o (slice_cmp nat_cmp a.id b.id)) (ap (nat_cmp a.ns) (sym e) ∙ tied_itself nat_cmp_total a.ns)) ∙ h
+-- ---- in the order of identifiers
 
-first_ascends : (ns from to : ℕ) (e : SeriesKey × Slots) (es : List (SeriesKey × Slots)) → T (below_all series_cmp e.0 es)
-    → Ascends (λ (a b : Series). IsBelow a.id b.id) (flat_map (series_in ns from to) es)
-    → (b : Bool) → nat_eq e.0.ns ns ≡ b → (ps : List (ℕ × ℤ))
-    → Ascends (λ (a b : Series). IsBelow a.id b.id) (cond b (some_series e.0.id ps) [] ++ flat_map (series_in ns from to) es)
-first_ascends ns from to e es below rest false t ps = rest
-first_ascends ns from to e es below rest true t [] = rest
-first_ascends ns from to e es below rest true t (p ∷ ps) = (
-  (λ s m.
+abbrev by_id : Series → Series → Ordering
+by_id a b = slice_cmp nat_cmp a.id b.id
+
+abbrev same_id : Series → Series → Bool
+same_id a b = pointwise nat_eq a.id b.id
+
+id_tie : (a b : Series) → eq_by_cmp by_id a b ≡ same_id a b
+id_tie a b = sym (texts_ties a.id b.id)
+
+by_id_total : IsTotalOrder by_id
+by_id_total = on_total (λ (s : Series). s.id) nat_list_cmp_total
+
+all_so : {X : Type 0} (P : X → Type 0) (xs : List X) → ((x : X) → IsIn xs x → P x) → AllByRecursion P xs
+all_so P [] h = tt
+all_so P (x ∷ xs) h = (h x (inl refl), all_so P xs (λ y m. h y (inr m)))
+
+each_so : {X : Type 0} (P : X → Type 0) (xs : List X) → AllByRecursion P xs → (x : X) → IsIn xs x → P x
+each_so P [] h x m = absurd m
+each_so P (y ∷ xs) h x m = elim m as (λ _. P x) [ inl e ↦ subst P e h.0 | inr r ↦ each_so P xs h.1 x r ]
+
+-- two series of one namespace that differ have other identifiers
+other_id : (a b : SeriesKey) → nat_eq a.ns b.ns ≡ true → series_eq a b ≡ false → pointwise nat_eq a.id b.id ≡ false
+other_id a b e h = sym (ap (λ c. c && pointwise nat_eq a.id b.id) e) ∙ h
+
+first_differs : (ns from to : ℕ) (e : SeriesKey × Slots) (es : Places) → AllByRecursion (λ k. series_eq e.0 k ≡ false) (keys_of es)
+    → IsDistinct same_id (flat_map (series_in ns from to) es) → (b : Bool) → nat_eq e.0.ns ns ≡ b → (ps : List (ℕ × ℤ))
+    → IsDistinct same_id (cond b (some_series e.0.id ps) [] ++ flat_map (series_in ns from to) es)
+unfolding IsDistinct
+first_differs ns from to e es differ rest false t ps = rest
+first_differs ns from to e es differ rest true t [] = rest
+first_differs ns from to e es differ rest true t (p ∷ ps) = (
+  all_so (λ (s : Series). same_id (record { id = e.0.id; points = p ∷ ps }) s ≡ false) (flat_map (series_in ns from to) es) (λ s m.
       let is = all_answered ns from to es s m in
-      let order : series_cmp e.0 is.key ≡ Less = below_member series_cmp series_cmp_total series_cmp-IsAntisymmetric e.0 is.key is.slots es below is.entry in
-      subst (IsBelow e.0.id) (sym is.stands.named) (id_below e.0 is.key (eqb-true e.0.ns ns t ∙ sym is.of_space) order)),
+      let key : IsIn (keys_of es) is.key = map-IsIn (λ (x : SeriesKey × Slots). x.0) es (is.key, is.slots) is.entry in
+      let space : nat_eq e.0.ns is.key.ns ≡ true = eq-eqb e.0.ns is.key.ns (eqb-true e.0.ns ns t ∙ sym is.of_space) in
+      ap (pointwise nat_eq e.0.id) is.stands.named ∙ other_id e.0 is.key space (each_so (λ (k : SeriesKey). series_eq e.0 k ≡ false) (keys_of es) differ is.key key)),
   rest,
 )
 
-all_ascend : (ns from to : ℕ) (es : List (SeriesKey × Slots)) → T (is_sorted series_cmp es) → Ascends (λ (a b : Series). IsBelow a.id b.id) (flat_map (series_in ns from to) es)
-all_ascend ns from to [] h = tt
-all_ascend ns from to (e ∷ es) h =
-    let parts = both_hold (below_all series_cmp e.0 es) (is_sorted series_cmp es) h in
-    first_ascends ns from to e es parts.0 (all_ascend ns from to es parts.1) (nat_eq e.0.ns ns) refl (pairs_of from to e.1)
+all_differ : (ns from to : ℕ) (es : Places) → IsDistinct series_eq (keys_of es) → IsDistinct same_id (flat_map (series_in ns from to) es)
+unfolding IsDistinct
+all_differ ns from to [] h = tt
+all_differ ns from to (e ∷ es) h = first_differs ns from to e es h.0 (all_differ ns from to es h.1) (nat_eq e.0.ns ns) refl (pairs_of from to e.1)
+
+strictly_ascend : (series : List Series) → IsStrictlySortedBy by_id series → Ascends (λ (a b : Series). IsBelow a.id b.id) series
+unfolding IsStrictlySortedBy
+strictly_ascend [] h = tt
+strictly_ascend (s ∷ series) h = ((λ y m. each_so (λ (z : Series). by_id s z ≡ Less) series h.0 y m), strictly_ascend series h.1)
+
+-- series that all differ ascend once they are sorted
+by_id_ascend : (found series : List Series) → IsDistinct same_id found → IsPermutation found series → IsSortedByKey (λ (s : Series). s.id) (slice_cmp nat_cmp) series
+    → Ascends (λ (a b : Series). IsBelow a.id b.id) series
+by_id_ascend found series differ moved sorted =
+    strictly_ascend series (strictly_of by_id by_id_total same_id id_tie series sorted (IsDistinct-IsPermutation same_id (flips_of by_id by_id_total same_id id_tie) found series moved differ))
 
 some_slots : (o : Option Slots) (t : ℕ) (v : ℤ) → settled (slot_in o t) ≡ Some v → (s : Slots) × (o ≡ Some s)
 some_slots None t v e = cc
 some_slots (Some s) t v e = (s, refl)
 
 -- the range of a namespace
-pub space_range : (all : AllSlots) (ns from to : ℕ) (wanted : _) → IsRangeOf (points_of all) (pick.Match ns wanted) from to (flat_map (series_in ns from to) (entries all))
-space_range all ns from to wanted = record {
-  ordered = record {
-    ids = all_ascend ns from to (entries all) (entries_sorted all);
-    times = λ x m. let is = (all_answered ns from to (entries all) x m) in subst (Ascends (λ a b. a.0 < b.0)) (sym is.stands.pairs) (pairs_ascend from to (entries is.slots) (entries_sorted is.slots));
-    none_empty = λ x m. (all_answered ns from to (entries all) x m).stands.some;
-  };
-  nothing_else = λ p m.
-      let at = point_in ns (flat_map (series_in ns from to) (entries all)) p m in
-      let is = all_answered ns from to (entries all) at.0 at.1 in
-      let found : finite.get all is.key ≡ Some is.slots = IsIn-get series_cmp series_cmp_total series_cmp-IsAntisymmetric all is.key is.slots is.entry in
-      let same : series_of (key_of p) ≡ is.key = λ i. record { ns = (at.2 ∙ sym is.of_space) i; id = (at.3 ∙ is.stands.named) i } in
-      let pair = pair_stands is.slots from to (p.t, p.v) (subst (λ ps. IsIn ps (p.t, p.v)) is.stands.pairs at.4) in
-      (get-points all (key_of p) ∙ ap (λ o. settled (slot_in o p.t)) (ap (finite.get all) same ∙ found) ∙ pair.0, at.2, (pair.1, pair.2));
-  whole = λ p stands named range.
-      let value : value_of all (key_of p) ≡ Some p.v = sym (get-points all (key_of p)) ∙ stands in
-      let slots = some_slots (finite.get all (series_of (key_of p))) p.t p.v value in
-      let here : value_at slots.0 p.t ≡ Some p.v = sym (ap (λ o. settled (slot_in o p.t)) slots.1) ∙ value in
-      let entry = get-IsIn series_cmp series_cmp_total series_cmp-IsAntisymmetric all (series_of (key_of p)) slots.0 slots.1 in
-      let pair = stands_pair slots.0 from to p.t p.v here range.0 range.1 in
-      let one : IsIn (series_in ns from to (series_of (key_of p), slots.0)) (record { id = p.id; points = pairs_of from to slots.0 }) =
-      subst (λ b. IsIn (cond b (some_series p.id (pairs_of from to slots.0)) []) (record { id = p.id; points = pairs_of from to slots.0 })) (sym (eq-eqb p.ns ns named)) (stands_one p.id (pairs_of from to slots.0) (p.t, p.v) pair) in
-      in_points ns (flat_map (series_in ns from to) (entries all)) (record { id = p.id; points = pairs_of from to slots.0 }) p
-      (flat-IsIn (series_in ns from to) (entries all) (series_of (key_of p), slots.0) _ entry one) named refl pair;
-}
+pub space_range : (es : Places) (ns from to : ℕ) (wanted : _) (series : List Series) → IsDistinct series_eq (keys_of es) → IsPermutation (flat_map (series_in ns from to) es) series
+    → IsSortedByKey (λ (s : Series). s.id) (slice_cmp nat_cmp) series → IsRangeOf (points_of (slots_of es)) (pick.Match ns wanted) from to series
+space_range es ns from to wanted series distinct moved sorted =
+    let all : AllSlots = slots_of es in
+    let places = places_move es distinct in
+    let given : (s : Series) → IsIn series s → IsAnswered ns from to es s =
+    λ s m. all_answered ns from to es s (IsIn-moved series (flat_map (series_in ns from to) es) (IsPermutation-sym (flat_map (series_in ns from to) es) series moved) s m) in
+    record {
+      ordered = record {
+        ids = by_id_ascend (flat_map (series_in ns from to) es) series (all_differ ns from to es distinct) moved sorted;
+        times = λ x m. let is = given x m in subst (Ascends (λ a b. a.0 < b.0)) (sym is.stands.pairs) (pairs_ascend from to (entries is.slots) (entries_sorted is.slots));
+        none_empty = λ x m. (given x m).stands.some;
+      };
+      nothing_else = λ p m.
+          let at = point_in ns series p m in
+          let is = given at.0 at.1 in
+          let entry : IsIn (entries all) (is.key, is.slots) = IsIn-moved es (entries all) places (is.key, is.slots) is.entry in
+          let found : finite.get all is.key ≡ Some is.slots = IsIn-get series_cmp series_cmp_total series_cmp-IsAntisymmetric all is.key is.slots entry in
+          let same : series_of (key_of p) ≡ is.key = λ i. record { ns = (at.2 ∙ sym is.of_space) i; id = (at.3 ∙ is.stands.named) i } in
+          let pair = pair_stands is.slots from to (p.t, p.v) (subst (λ ps. IsIn ps (p.t, p.v)) is.stands.pairs at.4) in
+          (get-points all (key_of p) ∙ ap (λ o. settled (slot_in o p.t)) (ap (finite.get all) same ∙ found) ∙ pair.0, at.2, (pair.1, pair.2));
+      whole = λ p stands named range.
+          let value : value_of all (key_of p) ≡ Some p.v = sym (get-points all (key_of p)) ∙ stands in
+          let slots = some_slots (finite.get all (series_of (key_of p))) p.t p.v value in
+          let here : value_at slots.0 p.t ≡ Some p.v = sym (ap (λ o. settled (slot_in o p.t)) slots.1) ∙ value in
+          let entry = IsIn-moved (entries all) es (IsPermutation-sym es (entries all) places) (series_of (key_of p), slots.0)
+          (get-IsIn series_cmp series_cmp_total series_cmp-IsAntisymmetric all (series_of (key_of p)) slots.0 slots.1) in
+          let pair = stands_pair slots.0 from to p.t p.v here range.0 range.1 in
+          let one : IsIn (series_in ns from to (series_of (key_of p), slots.0)) (record { id = p.id; points = pairs_of from to slots.0 }) =
+          subst (λ b. IsIn (cond b (some_series p.id (pairs_of from to slots.0)) []) (record { id = p.id; points = pairs_of from to slots.0 })) (sym (eq-eqb p.ns ns named)) (stands_one p.id (pairs_of from to slots.0) (p.t, p.v) pair) in
+          let found = IsIn-moved (flat_map (series_in ns from to) es) series moved (record { id = p.id; points = pairs_of from to slots.0 })
+          (flat-IsIn (series_in ns from to) es (series_of (key_of p), slots.0) (record { id = p.id; points = pairs_of from to slots.0 }) entry one) in
+          in_points ns series (record { id = p.id; points = pairs_of from to slots.0 }) p found named refl pair;
+    }

@@ -1,9 +1,10 @@
 -- The points that stay where series lose some of their slots.
 use Rattle.std.proofs.Common.{◌≡◌, ℕ, suc, ◌+◌, ◌-◌, ◌≤◌, ◌<◌, ◌^◌, ℤ, List, [], ◌∷◌, ◌++◌, refl, sym, ap, ap₂, ◌∙◌, subst, Bool, true, false, cond, not, ◌&&◌, length, arith}
 use Rattle.std.specs.Prelude.{Option, Some, None, min, is_some, count_by, nat_le, nat_lt, nat_eq}
-use Rattle.std.specs.List.{filter, filter_map, flat_map}
+use Rattle.std.specs.List.{filter, filter_map, flat_map, IsDistinct}
 use Rattle.std.specs.FinMap as map
-use Rattle.std.specs.FinMap.{is_sorted, from_sorted, entries-from_sorted, same_map, get-retain_keys, entries, same_entries_map, len-entries}
+use Rattle.std.specs.FinMap.{same_map, get-retain_keys, entries, len-entries}
+use Rattle.std.specs.Map.{keys_of}
 use Rattle.std.specs.Map.Calls.{RetainsPairs}
 use Rattle.std.specs.Ordering.{nat_cmp}
 use Rattle.std.specs.Cmp.{nat_cmp_total}
@@ -12,18 +13,24 @@ use Rattle.std.proofs.lemmas.Bool.Decides.{nat_tests}
 use Rattle.std.proofs.lemmas.List.Elements.{filter-append}
 use Rattle.std.proofs.lemmas.List.Sums.{length-filter, sum_by-append}
 use Rattle.std.proofs.lemmas.List.Filters.{length-filter_both}
+use Rattle.std.proofs.lemmas.List.Sorted.{IsPermutation-sym}
 use Rattle.m3_model.specs.declared.point.Key.{Key}
 use Rattle.m3_model.specs.Keys.{key_cmp, key_cmp_total}
 use Rattle.m3_model.specs.Contents.{Contents}
-use Rattle.m3_model.proofs.Keyed.{key_cmp-IsAntisymmetric, holds_of}
+use Rattle.m3_model.specs.Members.{IsIn}
+use Rattle.m3_model.proofs.FindLemmas.{get-IsIn, IsIn-get}
+use Rattle.m3_model.proofs.Keyed.{key_cmp-IsAntisymmetric}
 use Rattle.block_buffer.specs.declared.series_key.SeriesKey.{SeriesKey}
 use Rattle.m3_model.specs.declared.rules.Rules.{Rules}
-use Rattle.block_buffer.specs.SeriesKeys.{key_at, series_cmp}
+use Rattle.block_buffer.specs.SeriesKeys.{key_at, series_eq}
 use Rattle.block_buffer.specs.Slots.{Slots, is_within, is_held_within}
 use Rattle.block_buffer.specs.Points.{AllSlots, keyed, series_points, points_of}
+use Rattle.block_buffer.specs.Places.{Places, slots_of}
 use Rattle.block_buffer.specs.Held.{without, is_in_block, has_expired}
 use Rattle.block_buffer.proofs.MapLemmas.{entries-retain_keys}
+use Rattle.block_buffer.proofs.MoveLemmas.{flat_moved, IsIn-filter, filter-IsIn}
 use Rattle.block_buffer.proofs.PointLemmas.{entries-points}
+use Rattle.block_buffer.proofs.SeriesLemmas.{places_move}
 
 abbrev pub stays : (Key → Bool) → Key × ℤ → Bool
 stays test x = not (test x.0)
@@ -72,11 +79,34 @@ module _ {F : Type 0} (T : F → SeriesKey → Slots → Bool → Slots → F �
       ap (flat_map series_points) is ∙ kept_here e w rest b one.1 ∙ ap₂ ◌++◌ here (retained call es rest (subst (λ g. RetainsPairs T g es rest) one.2 later))
       ∙ sym (filter-append (stays test) (series_points e) (flat_map series_points es))
 
+-- contents with the same points
+pub same_members : (c d : Contents) → ((x : Key × ℤ) → IsIn (entries c) x → IsIn (entries d) x) → ((x : Key × ℤ) → IsIn (entries d) x → IsIn (entries c) x) → c ≡ d
+same_members c d to from = same_map key_cmp_total key_cmp-IsAntisymmetric c d (λ q. by q (map.get c q) (map.get d q) refl refl)
+  where
+    by : (q : Key) (o p : Option ℤ) → map.get c q ≡ o → map.get d q ≡ p → map.get c q ≡ map.get d q
+    by q (Some v) p e f = e ∙ sym (IsIn-get key_cmp key_cmp_total key_cmp-IsAntisymmetric d q v (to (q, v) (get-IsIn key_cmp key_cmp_total key_cmp-IsAntisymmetric c q v e)))
+    by q None (Some w) e f = IsIn-get key_cmp key_cmp_total key_cmp-IsAntisymmetric c q w (from (q, w) (get-IsIn key_cmp key_cmp_total key_cmp-IsAntisymmetric d q w f)) ∙ sym f
+    by q None None e f = e ∙ sym f
+
+-- the points of the series at their places
+pub placed_points : (es : Places) → IsDistinct series_eq (keys_of es) → (x : Key × ℤ) → IsIn (flat_map series_points es) x → IsIn (entries (points_of (slots_of es))) x
+placed_points es h x m = subst (λ l. IsIn l x) (sym (entries-points (slots_of es))) (flat_moved series_points es (entries (slots_of es)) (places_move es h) x m)
+
+pub points_placed : (es : Places) → IsDistinct series_eq (keys_of es) → (x : Key × ℤ) → IsIn (entries (points_of (slots_of es))) x → IsIn (flat_map series_points es) x
+points_placed es h x m =
+    flat_moved series_points (entries (slots_of es)) es (IsPermutation-sym es (entries (slots_of es)) (places_move es h)) x (subst (λ l. IsIn l x) (entries-points (slots_of es)) m)
+
 -- the points that stay
-pub cut_points : (m n : AllSlots) (test : Key → Bool) → flat_map series_points (entries n) ≡ filter (stays test) (flat_map series_points (entries m)) → points_of n ≡ without (points_of m) test
-cut_points m n test e =
-    same_entries_map _ _ (entries-points n ∙ e ∙ ap (filter (stays test)) (sym (entries-points m))
-    ∙ sym (entries-retain_keys key_cmp key_cmp_total key_cmp-IsAntisymmetric (points_of m) (λ k. not (test k))))
+pub cut_points : (es ns : Places) (test : Key → Bool) → IsDistinct series_eq (keys_of es) → IsDistinct series_eq (keys_of ns)
+    → flat_map series_points ns ≡ filter (stays test) (flat_map series_points es) → points_of (slots_of ns) ≡ without (points_of (slots_of es)) test
+cut_points es ns test was is e =
+    let left : entries (without (points_of (slots_of es)) test) ≡ filter (stays test) (entries (points_of (slots_of es))) =
+    entries-retain_keys key_cmp key_cmp_total key_cmp-IsAntisymmetric (points_of (slots_of es)) (λ k. not (test k)) in
+    same_members (points_of (slots_of ns)) (without (points_of (slots_of es)) test)
+    (λ x m. let here = IsIn-filter (stays test) (flat_map series_points es) x (subst (λ l. IsIn l x) e (points_placed ns is x m)) in
+    subst (λ l. IsIn l x) (sym left) (filter-IsIn (stays test) (entries (points_of (slots_of es))) x (placed_points es was x here.0) here.1))
+    (λ x m. let here = IsIn-filter (stays test) (entries (points_of (slots_of es))) x (subst (λ l. IsIn l x) left m) in
+    placed_points ns is x (subst (λ l. IsIn l x) (sym e) (filter-IsIn (stays test) (flat_map series_points es) x (points_placed es was x here.0) here.1)))
 
 -- how many points leave
 pub cut_number : (m : AllSlots) (test : Key → Bool) (n : Contents) → n ≡ without (points_of m) test
@@ -135,13 +165,6 @@ pub block_left : (s : SeriesKey) (ns start size high : ℕ) (v : Slots) → s.ns
 block_left s ns start size high v e h is =
     ap (λ (n : ℕ). map.retain_keys v (λ t. not (is_within start n t))) is
     ∙ same_left v _ _ (λ t. ap not (sym (in_block_within ns start size s.ns t e h)))
-
--- the same of the entries of std's maps
-pub cut_flat : (es ns : List (SeriesKey × Slots)) (test : Key → Bool) → is_sorted series_cmp es ≡ true → is_sorted series_cmp ns ≡ true
-    → flat_map series_points ns ≡ filter (stays test) (flat_map series_points es)
-    → flat_map series_points (entries (from_sorted {R = series_cmp} ns)) ≡ filter (stays test) (flat_map series_points (entries (from_sorted {R = series_cmp} es)))
-cut_flat es ns test was is e =
-    ap (flat_map series_points) (entries-from_sorted series_cmp ns (holds_of _ is)) ∙ e ∙ ap (λ xs. filter (stays test) (flat_map series_points xs)) (sym (entries-from_sorted series_cmp es (holds_of _ was)))
 
 from_zero : (last t : ℕ) → is_within 0 last t ≡ nat_le t last
 from_zero last t = grind (arith, nat_tests)

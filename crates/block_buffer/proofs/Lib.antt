@@ -1,4 +1,7 @@
 pub mod MapLemmas
+pub mod HashLemmas
+pub mod MoveLemmas
+pub mod SortLemmas
 pub mod SlotLemmas
 pub mod PointLemmas
 pub mod SeriesLemmas
@@ -7,3 +10,4 @@ pub mod AnswerLemmas
 pub mod BlockLemmas
 pub mod LawLemmas
 pub mod JoinLemmas
+pub mod RoomLemmas

@@ -1,11 +1,11 @@
 -- The entries of an ordered map of std as a finite map.
 use Rattle.std.proofs.Common.{◌≡◌, List, [], ◌∷◌, refl, sym, ap, ◌∙◌, Bool, true, cond, ◌&&◌, T}
-use Rattle.std.specs.Prelude.{Some, None}
+use Rattle.std.specs.Prelude.{Some, None, is_some}
 use Rattle.std.specs.FinMap as map
 use Rattle.std.specs.FinMap.{FinMap, find, is_sorted, from_sorted, get-from_sorted, get-insert, get-remove, IsAntisymmetric, same_map, entries, entries-from_sorted, entries_sorted, get-entries, get-retain_keys}
 use Rattle.std.specs.FinMap.Entries.{below_all, where_key, is_sorted-where_key, find-where_key}
 use Rattle.std.specs.Map.{keys_of, lookup}
-use Rattle.std.specs.BTreeMap.{is_at}
+use Rattle.std.specs.BTreeMap.{is_at, BTreeMap, get_by, WritesThrough}
 use Rattle.std.specs.Cmp.{IsTotalOrder, eq_by_cmp_equiv}
 use Rattle.std.specs.List.{AllByRecursion}
 use Rattle.std.specs.List.Sorted.{IsStrictlySortedBy}
@@ -13,6 +13,12 @@ use Rattle.std.specs.Ordering.{is_lt, eq_by_cmp}
 use Rattle.std.specs.declared.cmp.Ordering.{Ordering}
 use Rattle.std.specs.declared.cmp.Ordering.TheVariants.{Less, Equal}
 use Rattle.m3_model.proofs.Keyed.{holds_of}
+
+-- what was written through a `&mut` to the value of a key
+pub record Wrote {K X : Type 0} (R : K → K → Ordering) (m n : BTreeMap K X) (k : K) (v w : X) : Type 0 where
+  pub sorted : is_sorted R n.entries ≡ true
+  pub found : map.get (from_sorted {R = R} m.entries) k ≡ Some v
+  pub after : from_sorted {R = R} n.entries ≡ map.insert (from_sorted {R = R} m.entries) k w
 
 module _ {K X : Type 0} (R : K → K → Ordering) where
   below_of : (x : K) (es : List (K × X)) → AllByRecursion (λ y. R x y ≡ Less) (keys_of es) → below_all R x es ≡ true
@@ -58,3 +64,12 @@ module _ {K X : Type 0} (R : K → K → Ordering) where
         same_map total anti _ _ (λ q. get-retain_keys m p q (alike q) ∙ ap (λ o. cond (p q) o None) (get-entries m q)
         ∙ sym (find-where_key R p q (alike q) (entries m)) ∙ sym (get-from_sorted R kept q sorted)) in
         ap entries same ∙ entries-from_sorted R kept sorted
+
+    pub wrote : (m n : BTreeMap K X) (k : K) (v w : X) → is_sorted R m.entries ≡ true → WritesThrough R (R k) m w n → Some v ≡ get_by (R k) m → Wrote R m n k v w
+    wrote m n k v w was through is =
+        let ordered : is_sorted R n.entries ≡ true = sorted_of n.entries through.4 in
+        record {
+          sorted = ordered;
+          found = get_of m.entries k was ∙ sym is;
+          after = inserted m.entries n.entries k w was ordered (through.3 (ap is_some (sym is))).0;
+        }

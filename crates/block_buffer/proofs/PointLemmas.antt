@@ -39,7 +39,7 @@ then-then Greater b c = refl
 key_order : (x y : Key) → key_cmp x y ≡ ordering_then (series_cmp (series_of x) (series_of y)) (nat_cmp x.t y.t)
 key_order x y = then-then (nat_cmp x.ns y.ns) (slice_cmp nat_cmp x.id y.id) (nat_cmp x.t y.t)
 
-equal-then : (a b : Ordering) → is_eq (ordering_then a b) ≡ (is_eq a && is_eq b)
+pub equal-then : (a b : Ordering) → is_eq (ordering_then a b) ≡ (is_eq a && is_eq b)
 equal-then Less b = refl
 equal-then Equal b = refl
 equal-then Greater b = refl

@@ -4,11 +4,11 @@ use Rattle.std.specs.Prelude.{Option, Some, None, IsSome, is_some, nat_eq, nat_l
 use Rattle.std.specs.List.{filter, filter_map, cons_option}
 use Rattle.std.specs.FinMap as map
 use Rattle.std.specs.Cmp.{nat_cmp_total}
-use Rattle.std.specs.FinMap.{same_map, get-retain_keys, nat_cmp-IsAntisymmetric, is_sorted, from_sorted, entries-from_sorted}
+use Rattle.std.specs.FinMap.{same_map, get-insert, get-retain_keys, nat_cmp-IsAntisymmetric, is_sorted, from_sorted, entries-from_sorted}
 use Rattle.std.specs.BTreeMap.{is_at, BTreeMap}
 use Rattle.std.specs.BTreeMap.Range.{entries_between, range_contains, IsRangeOf, IsEntryInRange}
 use Rattle.std.specs.Map.{lookup}
-use Rattle.std.specs.Ordering.{nat_cmp, is_gt}
+use Rattle.std.specs.Ordering.{nat_cmp, eq_by_cmp, is_gt}
 use Rattle.std.specs.declared.ops.Bound.TheVariants.{Included, Excluded}
 use Rattle.std.proofs.lemmas.Bool.{eqb-true}
 use Rattle.std.proofs.lemmas.Bool.Decides.{nat_tests}
@@ -173,3 +173,11 @@ range_left low high m n gone kept =
 pub not_both : {X : Type 0} (o : Option X) → o ≡ None → is_some o ≡ true → ⊥
 not_both None e h = cc
 not_both (Some x) e h = cc
+
+tied_time : (q t : ℕ) → eq_by_cmp nat_cmp q t ≡ nat_eq q t
+tied_time q t = grind (arith, nat_tests)
+
+-- a slot took this content, of the map
+pub slot_took : (m : Slots) (t : ℕ) (slot : Option ℤ) (q : ℕ) → value_at (map.insert m t slot) q ≡ cond (nat_eq q t) slot (value_at m q)
+slot_took m t slot q =
+    ap settled (get-insert nat_cmp_total m t slot q) ∙ settled-cond (eq_by_cmp nat_cmp q t) slot (map.get m q) ∙ ap (λ b. cond b slot (value_at m q)) (tied_time q t)

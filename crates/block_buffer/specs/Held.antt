@@ -1,12 +1,11 @@
 -- What a buffer holds: points, and room for one.
-use Rattle.std.specs.Prelude.{ℕ, ◌+◌, Option, Some, None, Bool, ◌&&◌, not, nat_eq, nat_le, nat_lt, refl, IfSome, IsSome}
+use Rattle.std.specs.Prelude.{ℕ, ◌+◌, Option, Bool, ◌&&◌, not, nat_eq, nat_le, nat_lt, refl}
 use Rattle.std.specs.Coded.{Coded, code_by, coded×, coded_option}
 use Rattle.std.specs.FinMap as map
 use Rattle.m3_model.specs.declared.point.Key.{Key}
 use Rattle.m3_model.specs.Keys.{key_code}
 use Rattle.m3_model.specs.Contents.{Contents, contents_code}
 pub use Rattle.retention.specs.Expiry.{has_ended, has_expired}
-use Rattle.block_buffer.specs.Points.{AllSlots, slot_at}
 
 -- A buffer: its points, and the key at which the next `put` takes no memory.
 pub record Held : Type 0 where
@@ -15,10 +14,6 @@ pub record Held : Type 0 where
 
 abbrev pub held_code : Coded Held
 held_code = code_by (Contents × Option Key) (coded× contents_code (coded_option key_code)) (λ h. (h.points, h.room)) (λ p. record { points = p.0; room = p.1 }) (λ _. refl)
-
--- where there is room, a slot stands
-abbrev pub RoomStands : Option Key → AllSlots → Type 0
-RoomStands room all = IfSome room (λ k. IsSome (slot_at all k))
 
 -- the key is of this namespace and this block
 abbrev pub is_in_block : ℕ → ℕ → ℕ → Key → Bool

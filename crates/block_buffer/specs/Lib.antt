@@ -1,6 +1,7 @@
 pub mod SeriesKeys
 pub mod Slots
 pub mod Points
+pub mod Places
 pub mod Held
 pub mod Ranges
 pub mod Blocks

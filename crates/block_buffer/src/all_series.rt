@@ -1,22 +1,27 @@
-ghost use Rattle.std.specs.Prelude.{◌≡◌, ◌||◌, ℕ, ◌+◌, ◌-◌, ◌<◌, ◌^◌, Some, None, cond, not, false, min, length, count_by, nat_le, slice_get, is_some, IsSome, IfSome, IfOk, OnOk, ◌++◌};
-ghost use Rattle.std.specs.List.{flat_map, filter_map, list_any, All};
+ghost use Rattle.std.specs.Prelude.{◌≡◌, ◌||◌, ℕ, ◌+◌, ◌-◌, ◌<◌, ◌^◌, List, [], None, Some, cond, not, false, length, min, count_by, is_some, IfOk, IfSome, OnOk, ◌++◌, IsPermutation, IsSortedByKey};
+ghost use Rattle.std.specs.List.{flat_map, filter_map, list_any, All, IsDistinct};
+ghost use Rattle.std.specs.Map.{keys_of};
 ghost use Rattle.std.specs.BTreeSet.{contains, IsOrdered};
-ghost use Rattle.std.specs.Option.{option_copied};
-ghost use Rattle.block_buffer.specs.Blocks.{block_cmp, block_of, is_block, IsBlocksOf};
-ghost use Rattle.m3_model.specs.declared.point.Pick.TheVariants as pick;
-ghost use Rattle.block_buffer.specs.Slots.{valued_in};
-ghost use Rattle.block_buffer.specs.Ranges.{IsRangeOf, some_series, series_in};
+ghost use Rattle.std.specs.Cmp.Lexicographic.{slice_cmp};
+ghost use Rattle.std.specs.Ordering.{nat_cmp, eq_by_cmp};
 ghost use Rattle.std.specs.FinMap as finite;
-ghost use Rattle.std.specs.Ordering.{eq_by_cmp};
 ghost use Rattle.m3_model.specs.declared.point.Key.{Key};
+ghost use Rattle.m3_model.specs.declared.point.Matcher.{Matcher};
+ghost use Rattle.m3_model.specs.declared.point.Pick.TheVariants as pick;
 ghost use Rattle.m3_model.specs.Keys.{key_cmp};
 ghost use Rattle.m3_model.specs.Contents.{higher, is_higher};
-ghost use Rattle.block_buffer.specs.SeriesKeys.{key_at};
-ghost use Rattle.block_buffer.specs.Points.{slot_at, value_of, series_points, points_of};
+ghost use Rattle.block_buffer.specs.declared.series_key.SeriesKey.{SeriesKey};
+ghost use Rattle.block_buffer.specs.Blocks.{block_cmp, block_of, is_block, IsBlocksOf};
+ghost use Rattle.block_buffer.specs.SeriesKeys.{key_at, series_eq};
+ghost use Rattle.block_buffer.specs.Slots.{valued_in};
+ghost use Rattle.block_buffer.specs.Points.{value_of, series_points, points_of};
+ghost use Rattle.block_buffer.specs.Places.{IsAt, StandsAt, slots_of};
+ghost use Rattle.block_buffer.specs.Ranges.{IsRangeOf, some_series, series_in};
 ghost use Rattle.block_buffer.specs.Held.{without, has_expired, is_in_block};
 
 use crate::series_buffer::SeriesBuffer;
 use crate::series_key::SeriesKey;
+use indexmap::IndexMap;
 use m3_model::duplicate::Duplicate;
 use m3_model::memory::Memory;
 use m3_model::point::Series;
@@ -25,119 +30,141 @@ use m3_model::seq::Seq;
 use m3_model::text::Text;
 use retention::{last_expired, space_of};
 use std::alloc::Global;
-use std::collections::{BTreeMap, BTreeSet};
+use std::collections::BTreeSet;
 use std::marker::Model;
 
-// The slots of each series.
+// The slots of each series, at its place. A place is that of its series until a series leaves.
 #[derive(Drop)]
 pub(crate) struct AllSeries {
-    map: BTreeMap<SeriesKey, SeriesBuffer>,
+    map: IndexMap<SeriesKey, SeriesBuffer>,
 }
 
 impl Model for AllSeries {
-    ghost use Rattle.std.specs.Prelude.{IsTrue};
-    ghost use Rattle.std.specs.FinMap.{from_sorted, is_sorted, code};
-    ghost use Rattle.block_buffer.specs.SeriesKeys.{series_cmp, series_code};
-    ghost use Rattle.block_buffer.specs.Slots.{slots_code};
-    ghost use Rattle.block_buffer.specs.Points.{AllSlots};
+    ghost use Rattle.std.specs.List.{IsDistinct};
+    ghost use Rattle.std.specs.Map.{keys_of};
+    ghost use Rattle.block_buffer.specs.SeriesKeys.{series_eq};
+    ghost use Rattle.block_buffer.specs.Places.{Places, places_code};
 
-    ghost Value = { AllSlots };
+    ghost Value = { Places };
 
-    ghost coded = { code series_code slots_code };
+    ghost coded = { places_code };
 
-    ghost view = { λ a. from_sorted a.map.entries };
+    ghost view = { λ a. a.map.entries };
 
-    ghost invariant = { λ a. IsTrue (is_sorted series_cmp a.map.entries) };
+    ghost invariant = { λ a. IsDistinct series_eq (keys_of a.map.entries) };
+}
+
+// Where a slot is: the place of its series, and whether it has a value.
+#[derive(Clone, Copy)]
+pub(crate) struct Found {
+    pub(crate) place: usize,
+    pub(crate) valued: bool,
 }
 
 impl AllSeries {
     pub(crate) fn new(alloc: Global) -> AllSeries
-        ensures { result ≡ finite.empty }
+        ensures { result ≡ [] }
     {
         AllSeries {
-            map: BTreeMap::new(alloc),
+            map: IndexMap::new(alloc),
         }
     }
 
-    // Makes a slot of the series at this time, if there is none. No value changes. Says whether there is a value.
-    pub(crate) fn hold(&mut self, alloc: Global, series: &SeriesKey, t: u64) -> Result<bool, Memory>
-        ensures kept { (k : Key) → value_of self.new k ≡ value_of self.old k }
-        ensures stands { OnOk result (IsSome (slot_at self.new (key_at series.now t))) }
-        ensures valued { IfOk result (λ valued. valued ≡ is_some (value_of self.old (key_at series.now t))) }
+    // Makes a slot of the series at this time, if there is none. No value changes.
+    pub(crate) fn hold(
+        &mut self,
+        alloc: Global,
+        series: &SeriesKey,
+        t: u64,
+    ) -> Result<Found, Memory>
+        ensures kept { (k : Key) → value_of (slots_of self.new) k ≡ value_of (slots_of self.old) k }
+        ensures stands { IfOk result (λ found. StandsAt self.new found.place t series.now) }
+        ensures valued { IfOk result (λ found. found.valued ≡ is_some (value_of (slots_of self.old) (key_at series.now t))) }
     {
-        match self.hold_in(series, t) {
-            Some(held) => held,
+        match self.place_of(series) {
+            Some(place) => {
+                let valued = self.hold_at(place, t)?;
+                Ok(Found { place, valued })
+            }
             None => self.hold_new(alloc, series.copy(alloc)?, t),
         }
     }
 
-    // The same, of a series that isn't there.
-    fn hold_new(&mut self, alloc: Global, series: SeriesKey, t: u64) -> Result<bool, Memory>
-        requires { finite.get self.old series ≡ None }
-        ensures kept { (k : Key) → value_of self.new k ≡ value_of self.old k }
-        ensures stands { OnOk result (IsSome (slot_at self.new (key_at series t))) }
-        ensures valued { IfOk result (λ valued. valued ≡ is_some (value_of self.old (key_at series t))) }
+    // The place of the series, if it is there.
+    fn place_of(&self, series: &SeriesKey) -> Option<usize>
+        ensures there { IfSome result (λ place. IsAt self.now place series.now) }
+        ensures absent { result ≡ None → finite.get (slots_of self.now) series.now ≡ None }
+    {
+        let (place, _, _) = self.map.get_full(series)?;
+        Some(place)
+    }
+
+    // Makes a slot of the series at this place, if there is none. Says whether there is a value.
+    fn hold_at(&mut self, place: usize, t: u64) -> Result<bool, Memory>
+        requires { (s : SeriesKey) × IsAt self.old place s }
+        ensures kept { (k : Key) → value_of (slots_of self.new) k ≡ value_of (slots_of self.old) k }
+        ensures stands { (s : SeriesKey) → IsAt self.old place s → OnOk result (StandsAt self.new place t s) }
+        ensures valued { (s : SeriesKey) → IsAt self.old place s → IfOk result (λ valued. valued ≡ is_some (value_of (slots_of self.old) (key_at s t))) }
+    {
+        self.map[place].hold(t)
+    }
+
+    // Makes a slot of a series that isn't there. It comes last.
+    fn hold_new(&mut self, alloc: Global, series: SeriesKey, t: u64) -> Result<Found, Memory>
+        requires { finite.get (slots_of self.old) series ≡ None }
+        ensures kept { (k : Key) → value_of (slots_of self.new) k ≡ value_of (slots_of self.old) k }
+        ensures stands { IfOk result (λ found. StandsAt self.new found.place t series) }
+        ensures valued { IfOk result (λ found. found.valued ≡ is_some (value_of (slots_of self.old) (key_at series t))) }
     {
         let mut buffer = SeriesBuffer::new(alloc);
         buffer.hold(t)?;
+        let place = self.map.len();
         self.map.insert(series, buffer)?;
-        Ok(false)
+        Ok(Found {
+            place,
+            valued: false,
+        })
     }
 
-    // The same, of a series that is there. None where it isn't.
-    fn hold_in(&mut self, series: &SeriesKey, t: u64) -> Option<Result<bool, Memory>>
-        ensures kept { (k : Key) → value_of self.new k ≡ value_of self.old k }
-        ensures stands { IfSome result (λ held. OnOk held (IsSome (slot_at self.new (key_at series.now t)))) }
-        ensures valued { IfSome result (λ held. IfOk held (λ valued. valued ≡ is_some (value_of self.old (key_at series.now t)))) }
-        ensures absent { result ≡ None → finite.get self.new series.now ≡ None }
+    // Puts the value into the slot of the series at this place and time, unless one at least as high stands there. Says
+    // whether it was put.
+    pub(crate) fn raise(&mut self, place: usize, t: u64, v: i64) -> bool
+        requires { (s : SeriesKey) × StandsAt self.old place t s }
+        ensures raised { (s : SeriesKey) → StandsAt self.old place t s → (k : Key) → value_of (slots_of self.new) k ≡ cond (eq_by_cmp key_cmp k (key_at s t)) (Some (higher (value_of (slots_of self.old) (key_at s t)) v)) (value_of (slots_of self.old) k) }
+        ensures changed { (s : SeriesKey) → StandsAt self.old place t s → result ≡ is_higher (value_of (slots_of self.old) (key_at s t)) v }
     {
-        match self.map.get_mut(series) {
-            Some(buffer) => Some(buffer.hold(t)),
-            None => None,
+        self.map[place].raise(t, v)
+    }
+
+    // Takes the slot of the series at this place and time out, if it has no value, and the series if it then has no slot.
+    pub(crate) fn release(&mut self, place: usize, t: u64)
+        requires { (s : SeriesKey) × StandsAt self.old place t s }
+        ensures { (k : Key) → value_of (slots_of self.new) k ≡ value_of (slots_of self.old) k }
+    {
+        self.release_slot(place, t);
+        self.release_series(place);
+    }
+
+    fn release_slot(&mut self, place: usize, t: u64)
+        requires { (s : SeriesKey) × IsAt self.old place s }
+        ensures kept { (k : Key) → value_of (slots_of self.new) k ≡ value_of (slots_of self.old) k }
+        ensures there { (s : SeriesKey) → IsAt self.old place s → IsAt self.new place s }
+    {
+        self.map[place].release(t);
+    }
+
+    // Takes the series at this place out, if it has no slot.
+    fn release_series(&mut self, place: usize)
+        requires { (s : SeriesKey) × IsAt self.old place s }
+        ensures { (k : Key) → value_of (slots_of self.new) k ≡ value_of (slots_of self.old) k }
+    {
+        if self.map[place].is_empty() {
+            drop(self.map.swap_remove_index(place));
         }
     }
 
-    // Puts the value into the slot of the series at this time, unless one at least as high stands there. Says whether
-    // it was put.
-    pub(crate) fn raise(&mut self, series: &SeriesKey, t: u64, v: i64) -> bool
-        requires { IsSome (slot_at self.old (key_at series.now t)) }
-        ensures raised { (k : Key) → value_of self.new k ≡ cond (eq_by_cmp key_cmp k (key_at series.now t)) (Some (higher (value_of self.old (key_at series.now t)) v)) (value_of self.old k) }
-        ensures changed { result ≡ is_higher (value_of self.old (key_at series.now t)) v }
-    {
-        match self.map.get_mut(series) {
-            Some(buffer) => buffer.raise(t, v),
-            None => false,
-        }
-    }
-
-    // Takes the slot of the series at this time out, if it has no value.
-    pub(crate) fn release(&mut self, series: &SeriesKey, t: u64)
-        ensures { (k : Key) → value_of self.new k ≡ value_of self.old k }
-    {
-        self.release_slot(series, t);
-        self.release_series(series);
-    }
-
-    fn release_slot(&mut self, series: &SeriesKey, t: u64)
-        ensures { (k : Key) → value_of self.new k ≡ value_of self.old k }
-    {
-        if let Some(buffer) = self.map.get_mut(series) {
-            buffer.release(t);
-        }
-    }
-
-    // Takes the series out, if it has no slot.
-    fn release_series(&mut self, series: &SeriesKey)
-        ensures { (k : Key) → value_of self.new k ≡ value_of self.old k }
-    {
-        if let Some(buffer) = self.map.get(series) {
-            if buffer.is_empty() {
-                self.map.remove(series);
-            }
-        }
-    }
-
-    // The points of a series with `from <= t < to`, in logarithmic time and in proportion to the answer.
+    // The points of a series with `from <= t < to`. The series is found in constant expected time, the points in logarithmic
+    // time and in proportion to the answer.
     pub(crate) fn range_of(
         &self,
         alloc: Global,
@@ -146,7 +173,7 @@ impl AllSeries {
         from: u64,
         to: u64,
     ) -> Result<Seq<Series>, Memory>
-        ensures { IfOk result (IsRangeOf (points_of self.now) (pick.One ns id.now) from to) }
+        ensures { IfOk result (IsRangeOf (points_of (slots_of self.now)) (pick.One ns id.now) from to) }
     {
         let mut found = Vec::new(alloc);
         let key = SeriesKey {
@@ -162,7 +189,7 @@ impl AllSeries {
         }
     }
 
-    // The points of a namespace with `from <= t < to`, in proportion to the series and the answer.
+    // The points of a namespace with `from <= t < to`, in proportion to all series, to the answer and to its order.
     pub(crate) fn range_of_space(
         &self,
         alloc: Global,
@@ -170,7 +197,16 @@ impl AllSeries {
         from: u64,
         to: u64,
     ) -> Result<Seq<Series>, Memory>
-        ensures { IfOk result (λ found. found ≡ flat_map (series_in ns from to) (finite.entries self.now)) }
+        ensures { IfOk result (λ found. (wanted : List Matcher) → IsRangeOf (points_of (slots_of self.now)) (pick.Match ns wanted) from to found) }
+    {
+        let found = self.series_of(alloc, ns, from, to)?;
+        Ok(Seq::from_vec(by_id(found)))
+    }
+
+    // The same, by the places of the series.
+    fn series_of(&self, alloc: Global, ns: u8, from: u64, to: u64) -> Result<Vec<Series>, Memory>
+        ensures answer { IfOk result (λ found. found.items ≡ flat_map (series_in ns from to) self.now) }
+        ensures distinct { IsDistinct series_eq (keys_of self.now) }
     {
         let mut found = Vec::new(alloc);
         for (series, buffer) in &self.map {
@@ -178,13 +214,13 @@ impl AllSeries {
                 push_range(alloc, &mut found, &series.id, buffer, from, to)?;
             }
         }
-        Ok(Seq::from_vec(found))
+        Ok(found)
     }
 
     // The blocks that have points, ascending.
     pub(crate) fn blocks(&self, alloc: Global, rules: &Rules) -> Result<Seq<(u8, u64)>, Memory>
         requires { All (λ space. 0 < space.block) rules.now.spaces }
-        ensures { IfOk result (IsBlocksOf rules.entry.now (points_of self.now)) }
+        ensures { IfOk result (IsBlocksOf rules.entry.now (points_of (slots_of self.now))) }
     {
         let starts = self.starts(alloc, rules)?;
         let blocks = listed(alloc, &starts)?;
@@ -193,7 +229,7 @@ impl AllSeries {
 
     fn starts(&self, alloc: Global, rules: &Rules) -> Result<BTreeSet<(u8, u64)>, Memory>
         requires { All (λ space. 0 < space.block) rules.now.spaces }
-        ensures { IfOk result (λ starts. (q : ℕ × ℕ) → contains block_cmp starts q ≡ list_any (λ x. is_block (block_of rules.entry.now x.0) q) (flat_map series_points (finite.entries self.now))) }
+        ensures { IfOk result (λ starts. (q : ℕ × ℕ) → contains block_cmp starts q ≡ list_any (λ x. is_block (block_of rules.entry.now x.0) q) (flat_map series_points (finite.entries (slots_of self.now)))) }
     {
         let mut starts = BTreeSet::new(alloc);
         for (series, buffer) in &self.map {
@@ -205,7 +241,7 @@ impl AllSeries {
     // Takes the expired slots out, and the series that then have none. Costs in proportion to the series, and for each
     // slot that goes its logarithm.
     pub(crate) fn expire(&mut self, rules: &Rules)
-        ensures { points_of self.new ≡ without (points_of self.old) (has_expired rules.entry.now) }
+        ensures { points_of (slots_of self.new) ≡ without (points_of (slots_of self.old)) (has_expired rules.entry.now) }
     {
         self.map
             .retain(|series, buffer| keep_unexpired(rules, series, buffer));
@@ -214,14 +250,14 @@ impl AllSeries {
     // Takes the slots of one block out, and the series that then have none.
     pub(crate) fn drop_block(&mut self, ns: u8, start: u64, size: u64)
         requires { start + size < 2 ^ 64 }
-        ensures { points_of self.new ≡ without (points_of self.old) (is_in_block ns start size) }
+        ensures { points_of (slots_of self.new) ≡ without (points_of (slots_of self.old)) (is_in_block ns start size) }
     {
         self.map.retain(|series, buffer| keep_outside(ns, start, size, series, buffer));
     }
 
     // How many points have expired, up to the greatest number.
     pub(crate) fn count_expired(&self, rules: &Rules) -> u64
-        ensures { result ≡ min (count_by (λ x. has_expired rules.entry.now x.0) (flat_map series_points (finite.entries self.now))) (2 ^ 64 - 1) }
+        ensures { result ≡ min (count_by (λ x. has_expired rules.entry.now x.0) (flat_map series_points (finite.entries (slots_of self.now)))) (2 ^ 64 - 1) }
     {
         let mut count: u64 = 0;
         for (series, buffer) in &self.map {
@@ -268,6 +304,15 @@ fn expired_in(rules: &Rules, series: &SeriesKey, buffer: &SeriesBuffer) -> u64
         Some(last) => buffer.count(0, last) as u64,
         None => 0,
     }
+}
+
+// The series in the order of their identifiers.
+fn by_id(mut found: Vec<Series>) -> Vec<Series>
+    ensures same { IsPermutation found.items result.items }
+    ensures order { IsSortedByKey (λ s. s.id) (slice_cmp nat_cmp) result.items }
+{
+    found.sort_unstable_by(|a, b| a.id.cmp(&b.id));
+    found
 }
 
 // Pushes the series with its pairs in the range, if there are any.

@@ -9,10 +9,11 @@ ghost use Rattle.block_buffer.specs.Ranges.{IsRangeOf};
 ghost use Rattle.block_buffer.specs.Blocks.{IsBlocksOf};
 
 use crate::all_series::AllSeries;
+use crate::room::Room;
 use crate::series_key::SeriesKey;
 use m3_model::duplicate::Duplicate;
 use m3_model::memory::Memory;
-use m3_model::point::{Key, Pick, Point, Series};
+use m3_model::point::{Pick, Point, Series};
 use m3_model::rules::Rules;
 use m3_model::seq::Seq;
 use std::alloc::Global;
@@ -26,20 +27,23 @@ use std::marker::Model;
 pub struct Buffer {
     alloc: Global,
     all: AllSeries,
-    room: Option<Key>,
+    // The series that was sought last. Where there is room, it is the one for which.
+    sought: SeriesKey,
+    room: Option<Room>,
 }
 
 impl Model for Buffer {
     ghost use Rattle.block_buffer.specs.Points.{points_of};
-    ghost use Rattle.block_buffer.specs.Held.{Held, held_code, RoomStands};
+    ghost use Rattle.block_buffer.specs.Places.{slots_of, room_key, RoomStands};
+    ghost use Rattle.block_buffer.specs.Held.{Held, held_code};
 
     ghost Value = { Held };
 
     ghost coded = { held_code };
 
-    ghost view = { λ b. record { points = points_of b.all; room = b.room } };
+    ghost view = { λ b. record { points = points_of (slots_of b.all); room = room_key b.sought b.room } };
 
-    ghost invariant = { λ b. RoomStands b.room b.all };
+    ghost invariant = { λ b. RoomStands b.room b.sought b.all };
 }
 
 impl Buffer {
@@ -50,12 +54,13 @@ impl Buffer {
         Buffer {
             alloc,
             all: AllSeries::new(alloc),
+            sought: SeriesKey::new(alloc),
             room: None,
         }
     }
 
-    /// Takes the memory that a `put` of this point needs, and gives up the room for any other, in logarithmic time. Says
-    /// whether a point stands at its key already.
+    /// Takes the memory that a `put` of this point needs, and gives up the room for any other. Says whether a point stands at
+    /// its key already. Finds the series in constant expected time, and its time in the logarithm of its times.
     ///
     /// # Errors
     ///
@@ -66,34 +71,31 @@ impl Buffer {
         ensures err { OnErr result (self.new ≡ record { points = self.old.points; room = None }) }
     {
         self.release();
-        let series = SeriesKey {
-            ns: p.ns,
-            id: p.id.copy(self.alloc)?,
-        };
-        let stands = self.all.hold(self.alloc, &series, p.t)?;
-        let SeriesKey { ns, id } = series;
-        self.room = Some(Key { ns, id, t: p.t });
-        Ok(stands)
+        self.sought.set(self.alloc, p.ns, &p.id)?;
+        let found = self.all.hold(self.alloc, &self.sought, p.t)?;
+        self.room = Some(Room {
+            place: found.place,
+            t: p.t,
+        });
+        Ok(found.valued)
     }
 
     /// Joins the point, of which the higher value stays at its key, and uses up the room for it. Says whether that
-    /// changed the points: the key was absent, or its value rises. Takes logarithmic time and no memory.
+    /// changed the points: the key was absent, or its value rises. Takes no memory, and the logarithm of the series' times: the
+    /// series isn't sought again.
     pub fn put(&mut self, p: &Point) -> bool
         requires { self.old.room ≡ Some (key_of p.now) }
         ensures joined { self.new ≡ record { points = raised self.old.points p.now; room = None } }
         ensures changed { result ≡ is_higher (finite.get self.old.points (key_of p.now)) p.now.v }
     {
         match self.room.take() {
-            Some(key) => {
-                let Key { ns, id, t } = key;
-                self.all.raise(&SeriesKey { ns, id }, t, p.v)
-            }
+            Some(room) => self.all.raise(room.place, room.t, p.v),
             None => false,
         }
     }
 
     /// Joins the points of a series of the namespace, of which the higher value stays at each key, and gives up the
-    /// room. Each point costs logarithmic time.
+    /// room. Each point costs constant expected time and the logarithm of the series' times.
     ///
     /// # Errors
     ///
@@ -120,8 +122,8 @@ impl Buffer {
         ensures ok { OnOk result (self.new ≡ record { points = raised_at self.old.points (key_at series.now t) v; room = None }) }
         ensures err { OnErr result (self.new ≡ self.old) }
     {
-        self.all.hold(self.alloc, series, t)?;
-        self.all.raise(series, t, v);
+        let found = self.all.hold(self.alloc, series, t)?;
+        self.all.raise(found.place, t, v);
         Ok(())
     }
 
@@ -129,7 +131,8 @@ impl Buffer {
     /// identifier of the namespace. Identifiers ascend strictly by bytes, times ascend strictly, and no series is
     /// empty. The matchers of a pick don't count: who has some filters the series.
     ///
-    /// One series costs logarithmic time, and a namespace its proportion to the series; each beside its answer.
+    /// One series costs constant expected time and the logarithm of its times, and a namespace its proportion to the series;
+    /// each beside its answer, which of a namespace is put in order.
     pub fn range(
         &self,
         alloc: Global,
@@ -184,9 +187,8 @@ impl Buffer {
     pub fn release(&mut self)
         ensures { self.new ≡ record { points = self.old.points; room = None } }
     {
-        if let Some(key) = self.room.take() {
-            let Key { ns, id, t } = key;
-            self.all.release(&SeriesKey { ns, id }, t);
+        if let Some(room) = self.room.take() {
+            self.all.release(room.place, room.t);
         }
     }
 }

@@ -4,5 +4,6 @@
 mod all_series;
 pub mod buffer;
 pub mod laws;
+mod room;
 mod series_buffer;
 mod series_key;

@@ -8,7 +8,7 @@ ghost use Rattle.m3_model.specs.Contents.{higher, is_higher};
 ghost use Rattle.std.specs.Ordering.{nat_cmp};
 ghost use Rattle.std.specs.BTreeMap.Range.{entries_between};
 ghost use Rattle.std.specs.declared.ops.Bound.TheVariants.{Included, Excluded};
-ghost use Rattle.block_buffer.specs.Slots.{value_at, is_within, is_held_within, valued, valued_in};
+ghost use Rattle.block_buffer.specs.Slots.{settled, value_at, is_within, is_held_within, valued, valued_in};
 
 use m3_model::memory::Memory;
 use std::alloc::Global;
@@ -36,6 +36,16 @@ impl Model for SeriesBuffer {
     ghost invariant = { λ s. IsTrue (is_sorted nat_cmp s.slots.entries) };
 }
 
+// The value of a slot, if there is a slot and it has one.
+fn settled(slot: Option<Option<i64>>) -> Option<i64>
+    ensures { result ≡ settled slot }
+{
+    match slot {
+        Some(value) => value,
+        None => None,
+    }
+}
+
 // Whether no value stands, or a lower one.
 fn is_below(stands: Option<i64>, v: i64) -> bool
     ensures { result ≡ is_higher stands v }
@@ -44,6 +54,18 @@ fn is_below(stands: Option<i64>, v: i64) -> bool
         Some(w) => w < v,
         None => true,
     }
+}
+
+// Puts the value into the slot, unless one at least as high stands there. Says whether it was put.
+fn raise_slot(slot: &mut Option<i64>, v: i64) -> bool
+    ensures raised { slot.new ≡ Some (higher slot.old v) }
+    ensures changed { result ≡ is_higher slot.old v }
+{
+    let rises = is_below(*slot, v);
+    if rises {
+        *slot = Some(v);
+    }
+    rises
 }
 
 // How many values the slots from `low` up to and with `high` have.
@@ -112,21 +134,24 @@ impl SeriesBuffer {
         ensures stands { OnOk result (IsSome (finite.get self.new t)) }
         ensures valued { IfOk result (λ valued. valued ≡ is_some (value_at self.old t)) }
     {
-        if let Some(slot) = self.slots.get(&t) {
-            return Ok(slot.is_some());
+        match self.vacate(t)? {
+            Some(value) => {
+                self.set(t, value);
+                Ok(true)
+            }
+            None => Ok(false),
         }
-        self.slots.insert(t, None)?;
-        Ok(false)
     }
 
-    // The value at this time.
-    fn value(&self, t: u64) -> Option<i64>
-        ensures { result ≡ value_at self.now t }
+    // Makes a slot without a value at this time. Answers the value that stood there. An error changes nothing.
+    fn vacate(&mut self, t: u64) -> Result<Option<i64>, Memory>
+        ensures emptied { OnOk result ((q : ℕ) → value_at self.new q ≡ cond (nat_eq q t) None (value_at self.old q)) }
+        ensures stands { OnOk result (IsSome (finite.get self.new t)) }
+        ensures stood { IfOk result (λ stood. stood ≡ value_at self.old t) }
+        ensures err { OnErr result (self.new ≡ self.old) }
     {
-        match self.slots.get(&t) {
-            Some(slot) => *slot,
-            None => None,
-        }
+        let slot = self.slots.insert(t, None)?;
+        Ok(settled(slot))
     }
 
     // Puts the value into the slot at this time.
@@ -146,11 +171,10 @@ impl SeriesBuffer {
         ensures raised { (q : ℕ) → value_at self.new q ≡ cond (nat_eq q t) (Some (higher (value_at self.old t) v)) (value_at self.old q) }
         ensures changed { result ≡ is_higher (value_at self.old t) v }
     {
-        let rises = is_below(self.value(t), v);
-        if rises {
-            self.set(t, v);
+        match self.slots.get_mut(&t) {
+            Some(slot) => raise_slot(slot, v),
+            None => false,
         }
-        rises
     }
 
     // Takes the slot at this time out, if it has no value.

@@ -1,4 +1,4 @@
-ghost use Rattle.std.specs.Prelude.{◌≡◌, ℕ, ◌+◌, true, length, IsErr, OnOk};
+ghost use Rattle.std.specs.Prelude.{◌≡◌, ℕ, ◌+◌, ◌≤◌, true, length, IsErr, OnOk};
 ghost use Rattle.m3_outside.specs.Files.{Files};
 ghost use Rattle.m3_outside.specs.Causes.{CountsFaults};
 ghost use Rattle.m3_outside.specs.DiskState.{DiskState, Elapses, StepOf};
@@ -34,6 +34,7 @@ pub(crate) fn put_chunk<D: Disk>(
     ensures acknowledged { (D.state disk.old).tells ≡ true → OnOk result ((c : Files) → (D.state disk.new).images c → StepOf (Adds (segment number) chunk.now) (D.state disk.old).images c) }
     ensures others { (D.state disk.old).tells ≡ true → OthersStay (segment number) (D.state disk.old).files (D.state disk.new).files }
     ensures kept { OnOk result (IsKept number (at + 5 + length chunk.now) (D.state disk.new)) }
+    ensures spare { (D.state disk.old).spare ≤ (D.state disk.new).spare + 5 }
     ensures tells { (D.state disk.new).tells ≡ (D.state disk.old).tells }
     ensures faults { CountsFaults (IsErr result) (D.state disk.old).faults (D.state disk.new).faults }
 {

@@ -166,6 +166,7 @@ impl Log {
         ensures number { self.new.number ≡ self.old.number }
         ensures next { OnOk result (self.new ≡ record { number = self.old.number; at = self.old.at + 5 + length chunk.now; clean = true }) }
         ensures closed { OnErr result (self.new ≡ record self.old { clean = false }) }
+        ensures spare { (D.state disk.old).spare ≤ (D.state disk.new).spare + 5 }
         ensures tells { (D.state disk.new).tells ≡ (D.state disk.old).tells }
         ensures faults { CountsFaults (IsErr result) (D.state disk.old).faults (D.state disk.new).faults }
     {

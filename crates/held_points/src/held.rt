@@ -56,8 +56,8 @@ impl HeldPoints {
         }
     }
 
-    /// Takes the memory that a `put` of this point needs, in logarithmic time; a series that is new costs as much for each
-    /// of its tags.
+    /// Takes the memory that a `put` of this point needs. Finds the series in constant expected time, and its time in the
+    /// logarithm of its times; a series that is new costs logarithmic time for each of its tags.
     ///
     /// # Errors
     ///

@@ -1,6 +1,6 @@
-ghost use Rattle.std.specs.Prelude.{◌≡◌, IfOk};
-ghost use Rattle.m3_model.specs.declared.act.Act.TheVariants as act;
+ghost use Rattle.std.specs.Prelude.{◌≡◌, IsTrue};
 
+use crate::copies::{copied_list, copied_text, finished};
 use crate::duplicate::Duplicate;
 use crate::memory::Memory;
 use crate::point::Matcher;
@@ -141,175 +141,133 @@ impl Duplicate for Fate {
     }
 }
 
-fn copied_write(
-    alloc: Global,
-    ns: &Text,
-    id: &Text,
-    t: u64,
-    v: i64,
-    level: WriteLevel,
-    version: Option<u64>,
-) -> Result<Act, Memory>
-    ensures { IfOk result (λ copy. copy ≡ act.Write ns.now id.now t v level version) }
+/// A copy if memory is there for all of it, and an act with empty parts if not.
+pub(crate) fn copied_act(alloc: Global, enough: &mut bool, act: &Act) -> Act
+    ensures { IsTrue enough.new → (IsTrue enough.old × (result ≡ act.now)) }
 {
-    let ns = ns.copy(alloc)?;
-    let id = id.copy(alloc)?;
-    Ok(Act::Write {
-        ns,
-        id,
-        t,
-        v,
-        level,
-        version,
-    })
-}
-
-fn copied_fetch(
-    alloc: Global,
-    ns: &Text,
-    id: &Text,
-    from: u64,
-    to: u64,
-    level: ReadLevel,
-    version: Option<u64>,
-) -> Result<Act, Memory>
-    ensures { IfOk result (λ copy. copy ≡ act.Fetch ns.now id.now from to level version) }
-{
-    let ns = ns.copy(alloc)?;
-    let id = id.copy(alloc)?;
-    Ok(Act::Fetch {
-        ns,
-        id,
-        from,
-        to,
-        level,
-        version,
-    })
-}
-
-fn copied_match(
-    alloc: Global,
-    ns: &Text,
-    wanted: &Seq<Matcher>,
-    from: u64,
-    to: u64,
-    level: ReadLevel,
-    version: Option<u64>,
-) -> Result<Act, Memory>
-    ensures { IfOk result (λ copy. copy ≡ act.Match ns.now wanted.now from to level version) }
-{
-    let ns = ns.copy(alloc)?;
-    let wanted = wanted.copy(alloc)?;
-    Ok(Act::Match {
-        ns,
-        wanted,
-        from,
-        to,
-        level,
-        version,
-    })
-}
-
-fn copied_add(alloc: Global, node: &Text, group: &Text) -> Result<Act, Memory>
-    ensures { IfOk result (λ copy. copy ≡ act.Add node.now group.now) }
-{
-    let node = node.copy(alloc)?;
-    let group = group.copy(alloc)?;
-    Ok(Act::Add { node, group })
-}
-
-fn copied_replace(alloc: Global, node: &Text, by: &Text, group: &Text) -> Result<Act, Memory>
-    ensures { IfOk result (λ copy. copy ≡ act.Replace node.now by.now group.now) }
-{
-    let node = node.copy(alloc)?;
-    let by = by.copy(alloc)?;
-    let group = group.copy(alloc)?;
-    Ok(Act::Replace { node, by, group })
+    match *act {
+        Act::Init {
+            rf,
+            shards,
+            seed,
+            ref nodes,
+        } => Act::Init {
+            rf,
+            shards,
+            seed,
+            nodes: copied_list(alloc, enough, nodes),
+        },
+        Act::Namespace {
+            ref name,
+            block,
+            past,
+            future,
+            retention,
+        } => Act::Namespace {
+            name: copied_text(alloc, enough, name),
+            block,
+            past,
+            future,
+            retention,
+        },
+        Act::Now { now } => Act::Now { now },
+        Act::Write {
+            ref ns,
+            ref id,
+            t,
+            v,
+            level,
+            version,
+        } => Act::Write {
+            ns: copied_text(alloc, enough, ns),
+            id: copied_text(alloc, enough, id),
+            t,
+            v,
+            level,
+            version,
+        },
+        Act::Fetch {
+            ref ns,
+            ref id,
+            from,
+            to,
+            level,
+            version,
+        } => Act::Fetch {
+            ns: copied_text(alloc, enough, ns),
+            id: copied_text(alloc, enough, id),
+            from,
+            to,
+            level,
+            version,
+        },
+        Act::Match {
+            ref ns,
+            ref wanted,
+            from,
+            to,
+            level,
+            version,
+        } => Act::Match {
+            ns: copied_text(alloc, enough, ns),
+            wanted: copied_list(alloc, enough, wanted),
+            from,
+            to,
+            level,
+            version,
+        },
+        Act::Fates { ref list } => Act::Fates {
+            list: copied_list(alloc, enough, list),
+        },
+        Act::Deliver => Act::Deliver,
+        Act::Stop { ref node } => Act::Stop {
+            node: copied_text(alloc, enough, node),
+        },
+        Act::Restart { ref node, pick } => Act::Restart {
+            node: copied_text(alloc, enough, node),
+            pick,
+        },
+        Act::Bootstrap { ref node, shard } => Act::Bootstrap {
+            node: copied_text(alloc, enough, node),
+            shard,
+        },
+        Act::Add {
+            ref node,
+            ref group,
+        } => Act::Add {
+            node: copied_text(alloc, enough, node),
+            group: copied_text(alloc, enough, group),
+        },
+        Act::Drain { ref node } => Act::Drain {
+            node: copied_text(alloc, enough, node),
+        },
+        Act::Cancel { ref node } => Act::Cancel {
+            node: copied_text(alloc, enough, node),
+        },
+        Act::Remove { ref node } => Act::Remove {
+            node: copied_text(alloc, enough, node),
+        },
+        Act::Replace {
+            ref node,
+            ref by,
+            ref group,
+        } => Act::Replace {
+            node: copied_text(alloc, enough, node),
+            by: copied_text(alloc, enough, by),
+            group: copied_text(alloc, enough, group),
+        },
+        Act::Tick => Act::Tick,
+        Act::Flush => Act::Flush,
+        Act::Snapshot => Act::Snapshot,
+        Act::Repair => Act::Repair,
+        Act::Status => Act::Status,
+    }
 }
 
 impl Duplicate for Act {
     fn copy(&self, alloc: Global) -> Result<Act, Memory> {
-        match self {
-            Act::Init {
-                rf,
-                shards,
-                seed,
-                nodes,
-            } => Ok(Act::Init {
-                rf: *rf,
-                shards: *shards,
-                seed: *seed,
-                nodes: nodes.copy(alloc)?,
-            }),
-            Act::Namespace {
-                name,
-                block,
-                past,
-                future,
-                retention,
-            } => Ok(Act::Namespace {
-                name: name.copy(alloc)?,
-                block: *block,
-                past: *past,
-                future: *future,
-                retention: *retention,
-            }),
-            Act::Now { now } => Ok(Act::Now { now: *now }),
-            Act::Write {
-                ns,
-                id,
-                t,
-                v,
-                level,
-                version,
-            } => copied_write(alloc, ns, id, *t, *v, *level, *version),
-            Act::Fetch {
-                ns,
-                id,
-                from,
-                to,
-                level,
-                version,
-            } => copied_fetch(alloc, ns, id, *from, *to, *level, *version),
-            Act::Match {
-                ns,
-                wanted,
-                from,
-                to,
-                level,
-                version,
-            } => copied_match(alloc, ns, wanted, *from, *to, *level, *version),
-            Act::Fates { list } => Ok(Act::Fates {
-                list: list.copy(alloc)?,
-            }),
-            Act::Deliver => Ok(Act::Deliver),
-            Act::Stop { node } => Ok(Act::Stop {
-                node: node.copy(alloc)?,
-            }),
-            Act::Restart { node, pick } => Ok(Act::Restart {
-                node: node.copy(alloc)?,
-                pick: *pick,
-            }),
-            Act::Bootstrap { node, shard } => Ok(Act::Bootstrap {
-                node: node.copy(alloc)?,
-                shard: *shard,
-            }),
-            Act::Add { node, group } => copied_add(alloc, node, group),
-            Act::Drain { node } => Ok(Act::Drain {
-                node: node.copy(alloc)?,
-            }),
-            Act::Cancel { node } => Ok(Act::Cancel {
-                node: node.copy(alloc)?,
-            }),
-            Act::Remove { node } => Ok(Act::Remove {
-                node: node.copy(alloc)?,
-            }),
-            Act::Replace { node, by, group } => copied_replace(alloc, node, by, group),
-            Act::Tick => Ok(Act::Tick),
-            Act::Flush => Ok(Act::Flush),
-            Act::Snapshot => Ok(Act::Snapshot),
-            Act::Repair => Ok(Act::Repair),
-            Act::Status => Ok(Act::Status),
-        }
+        let mut enough = true;
+        let copy = copied_act(alloc, &mut enough, self);
+        finished(enough, copy, self)
     }
 }

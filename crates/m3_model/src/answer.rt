@@ -1,11 +1,11 @@
-ghost use Rattle.std.specs.Prelude.{◌≡◌, IfOk};
-ghost use Rattle.m3_model.specs.declared.answer.Answer.TheVariants as answer;
+ghost use Rattle.std.specs.Prelude.{◌≡◌, IsTrue};
 
+use crate::copies::{copied_list, copied_text, finished};
 use crate::duplicate::Duplicate;
 use crate::memory::Memory;
-use crate::placement::{Placement, ShardState};
+use crate::placement::{Placement, ShardState, copied_placement};
 use crate::point::Series;
-use crate::reason::{Damage, Reason};
+use crate::reason::{Damage, Reason, copied_damage};
 use crate::replica::Standing;
 use crate::seq::Seq;
 use crate::text::Text;
@@ -150,133 +150,118 @@ impl Duplicate for StatusLine {
     }
 }
 
-fn copied_available(
-    alloc: Global,
-    available: &Seq<(u32, Seq<u8>)>,
-    placement: &Placement,
-    version: u64,
-) -> Result<Answer, Memory>
-    ensures { IfOk result (λ copy. copy ≡ answer.Available available.now placement.now version) }
+/// A copy if memory is there for all of it, and an answer with empty parts if not.
+pub(crate) fn copied_answer(alloc: Global, enough: &mut bool, answer: &Answer) -> Answer
+    ensures { IsTrue enough.new → (IsTrue enough.old × (result ≡ answer.now)) }
 {
-    let available = available.copy(alloc)?;
-    let placement = placement.copy(alloc)?;
-    Ok(Answer::Available {
-        available,
-        placement,
-        version,
-    })
-}
-
-fn copied_swept(
-    alloc: Global,
-    done: &Seq<(u8, u32, u64)>,
-    failed: &Seq<(u8, u32, Reason)>,
-) -> Result<Answer, Memory>
-    ensures { IfOk result (λ copy. copy ≡ answer.Swept done.now failed.now) }
-{
-    let done = done.copy(alloc)?;
-    let failed = failed.copy(alloc)?;
-    Ok(Answer::Swept { done, failed })
-}
-
-fn copied_corrupt(alloc: Global, node: &Text, shard: u32, damage: &Damage) -> Result<Answer, Memory>
-    ensures { IfOk result (λ copy. copy ≡ answer.Corrupt node.now shard damage.now) }
-{
-    let node = node.copy(alloc)?;
-    let damage = damage.copy(alloc)?;
-    Ok(Answer::Corrupt {
-        node,
-        shard,
-        damage,
-    })
+    match *answer {
+        Answer::Done => Answer::Done,
+        Answer::Placed {
+            ref placement,
+            version,
+        } => Answer::Placed {
+            placement: copied_placement(alloc, enough, placement),
+            version,
+        },
+        Answer::Acks { ref acks } => Answer::Acks {
+            acks: copied_list(alloc, enough, acks),
+        },
+        Answer::Found { ref series, short } => Answer::Found {
+            series: copied_list(alloc, enough, series),
+            short,
+        },
+        Answer::Outcomes { ref outcomes } => Answer::Outcomes {
+            outcomes: copied_list(alloc, enough, outcomes),
+        },
+        Answer::Available {
+            ref available,
+            ref placement,
+            version,
+        } => Answer::Available {
+            available: copied_list(alloc, enough, available),
+            placement: copied_placement(alloc, enough, placement),
+            version,
+        },
+        Answer::Swept {
+            ref done,
+            ref failed,
+        } => Answer::Swept {
+            done: copied_list(alloc, enough, done),
+            failed: copied_list(alloc, enough, failed),
+        },
+        Answer::Repaired { ref shards } => Answer::Repaired {
+            shards: copied_list(alloc, enough, shards),
+        },
+        Answer::Status {
+            now,
+            ref replicas,
+            version,
+        } => Answer::Status {
+            now,
+            replicas: copied_list(alloc, enough, replicas),
+            version,
+        },
+        Answer::Form => Answer::Form,
+        Answer::Long => Answer::Long,
+        Answer::Order => Answer::Order,
+        Answer::Unknown { ref name } => Answer::Unknown {
+            name: copied_text(alloc, enough, name),
+        },
+        Answer::Limit { limit } => Answer::Limit { limit },
+        Answer::Clock { now } => Answer::Clock { now },
+        Answer::Consistency {
+            got,
+            needed,
+            ref reasons,
+            shard,
+        } => Answer::Consistency {
+            got,
+            needed,
+            reasons: copied_list(alloc, enough, reasons),
+            shard,
+        },
+        Answer::Busy { ref node, shard } => Answer::Busy {
+            node: copied_text(alloc, enough, node),
+            shard,
+        },
+        Answer::Group { shard } => Answer::Group { shard },
+        Answer::Peers {
+            got,
+            needed,
+            ref reasons,
+            shard,
+        } => Answer::Peers {
+            got,
+            needed,
+            reasons: copied_list(alloc, enough, reasons),
+            shard,
+        },
+        Answer::Disk { ref node, shard } => Answer::Disk {
+            node: copied_text(alloc, enough, node),
+            shard,
+        },
+        Answer::State { ref node } => Answer::State {
+            node: copied_text(alloc, enough, node),
+        },
+        Answer::Memory => Answer::Memory,
+        Answer::Full => Answer::Full,
+        Answer::Corrupt {
+            ref node,
+            shard,
+            ref damage,
+        } => Answer::Corrupt {
+            node: copied_text(alloc, enough, node),
+            shard,
+            damage: copied_damage(alloc, enough, damage),
+        },
+        Answer::Later => Answer::Later,
+    }
 }
 
 impl Duplicate for Answer {
     fn copy(&self, alloc: Global) -> Result<Answer, Memory> {
-        match self {
-            Answer::Done => Ok(Answer::Done),
-            Answer::Placed { placement, version } => Ok(Answer::Placed {
-                placement: placement.copy(alloc)?,
-                version: *version,
-            }),
-            Answer::Acks { acks } => Ok(Answer::Acks {
-                acks: acks.copy(alloc)?,
-            }),
-            Answer::Found { series, short } => Ok(Answer::Found {
-                series: series.copy(alloc)?,
-                short: *short,
-            }),
-            Answer::Outcomes { outcomes } => Ok(Answer::Outcomes {
-                outcomes: outcomes.copy(alloc)?,
-            }),
-            Answer::Available {
-                available,
-                placement,
-                version,
-            } => copied_available(alloc, available, placement, *version),
-            Answer::Swept { done, failed } => copied_swept(alloc, done, failed),
-            Answer::Repaired { shards } => Ok(Answer::Repaired {
-                shards: shards.copy(alloc)?,
-            }),
-            Answer::Status {
-                now,
-                replicas,
-                version,
-            } => Ok(Answer::Status {
-                now: *now,
-                replicas: replicas.copy(alloc)?,
-                version: *version,
-            }),
-            Answer::Form => Ok(Answer::Form),
-            Answer::Long => Ok(Answer::Long),
-            Answer::Order => Ok(Answer::Order),
-            Answer::Unknown { name } => Ok(Answer::Unknown {
-                name: name.copy(alloc)?,
-            }),
-            Answer::Limit { limit } => Ok(Answer::Limit { limit: *limit }),
-            Answer::Clock { now } => Ok(Answer::Clock { now: *now }),
-            Answer::Consistency {
-                got,
-                needed,
-                reasons,
-                shard,
-            } => Ok(Answer::Consistency {
-                got: *got,
-                needed: *needed,
-                reasons: reasons.copy(alloc)?,
-                shard: *shard,
-            }),
-            Answer::Busy { node, shard } => Ok(Answer::Busy {
-                node: node.copy(alloc)?,
-                shard: *shard,
-            }),
-            Answer::Group { shard } => Ok(Answer::Group { shard: *shard }),
-            Answer::Peers {
-                got,
-                needed,
-                reasons,
-                shard,
-            } => Ok(Answer::Peers {
-                got: *got,
-                needed: *needed,
-                reasons: reasons.copy(alloc)?,
-                shard: *shard,
-            }),
-            Answer::Disk { node, shard } => Ok(Answer::Disk {
-                node: node.copy(alloc)?,
-                shard: *shard,
-            }),
-            Answer::State { node } => Ok(Answer::State {
-                node: node.copy(alloc)?,
-            }),
-            Answer::Memory => Ok(Answer::Memory),
-            Answer::Full => Ok(Answer::Full),
-            Answer::Corrupt {
-                node,
-                shard,
-                damage,
-            } => copied_corrupt(alloc, node, *shard, damage),
-            Answer::Later => Ok(Answer::Later),
-        }
+        let mut enough = true;
+        let copy = copied_answer(alloc, &mut enough, self);
+        finished(enough, copy, self)
     }
 }

@@ -4,6 +4,7 @@
 pub mod act;
 pub mod answer;
 pub mod content;
+mod copies;
 pub mod duplicate;
 pub mod limits;
 pub mod memory;

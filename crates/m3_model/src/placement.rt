@@ -1,3 +1,6 @@
+ghost use Rattle.std.specs.Prelude.{◌≡◌, IsTrue};
+
+use crate::copies::{copied_list, finished};
 use crate::duplicate::Duplicate;
 use crate::memory::Memory;
 use crate::seq::Seq;
@@ -76,15 +79,22 @@ impl Duplicate for Instance {
     }
 }
 
+/// A copy if memory is there for all of it, and a placement with empty lists if not.
+pub(crate) fn copied_placement(alloc: Global, enough: &mut bool, placement: &Placement) -> Placement
+    ensures { IsTrue enough.new → (IsTrue enough.old × (result ≡ placement.now)) }
+{
+    Placement {
+        version: placement.version,
+        rf: placement.rf,
+        instances: copied_list(alloc, enough, &placement.instances),
+        shards: copied_list(alloc, enough, &placement.shards),
+    }
+}
+
 impl Duplicate for Placement {
     fn copy(&self, alloc: Global) -> Result<Placement, Memory> {
-        let instances = self.instances.copy(alloc)?;
-        let shards = self.shards.copy(alloc)?;
-        Ok(Placement {
-            version: self.version,
-            rf: self.rf,
-            instances,
-            shards,
-        })
+        let mut enough = true;
+        let copy = copied_placement(alloc, &mut enough, self);
+        finished(enough, copy, self)
     }
 }

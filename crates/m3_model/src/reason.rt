@@ -1,3 +1,6 @@
+ghost use Rattle.std.specs.Prelude.{◌≡◌, IsTrue};
+
+use crate::copies::{copied_text, finished};
 use crate::duplicate::Duplicate;
 use crate::memory::Memory;
 use crate::text::Text;
@@ -42,19 +45,32 @@ pub enum Reason {
     Memory,
 }
 
+/// A copy if memory is there for all of it, and damage of an empty name if not.
+pub(crate) fn copied_damage(alloc: Global, enough: &mut bool, damage: &Damage) -> Damage
+    ensures { IsTrue enough.new → (IsTrue enough.old × (result ≡ damage.now)) }
+{
+    match *damage {
+        Damage::Digest {
+            ref file,
+            kept,
+            found,
+        } => Damage::Digest {
+            file: copied_text(alloc, enough, file),
+            kept,
+            found,
+        },
+        Damage::Form { ref file, at } => Damage::Form {
+            file: copied_text(alloc, enough, file),
+            at,
+        },
+    }
+}
+
 impl Duplicate for Damage {
     fn copy(&self, alloc: Global) -> Result<Damage, Memory> {
-        match self {
-            Damage::Digest { file, kept, found } => Ok(Damage::Digest {
-                file: file.copy(alloc)?,
-                kept: *kept,
-                found: *found,
-            }),
-            Damage::Form { file, at } => Ok(Damage::Form {
-                file: file.copy(alloc)?,
-                at: *at,
-            }),
-        }
+        let mut enough = true;
+        let copy = copied_damage(alloc, &mut enough, self);
+        finished(enough, copy, self)
     }
 }
 

@@ -1,5 +1,8 @@
-use crate::act::Act;
-use crate::answer::Answer;
+ghost use Rattle.std.specs.Prelude.{◌≡◌, IsTrue};
+
+use crate::act::{Act, copied_act};
+use crate::answer::{Answer, copied_answer};
+use crate::copies::{copied_list, finished};
 use crate::duplicate::Duplicate;
 use crate::memory::Memory;
 use crate::seq::Seq;
@@ -32,36 +35,62 @@ pub struct Turn {
     pub reply: Reply,
 }
 
+/// A copy if memory is there for all of it, and a request with empty parts if not.
+fn copied_request(alloc: Global, enough: &mut bool, request: &Request) -> Request
+    ensures { IsTrue enough.new → (IsTrue enough.old × (result ≡ request.now)) }
+{
+    match request {
+        Request::One(act) => Request::One(copied_act(alloc, enough, act)),
+        Request::Par { clients, workers } => Request::Par {
+            clients: copied_list(alloc, enough, clients),
+            workers: copied_list(alloc, enough, workers),
+        },
+    }
+}
+
 impl Duplicate for Request {
     fn copy(&self, alloc: Global) -> Result<Request, Memory> {
-        match self {
-            Request::One(act) => Ok(Request::One(act.copy(alloc)?)),
-            Request::Par { clients, workers } => {
-                let clients = clients.copy(alloc)?;
-                let workers = workers.copy(alloc)?;
-                Ok(Request::Par { clients, workers })
-            }
-        }
+        let mut enough = true;
+        let copy = copied_request(alloc, &mut enough, self);
+        finished(enough, copy, self)
+    }
+}
+
+/// A copy if memory is there for all of it, and a reply with empty parts if not.
+fn copied_reply(alloc: Global, enough: &mut bool, reply: &Reply) -> Reply
+    ensures { IsTrue enough.new → (IsTrue enough.old × (result ≡ reply.now)) }
+{
+    match reply {
+        Reply::One(answer) => Reply::One(copied_answer(alloc, enough, answer)),
+        Reply::Par { clients, workers } => Reply::Par {
+            clients: copied_list(alloc, enough, clients),
+            workers: copied_list(alloc, enough, workers),
+        },
     }
 }
 
 impl Duplicate for Reply {
     fn copy(&self, alloc: Global) -> Result<Reply, Memory> {
-        match self {
-            Reply::One(answer) => Ok(Reply::One(answer.copy(alloc)?)),
-            Reply::Par { clients, workers } => {
-                let clients = clients.copy(alloc)?;
-                let workers = workers.copy(alloc)?;
-                Ok(Reply::Par { clients, workers })
-            }
-        }
+        let mut enough = true;
+        let copy = copied_reply(alloc, &mut enough, self);
+        finished(enough, copy, self)
+    }
+}
+
+/// A copy if memory is there for all of it, and a turn with empty parts if not.
+fn copied_turn(alloc: Global, enough: &mut bool, turn: &Turn) -> Turn
+    ensures { IsTrue enough.new → (IsTrue enough.old × (result ≡ turn.now)) }
+{
+    Turn {
+        request: copied_request(alloc, enough, &turn.request),
+        reply: copied_reply(alloc, enough, &turn.reply),
     }
 }
 
 impl Duplicate for Turn {
     fn copy(&self, alloc: Global) -> Result<Turn, Memory> {
-        let request = self.request.copy(alloc)?;
-        let reply = self.reply.copy(alloc)?;
-        Ok(Turn { request, reply })
+        let mut enough = true;
+        let copy = copied_turn(alloc, &mut enough, self);
+        finished(enough, copy, self)
     }
 }

@@ -116,7 +116,13 @@ impl<D: Disk> Store<D> {
         ensures disk { Brings nothing result (D.state self.old.disk) (D.state self.new.disk) }
     {
         let held = hold(self.alloc, loaded.points.as_slice())?;
-        let log = begin_log(&mut self.disk, loaded.next_segment)?;
+        let log = match begin_log(&mut self.disk, loaded.next_segment) {
+            Ok(log) => log,
+            Err(e) => {
+                drop(held);
+                return Err(e);
+            }
+        };
         let opened = Opened {
             log,
             held,

@@ -1,55 +1,46 @@
-use Rattle.std.proofs.Common.{◌≡◌, ap₂, Some, rules, ap, sym, ◌∙◌, cond, w64}
-use Rattle.std.specs.Prelude.{is_some, FitsSigned, Option, ℤ}
-use Rattle.std.proofs.lemmas.Int.{to_z-of_z}
-use Rattle.std.specs.FinMap as finite
-use Rattle.std.specs.FinMap.{from_sorted, is_sorted}
+use Rattle.std.proofs.Common.{◌≡◌, Some, cond, ap, ap₂, sym, subst, ◌∙◌, rules, w64}
+use Rattle.std.specs.Prelude.{Option, ℤ, FitsSigned, slice_get}
 use Rattle.std.specs.Ordering.{eq_by_cmp}
-use Rattle.m3_model.specs.Keys.{key_cmp}
+use Rattle.std.proofs.lemmas.Int.{to_z-of_z}
+use Rattle.indexmap.specs.IndexMap.{with_value_at}
 use Rattle.m3_model.specs.Contents.{higher, is_higher}
-use Rattle.block_buffer.specs.SeriesKeys.{series_cmp, key_at}
-use Rattle.block_buffer.specs.Slots.{value_at, settled}
-use Rattle.block_buffer.specs.Points.{AllSlots, slot_at, value_of}
-use Rattle.block_buffer.proofs.MapLemmas.{get_of}
-use Rattle.block_buffer.proofs.SeriesLemmas.{Wrote, wrote, raised_of, no_slot, slot_of-found}
+use Rattle.m3_model.specs.Keys.{key_cmp}
+use Rattle.block_buffer.specs.SeriesKeys.{key_at}
+use Rattle.block_buffer.specs.Slots.{value_at}
+use Rattle.block_buffer.specs.Points.{AllSlots, value_of}
+use Rattle.block_buffer.specs.Places.{Places, slots_of}
+use Rattle.block_buffer.proofs.SeriesLemmas.{WroteAt, wrote_at, entry_lent, raised_of, value_found}
 use Rattle.block_buffer.proofs.all_series.AllSeries.raise.Goals as goal
-use Rattle.block_buffer.proofs.all_series.AllSeries.raise.Goals.{in-Some, in-None}
-
-pub raise-requires : goal.raise-requires
-raise-requires c =
-    let found : finite.get (from_sorted {R = series_cmp} c.self.inside.map.entries) c.args.series.now ≡ Some c.in-Some.buffer.now = get_of series_cmp c.self.inside.map.entries c.args.series.now c.self.invariant ∙ sym c.in-Some.ensures.value in
-    ap is_some (sym (slot_of-found (from_sorted {R = series_cmp} c.self.inside.map.entries) c.args.series.now c.in-Some.buffer.now c.args.t found)
-    ∙ ap (λ (m : AllSlots). slot_at m (key_at c.args.series.now c.args.t)) c.self.view_is) ∙ c.requires
 
 pub invariant_of-self : goal.invariant_of-self
-invariant_of-self c = elim c.match-get_mut.branch [
-  | in-Some w ↦
-      let done : Wrote c.self.inside.map (c.get_mut.follows.lender w.raise.new.self) c.args.series.now w.in-Some.buffer.now w.raise.new.self =
-      wrote c.self.inside.map _ c.args.series.now _ w.raise.new.self c.self.invariant (c.get_mut.follows.holds w.raise.new.self) w.in-Some.ensures.value in
-      ap (λ (a : _). is_sorted series_cmp a.map.entries) w.self-inside-is ∙ done.sorted
-  | in-None w ↦ ap (λ (a : _). is_sorted series_cmp a.map.entries) w.self-inside-is ∙ ap (λ m. is_sorted series_cmp m.entries) c.get_mut.follows.holds-at-none ∙ c.self.invariant
-]
+invariant_of-self c =
+    let es : Places = c.self.inside.map.entries in
+    let lent : slice_get es c.args.place ≡ Some (c.requires.0, c.index_mut.result.now) =
+    entry_lent es c.args.place c.requires.0 c.requires.1.slots c.index_mut.result.now (subst (λ (ps : Places). slice_get ps c.args.place ≡ Some (c.requires.0, c.requires.1.slots)) (sym c.self.view_is) c.requires.1.entry) c.index_mut.ensures.value in
+    let done : WroteAt es (with_value_at c.self.inside.map c.args.place c.raise.new.self).entries c.args.place c.requires.0 c.index_mut.result.now c.raise.new.self =
+    wrote_at c.self.inside.map c.args.place c.requires.0 c.index_mut.result.now c.raise.new.self c.self.invariant lent in
+    done.distinct
 
 pub returns-clause-raised : goal.returns-clause-raised
-returns-clause-raised c k = elim c.match-get_mut.branch [
-  | in-Some w ↦
-      let done : Wrote c.self.inside.map (c.get_mut.follows.lender w.raise.new.self) c.args.series.now w.in-Some.buffer.now w.raise.new.self =
-      wrote c.self.inside.map _ c.args.series.now _ w.raise.new.self c.self.invariant (c.get_mut.follows.holds w.raise.new.self) w.in-Some.ensures.value in
-      let fits : FitsSigned w64 c.args.v = search rules in
-      let at : value_at w.in-Some.buffer.now c.args.t ≡ value_of (from_sorted {R = series_cmp} c.self.inside.map.entries) (key_at c.args.series.now c.args.t) =
-      sym (ap settled (slot_of-found (from_sorted {R = series_cmp} c.self.inside.map.entries) c.args.series.now w.in-Some.buffer.now c.args.t done.found)) in
-      rw (w.self-inside-is, ← c.self.view_is) (ap (λ (m : AllSlots). value_of m k) done.after ∙ raised_of (from_sorted {R = series_cmp} c.self.inside.map.entries) c.args.series.now _ _ c.args.t _ done.found w.raise.ensures.raised k
-      ∙ ap₂ (λ (o : Option ℤ) (z : ℤ). cond (eq_by_cmp key_cmp k (key_at c.args.series.now c.args.t)) (Some (higher o z)) (value_of (from_sorted {R = series_cmp} c.self.inside.map.entries) k)) at (to_z-of_z w64 c.args.v fits))
-  | in-None w ↦ absurd (no_slot c.self.inside.map c.args.series.now c.args.t c.self.invariant w.in-None.ensures.value (rw c.self.view_is c.requires))
-]
+returns-clause-raised c s at k =
+    let es : Places = c.self.inside.map.entries in
+    let lent : slice_get es c.args.place ≡ Some (s, c.index_mut.result.now) =
+    entry_lent es c.args.place s at.slots c.index_mut.result.now (subst (λ (ps : Places). slice_get ps c.args.place ≡ Some (s, at.slots)) (sym c.self.view_is) at.entry) c.index_mut.ensures.value in
+    let done : WroteAt es (with_value_at c.self.inside.map c.args.place c.raise.new.self).entries c.args.place s c.index_mut.result.now c.raise.new.self =
+    wrote_at c.self.inside.map c.args.place s c.index_mut.result.now c.raise.new.self c.self.invariant lent in
+    let fits : FitsSigned w64 c.args.v = search rules in
+    let here : value_at c.index_mut.result.now c.args.t ≡ value_of (slots_of es) (key_at s c.args.t) = sym (value_found (slots_of es) s c.index_mut.result.now c.args.t done.found) in
+    ap (λ (m : AllSlots). value_of m k) done.after ∙ raised_of (slots_of es) s c.index_mut.result.now c.raise.new.self c.args.t _ done.found c.raise.ensures.raised k
+    ∙ ap₂ (λ (o : Option ℤ) (z : ℤ). cond (eq_by_cmp key_cmp k (key_at s c.args.t)) (Some (higher o z)) (value_of (slots_of es) k)) here (to_z-of_z w64 c.args.v fits)
+    ∙ ap (λ (ps : Places). cond (eq_by_cmp key_cmp k (key_at s c.args.t)) (Some (higher (value_of (slots_of ps) (key_at s c.args.t)) c.args.v)) (value_of (slots_of ps) k)) c.self.view_is
 
 pub returns-clause-changed : goal.returns-clause-changed
-returns-clause-changed c = elim c.match-get_mut.branch [
-  | in-Some w ↦
-      let done : Wrote c.self.inside.map (c.get_mut.follows.lender w.raise.new.self) c.args.series.now w.in-Some.buffer.now w.raise.new.self =
-      wrote c.self.inside.map _ c.args.series.now _ w.raise.new.self c.self.invariant (c.get_mut.follows.holds w.raise.new.self) w.in-Some.ensures.value in
-      let fits : FitsSigned w64 c.args.v = search rules in
-      let at : value_at w.in-Some.buffer.now c.args.t ≡ value_of (from_sorted {R = series_cmp} c.self.inside.map.entries) (key_at c.args.series.now c.args.t) =
-      sym (ap settled (slot_of-found (from_sorted {R = series_cmp} c.self.inside.map.entries) c.args.series.now w.in-Some.buffer.now c.args.t done.found)) in
-      rw (w.result-is, ← c.self.view_is) (w.raise.ensures.changed ∙ ap₂ is_higher at (to_z-of_z w64 c.args.v fits))
-  | in-None w ↦ absurd (no_slot c.self.inside.map c.args.series.now c.args.t c.self.invariant w.in-None.ensures.value (rw c.self.view_is c.requires))
-]
+returns-clause-changed c s at =
+    let es : Places = c.self.inside.map.entries in
+    let lent : slice_get es c.args.place ≡ Some (s, c.index_mut.result.now) =
+    entry_lent es c.args.place s at.slots c.index_mut.result.now (subst (λ (ps : Places). slice_get ps c.args.place ≡ Some (s, at.slots)) (sym c.self.view_is) at.entry) c.index_mut.ensures.value in
+    let done : WroteAt es (with_value_at c.self.inside.map c.args.place c.raise.new.self).entries c.args.place s c.index_mut.result.now c.raise.new.self =
+    wrote_at c.self.inside.map c.args.place s c.index_mut.result.now c.raise.new.self c.self.invariant lent in
+    let fits : FitsSigned w64 c.args.v = search rules in
+    let here : value_at c.index_mut.result.now c.args.t ≡ value_of (slots_of es) (key_at s c.args.t) = sym (value_found (slots_of es) s c.index_mut.result.now c.args.t done.found) in
+    c.raise.ensures.changed ∙ ap₂ is_higher here (to_z-of_z w64 c.args.v fits) ∙ ap (λ (ps : Places). is_higher (value_of (slots_of ps) (key_at s c.args.t)) c.args.v) c.self.view_is

@@ -3,27 +3,38 @@ use Rattle.std.specs.Prelude.{Option, is_some}
 use Rattle.std.specs.FinMap as finite
 use Rattle.m3_model.specs.declared.point.Key.{Key}
 use Rattle.m3_model.specs.Contents.{Contents}
+use Rattle.block_buffer.specs.declared.series_key.SeriesKey.{SeriesKey}
+use Rattle.block_buffer.specs.SeriesKeys.{key_at}
 use Rattle.block_buffer.specs.Points.{points_of}
+use Rattle.block_buffer.specs.Places.{slots_of, room_key}
 use Rattle.block_buffer.specs.Held.{Held}
 use Rattle.block_buffer.proofs.PointLemmas.{same_points, always_err, get-points}
+use Rattle.block_buffer.proofs.RoomLemmas.{no_room}
 use Rattle.block_buffer.proofs.buffer.Buffer.room.Goals as goal
 
 abbrev held : Contents → Option Key → Held
 held points room = record { points = points; room = room }
 
-pub returns-in_err-stands-clause-err : goal.returns-in_err-stands-clause-err
-returns-in_err-stands-clause-err c =
-    let was : held (points_of c.self.inside.all) c.self.inside.room ≡ held c.args.self.now.points None = c.self.view_is ∙ c.release.ensures in
-    always_err c.from_residual-in_err-stands.result (ap₂ held (same_points _ _ c.hold.ensures.kept ∙ ap (λ (h : Held). h.points) was) (ap (λ (h : Held). h.room) was))
+pub returns-in_err-set-clause-err : goal.returns-in_err-set-clause-err
+returns-in_err-set-clause-err c =
+    let was : held (points_of (slots_of c.self.inside.all)) (room_key c.self.inside.sought c.self.inside.room) ≡ held c.args.self.now.points None = c.self.view_is ∙ c.release.ensures in
+    always_err c.from_residual.result (ap₂ held (ap (λ (h : Held). h.points) was) (no_room c.self.inside.sought _ c.self.inside.room (ap (λ (h : Held). h.room) was)))
+
+pub returns-in_err-found-clause-err : goal.returns-in_err-found-clause-err
+returns-in_err-found-clause-err c =
+    let was : held (points_of (slots_of c.self.inside.all)) (room_key c.self.inside.sought c.self.inside.room) ≡ held c.args.self.now.points None = c.self.view_is ∙ c.release.ensures in
+    always_err c.from_residual-in_err-found.result
+    (ap₂ held (same_points _ _ c.hold.ensures.kept ∙ ap (λ (h : Held). h.points) was) (no_room c.self.inside.sought _ c.self.inside.room (ap (λ (h : Held). h.room) was)))
 
 pub returns-clause-ok : goal.returns-clause-ok
 returns-clause-ok c =
-    let was : held (points_of c.self.inside.all) c.self.inside.room ≡ held c.args.self.now.points None = c.self.view_is ∙ c.release.ensures in
-    ap₂ held (same_points _ _ c.hold.ensures.kept ∙ ap (λ (h : Held). h.points) was) (ap (λ id. Some (record { ns = c.args.p.now.ns; id = id; t = c.args.p.now.t })) c.in_ok-copy.ensures)
+    let was : held (points_of (slots_of c.self.inside.all)) (room_key c.self.inside.sought c.self.inside.room) ≡ held c.args.self.now.points None = c.self.view_is ∙ c.release.ensures in
+    ap₂ held (same_points _ _ c.hold.ensures.kept ∙ ap (λ (h : Held). h.points) was) (ap (λ (s : SeriesKey). Some (key_at s c.args.p.now.t)) c.in_ok-set.ensures)
 
 pub returns-clause-stands : goal.returns-clause-stands
 returns-clause-stands c =
-    let was : held (points_of c.self.inside.all) c.self.inside.room ≡ held c.args.self.now.points None = c.self.view_is ∙ c.release.ensures in
-    let key : Key = record { ns = c.args.p.now.ns; id = c.in_ok-copy.field-0; t = c.args.p.now.t } in
-    c.in_ok-stands.ensures.valued ∙ ap is_some (sym (get-points c.self.inside.all key) ∙ ap (λ (h : Held). finite.get h.points key) was
-    ∙ ap (λ id. finite.get c.args.self.now.points (record { ns = c.args.p.now.ns; id = id; t = c.args.p.now.t })) c.in_ok-copy.ensures)
+    let was : held (points_of (slots_of c.self.inside.all)) (room_key c.self.inside.sought c.self.inside.room) ≡ held c.args.self.now.points None = c.self.view_is ∙ c.release.ensures in
+    let key : Key = key_at c.set.new.self c.args.p.now.t in
+    c.in_ok-found.ensures.valued
+    ∙ ap is_some (sym (get-points (slots_of c.self.inside.all) key) ∙ ap (λ (h : Held). finite.get h.points key) was
+    ∙ ap (λ (s : SeriesKey). finite.get c.args.self.now.points (key_at s c.args.p.now.t)) c.in_ok-set.ensures)
