@@ -35,10 +35,10 @@ use Rattle.first_cluster.proofs.PlacedSlots.{from_start, start_slot, tenure_firs
 use Rattle.first_cluster.proofs.SlotLists.{in_or_out, slots_apart}
 use Rattle.told_by.specs.Makes.{IsAssigned}
 use Rattle.transcripts.specs.Record.{line_of}
-use Rattle.rule_lines.specs.Stands.{NoneStands, Stands}
-use Rattle.node_lines.specs.Opens.{IsGivenNow, IsLow, OpensLow}
-use Rattle.init_lines.proofs.BeginEvents.{step_among}
-use Rattle.init_lines.proofs.StandLemmas.{first_stands}
+use Rattle.act_lines.specs.Stands.{NoneStands, Stands}
+use Rattle.act_lines.specs.Opens.{IsGivenNow, IsLow, OpensLow}
+use Rattle.act_lines.proofs.BeginEvents.{step_among}
+use Rattle.act_lines.proofs.InitStands.{first_stands}
 use Rattle.cluster_tracks.specs.Runs.{HaveRun, IsMade}
 use Rattle.cluster_tracks.specs.Steps.{FirstStandsSo}
 use Rattle.cluster_tracks.proofs.FailureLemmas.{stepped_from}

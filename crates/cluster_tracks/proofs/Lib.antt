@@ -8,3 +8,15 @@ pub mod EndLemmas
 pub mod FirstLemmas
 pub mod AddLemmas
 pub mod QuietLemmas
+pub mod SharedLemmas
+pub mod SlotLemmas
+pub mod CallLemmas
+pub mod WriteLemmas
+pub mod ReadLemmas
+pub mod SettingLemmas
+pub mod DeliveryLemmas
+pub mod NodeLemmas
+pub mod HaltLemmas
+pub mod BootstrapLemmas
+pub mod InitLemmas
+pub mod LineLemmas

@@ -19,11 +19,11 @@ use Rattle.told_by.specs.Makes.{MayMake, OpensReplicas}
 use Rattle.told_by.proofs.OneLemmas.{back_at}
 use Rattle.transcripts.specs.Placements.{printed}
 use Rattle.cluster_members.specs.declared.members.Members.{Members}
-use Rattle.rule_lines.specs.Stays.{HaveNoPlace, IsNoPlace}
-use Rattle.rule_lines.proofs.StandLemmas.{stands_still}
-use Rattle.node_lines.specs.Keeps.{BeginsGiven}
-use Rattle.node_lines.specs.Opens.{MayBegin}
-use Rattle.node_lines.proofs.OpenLemmas.{begins_still}
+use Rattle.act_lines.specs.Stays.{HaveNoPlace, IsNoPlace}
+use Rattle.act_lines.proofs.StandLemmas.{stands_still}
+use Rattle.act_lines.specs.Keeps.{BeginsGiven}
+use Rattle.act_lines.specs.Opens.{MayBegin}
+use Rattle.act_lines.proofs.OpenLemmas.{begins_still}
 use Rattle.cluster_tracks.specs.Quiet.{QuietLinesStandOn, QuietTurnsMakeNone}
 use Rattle.cluster_tracks.specs.Runs.{HaveRun}
 use Rattle.cluster_tracks.proofs.AddLemmas.{steps_are_of_slots}

@@ -19,9 +19,9 @@ use Rattle.transcripts.specs.Record.{TurnPlace}
 use Rattle.call_lines.specs.Laws.{IsNotRefused, Kind, LeavesLine, LeavesServed}
 use Rattle.call_lines.specs.Left.{WereDelivered}
 use Rattle.cluster_members.specs.declared.members.Members.{Members}
-use Rattle.node_lines.specs.Laws.{LeavesBegun}
-use Rattle.rule_lines.specs.Stands.{HasSlots}
-use Rattle.init_lines.specs.Laws.{LeavesAnew}
+use Rattle.act_lines.specs.Nodes.{LeavesBegun}
+use Rattle.act_lines.specs.Stands.{HasSlots}
+use Rattle.act_lines.specs.Inits.{LeavesAnew}
 use Rattle.cluster_tracks.specs.Failures.{OnlyReplicasStep}
 use Rattle.cluster_tracks.specs.Steps.{AddsLine}
 

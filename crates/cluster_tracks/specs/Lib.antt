@@ -6,3 +6,6 @@ pub mod Steps
 pub mod Ends
 pub mod Adds
 pub mod Quiet
+pub mod Acts
+pub mod Slots
+pub mod Lines

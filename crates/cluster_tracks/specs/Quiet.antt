@@ -16,9 +16,9 @@ use Rattle.transcripts.specs.Placements.{printed}
 use Rattle.transcripts.specs.Record.{line_of}
 use Rattle.call_lines.specs.Left.{IsLeftBy}
 use Rattle.cluster_members.specs.declared.members.Members.{Members}
-use Rattle.rule_lines.specs.Quiet.{KeepsStops}
-use Rattle.rule_lines.specs.Stays.{HaveNoPlace}
-use Rattle.node_lines.specs.Keeps.{BeginsGiven}
+use Rattle.act_lines.specs.Quiet.{KeepsStops}
+use Rattle.act_lines.specs.Stays.{HaveNoPlace}
+use Rattle.act_lines.specs.Keeps.{BeginsGiven}
 use Rattle.cluster_tracks.specs.Failures.{OnlyReplicasStep}
 use Rattle.cluster_tracks.specs.Steps.{StandsOn}
 use Rattle.cluster_tracks.specs.Tracks.{StandsSo}

@@ -17,8 +17,8 @@ use Rattle.call_lines.specs.Left.{WereDelivered}
 use Rattle.cluster_members.specs.declared.members.Members.{Members}
 use Rattle.first_cluster.specs.Bare.{AreBare}
 use Rattle.first_cluster.specs.Slots.{AreApart}
-use Rattle.rule_lines.specs.Stands.{NoneStands, Stands}
-use Rattle.node_lines.specs.Opens.{OpensLow}
+use Rattle.act_lines.specs.Stands.{NoneStands, Stands}
+use Rattle.act_lines.specs.Opens.{OpensLow}
 use Rattle.cluster_tracks.specs.Numbers.{IsNumbered}
 use Rattle.cluster_tracks.specs.Runs.{HaveRun}
 

@@ -35,7 +35,7 @@ pub fn numbers_stay()
 {}
 
 /// A cluster that made nothing tracks no turns; and one more line that is told, served and counted is tracked with them.
-pub fn lines_are_tracked<D: Disk>(members: &Option<Members<D>>)
+pub fn one_more_is_tracked<D: Disk>(members: &Option<Members<D>>)
     ensures first { TracksAtFirst D.state members.now }
     ensures plain { TracksOn PlainLine D.state members.now }
     ensures clock { TracksOn ClockLine D.state members.now }

@@ -1,4 +1,6 @@
-//! What is so of a cluster after the turns of a run, how one more line keeps it so, and what a run promises by it at its end.
+//! What is so of a cluster after the turns of a run, how each line that it answers is tracked with them, and what a run promises by it
+//! at its end.
 #![tactic(auto)]
 
 pub mod laws;
+pub mod lines;

@@ -14,7 +14,7 @@ use Rattle.replica_exchange.specs.declared.call_id.CallId.{CallId}
 use Rattle.cluster_members.specs.declared.members.Members.{Members}
 use Rattle.node_calls.specs.Nodes.{IsFated}
 use Rattle.cluster_tracks.specs.Numbers.{after_call, last_number, numbers_by}
-use Rattle.tracked_lines.specs.Acts.{Does, OnMembers, next_call}
+use Rattle.cluster_tracks.specs.Acts.{Does, OnMembers, next_call}
 use Rattle.served_cluster.specs.Acts.{Answers, sets_fates}
 use Rattle.served_cluster.specs.declared.cluster.Cluster.{Cluster}
 

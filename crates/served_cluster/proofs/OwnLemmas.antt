@@ -21,9 +21,9 @@ use Rattle.cluster_members.specs.declared.members.Members.{Members}
 use Rattle.first_cluster.specs.First.{IsRefusedInit}
 use Rattle.first_cluster.specs.Depots.{AreOut, OwnedBy, place_of_slot}
 use Rattle.first_cluster.specs.Lending.{HasGivenBack, HasReturned, IsBack, IsGivenBack, IsKept, IsUntouched}
-use Rattle.tracked_lines.specs.Acts.{Does, IsServedBy, OnMembers, next_call}
-use Rattle.tracked_lines.specs.Slots.{KeepsSlots}
-use Rattle.tracked_lines.proofs.SlotLemmas.{acts_keep_slots}
+use Rattle.cluster_tracks.specs.Acts.{Does, IsServedBy, OnMembers, next_call}
+use Rattle.cluster_tracks.specs.Slots.{KeepsSlots}
+use Rattle.cluster_tracks.proofs.SlotLemmas.{acts_keep_slots}
 use Rattle.served_cluster.specs.Acts.{Answers, Serves}
 use Rattle.served_cluster.specs.declared.cluster.Cluster.{Cluster}
 

@@ -16,10 +16,10 @@ use Rattle.replica_calls.specs.Calls.{AreMembersOf}
 use Rattle.transcripts.specs.Placements.{placement_after}
 use Rattle.transcripts.specs.Record.{inner_turns, line_of}
 use Rattle.cluster_members.specs.declared.members.Members.{Members}
-use Rattle.rule_lines.proofs.StandLemmas.{no_placement}
+use Rattle.act_lines.proofs.StandLemmas.{no_placement}
 use Rattle.cluster_tracks.specs.Tracks.{MayStand, events_of}
-use Rattle.tracked_lines.specs.Lines.{EachMember, IsLeft}
-use Rattle.tracked_lines.proofs.LineLemmas.{lines_are_tracked}
+use Rattle.cluster_tracks.specs.Lines.{EachMember, IsLeft}
+use Rattle.cluster_tracks.proofs.LineLemmas.{lines_are_tracked}
 use Rattle.served_cluster.specs.Acts.{Serves}
 use Rattle.served_cluster.specs.Owned.{AreReady, TracksTurns, place_of}
 use Rattle.served_cluster.specs.declared.cluster.Cluster.{Cluster}

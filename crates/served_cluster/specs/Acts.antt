@@ -7,7 +7,7 @@ use Rattle.m3_outside.specs.Depots.{Depot}
 use Rattle.m3_outside.specs.DiskState.{DiskState}
 use Rattle.m3_outside.specs.declared.disk.Disk.{Ghosts}
 use Rattle.cluster_tracks.specs.Numbers.{numbers_by}
-use Rattle.tracked_lines.specs.Acts.{Does, IsServedBy, OnMembers, next_call}
+use Rattle.cluster_tracks.specs.Acts.{Does, IsServedBy, OnMembers, next_call}
 use Rattle.served_cluster.specs.declared.cluster.Cluster.{Cluster}
 
 -- the act makes a cluster

@@ -19,8 +19,8 @@ ghost use Rattle.cluster_tracks.specs.Ends.{replica_at};
 ghost use Rattle.cluster_tracks.specs.Tracks.{events_of};
 ghost use Rattle.cluster_tracks.specs.Numbers.{last_number};
 ghost use Rattle.replica_exchange.specs.declared.call_id.CallId.{CallId as CallName};
-ghost use Rattle.tracked_lines.specs.Acts.{Does, IsMade};
-ghost use Rattle.tracked_lines.specs.Lines.{EachMember};
+ghost use Rattle.cluster_tracks.specs.Acts.{Does, IsMade};
+ghost use Rattle.cluster_tracks.specs.Lines.{EachMember};
 ghost use Rattle.served_cluster.specs.Acts.{Answers, Serves, is_init, sets_fates};
 ghost use Rattle.served_cluster.specs.Owned.{AreReady, MayServe, TracksTurns, place_of};
 

@@ -1,0 +1,125 @@
+-- A cluster that stands, one line on; and turns after which none stands.
+use Rattle.std.proofs.Common.{◌≡◌, ◌<◌, ℕ, List, [], ◌∷◌, ◌++◌, length, refl, sym, ap, ◌∙◌, subst, inl, inr}
+use Rattle.std.specs.Prelude.{Option, None, slice_get}
+use Rattle.m3_model.specs.Members.{IsIn}
+use Rattle.m3_model.proofs.MemberLemmas.{IsIn-append_cases}
+use Rattle.m3_model.specs.declared.act.Act.{Act}
+use Rattle.m3_model.specs.declared.answer.Answer.{Answer}
+use Rattle.m3_model.specs.declared.placement.Placement.{Placement}
+use Rattle.m3_model.specs.declared.rules.MetaState.{MetaState}
+use Rattle.m3_model.specs.declared.turn.Turn.{Turn}
+use Rattle.m3_outside.specs.DiskState.{DiskState}
+use Rattle.m3_outside.specs.declared.disk.Disk.{Ghosts}
+use Rattle.cluster_core.specs.Earlier.{GivesTenure, HasTenure}
+use Rattle.cluster_core.specs.declared.event.Event.{Event}
+use Rattle.cluster_core.specs.declared.event.Event.TheVariants as event
+use Rattle.cluster_core.specs.declared.event.StepCall.{StepCall}
+use Rattle.cluster_core.specs.declared.event.StepReply.{StepReply}
+use Rattle.cluster_core.proofs.ExtendLemmas.{any_more}
+use Rattle.replica_exchange.specs.declared.slot.Slot.{Slot}
+use Rattle.session_net.specs.Ready.{IsReady}
+use Rattle.session_net.specs.Runs.{Ran, slot_at}
+use Rattle.told_by.specs.Hears.{HasReplica, IsNamedBy}
+use Rattle.told_by.proofs.BrokenLemmas.{turn_among}
+use Rattle.told_by.proofs.TurnLemmas.{inner-append}
+use Rattle.transcripts.specs.Fates.{stopped_by}
+use Rattle.transcripts.specs.Placements.{later_placement, placement_after, printed}
+use Rattle.transcripts.specs.Record.{InnerTurn, IsTurnPlace, TurnPlace, inner_turns, line_of}
+use Rattle.call_lines.specs.Left.{AreSlots, AreStoppedBy, IsLeftBy}
+use Rattle.call_lines.proofs.KeepLemmas.{fates_on, left_as_before, rules_on}
+use Rattle.cluster_members.specs.declared.members.Members.{Members}
+use Rattle.act_lines.specs.Quiet.{KeepsStops}
+use Rattle.act_lines.specs.Stands.{HasSlots, NoneStands, Stands}
+use Rattle.act_lines.specs.Stays.{HaveNoPlace, NoneIsPlaced, StandsStill, StandsUnchanged, StaysUnmade}
+use Rattle.act_lines.proofs.GrowLemmas.{named_still, replica_before}
+use Rattle.act_lines.proofs.QuietLemmas.{delivers_nothing_so, flags_on, keeps_stops_so, sets_nothing_so, slots_on, stops_next}
+
+-- ---- before a cluster stands
+
+none_printed : (turns : List InnerTurn) → ((turn : InnerTurn) → IsIn turns turn → printed turn.answer ≡ None) → placement_after None turns ≡ None
+none_printed [] none = refl
+none_printed (turn ∷ turns) none = ap (λ o. placement_after (later_placement o None) turns) (none turn (inl refl)) ∙ none_printed turns (λ x i. none x (inr i))
+
+pub no_placement : (turns : List Turn) → NoneStands turns → placement_after None (inner_turns turns) ≡ None
+no_placement turns none = none_printed (inner_turns turns) none.prints
+
+pub printed_none : (turns : List Turn) → NoneStands turns → (q : TurnPlace) → IsTurnPlace turns q → printed q.turn.answer ≡ None
+printed_none turns none q at = none.prints q.turn (turn_among turns q at)
+
+pub none_is_placed : NoneIsPlaced
+none_is_placed turns none = (no_placement turns none, printed_none turns none)
+
+pub none_stands_at_first : NoneStands []
+none_stands_at_first = record { prints = λ turn i. absurd i; rules = refl; fates = refl; runs = λ name. refl }
+
+pub stays_unmade : StaysUnmade
+stays_unmade turns a b none sets stays = record {
+  prints = λ turn i. elim (IsIn-append_cases (inner_turns turns) (inner_turns (line_of a b ∷ [])) turn (subst (λ (ts : List InnerTurn). IsIn ts turn) (inner-append turns (line_of a b ∷ [])) i)) as (λ _. printed turn.answer ≡ None) [
+    | inl before ↦ none.prints turn before
+    | inr last ↦ elim last as (λ _. printed turn.answer ≡ None) [ inl same ↦ subst (λ (x : InnerTurn). printed x.answer ≡ None) same sets.place | inr nothing ↦ absurd nothing ]
+  ];
+  rules = rules_on None turns a b sets ∙ none.rules;
+  fates = fates_on None turns a b sets ∙ none.fates;
+  runs = λ name. stops_next turns a b name ∙ ap (stopped_by name a b) (none.runs name) ∙ stays name;
+}
+
+-- ---- a cluster in which nothing changed
+
+pub stands_unchanged : {D : Type 0} {G : Ghosts D} (m : Members D G) → StandsUnchanged m
+stands_unchanged m start turns a b stands sets delivers = record {
+  left = left_as_before m.net start turns m.net a b stands.left (record { state = refl; fates = refl }) (sets_nothing_so a b sets) (delivers_nothing_so a b delivers) refl;
+  ready = stands.ready;
+  slots = stands.slots;
+  named = stands.named;
+  stopped = flags_on turns a b m.net.state.place m.stopped.items (keeps_stops_so a b sets) stands.stopped;
+}
+
+-- ---- one line on
+
+-- where these events came, and the slots are still those that have a replica
+module _ {D : Type 0} {G : Ghosts D} (start : Option MetaState) (turns : List Turn) (old : Members D G) (stands : Stands start turns old) (a : Act) (b : Answer) (new : Members D G) (same_place : new.net.state.place ≡ old.net.state.place) (more : List Event)
+    (grew : new.net.replicas.events ≡ old.net.replicas.events ++ more) (no_place : HaveNoPlace more) (of_slots : (n s : ℕ) (c : StepCall) (r : StepReply) → IsIn more (event.Step n s c r) → IsIn old.slots.items (slot_at n s)) (slots : new.slots.items ≡ old.slots.items)
+    (are : AreSlots new.slots.items new.net.replicas) where
+  slots_grown : HasSlots new
+  slots_grown = record {
+    are = are;
+    given = λ s i. let given = stands.slots.given s (was_in s i) in (given.0, subst (λ es. HasTenure es s.node s.shard given.0) (sym grew) (any_more (GivesTenure s.node s.shard given.0) old.net.replicas.events more given.1));
+    all = λ n s has. now_in (slot_at n s) (elim (replica_before old.net.replicas.events more no_place n s (subst (λ es. HasReplica es n s) grew has)) as (λ _. IsIn old.slots.items (slot_at n s)) [
+      | inl before ↦ stands.slots.all n s before
+      | inr stepped ↦ of_slots n s stepped.0 stepped.1 stepped.2
+    ]);
+    placed = λ s i. subst (λ (p : Placement). s.node < length p.instances) (sym same_place) (stands.slots.placed s (was_in s i));
+  }
+    where
+      was_in : (s : Slot) → IsIn new.slots.items s → IsIn old.slots.items s
+      was_in s i = subst (λ xs. IsIn xs s) slots i
+
+      now_in : (s : Slot) → IsIn old.slots.items s → IsIn new.slots.items s
+      now_in s i = subst (λ xs. IsIn xs s) (sym slots) i
+
+  pub stands_grown : IsLeftBy start (turns ++ line_of a b ∷ []) new.net → IsReady new.net.state new.net.replicas new.net.bag → AreStoppedBy (turns ++ line_of a b ∷ []) new.net.state.place new.stopped.items → Stands start (turns ++ line_of a b ∷ []) new
+  stands_grown left ready stopped = record {
+    left = left;
+    ready = ready;
+    slots = slots_grown;
+    named = λ n own at. subst (λ es. IsNamedBy es n own.name) (sym grew) (named_still old.net.replicas.events more no_place n own.name (stands.named n own (ap (λ (p : Placement). slice_get p.instances n) (sym same_place) ∙ at)));
+    stopped = stopped;
+  }
+
+-- where its replicas took the steps among these events
+pub stands_on : {D : Type 0} {G : Ghosts D} (state : D → DiskState) (start : Option MetaState) (turns : List Turn) (old : Members D G) → Stands start turns old → (a : Act) (b : Answer) (new : Members D G) → new.net.state.place ≡ old.net.state.place
+    → (more : List Event) → Ran state old.net.replicas more new.net.replicas → HaveNoPlace more → ((n s : ℕ) (c : StepCall) (r : StepReply) → IsIn more (event.Step n s c r) → IsIn old.slots.items (slot_at n s)) → new.slots.items ≡ old.slots.items
+    → IsLeftBy start (turns ++ line_of a b ∷ []) new.net → IsReady new.net.state new.net.replicas new.net.bag → AreStoppedBy (turns ++ line_of a b ∷ []) new.net.state.place new.stopped.items → Stands start (turns ++ line_of a b ∷ []) new
+stands_on {D} {G} state start turns old stands a b new same_place more ran no_place of_slots slots left ready stopped =
+    stands_grown start turns old stands a b new same_place more ran.grew no_place of_slots slots
+    (subst (λ xs. AreSlots xs new.net.replicas) (sym slots) (slots_on state old.slots.items old.net.replicas new.net.replicas more ran stands.slots.are)) left ready stopped
+
+-- a turn that neither stopped nor restarted a node leaves the flags
+pub flags_stay : {D : Type 0} {G : Ghosts D} (turns : List Turn) (a : Act) (b : Answer) (old new : Members D G) → KeepsStops a b → new.net.state.place ≡ old.net.state.place → new.stopped.items ≡ old.stopped.items → AreStoppedBy turns old.net.state.place old.stopped.items
+    → AreStoppedBy (turns ++ line_of a b ∷ []) new.net.state.place new.stopped.items
+flags_stay turns a b old new keeps place stopped are =
+    subst (λ (p : Placement). AreStoppedBy (turns ++ line_of a b ∷ []) p new.stopped.items) (sym place)
+    (subst (AreStoppedBy (turns ++ line_of a b ∷ []) old.net.state.place) (sym stopped) (flags_on turns a b old.net.state.place old.stopped.items keeps are))
+
+pub stands_still : {D : Type 0} {G : Ghosts D} (state : D → DiskState) (old : Members D G) → StandsStill state old
+stands_still {D} {G} state old start turns new a b stands h = stands_on state start turns old stands a b new h.place h.more h.ran h.no_place h.of_slots h.slots h.left h.ready (flags_stay turns a b old new h.halts h.place h.stopped stands.stopped)

@@ -1,0 +1,9 @@
+pub mod Due
+pub mod Quiet
+pub mod Stands
+pub mod Stays
+pub mod Settings
+pub mod Opens
+pub mod Nodes
+pub mod Keeps
+pub mod Inits

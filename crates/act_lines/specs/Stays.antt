@@ -1,0 +1,68 @@
+-- Lines after which a cluster stands still, and lines after which there is none still.
+use Rattle.std.specs.Prelude.{◌≡◌, ⊤, ℕ, List, ◌∷◌, [], ◌++◌, Option, None, false}
+use Rattle.m3_model.specs.Members.{IsIn}
+use Rattle.m3_model.specs.declared.act.Act.{Act}
+use Rattle.m3_model.specs.declared.answer.Answer.{Answer}
+use Rattle.m3_model.specs.declared.rules.MetaState.{MetaState}
+use Rattle.m3_model.specs.declared.turn.Turn.{Turn}
+use Rattle.m3_outside.specs.DiskState.{DiskState}
+use Rattle.m3_outside.specs.declared.disk.Disk.{Ghosts}
+use Rattle.cluster_core.specs.declared.event.Event.{Event}
+use Rattle.cluster_core.specs.declared.event.Event.TheVariants as event
+use Rattle.cluster_core.specs.declared.event.StepCall.{StepCall}
+use Rattle.cluster_core.specs.declared.event.StepReply.{StepReply}
+use Rattle.session_net.specs.Ready.{IsReady}
+use Rattle.session_net.specs.Runs.{Ran, slot_at}
+use Rattle.transcripts.specs.Fates.{stopped_by}
+use Rattle.transcripts.specs.Placements.{placement_after, printed}
+use Rattle.transcripts.specs.Record.{IsTurnPlace, TurnPlace, inner_turns, line_of}
+use Rattle.call_lines.specs.Keeps.{SetsNothing}
+use Rattle.call_lines.specs.Left.{IsLeftBy}
+use Rattle.cluster_members.specs.declared.members.Members.{Members}
+use Rattle.act_lines.specs.Quiet.{DeliversNone, KeepsStops, SetsNone}
+use Rattle.act_lines.specs.Stands.{NoneStands, Stands}
+
+-- ---- before an `init`
+
+-- no cluster stands before the first turn
+abbrev pub NoneStandsAtFirst : Type 0
+NoneStandsAtFirst = NoneStands []
+
+-- nor after one more that sets nothing and stops no node
+abbrev pub StaysUnmade : Type 0
+StaysUnmade = (turns : List Turn) (a : Act) (b : Answer) → NoneStands turns → SetsNothing a b → ((name : List ℕ) → stopped_by name a b false ≡ false) → NoneStands (turns ++ line_of a b ∷ [])
+
+-- where none stands there is no placement, and no turn printed one
+abbrev pub NoneIsPlaced : Type 0
+NoneIsPlaced = (turns : List Turn) → NoneStands turns → (placement_after None (inner_turns turns) ≡ None) × ((p : TurnPlace) → IsTurnPlace turns p → printed p.turn.answer ≡ None)
+
+-- ---- a cluster that stands
+
+-- it stands after a line in which nothing changed
+abbrev pub StandsUnchanged : {D : Type 0} {G : Ghosts D} → Members D G → Type 0
+StandsUnchanged m = (start : Option MetaState) (turns : List Turn) (a : Act) (b : Answer) → Stands start turns m → SetsNone b → DeliversNone b → Stands start (turns ++ line_of a b ∷ []) m
+
+-- the event is no Place
+abbrev pub IsNoPlace : Event → Type 0
+IsNoPlace (event.Place place done) = ⊥
+IsNoPlace _ = ⊤
+
+abbrev pub HaveNoPlace : List Event → Type 0
+HaveNoPlace events = (e : Event) → IsIn events e → IsNoPlace e
+
+-- A turn that made no placement, steps of slots alone, and what the turns left is left with it: calls may be made, and slots and stopped nodes are as before.
+pub record StaysStanding {D : Type 0} {G : Ghosts D} (state : D → DiskState) (start : Option MetaState) (turns : List Turn) (old : Members D G) (a : Act) (b : Answer) (new : Members D G) : Type 0 where
+  pub left : IsLeftBy start (turns ++ line_of a b ∷ []) new.net
+  pub ready : IsReady new.net.state new.net.replicas new.net.bag
+  pub place : new.net.state.place ≡ old.net.state.place
+  pub more : List Event
+  pub ran : Ran state old.net.replicas more new.net.replicas
+  pub no_place : HaveNoPlace more
+  pub of_slots : (n s : ℕ) (c : StepCall) (r : StepReply) → IsIn more (event.Step n s c r) → IsIn old.slots.items (slot_at n s)
+  pub slots : new.slots.items ≡ old.slots.items
+  pub stopped : new.stopped.items ≡ old.stopped.items
+  pub halts : KeepsStops a b
+
+-- then the cluster stands still
+abbrev pub StandsStill : {D : Type 0} {G : Ghosts D} → (D → DiskState) → Members D G → Type 0
+StandsStill {D} {G} state old = (start : Option MetaState) (turns : List Turn) (new : Members D G) (a : Act) (b : Answer) → Stands start turns old → StaysStanding state start turns old a b new → Stands start (turns ++ line_of a b ∷ []) new

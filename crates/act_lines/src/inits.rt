@@ -1,0 +1,16 @@
+//! What `init` leaves of the list tells of its turn.
+ghost use Rattle.act_lines.specs.Inits.{FirstStands, FirstTells, UntakenTells};
+
+use cluster_members::members::Members;
+use m3_outside::disk::Disk;
+
+/// The events of a first cluster tell of the line of the `init` that made it, and serve it; and it stands after the line.
+pub fn first_tells<D: Disk>(members: &Members<D>)
+    ensures tells { FirstTells D.state members.now }
+    ensures stands { FirstStands D.state members.now }
+{}
+
+/// Where a disk couldn't be taken, nothing came to the list, and that tells of the line and serves it.
+pub fn untaken_tells<D: Disk>(_disk: &D)
+    ensures { UntakenTells D }
+{}

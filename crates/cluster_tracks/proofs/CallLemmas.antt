@@ -1,0 +1,117 @@
+-- Lines of calls of a cluster that stands: what came to the list tells of each, and the cluster stands after it.
+use Rattle.std.proofs.Common.{◌≡◌, ◌<◌, ℕ, List, [], ◌∷◌, ◌++◌, min, refl, sym, ap, subst, arith, Bool}
+use Rattle.std.specs.Prelude.{Some, None}
+use Rattle.m3_model.specs.Rules.{namespace_place}
+use Rattle.m3_model.specs.declared.act.Act.{Act}
+use Rattle.m3_model.specs.declared.answer.Answer.{Answer}
+use Rattle.m3_model.specs.declared.answer.Answer.TheVariants as answer
+use Rattle.m3_model.specs.declared.turn.Turn.{Turn}
+use Rattle.m3_outside.specs.Depots.{Depot}
+use Rattle.m3_outside.specs.DiskState.{DiskState, IsLawful}
+use Rattle.m3_outside.specs.declared.disk.Disk.{Ghosts}
+use Rattle.cluster_core.specs.declared.event.Event.{Event}
+use Rattle.session_net.specs.Runs.{Ran}
+use Rattle.session_net.specs.declared.net.Net.{Net}
+use Rattle.session_net.proofs.RunLemmas.{ran_nothing}
+use Rattle.told_by.specs.Lines.{MakesAndHears, PlainLine}
+use Rattle.told_by.specs.Makes.{OpensReplicas}
+use Rattle.transcripts.specs.Record.{line_of}
+use Rattle.call_lines.specs.Laws.{IsNotRefused, Kind, LeavesLine, LeavesServed}
+use Rattle.call_lines.specs.Left.{IsLeftBy, IsNextCall}
+use Rattle.call_lines.proofs.KeepLemmas.{left_as_before}
+use Rattle.cluster_members.specs.Calls.{KeepsCluster}
+use Rattle.cluster_members.specs.Steps.{spaces_in}
+use Rattle.cluster_members.specs.declared.members.Members.{Members}
+use Rattle.act_lines.specs.Due.{CallDue, IsDueNext, SpaceDue}
+use Rattle.act_lines.specs.Settings.{LeavesNothing}
+use Rattle.act_lines.specs.Quiet.{DeliversNone, SetsNone}
+use Rattle.act_lines.proofs.DueLemmas.{calls_are_due}
+use Rattle.act_lines.proofs.NothingLemmas.{refused_tells}
+use Rattle.act_lines.proofs.QuietLemmas.{delivers_nothing_so, keeps_stops_so, sets_nothing_so}
+use Rattle.cluster_tracks.specs.Numbers.{last_number, numbers_by}
+use Rattle.cluster_tracks.specs.Steps.{AddsLine, TracksOn}
+use Rattle.cluster_tracks.specs.Tracks.{StandsSo, Tracks}
+use Rattle.cluster_tracks.proofs.AddLemmas.{call_adds, served_adds}
+use Rattle.cluster_tracks.proofs.StepLemmas.{plain_on}
+use Rattle.cluster_tracks.specs.Acts.{next_call}
+use Rattle.cluster_tracks.specs.Lines.{IsLeft, MayGoOn}
+use Rattle.cluster_tracks.proofs.SharedLemmas.{goes_quietly, have_left, memory_tells, stays_same}
+
+-- a numbering that didn't reach its last number has counted all
+counted_all : (n k top : ℕ) → n ≡ min k top → n < top → n ≡ k
+counted_all n k top e low = omega (arith, e, low)
+
+module _ {D : Type 0} {G : Ghosts D} (state : D → DiskState) (m : Members D G) (tells : Bool) (first now : Depot D) (turns : List Turn) (calls : List ℕ) (on : MayGoOn state tells first now turns calls m) where
+  stood : StandsSo state tells now turns m
+  stood = on.tracks.after
+
+  pub left_so : IsLeftBy None turns m.net
+  left_so = stood.stands.left
+
+  -- which refusals are due of calls
+  pub left_due : CallDue None turns m.net.state.rules
+  left_due = calls_are_due None turns m.net.state.place m.net.state.rules (have_left turns m stood.stands)
+
+  -- a call that has a number of its own has the next one
+  pub next_is : (next_call calls).number < last_number → IsNextCall turns (next_call calls)
+  next_is low = (refl, counted_all (next_call calls).number _ last_number on.tracks.numbered.next low)
+
+  module _ (lawful : (d : D) → IsLawful (state d)) (a : Act) (b : Answer) (g : Members D G) (is_left : IsLeft tells g) (sets : SetsNone b) (calm : OpensReplicas a → ⊥) (keeps : KeepsCluster m g) where
+    -- by lines of such a kind the turn makes what it may
+    abbrev pub IsMaking : Kind → Type 0
+    IsMaking Line = (more : List Event) → Line None turns m.net.replicas.events a b more → MakesAndHears None turns m.net.replicas.events a b more
+
+    -- what came to the list tells of the line; and steps came, by which the cluster is what the turns left
+    goes_on : (Line : Kind) → TracksOn Line state (Some m) → IsMaking Line → AddsLine Line tells [] [] on.tracks.delivered turns m.net.replicas.events a b g.net.replicas.events
+        → (more : List Event) → Ran state m.net.replicas more g.net.replicas → IsLeftBy None (turns ++ line_of a b ∷ []) g.net
+        → Tracks state tells first now (turns ++ line_of a b ∷ []) (Some g) (numbers_by a b calls)
+    goes_on Line tracks_on makes adds more ran left =
+        goes_quietly state m tells first now turns calls a b Line tracks_on lawful g [] on adds is_left.legal (record {
+          told = adds.more;
+          grew = adds.grew;
+          makes = makes adds.more adds.line;
+          prints = (sets_nothing_so a b sets).place;
+          opens = calm;
+          halts = keeps_stops_so a b sets;
+          more = more;
+          ran = ran;
+          others = ran.only;
+          left = left;
+          ready = is_left.ready;
+          place = ap (λ s. s.place) keeps.state;
+          slots = keeps.slots;
+          stopped = keeps.stopped;
+        })
+
+    -- so where no refusal was due
+    pub told_on : (Line : Kind) → TracksOn Line state (Some m) → IsMaking Line → LeavesLine Line None turns [] m.net a b g.net → IsNotRefused None turns a b
+        → (more : List Event) → Ran state m.net.replicas more g.net.replicas → IsLeftBy None (turns ++ line_of a b ∷ []) g.net
+        → Tracks state tells first now (turns ++ line_of a b ∷ []) (Some g) (numbers_by a b calls)
+    told_on Line tracks_on makes line free more ran left = goes_on Line tracks_on makes (call_adds Line m.net tells turns [] on.tracks.delivered a b g.net on.tracks.were free line) more ran left
+
+    -- whatever refusal was due
+    pub served_on : (Line : Kind) → TracksOn Line state (Some m) → IsMaking Line → LeavesServed Line None turns [] m.net.replicas.events a b g.net.replicas.events
+        → (more : List Event) → Ran state m.net.replicas more g.net.replicas → IsLeftBy None (turns ++ line_of a b ∷ []) g.net
+        → Tracks state tells first now (turns ++ line_of a b ∷ []) (Some g) (numbers_by a b calls)
+    served_on Line tracks_on makes line more ran left = goes_on Line tracks_on makes (served_adds Line tells turns [] on.tracks.delivered m.net.replicas.events a b g.net.replicas.events on.tracks.were line) more ran left
+
+    -- where the late messages stay, and none was delivered, the fields are what the turns left
+    pub same_bag : DeliversNone b → g.net.bag ≡ m.net.bag → IsLeftBy None (turns ++ line_of a b ∷ []) g.net
+    same_bag delivers same = left_as_before m.net None turns g.net a b left_so (record { state = keeps.state; fates = keeps.fates }) (sets_nothing_so a b sets) (delivers_nothing_so a b delivers) same
+
+    -- and where nothing changed
+    pub stays_on : g.net ≡ m.net → LeavesNothing None turns m.net.replicas.events a b → Tracks state tells first now (turns ++ line_of a b ∷ []) (Some g) (numbers_by a b calls)
+    stays_on same nothing =
+        let line : LeavesServed PlainLine None turns [] m.net.replicas.events a b g.net.replicas.events =
+        subst (λ (net : Net D G). LeavesServed PlainLine None turns [] m.net.replicas.events a b net.replicas.events) (sym same) nothing.line in
+        served_on PlainLine (plain_on state (Some m)) (λ more plain. plain.makes) line [] (subst (λ (net : Net D G). Ran state m.net.replicas [] net.replicas) (sym same) (ran_nothing state m.net.replicas))
+        (same_bag nothing.delivers_none (ap (λ (net : Net D G). net.bag) same))
+
+  module _ (a : Act) (b : Answer) (g : Members D G) (same : g ≡ m) where
+    -- a call for which there is no number
+    pub wanted_on : b ≡ answer.Memory → Tracks state tells first now (turns ++ line_of a b ∷ []) (Some g) (numbers_by a b calls)
+    wanted_on is = stays_same state m tells first now turns calls a b g same on.tracks (subst (λ (x : Answer). LeavesNothing None turns m.net.replicas.events a x) (sym is) (memory_tells turns m.net.replicas.events a))
+
+    -- one whose namespace isn't there
+    pub unknown_on : (ns : List ℕ) → SpaceDue None turns m.net.state.rules ns a b → namespace_place ns (spaces_in m) ≡ None → b ≡ answer.Unknown ns → Tracks state tells first now (turns ++ line_of a b ∷ []) (Some g) (numbers_by a b calls)
+    unknown_on ns due none is = stays_same state m tells first now turns calls a b g same on.tracks (refused_tells None turns m.net.replicas.events a b (subst (λ (x : Answer). IsDueNext None turns a b (Some x)) (sym is) (due.unknown none)))

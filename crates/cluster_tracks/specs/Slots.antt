@@ -1,0 +1,19 @@
+-- What an act leaves of the slots of a cluster that stands.
+use Rattle.std.specs.Prelude.{◌≡◌}
+use Rattle.m3_model.specs.declared.act.Act.{Act}
+use Rattle.m3_model.specs.declared.answer.Answer.{Answer}
+use Rattle.m3_outside.specs.DiskState.{DiskState}
+use Rattle.m3_outside.specs.declared.disk.Disk.{Ghosts}
+use Rattle.replica_exchange.specs.declared.call_id.CallId.{CallId}
+use Rattle.cluster_members.specs.declared.members.Members.{Members}
+use Rattle.node_calls.specs.Halts.{HaveSameSlots}
+use Rattle.cluster_tracks.specs.Acts.{Does}
+
+-- the slots stay, and the same ones have replicas
+pub record KeepsSlots {D : Type 0} {G : Ghosts D} (old new : Members D G) : Type 0 where
+  pub slots : new.slots.items ≡ old.slots.items
+  pub same : HaveSameSlots old.net.replicas new.net.replicas
+
+-- So it is after each act other than `init`, whatever it is answered.
+abbrev pub ActsKeepSlots : {D : Type 0} {G : Ghosts D} → (D → DiskState) → Members D G → Type 0
+ActsKeepSlots {D} {G} state old = (id : CallId) (a : Act) (b : Answer) (new : Members D G) → Does state id old a b new → KeepsSlots old new

@@ -1,0 +1,44 @@
+//! The lines of a run tracked one after the other.
+ghost use Rattle.cluster_tracks.specs.Lines.{BootstrapsAreTracked, DeliveriesAreTracked, FatesAreTracked, FetchesAreTracked, InitsAreTracked, LinesAreTracked, MatchesAreTracked, MomentsAreTracked, NamespacesAreTracked, OrdersAreTracked, RestartsAreTracked, StopsAreTracked, WritesAreTracked};
+ghost use Rattle.cluster_tracks.specs.Slots.{ActsKeepSlots};
+
+use cluster_members::members::Members;
+use m3_outside::disk::Disk;
+
+/// An act leaves the slots, and which of them have replicas.
+pub fn acts_keep_slots<D: Disk>(members: &Members<D>)
+    ensures { ActsKeepSlots D.state members.now }
+{}
+
+/// The lines of calls that give no version.
+pub fn calls_are_tracked<D: Disk>(members: &Members<D>)
+    ensures write { WritesAreTracked D.state members.now }
+    ensures fetch { FetchesAreTracked D.state members.now }
+    ensures find { MatchesAreTracked D.state members.now }
+{}
+
+/// Those that set the rules or the fates, and that deliver late messages.
+pub fn settings_are_tracked<D: Disk>(members: &Members<D>)
+    ensures namespace { NamespacesAreTracked D.state members.now }
+    ensures moment { MomentsAreTracked D.state members.now }
+    ensures fates { FatesAreTracked D.state members.now }
+    ensures delivery { DeliveriesAreTracked D.state members.now }
+{}
+
+/// Those that stop, restart and bootstrap a node.
+pub fn nodes_are_tracked<D: Disk>(members: &Members<D>)
+    ensures stop { StopsAreTracked D.state members.now }
+    ensures restart { RestartsAreTracked D.state members.now }
+    ensures bootstrap { BootstrapsAreTracked D.state members.now }
+{}
+
+/// That of an `init`; and where no cluster stands, those that are out of order.
+pub fn inits_are_tracked<D: Disk>(members: &Option<Members<D>>)
+    ensures order { OrdersAreTracked D.state members.now }
+    ensures init { InitsAreTracked D.state members.now }
+{}
+
+/// Any line of an act that is served.
+pub fn lines_are_tracked<D: Disk>(members: &Option<Members<D>>)
+    ensures { LinesAreTracked D.state members.now }
+{}

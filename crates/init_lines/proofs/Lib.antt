@@ -1,4 +1,0 @@
-pub mod BeginEvents
-pub mod InitLemmas
-pub mod StandLemmas
-pub mod UntakenLemmas

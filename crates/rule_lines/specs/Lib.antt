@@ -1,5 +1,0 @@
-pub mod Due
-pub mod Quiet
-pub mod Stands
-pub mod Stays
-pub mod Laws
