@@ -145,11 +145,8 @@ module _ (start : Option MetaState) (turns : List Turn) (b : Answer) (rules : Ru
         subst (λ n. HasStep Here (IsLatePut start here message) n one.shard reply.Done) held.node (late_put rules one, (held.client, held.number, rules_are, held.version, held.point), happens (event.Step one.node one.shard (late_put rules one) reply.Done) came.1)
     heard_late message one held (Err why) events came happens say = elim came as (λ _. HearsLate start Here here message one.shard (Some why)) [
       | inl cut ↦ cc
-      | inr rest ↦ elim rest as (λ _. HearsLate start Here here message one.shard (Some why)) [
-        | inl memory ↦ subst (λ w. HearsLate start Here here message one.shard (Some w)) (sym memory) tt
-        | inr step ↦ refused_late message one.shard why (say why step.1)
-            (subst (λ n. HasStep Here (IsLatePut start here message) n one.shard (reply.Refused why)) held.node (late_put rules one, (held.client, held.number, rules_are, held.version, held.point), happens (event.Step one.node one.shard (late_put rules one) (reply.Refused why)) step.1))
-      ]
+      | inr step ↦ refused_late message one.shard why (say why step.1)
+          (subst (λ n. HasStep Here (IsLatePut start here message) n one.shard (reply.Refused why)) held.node (late_put rules one, (held.client, held.number, rules_are, held.version, held.point), happens (event.Step one.node one.shard (late_put rules one) (reply.Refused why)) step.1))
     ]
 
     hears_outcomes : (messages : List LateMessage) (bag : List LateWrite) (deliveries : List (LateWrite × Result ⊤ Reason)) (puts : List Event) → AreHeldBack start turns messages bag → AreDelivered rules bag deliveries puts → ((e : Event) → IsIn puts e → Happens Here e)

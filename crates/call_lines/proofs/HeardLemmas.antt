@@ -41,8 +41,7 @@ in_exchange n s c a e (inr (inl is)) = inr (a, sym is)
 in_exchange n s c a e (inr (inr none)) = absurd none
 
 pub in_delivery : {X : Type 0} (ok : X → StepReply) (n s : ℕ) (c : StepCall) (said : Result X Reason) (events : List Event) → IsDelivery ok n s c said events → (e : Event) → IsIn events e → IsExchanged n s c e
-in_delivery ok n s c said events (inl is) e m = in_exchange n s c (reply_by ok said) e (subst (λ es. IsIn es e) is m)
-in_delivery ok n s c said events (inr none) e m = absurd (subst (λ es. IsIn es e) none.1 m)
+in_delivery ok n s c said events is e m = in_exchange n s c (reply_by ok said) e (subst (λ es. IsIn es e) is m)
 
 in_heard : {X : Type 0} (ok : X → StepReply) (f : Fate) (n s : ℕ) (c : StepCall) (said : Result X Reason) (events : List Event) → IsHeard ok f n s c said events → (e : Event) → IsIn events e → (is_cut f ≡ false) × IsExchanged n s c e
 in_heard ok fate.Lose n s c said events h e m = absurd (subst (λ es. IsIn es e) h.1 m)
@@ -52,8 +51,7 @@ in_heard ok fate.Twice n s c said events h e m =
     (refl, elim (IsIn-append_cases h.heard h.unheard e (subst (λ es. IsIn es e) h.are m)) as (λ _. IsExchanged n s c e) [ inl l ↦ in_delivery ok n s c said h.heard h.first e l | inr r ↦ in_delivery ok n s c h.again h.unheard h.second e r ])
 
 pub few_delivered : {X : Type 0} (ok : X → StepReply) (n s : ℕ) (c : StepCall) (said : Result X Reason) (events : List Event) → IsDelivery ok n s c said events → length events ≤ 2
-few_delivered ok n s c said events (inl is) = let two : length events ≡ 2 = ap length is in omega (arith, two)
-few_delivered ok n s c said events (inr none) = let zero_ : length events ≡ 0 = ap length none.1 in omega (arith, zero_)
+few_delivered ok n s c said events is = let two : length events ≡ 2 = ap length is in omega (arith, two)
 
 few_heard : {X : Type 0} (ok : X → StepReply) (f : Fate) (n s : ℕ) (c : StepCall) (said : Result X Reason) (events : List Event) → IsHeard ok f n s c said events → length events ≤ 4
 few_heard ok fate.Lose n s c said events h = let none : length events ≡ 0 = ap length h.1 in omega (arith, none)
@@ -67,25 +65,22 @@ few_heard ok fate.Twice n s c said events h =
 
 -- ---- what is heard
 
--- what a node is heard to say came so: it is the answer of a step where its message was delivered, unless memory was wanted
+-- what a node is heard to say came so: it is the answer of a step where its message was delivered
 abbrev pub CameSo : {X : Type 0} → (X → StepReply) → Fate → ℕ → ℕ → StepCall → Result X Reason → List Event → Type 0
 CameSo ok f n s c (Ok x) events = (is_cut f ≡ false) × IsIn events (event.Step n s c (ok x))
-CameSo ok f n s c (Err why) events = ((why ≡ reason.Cut) × (is_cut f ≡ true)) ⊎ ((why ≡ reason.Memory) ⊎ ((is_cut f ≡ false) × IsIn events (event.Step n s c (reply.Refused why))))
+CameSo ok f n s c (Err why) events = ((why ≡ reason.Cut) × (is_cut f ≡ true)) ⊎ ((is_cut f ≡ false) × IsIn events (event.Step n s c (reply.Refused why)))
 
 same_why : {X : Type 0} (a b : Reason) → ◌≡◌ {A = Result X Reason} (Err a) (Err b) → a ≡ b
 same_why a b e = cc
 
 pub came_once : {X : Type 0} (ok : X → StepReply) (f : Fate) (n s : ℕ) (c : StepCall) (said : Result X Reason) (events : List Event) → is_cut f ≡ false → IsDelivery ok n s c said events → CameSo ok f n s c said events
-came_once ok f n s c (Ok x) events uncut (inl is) = (uncut, subst (λ es. IsIn es (event.Step n s c (ok x))) (sym is) (inr (inl refl)))
-came_once ok f n s c (Ok x) events uncut (inr none) = let clash : Ok x ≡ Err reason.Memory = none.0 in cc
-came_once ok f n s c (Err why) events uncut (inl is) = inr (inr (uncut, subst (λ es. IsIn es (event.Step n s c (reply.Refused why))) (sym is) (inr (inl refl))))
-came_once {X} ok f n s c (Err why) events uncut (inr none) = inr (inl (same_why {X = X} why reason.Memory none.0))
+came_once ok f n s c (Ok x) events uncut is = (uncut, subst (λ es. IsIn es (event.Step n s c (ok x))) (sym is) (inr (inl refl)))
+came_once ok f n s c (Err why) events uncut is = inr (uncut, subst (λ es. IsIn es (event.Step n s c (reply.Refused why))) (sym is) (inr (inl refl)))
 
 pub came_more : {X : Type 0} (ok : X → StepReply) (f : Fate) (n s : ℕ) (c : StepCall) (said : Result X Reason) (events more : List Event) → ((e : Event) → IsIn events e → IsIn more e) → CameSo ok f n s c said events → CameSo ok f n s c said more
 came_more ok f n s c (Ok x) events more all h = (h.0, all (event.Step n s c (ok x)) h.1)
 came_more ok f n s c (Err why) events more all (inl cut) = inl cut
-came_more ok f n s c (Err why) events more all (inr (inl memory)) = inr (inl memory)
-came_more ok f n s c (Err why) events more all (inr (inr h)) = inr (inr (h.0, all (event.Step n s c (reply.Refused why)) h.1))
+came_more ok f n s c (Err why) events more all (inr h) = inr (h.0, all (event.Step n s c (reply.Refused why)) h.1)
 
 came_cut : {X : Type 0} (ok : X → StepReply) (f : Fate) (n s : ℕ) (c : StepCall) (said : Result X Reason) (events : List Event) → is_cut f ≡ true → said ≡ Err reason.Cut → CameSo ok f n s c said events
 came_cut ok f n s c (Ok x) events cut is = cc

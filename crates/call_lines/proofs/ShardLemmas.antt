@@ -107,10 +107,7 @@ module _ (start : Option MetaState) (Here : ℕ → Event → Type 0) (p : TurnP
     heard_why : MaySayAll shard c heard events → (n : ℕ) (why : Reason) → IsIn heard (n, Err why) → IsHeard start Here p place shard n why
     heard_why say n why m = elim (h.came (n, Err why) m) as (λ _. IsHeard start Here p place shard n why) [
       | inl cut ↦ subst (IsHeard start Here p place shard n) (sym cut.0) (cut_at shard n (among (n, Err why) m) cut.1)
-      | inr rest ↦ elim rest as (λ _. IsHeard start Here p place shard n why) [
-        | inl memory ↦ subst (IsHeard start Here p place shard n) (sym memory) tt
-        | inr step ↦ refused_so shard n why (say n why m step.1) (c, own, here (event.Step n shard c (reply.Refused why)) step.1)
-      ]
+      | inr step ↦ refused_so shard n why (say n why m step.1) (c, own, here (event.Step n shard c (reply.Refused why)) step.1)
     ]
 
     abbrev pub told : List Told

@@ -51,7 +51,7 @@ impl<D: Disk> Members<D> {
         ensures ready { IsReady self.new.net.state self.new.net.replicas self.new.net.bag }
         ensures sets { SetsRules D.state rules self.old self.new }
     {
-        let rules = tick(&mut self.net.replicas, rules);
+        tick(&mut self.net.replicas, &rules);
         drop(replace(&mut self.net.state.rules, rules));
     }
 

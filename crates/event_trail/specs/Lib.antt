@@ -1,2 +1,3 @@
+pub mod Views
 pub mod Pasts
 pub mod Trails

@@ -4,3 +4,4 @@
 pub mod apart;
 mod past;
 pub mod trail;
+pub mod views;

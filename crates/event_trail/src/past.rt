@@ -1,6 +1,6 @@
 ghost use Rattle.std.specs.Prelude.{◌≡◌, [], ◌∷◌, ◌++◌};
 
-use cluster_core::event::Event;
+use crate::views::EventView;
 use std::marker::Model;
 use std::snapshot::Snapshot;
 
@@ -15,7 +15,7 @@ pub(crate) struct Past {
 #[derive(Drop)]
 enum Link {
     Start,
-    Then(Snapshot<Past>, Snapshot<Event>),
+    Then(Snapshot<Past>, Snapshot<EventView>),
 }
 
 impl Model for Past {
@@ -43,7 +43,7 @@ impl Past {
     }
 
     // With one more event.
-    pub(crate) fn with(&self, event: &Event) -> Past
+    pub(crate) fn with(&self, event: &EventView) -> Past
         ensures { result ≡ self.now ++ event.now ∷ [] }
     {
         Past {

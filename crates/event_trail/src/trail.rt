@@ -7,57 +7,22 @@ ghost use Rattle.m3_outside.specs.Depots.{TellAll};
 ghost use Rattle.event_trail.specs.Trails.{IsLegalOver, IsLawfulOver};
 
 use crate::past::Past;
-use cluster_core::event::Event;
+use crate::views::EventView;
 use event_book::Full;
-use m3_model::duplicate::Duplicate;
-use m3_model::memory::Memory;
 use m3_model::placement::Placement;
 use m3_model::rules::Rules;
-use m3_model::seq::Seq;
 use m3_outside::disk::Disk;
-use std::alloc::Global;
 use std::marker::{Model, PhantomData};
 
 // So many events a list takes.
 const MOST_EVENTS: u64 = 1 << 62;
 
 // A run opens with its placement and its rules.
-fn opening(alloc: Global, first: &Placement, rules: &Rules) -> Result<Past, Memory>
-    ensures { IfOk result (λ p. p ≡ event.Place first.now [] ∷ event.Clock rules.entry.now ∷ []) }
+fn opening(first: &Placement, rules: &Rules) -> Past
+    ensures { result ≡ event.Place first.now [] ∷ event.Clock rules.entry.now ∷ [] }
 {
-    let past = placed(alloc, first)?;
-    clocked(alloc, &past, rules)
-}
-
-fn placed(alloc: Global, first: &Placement) -> Result<Past, Memory>
-    ensures { IfOk result (λ p. p ≡ event.Place first.now [] ∷ []) }
-{
-    let place = opening_place(alloc, first)?;
-    Ok(Past::new().with(&place))
-}
-
-fn opening_place(alloc: Global, first: &Placement) -> Result<Event, Memory>
-    ensures { IfOk result (λ e. e ≡ event.Place first.now []) }
-{
-    Ok(Event::Place {
-        place: first.copy(alloc)?,
-        done: Seq::new(alloc),
-    })
-}
-
-fn clocked(alloc: Global, past: &Past, rules: &Rules) -> Result<Past, Memory>
-    ensures { IfOk result (λ p. p ≡ past.now ++ event.Clock rules.entry.now ∷ []) }
-{
-    let clock = opening_clock(alloc, rules)?;
-    Ok(past.with(&clock))
-}
-
-fn opening_clock(alloc: Global, rules: &Rules) -> Result<Event, Memory>
-    ensures { IfOk result (λ e. e ≡ event.Clock rules.entry.now) }
-{
-    Ok(Event::Clock {
-        rules: rules.copy(alloc)?,
-    })
+    let placed = Past::new().with(&EventView::place(first));
+    placed.with(&EventView::clock(rules))
 }
 
 /// The events of a run over disks of this kind, so far. Contracts see their list, which is legal as far as the disks tell. The program
@@ -83,21 +48,17 @@ impl<D: Disk> Model for Trail<D> {
 }
 
 impl<D: Disk> Trail<D> {
-    /// A run opens with its placement and its rules.
-    ///
-    /// # Errors
-    ///
-    /// Want of memory.
-    pub fn new(alloc: Global, first: &Placement, rules: &Rules) -> Result<Trail<D>, Memory>
+    /// A run opens with its placement and its rules. Takes no memory.
+    pub fn new(first: &Placement, rules: &Rules) -> Trail<D>
         requires { IsLawful first.now }
-        ensures { IfOk result (λ t. t ≡ event.Place first.now [] ∷ event.Clock rules.entry.now ∷ []) }
+        ensures { result ≡ event.Place first.now [] ∷ event.Clock rules.entry.now ∷ [] }
     {
-        let past = opening(alloc, first, rules)?;
-        Ok(Trail {
+        let past = opening(first, rules);
+        Trail {
             len: 2,
             past,
             of: PhantomData,
-        })
+        }
     }
 
     /// Adds an event that is lawful after the list, and answers its place. Takes no memory.
@@ -105,7 +66,7 @@ impl<D: Disk> Trail<D> {
     /// # Errors
     ///
     /// Full, exactly where the list has 2^62 events. It stays as it is.
-    pub fn append(&mut self, event: &Event) -> Result<u64, Full>
+    pub fn append(&mut self, event: &EventView) -> Result<u64, Full>
         requires { IsLawfulOver D.state self.old event.now }
         ensures ok { IfOk result (λ place. (place ≡ length self.old) × (self.new ≡ self.old ++ event.now ∷ [])) }
         ensures err { OnErr result (self.new ≡ self.old) }
@@ -120,7 +81,7 @@ impl<D: Disk> Trail<D> {
     }
 
     /// Adds an event that is lawful after the list, for which there is room. Takes no memory.
-    pub fn append_reserved(&mut self, event: &Event)
+    pub fn append_reserved(&mut self, event: &EventView)
         requires lawful { IsLawfulOver D.state self.old event.now }
         requires room { length self.old < most_entries }
         ensures { self.new ≡ self.old ++ event.now ∷ [] }

@@ -138,12 +138,12 @@ fn open_all<D: Disk, X: Disks<D = D>>(
 }
 
 // No replicas yet, and the list that such a cluster opens.
-fn listed<D: Disk>(alloc: Global, state: &MetaState) -> Result<Replicas<D>, Memory>
+fn listed<D: Disk>(alloc: Global, state: &MetaState) -> Replicas<D>
     requires { IsLawful state.now.place }
-    ensures { IfOk result (λ replicas. replicas ≡ record { members = finite.empty; events = opening_of state.now }) }
+    ensures { result ≡ record { members = finite.empty; events = opening_of state.now } }
 {
-    let trail = Trail::new(alloc, &state.place, &state.rules)?;
-    Ok(Replicas::new(alloc, trail))
+    let trail = Trail::new(&state.place, &state.rules);
+    Replicas::new(alloc, trail)
 }
 
 // Replicas over the disks of the plan's slots, begun for the first time behind the events that open the list. One that refuses
@@ -163,9 +163,7 @@ pub(crate) fn opened<D: Disk, X: Disks<D = D>>(
     ensures ok { IfOk result (AreOpened D.state plan.now.slots.items plan.now.starts.items (opening_of plan.now.state) (depot_by X.held X.counted X.all_faults disks.old) (depot_by X.held X.counted X.all_faults disks.new)) }
     ensures err { IfErr result (IsUnopened D.state plan.now.slots.items (depot_by X.held X.counted X.all_faults disks.old) (depot_by X.held X.counted X.all_faults disks.new)) }
 {
-    let Ok(mut replicas) = listed(alloc, &plan.state) else {
-        return Err(Unopened::Memory);
-    };
+    let mut replicas = listed(alloc, &plan.state);
     let slots = plan.slots.as_slice();
     match open_all(alloc, disks, slots, plan.starts.as_slice(), &mut replicas) {
         Ok(()) => Ok(replicas),

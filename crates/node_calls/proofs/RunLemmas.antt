@@ -130,7 +130,7 @@ pub exchange_two : (n s : ℕ) (c : StepCall) (a : StepReply) → length (exchan
 exchange_two n s c a = refl
 
 pub quiet_exchange : (n s : ℕ) (c : StepCall) (a : StepReply) → AreQuiet (exchange n s c a)
-quiet_exchange n s c a = quiet_delivery (λ (u : ⊤). a) n s c (Ok tt) (exchange n s c a) (inl refl)
+quiet_exchange n s c a = quiet_delivery (λ (u : ⊤). a) n s c (Ok tt) (exchange n s c a) refl
 
 pub quiet_flat : {X : Type 0} (f : X → List Event) → ((x : X) → AreQuiet (f x)) → (xs : List X) → AreQuiet (flat_map f xs)
 quiet_flat f quiet xs e m = let found = IsIn-flat f xs e m in quiet found.0 e found.2

@@ -16,7 +16,7 @@ use Rattle.replica_exchange.specs.MachineCalls.{Promise, Adding}
 use Rattle.replica_exchange.specs.Exchanges.{ask_of, own_events, Seen, seen_in, IsNothing, HasExchanged, HasStepped, HasAdded}
 use Rattle.replica_exchange.specs.declared.call_err.CallErr.{CallErr}
 use Rattle.replica_exchange.specs.declared.slot.Slot.{Slot}
-use Rattle.replica_calls.specs.Calls.{Tracked, MayCallBy, MayCall, MayCopyAndCall, MayTell}
+use Rattle.replica_calls.specs.Calls.{Tracked, MayCallBy, MayCall, MayTell}
 use Rattle.replica_calls.proofs.SlotLemmas.{get-insert_other}
 
 longer_by : (seen more now : List Event) → now ≡ seen ++ more → IsPrefix seen now
@@ -110,10 +110,6 @@ module _ {D X Y : Type 0} (state : D → DiskState) (slot : Slot) (c : StepCall)
   pub call_longer : MayCall state slot c ok Promised f result old new → IsPrefix old.events new.events
   call_longer (inl missed) = still missed.same
   call_longer (inr called) = let h = called.answered in exchange_longer IsNothing slot.node slot.shard c (reply_by ok h.said) (seen_in old.events) (seen_in new.events) h.adds
-
-  pub copied_call_longer : MayCopyAndCall state slot c ok Promised f result old new → IsPrefix old.events new.events
-  copied_call_longer (inl wanted) = still wanted.same
-  copied_call_longer (inr may) = call_longer may
 
   pub tell_longer : MayTell state slot c ok Promised f result old new → IsPrefix old.events new.events
   tell_longer (inl missed) = still missed.same

@@ -21,7 +21,7 @@ use Rattle.replica_exchange.specs.declared.call_err.CallErr.{CallErr}
 use Rattle.replica_exchange.specs.declared.call_err.CallErr.TheVariants as call_err
 use Rattle.replica_exchange.specs.declared.member.Member.{Member}
 use Rattle.replica_exchange.specs.declared.slot.Slot.{Slot}
-use Rattle.replica_calls.specs.Calls.{Tracked, first_member, AreMembersOf, IsTracked, IsMissed, WasNotCalled, WantedMemory, MayCallBy, IsNoStep}
+use Rattle.replica_calls.specs.Calls.{Tracked, first_member, AreMembersOf, IsTracked, IsMissed, WasNotCalled, MayCallBy, IsNoStep}
 use Rattle.replica_calls.specs.Slots.{slot_cmp, shown, MemberMap}
 use Rattle.replica_calls.proofs.AddLemmas.{replica_added}
 use Rattle.replica_calls.proofs.SlotLemmas.{slot_cmp_total, slot_cmp-IsAntisymmetric, same_slot, get-insert_here, get-insert_other, Wrote}
@@ -96,17 +96,6 @@ module _ {D : Type 0} (state : D → DiskState) where
 
     pub may_call : (old : Tracked D) → was ≡ old → MayAnswerBy more Adds state c ok Promised f result v past w events → MayCallBy more Adds state slot c ok Promised f result old now
     may_call old is h = subst (λ o. MayCallBy more Adds state slot c ok Promised f result o now) is (may h)
-
-    -- the same where memory may be wanted first
-    abbrev pub MayCopy : Type 0
-    MayCopy = (HasRoom more past × (result ≡ Err (call_err.Refused reason.Memory)) × (w ≡ v) × (events ≡ past)) ⊎ MayAnswerBy more Adds state c ok Promised f result v past w events
-
-    copied : MayCopy → WantedMemory more slot result was now ⊎ MayCallBy more Adds state slot c ok Promised f result was now
-    copied (inl h) = inl (record { same = unchanged h.2 h.3; there = λ gone. (let clash : Some v ≡ None = sym wrote.found ∙ gone in cc); room = h.0; memory = h.1 })
-    copied (inr h) = inr (may h)
-
-    pub may_copy_and_call : (old : Tracked D) → was ≡ old → MayCopy → WantedMemory more slot result old now ⊎ MayCallBy more Adds state slot c ok Promised f result old now
-    may_copy_and_call old is h = subst (λ o. WantedMemory more slot result o now ⊎ MayCallBy more Adds state slot c ok Promised f result o now) is (copied h)
 
   -- the slot has no replica
   pub missing : {Y : Type 0} (more : ℕ) (slot : Slot) (m : BTreeMap Slot (Member D)) (past : List Event) (result : Result Y CallErr) (old : Tracked D) → record { members = from_sorted {R = slot_cmp} m.entries; events = past } ≡ old

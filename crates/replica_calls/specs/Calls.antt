@@ -54,13 +54,6 @@ pub record WasNotCalled {D Y : Type 0} (more : ℕ) (slot : Slot) (result : Resu
   pub same : new ≡ old
   pub missed : IsMissed more (finite.get old.members slot) old.events result
 
--- nor was it for want of memory, in which its arguments are copied first
-pub record WantedMemory {D Y : Type 0} (more : ℕ) (slot : Slot) (result : Result Y CallErr) (old new : Tracked D) : Type 0 where
-  pub same : new ≡ old
-  pub there : finite.get old.members slot ≢ None
-  pub room : HasRoom more old.events
-  pub memory : result ≡ Err (call_err.Refused reason.Memory)
-
 -- the machine of this slot was called, and nothing else changed
 pub record WasCalled {D X Y : Type 0} (state : D → DiskState) (slot : Slot) (c : StepCall) (ok : X → StepReply) (Promised : Promise D X) (Adds : Adding) (f : X → Y) (result : Result Y CallErr) (old new : Tracked D) : Type 0 where
   pub before : Member D
@@ -76,10 +69,6 @@ MayCallBy more Adds state slot c ok Promised f result old new = WasNotCalled mor
 -- with an Ask
 abbrev pub MayCall : {D X Y : Type 0} → (D → DiskState) → Slot → StepCall → (X → StepReply) → Promise D X → (X → Y) → Result Y CallErr → Tracked D → Tracked D → Type 0
 MayCall state slot c ok Promised f result old new = MayCallBy 2 (AddsBoth slot) state slot c ok Promised f result old new
-
--- the same of a call whose arguments are copied first
-abbrev pub MayCopyAndCall : {D X Y : Type 0} → (D → DiskState) → Slot → StepCall → (X → StepReply) → Promise D X → (X → Y) → Result Y CallErr → Tracked D → Tracked D → Type 0
-MayCopyAndCall state slot c ok Promised f result old new = WantedMemory 2 slot result old new ⊎ MayCall state slot c ok Promised f result old new
 
 -- without one, as nobody asks for a report
 abbrev pub MayTell : {D X Y : Type 0} → (D → DiskState) → Slot → StepCall → (X → StepReply) → Promise D X → (X → Y) → Result Y CallErr → Tracked D → Tracked D → Type 0

@@ -12,11 +12,11 @@ ghost use Rattle.event_trail.specs.Trails.{IsLegalOver, IsLawfulOver};
 ghost use Rattle.replica_exchange.specs.MachineCalls.{HasRoom};
 ghost use Rattle.replica_exchange.specs.Exchanges.{seen_in, IsNothing, HasAdded};
 ghost use Rattle.replica_exchange.specs.Promises.{Begins, Puts, Reads, Fences, Stops, Restarts, Reports};
-ghost use Rattle.replica_calls.specs.Calls.{first_member, AreMembersOf, MayCall, MayCopyAndCall, MayTell, IsNoStep};
+ghost use Rattle.replica_calls.specs.Calls.{first_member, AreMembersOf, MayCall, MayTell, IsNoStep};
 
-use cluster_core::event::Event;
 use event_book::Full;
 use event_trail::trail::Trail;
+use event_trail::views::EventView;
 use m3_model::point::{Pick, Point, Series};
 use m3_model::reason::Reason;
 use m3_model::replica::Report;
@@ -41,7 +41,7 @@ use std::snapshot::Snapshot;
 ///
 /// A call of a replica adds an Ask and the step that answers it, with the machine's own reply; a report adds its step alone. It isn't made
 /// where the slot has no replica, nor where the list has no room for these events. Each call takes time in proportion to the logarithm
-/// of the number of replicas, beside what it does at the machine; `put` and `read` copy what they are given first.
+/// of the number of replicas, beside what it does at the machine; none copies what it is given.
 #[derive(Drop)]
 pub struct Replicas<D: Disk> {
     map: BTreeMap<Slot, Member<D>>,
@@ -131,7 +131,7 @@ impl<D: Disk> Replicas<D> {
     /// # Errors
     ///
     /// Full, exactly where the list has no room. Nothing changes.
-    pub fn add(&mut self, event: &Event) -> Result<u64, Full>
+    pub fn add(&mut self, event: &EventView) -> Result<u64, Full>
         requires lawful { IsLawfulOver D.state self.old.events event.now }
         requires no_step { IsNoStep event.now }
         ensures ok { IfOk result (λ place. HasAdded IsNothing event.now place (seen_in self.old.events) (seen_in self.new.events)) }
@@ -147,11 +147,10 @@ impl<D: Disk> Replicas<D> {
     ///
     /// # Errors
     ///
-    /// The replica's reason. `NotOwned` where the slot has no replica, `Full` where the list has no room for two events, or want of
-    /// memory before the call: these change nothing.
+    /// The replica's reason. `NotOwned` where the slot has no replica, or `Full` where the list has no room for two events: these change
+    /// nothing.
     pub fn put(
         &mut self,
-        alloc: Global,
         slot: Slot,
         id: CallId,
         rules: &Rules,
@@ -162,19 +161,10 @@ impl<D: Disk> Replicas<D> {
         requires sent { HasSend self.old.events version slot.shard point.now }
         requires space { point.now.ns < length rules.now.spaces }
         requires bounded { IsBounded point.now }
-        ensures { MayCopyAndCall D.state slot (call.Put id.client id.number rules.entry.now version point.now) (λ _. reply.Done) (Puts D.state rules.entry.now point.now) (λ u. u) result self.old self.new }
+        ensures { MayCall D.state slot (call.Put id.client id.number rules.entry.now version point.now) (λ _. reply.Done) (Puts D.state rules.entry.now point.now) (λ u. u) result self.old self.new }
     {
         match self.map.get_mut(&slot) {
-            Some(member) => put_on(
-                alloc,
-                member,
-                &mut self.trail,
-                slot,
-                id,
-                rules,
-                version,
-                point,
-            ),
+            Some(member) => put_on(member, &mut self.trail, slot, id, rules, version, point),
             None => Err(CallErr::Refused(Reason::NotOwned)),
         }
     }
@@ -200,11 +190,10 @@ impl<D: Disk> Replicas<D> {
     ///
     /// # Errors
     ///
-    /// The replica's reason. `NotOwned` where the slot has no replica, `Full` where the list has no room for two events, or want of
-    /// memory before the call: these change nothing.
+    /// The replica's reason. `NotOwned` where the slot has no replica, or `Full` where the list has no room for two events: these change
+    /// nothing.
     pub fn read(
         &mut self,
-        alloc: Global,
         slot: Slot,
         id: CallId,
         rules: &Rules,
@@ -215,11 +204,10 @@ impl<D: Disk> Replicas<D> {
     ) -> Result<Seq<Series>, CallErr>
         requires clock { HasClock self.old.events rules.now }
         requires space { space_picked pick.now < length rules.now.spaces }
-        ensures { MayCopyAndCall D.state slot (call.Read id.client id.number rules.entry.now version pick.now from to) (λ series. reply.Found series) (Reads D.state rules.entry.now pick.now from to) (λ series. series) result self.old self.new }
+        ensures { MayCall D.state slot (call.Read id.client id.number rules.entry.now version pick.now from to) (λ series. reply.Found series) (Reads D.state rules.entry.now pick.now from to) (λ series. series) result self.old self.new }
     {
         match self.map.get_mut(&slot) {
             Some(member) => read_on(
-                alloc,
                 member,
                 &mut self.trail,
                 slot,

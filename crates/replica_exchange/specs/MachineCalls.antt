@@ -1,7 +1,6 @@
 -- What a call of one machine does to it and to the list of events.
 use Rattle.std.specs.Prelude.{◌≡◌, ◌≢◌, ◌⊎◌, ℕ, ◌+◌, ◌≤◌, List, [], ◌∷◌, ◌++◌, length, Result, Ok, Err}
 use Rattle.m3_model.specs.declared.reason.Reason.{Reason}
-use Rattle.m3_model.specs.declared.reason.Reason.TheVariants as reason
 use Rattle.m3_outside.specs.DiskState.{DiskState}
 use Rattle.event_book.specs.Lists.{most_entries}
 use Rattle.cluster_core.specs.Replicas.{replica}
@@ -71,11 +70,6 @@ MayAnswerBy more Adds state c ok Promised f result old past new events =
 -- with an Ask
 abbrev pub MayAnswer : {D X Y : Type 0} → (D → DiskState) → Slot → StepCall → (X → StepReply) → Promise D X → (X → Y) → Result Y CallErr → Member D → List Event → Member D → List Event → Type 0
 MayAnswer state slot c ok Promised f result old past new events = MayAnswerBy 2 (AddsBoth slot) state c ok Promised f result old past new events
-
--- the same, or memory was wanted in which the arguments are copied first
-abbrev pub MayCopyAndAnswer : {D X Y : Type 0} → (D → DiskState) → Slot → StepCall → (X → StepReply) → Promise D X → (X → Y) → Result Y CallErr → Member D → List Event → Member D → List Event → Type 0
-MayCopyAndAnswer state slot c ok Promised f result old past new events =
-    (HasRoom 2 past × (result ≡ Err (call_err.Refused reason.Memory)) × (new ≡ old) × (events ≡ past)) ⊎ MayAnswer state slot c ok Promised f result old past new events
 
 -- ---- the step that answers an Ask
 

@@ -8,89 +8,65 @@ ghost use Rattle.cluster_core.specs.declared.event.Event.TheVariants as event;
 ghost use Rattle.cluster_core.specs.declared.event.StepCall.TheVariants as call;
 ghost use Rattle.cluster_core.specs.declared.event.StepReply.TheVariants as reply;
 ghost use Rattle.event_trail.specs.Trails.{IsLawfulOver};
-ghost use Rattle.replica_exchange.specs.MachineCalls.{IsMemberOf, HasRoom, AddsStep, MayAnswerBy, MayAnswer, MayCopyAndAnswer, IsAnswer, OtherReplicasStay};
+ghost use Rattle.replica_exchange.specs.MachineCalls.{IsMemberOf, HasRoom, AddsStep, MayAnswerBy, MayAnswer, IsAnswer, OtherReplicasStay};
 ghost use Rattle.replica_exchange.specs.Exchanges.{ask_of};
 ghost use Rattle.replica_exchange.specs.Promises.{Begins, Puts, Reads, Fences, Stops, Restarts, Reports};
 
 use crate::call_err::CallErr;
 use crate::call_id::CallId;
 use crate::member::Member;
-use crate::parts::{
-    began_reply, call_in, done_in, done_reply, found_in, found_reply, put_call, read_call, reply_in,
-};
+use crate::parts::{began_of, began_view, done_of, done_view, found_of, found_view};
 use crate::slot::Slot;
-use cluster_core::event::{Asked, Event, StepCall, StepReply};
+use cluster_core::event::StepCall;
 use event_trail::apart::tell_apart;
 use event_trail::trail::Trail;
+use event_trail::views::{CallView, EventView, ReplyView};
 use m3_model::point::{Pick, Point, Series};
-use m3_model::reason::Reason;
 use m3_model::replica::Report;
 use m3_model::rules::Rules;
 use m3_model::seq::Seq;
 use m3_outside::disk::Disk;
-use std::alloc::Global;
 
-// Adds an Ask for the call, which it gives back.
-fn ask<D: Disk>(trail: &mut Trail<D>, slot: Slot, call: StepCall) -> StepCall
+// Adds an Ask for the call.
+fn ask<D: Disk>(trail: &mut Trail<D>, slot: Slot, call: &CallView)
     requires opened { 2 ≤ length trail.old }
     requires room { HasRoom 1 trail.old }
-    ensures call { result ≡ call }
-    ensures asked { trail.new ≡ trail.old ++ ask_of slot.node slot.shard call ∷ [] }
+    ensures { trail.new ≡ trail.old ++ ask_of slot.node slot.shard call.now ∷ [] }
 {
-    let ask = Event::Ask {
-        asked: Asked::Step {
-            node: slot.node,
-            shard: slot.shard,
-            call,
-        },
-    };
+    let ask = EventView::ask_step(slot.node, slot.shard, call);
     trail.append_reserved(&ask);
-    call_in(ask)
 }
 
-// Adds the step that answers the Ask, and gives its reply back.
-fn answer<D: Disk>(trail: &mut Trail<D>, slot: Slot, call: StepCall, reply: StepReply) -> StepReply
-    requires answers { IsAnswer D.state slot call reply trail.old }
+// Adds the step that answers the Ask.
+fn answer<D: Disk>(trail: &mut Trail<D>, slot: Slot, call: &CallView, reply: &ReplyView)
+    requires answers { IsAnswer D.state slot call.now reply.now trail.old }
     requires room { HasRoom 1 trail.old }
-    ensures reply { result ≡ reply }
-    ensures answered { trail.new ≡ trail.old ++ event.Step slot.node slot.shard call reply ∷ [] }
+    ensures { trail.new ≡ trail.old ++ event.Step slot.node slot.shard call.now reply.now ∷ [] }
 {
     trail.know();
     tell_apart::<StepCall>();
-    let step = Event::Step {
-        node: slot.node,
-        shard: slot.shard,
-        call,
-        reply,
-    };
+    let step = EventView::step(slot.node, slot.shard, call, reply);
     trail.append_reserved(&step);
-    reply_in(step)
 }
 
 // Adds the step by which a replica reports.
-fn tell<D: Disk>(trail: &mut Trail<D>, slot: Slot, report: Report)
-    requires lawful { IsLawfulOver D.state trail.old (event.Step slot.node slot.shard call.Report (reply.Told report)) }
+fn tell<D: Disk>(trail: &mut Trail<D>, slot: Slot, report: &Report)
+    requires lawful { IsLawfulOver D.state trail.old (event.Step slot.node slot.shard call.Report (reply.Told report.now)) }
     requires room { HasRoom 1 trail.old }
-    ensures { trail.new ≡ trail.old ++ event.Step slot.node slot.shard call.Report (reply.Told report) ∷ [] }
+    ensures { trail.new ≡ trail.old ++ event.Step slot.node slot.shard call.Report (reply.Told report.now) ∷ [] }
 {
-    let told = Event::Step {
-        node: slot.node,
-        shard: slot.shard,
-        call: StepCall::Report,
-        reply: StepReply::Told { report },
-    };
-    trail.append_reserved(&told);
-    // So a reply is dropped, and no whole event, of which the proof is dear.
-    reply_in(told);
+    let call = CallView::report();
+    let reply = ReplyView::told(report);
+    let step = EventView::step(slot.node, slot.shard, &call, &reply);
+    trail.append_reserved(&step);
 }
 
-/// Puts the point on the machine, as a client's write of this version, and adds an Ask and the step. It copies what it is given first.
+/// Puts the point on the machine, as a client's write of this version, and adds an Ask and the step.
 ///
 /// # Errors
 ///
-/// The machine's reason. `Full` where the list has no room for two events, or want of memory before the call: these change nothing.
+/// The machine's reason. `Full` where the list has no room for two events: this changes nothing.
 pub fn put_on<D: Disk>(
-    alloc: Global,
     member: &mut Member<D>,
     trail: &mut Trail<D>,
     slot: Slot,
@@ -108,18 +84,17 @@ pub fn put_on<D: Disk>(
     ensures is { IsMemberOf D.state slot trail.new member.new }
     ensures others { OtherReplicasStay slot trail.old trail.new }
     ensures opened { 2 ≤ length trail.new }
-    ensures answered { MayCopyAndAnswer D.state slot (call.Put id.client id.number rules.entry.now version point.now) (λ _. reply.Done) (Puts D.state rules.entry.now point.now) (λ u. u) result member.old trail.old member.new trail.new }
+    ensures answered { MayAnswer D.state slot (call.Put id.client id.number rules.entry.now version point.now) (λ _. reply.Done) (Puts D.state rules.entry.now point.now) (λ u. u) result member.old trail.old member.new trail.new }
 {
     if !trail.has_room(2) {
         return Err(CallErr::Full);
     }
-    let Ok(copied) = put_call(alloc, id, rules, version, point) else {
-        return Err(CallErr::Refused(Reason::Memory));
-    };
-    let call = ask(trail, slot, copied);
+    let call = CallView::put(id.client, id.number, rules, version, point);
+    ask(trail, slot, &call);
     let said = member.machine.put(rules, version, point);
-    let reply = answer(trail, slot, call, done_reply(said));
-    done_in(reply)
+    let reply = done_view(&said);
+    answer(trail, slot, &call, &reply);
+    done_of(said)
 }
 
 /// Has the machine begin a tenure that a placement gave it, and adds an Ask and the step: from Boot it loads its files and is open.
@@ -144,20 +119,21 @@ pub fn boot_on<D: Disk>(
     if !trail.has_room(2) {
         return Err(CallErr::Full);
     }
-    let call = ask(trail, slot, StepCall::Begin { tenure });
+    let call = CallView::begin(tenure);
+    ask(trail, slot, &call);
     let said = member.machine.boot(tenure);
-    let reply = answer(trail, slot, call, began_reply(said));
-    done_in(reply)
+    let reply = began_view(&said);
+    answer(trail, slot, &call, &reply);
+    began_of(said)
 }
 
 /// What the machine answers a client's read of this version: its points with `from <= t < to` that haven't expired, of the series that are
-/// picked, in order. Adds an Ask and the step, and copies what it is given first.
+/// picked, in order. Adds an Ask and the step.
 ///
 /// # Errors
 ///
-/// The machine's reason. `Full` where the list has no room for two events, or want of memory before the call: these change nothing.
+/// The machine's reason. `Full` where the list has no room for two events: this changes nothing.
 pub fn read_on<D: Disk>(
-    alloc: Global,
     member: &mut Member<D>,
     trail: &mut Trail<D>,
     slot: Slot,
@@ -175,18 +151,17 @@ pub fn read_on<D: Disk>(
     ensures is { IsMemberOf D.state slot trail.new member.new }
     ensures others { OtherReplicasStay slot trail.old trail.new }
     ensures opened { 2 ≤ length trail.new }
-    ensures answered { MayCopyAndAnswer D.state slot (call.Read id.client id.number rules.entry.now version pick.now from to) (λ series. reply.Found series) (Reads D.state rules.entry.now pick.now from to) (λ series. series) result member.old trail.old member.new trail.new }
+    ensures answered { MayAnswer D.state slot (call.Read id.client id.number rules.entry.now version pick.now from to) (λ series. reply.Found series) (Reads D.state rules.entry.now pick.now from to) (λ series. series) result member.old trail.old member.new trail.new }
 {
     if !trail.has_room(2) {
         return Err(CallErr::Full);
     }
-    let Ok(copied) = read_call(alloc, id, rules, version, pick, from, to) else {
-        return Err(CallErr::Refused(Reason::Memory));
-    };
-    let call = ask(trail, slot, copied);
+    let call = CallView::read(id.client, id.number, rules, version, pick, from, to);
+    ask(trail, slot, &call);
     let said = member.machine.read(rules, version, pick, from, to);
-    let reply = answer(trail, slot, call, found_reply(said));
-    found_in(alloc, reply)
+    let reply = found_view(&said);
+    answer(trail, slot, &call, &reply);
+    found_of(said)
 }
 
 /// Raises the machine's fence to the version, and adds an Ask and the step. A fence never falls.
@@ -210,10 +185,12 @@ pub fn fence_on<D: Disk>(
     if !trail.has_room(2) {
         return Err(CallErr::Full);
     }
-    let call = ask(trail, slot, StepCall::Fence { version });
+    let call = CallView::fence(version);
+    ask(trail, slot, &call);
     let said = member.machine.fence(version);
-    let reply = answer(trail, slot, call, done_reply(said));
-    done_in(reply)
+    let reply = done_view(&said);
+    answer(trail, slot, &call, &reply);
+    done_of(said)
 }
 
 /// Stops the machine, and adds an Ask and the step. Takes no memory.
@@ -236,10 +213,12 @@ pub fn stop_on<D: Disk>(
     if !trail.has_room(2) {
         return Err(CallErr::Full);
     }
-    let call = ask(trail, slot, StepCall::Stop);
+    let call = CallView::stop();
+    ask(trail, slot, &call);
     member.machine.stop();
-    let reply = answer(trail, slot, call, done_reply(Ok(())));
-    done_in(reply)
+    let reply = ReplyView::done();
+    answer(trail, slot, &call, &reply);
+    Ok(())
 }
 
 /// The machine's process stops and starts again, with an Ask and the step: it stands at Boot, over what its disk kept. The pick chooses what
@@ -264,10 +243,12 @@ pub fn restart_on<D: Disk>(
     if !trail.has_room(2) {
         return Err(CallErr::Full);
     }
-    let call = ask(trail, slot, StepCall::Restart);
+    let call = CallView::restart();
+    ask(trail, slot, &call);
     let said = member.machine.restart(pick);
-    let reply = answer(trail, slot, call, done_reply(said));
-    done_in(reply)
+    let reply = done_view(&said);
+    answer(trail, slot, &call, &reply);
+    done_of(said)
 }
 
 /// How the machine stands, with its fence where it is open and else 0, and how many points it holds. Adds its step alone, as nobody asks
@@ -292,6 +273,6 @@ pub fn report_on<D: Disk>(
         return Err(CallErr::Full);
     }
     let report = member.machine.report();
-    tell(trail, slot, report);
+    tell(trail, slot, &report);
     Ok(report)
 }

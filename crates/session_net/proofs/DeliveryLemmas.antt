@@ -1,5 +1,5 @@
 -- What a call of a replica brings, where the replica is there and the list has room.
-use Rattle.std.proofs.Common.{◌≡◌, ℕ, suc, ◌+◌, ◌<◌, ◌≤◌, List, [], ◌∷◌, ◌++◌, length, take, get_or, refl, sym, ap, ◌∙◌, subst, inl, inr, arith, append_assoc, length-append}
+use Rattle.std.proofs.Common.{◌≡◌, ℕ, suc, ◌+◌, ◌<◌, List, [], ◌∷◌, ◌++◌, length, take, get_or, refl, sym, ap, ◌∙◌, subst, inl, inr, arith, append_assoc, length-append}
 use Rattle.std.specs.Prelude.{◌≢◌, ◌⊎◌, Option, Some, None, Result, Ok, Err}
 use Rattle.std.specs.FinMap as finite
 use Rattle.std.proofs.lemmas.List.{append-nil, take_more}
@@ -19,10 +19,9 @@ use Rattle.replica_exchange.specs.declared.call_err.CallErr.TheVariants as call_
 use Rattle.replica_exchange.specs.declared.call_id.CallId.{CallId}
 use Rattle.replica_exchange.specs.declared.member.Member.{Member}
 use Rattle.replica_exchange.specs.declared.slot.Slot.{Slot}
-use Rattle.replica_calls.specs.Calls.{Tracked, IsMissed, MayCopyAndCall}
-use Rattle.session_net.specs.Messages.{exchange, IsDelivery, AreTwo, IsHeard, Heard, AreHeard, fate_to}
+use Rattle.replica_calls.specs.Calls.{Tracked, IsMissed, MayCall}
+use Rattle.session_net.specs.Messages.{exchange, IsHeard, Heard, AreHeard, fate_to}
 use Rattle.session_net.specs.Brought.{Delivered, Brought}
-use Rattle.session_net.specs.Runs.{Ran}
 use Rattle.session_net.proofs.RunLemmas.{ran_nothing, ran_then, ran_called}
 
 -- ---- one delivery
@@ -45,26 +44,19 @@ module _ {D X : Type 0} (state : D → DiskState) (slot : Slot) (c : StepCall) (
   not_missed None is h = absurd (there is)
   not_missed (Some m) is h = absurd (h.0 room)
 
-  pub delivered : (said : Result X Reason) → result ≡ result_of (λ x. x) said → MayCopyAndCall state slot c ok Promised (λ x. x) result old new → Delivered state ok slot.node slot.shard c said old new
-  delivered said is (inl wanted) = record {
-    more = [];
-    is = inr (same_told said (Err reason.Memory) (sym is ∙ wanted.memory), refl);
-    few = omega arith;
-    ran = subst (λ t. Ran state old [] t) (sym wanted.same) (ran_nothing state old);
-  }
-  delivered said is (inr (inl missed)) = absurd (not_missed (finite.get old.members slot) refl missed.missed)
-  delivered said is (inr (inr called)) = record {
+  pub delivered : (said : Result X Reason) → result ≡ result_of (λ x. x) said → MayCall state slot c ok Promised (λ x. x) result old new → Delivered state ok slot.node slot.shard c said old new
+  delivered said is (inl missed) = absurd (not_missed (finite.get old.members slot) refl missed.missed)
+  delivered said is (inr called) = record {
     more = exchange slot.node slot.shard c (reply_by ok called.answered.said);
-    is = inl (ap (λ x. exchange slot.node slot.shard c (reply_by ok x)) (same_told called.answered.said said (sym called.answered.told ∙ is)));
+    is = ap (λ x. exchange slot.node slot.shard c (reply_by ok x)) (same_told called.answered.said said (sym called.answered.told ∙ is));
     few = omega arith;
     ran = ran_called state slot c ok Promised (λ x. x) result old new called;
   }
 
   -- there is room for it
-  pub never_full : MayCopyAndCall state slot c ok Promised (λ x. x) result old new → result ≡ Err call_err.Full → ⊥
-  never_full (inl wanted) full = let clash : Err (call_err.Refused reason.Memory) ≡ Err call_err.Full = sym wanted.memory ∙ full in cc
-  never_full (inr (inl missed)) full = not_missed (finite.get old.members slot) refl missed.missed
-  never_full (inr (inr called)) full = by called.answered.said (sym called.answered.told ∙ full)
+  pub never_full : MayCall state slot c ok Promised (λ x. x) result old new → result ≡ Err call_err.Full → ⊥
+  never_full (inl missed) full = not_missed (finite.get old.members slot) refl missed.missed
+  never_full (inr called) full = by called.answered.said (sym called.answered.told ∙ full)
     where
       by : (said : Result X Reason) → result_of (λ x. x) said ≡ Err call_err.Full → ⊥
       by (Ok x) e = cc

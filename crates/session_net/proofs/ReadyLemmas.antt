@@ -13,7 +13,7 @@ use Rattle.m3_model.specs.declared.rules.MetaState.{MetaState}
 use Rattle.m3_model.specs.declared.rules.Rules.{Rules}
 use Rattle.m3_model.proofs.MemberLemmas.{IsIn-append_cases}
 use Rattle.m3_outside.specs.DiskState.{DiskState}
-use Rattle.cluster_core.specs.Earlier.{IsClock, PlacesShard, HasClock, HasShard, last_clock, last_place, clock_after, place_after}
+use Rattle.cluster_core.specs.Earlier.{IsClock, HasClock, last_clock, last_place, clock_after, place_after}
 use Rattle.cluster_core.specs.declared.event.Event.{Event}
 use Rattle.cluster_core.specs.declared.event.Event.TheVariants as event
 use Rattle.cluster_core.specs.declared.event.StepCall.{StepCall}
@@ -27,7 +27,7 @@ use Rattle.replica_exchange.specs.declared.call_id.CallId.{CallId}
 use Rattle.replica_exchange.specs.declared.member.Member.{Member}
 use Rattle.replica_exchange.specs.declared.slot.Slot.{Slot}
 use Rattle.replica_calls.specs.Calls.{Tracked}
-use Rattle.session_net.specs.Messages.{exchange, IsDelivery, AreTwo, IsHeard, Heard, AreHeard}
+use Rattle.session_net.specs.Messages.{exchange, IsDelivery, IsHeard, Heard, AreHeard}
 use Rattle.session_net.specs.Ready.{IsReady, IsLateSend}
 use Rattle.session_net.specs.Runs.{steps_of, IsStepped, Ran, slot_at}
 
@@ -102,8 +102,7 @@ quiet_exchange n s c a e (inr (inl is)) = subst IsQuiet is tt
 quiet_exchange n s c a e (inr (inr none)) = absurd none
 
 pub quiet_delivery : {X : Type 0} (ok : X → StepReply) (n s : ℕ) (c : StepCall) (said : Result X Reason) (events : List Event) → IsDelivery ok n s c said events → AreQuiet events
-quiet_delivery ok n s c said events (inl is) = subst AreQuiet (sym is) (quiet_exchange n s c _)
-quiet_delivery ok n s c said events (inr none) = subst AreQuiet (sym none.1) quiet_none
+quiet_delivery ok n s c said events is = subst AreQuiet (sym is) (quiet_exchange n s c _)
 
 pub quiet_message : {X : Type 0} (ok : X → StepReply) (f : Fate) (n s : ℕ) (c : StepCall) (said : Result X Reason) (events : List Event) → IsHeard ok f n s c said events → AreQuiet events
 quiet_message ok fate.Lose n s c said events h = subst AreQuiet (sym h.1) quiet_none

@@ -1,5 +1,5 @@
 -- What calls leave of the replicas, one after the other.
-use Rattle.std.proofs.Common.{◌≡◌, ℕ, List, [], ◌∷◌, ◌++◌, Bool, true, false, cond, refl, sym, ap, ◌∙◌, subst, append_assoc}
+use Rattle.std.proofs.Common.{◌≡◌, ℕ, List, [], ◌∷◌, ◌++◌, Bool, true, false, refl, sym, ap, ◌∙◌, subst, append_assoc}
 use Rattle.std.specs.Prelude.{Option, Some, None, Result, nat_eq, ◌&&◌, if◌then◌else◌}
 use Rattle.std.specs.FinMap as finite
 use Rattle.std.specs.List.{cons_option}
@@ -12,9 +12,9 @@ use Rattle.cluster_core.specs.declared.event.Event.TheVariants as event
 use Rattle.cluster_core.specs.declared.event.StepCall.{StepCall}
 use Rattle.cluster_core.specs.declared.event.StepReply.{StepReply}
 use Rattle.replica_machine.specs.Machines.{MachineState}
-use Rattle.replica_machine.specs.Steps.{IsStep, reply_by}
+use Rattle.replica_machine.specs.Steps.{reply_by}
 use Rattle.replica_exchange.specs.MachineCalls.{Promise, AddsBoth}
-use Rattle.replica_exchange.specs.Exchanges.{ask_of, seen_in, IsNothing, HasAdded, HasExchanged}
+use Rattle.replica_exchange.specs.Exchanges.{ask_of, seen_in, IsNothing, HasAdded}
 use Rattle.replica_exchange.specs.declared.call_err.CallErr.{CallErr}
 use Rattle.replica_exchange.specs.declared.member.Member.{Member}
 use Rattle.replica_exchange.specs.declared.slot.Slot.{Slot}

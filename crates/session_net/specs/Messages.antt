@@ -1,5 +1,5 @@
 -- The messages of a call: what becomes of each, which events it brings, and what its node is heard to say.
-use Rattle.std.specs.Prelude.{◌≡◌, ◌⊎◌, ℕ, List, [], ◌∷◌, ◌++◌, Result, Err}
+use Rattle.std.specs.Prelude.{◌≡◌, ℕ, List, [], ◌∷◌, ◌++◌, Result, Err}
 use Rattle.m3_model.specs.declared.act.Fate.{Fate}
 use Rattle.m3_model.specs.declared.act.Fate.TheVariants as fate
 use Rattle.m3_model.specs.declared.reason.Reason.{Reason}
@@ -21,9 +21,9 @@ fate_to fates call node = fate_of fates (record { client = call.client; call = c
 abbrev pub exchange : ℕ → ℕ → StepCall → StepReply → List Event
 exchange n s c a = ask_of n s c ∷ event.Step n s c a ∷ []
 
--- one delivery of a message: the replica is asked and says so; or memory is wanted before, and it isn't asked
+-- one delivery of a message: the replica is asked and says so
 abbrev pub IsDelivery : {X : Type 0} → (X → StepReply) → ℕ → ℕ → StepCall → Result X Reason → List Event → Type 0
-IsDelivery ok n s c said events = (events ≡ exchange n s c (reply_by ok said)) ⊎ ((said ≡ Err reason.Memory) × (events ≡ []))
+IsDelivery ok n s c said events = events ≡ exchange n s c (reply_by ok said)
 
 -- two deliveries, of which the first is heard
 pub record AreTwo {X : Type 0} (ok : X → StepReply) (n s : ℕ) (c : StepCall) (said : Result X Reason) (events : List Event) : Type 0 where

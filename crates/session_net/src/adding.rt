@@ -5,13 +5,13 @@ ghost use Rattle.replica_exchange.specs.MachineCalls.{HasRoom};
 ghost use Rattle.replica_calls.specs.Calls.{IsNoStep};
 ghost use Rattle.session_net.specs.Runs.{Ran};
 
-use cluster_core::event::Event;
+use event_trail::views::EventView;
 use m3_outside::disk::Disk;
 use replica_calls::replicas::Replicas;
 
 /// Adds an event that no replica makes to the list, after which it is lawful and which has room for it, and answers its
 /// place. Takes no memory.
-pub fn add<D: Disk>(replicas: &mut Replicas<D>, event: &Event) -> u64
+pub fn add<D: Disk>(replicas: &mut Replicas<D>, event: &EventView) -> u64
     requires lawful { (tells : Bool) → Lawful tells replicas.old.events event.now }
     requires no_step { IsNoStep event.now }
     requires room { HasRoom 1 replicas.old.events }

@@ -116,8 +116,7 @@ module _ (state : MetaState) (fates : FateMap) (id : CallId) (w : Wish) (s : ℕ
   heard_nodes (n ∷ nodes) (x ∷ heard) reads h = ap (λ m. m ∷ map (λ (x : Heard (List Series)). x.0) heard) h.0 ∙ ap (λ ns. n ∷ ns) (heard_nodes nodes heard h.2 h.5)
 
   delivered_step : (n : ℕ) (series : List Series) (events : List Event) → IsDelivery reply.Found n s asked (Ok series) events → IsIn events (event.Step n s asked (reply.Found series))
-  delivered_step n series events (inl is) = subst (λ es. IsIn es (event.Step n s asked (reply.Found series))) (sym is) (inr (inl refl))
-  delivered_step n series events (inr none) = let clash : Ok series ≡ Err reason.Memory = none.0 in cc
+  delivered_step n series events is = subst (λ es. IsIn es (event.Step n s asked (reply.Found series))) (sym is) (inr (inl refl))
 
   -- an answer is that of a step
   heard_step : (f : Fate) (n : ℕ) (series : List Series) (events : List Event) → IsHeard reply.Found f n s asked (Ok series) events → IsIn events (event.Step n s asked (reply.Found series))

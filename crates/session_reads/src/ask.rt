@@ -76,7 +76,6 @@ pub(crate) fn join_answer(
 
 // What the replica at the slot, which is there, answers.
 fn read_once<D: Disk>(
-    alloc: Global,
     replicas: &mut Replicas<D>,
     slot: Slot,
     state: &MetaState,
@@ -92,7 +91,6 @@ fn read_once<D: Disk>(
     ensures form { (damage : Damage) → IsErrOf result (reason.Corrupt damage) → IsFormDamage damage }
 {
     match replicas.read(
-        alloc,
         slot,
         asking.id,
         &state.rules,
@@ -110,7 +108,6 @@ fn read_once<D: Disk>(
 // What it answers as the message's fate has it: a message that is cut isn't delivered, and of one that is delivered twice
 // the first answer is heard.
 fn read_by_fate<D: Disk>(
-    alloc: Global,
     replicas: &mut Replicas<D>,
     fate: Fate,
     slot: Slot,
@@ -128,10 +125,10 @@ fn read_by_fate<D: Disk>(
 {
     match fate {
         Fate::Lose | Fate::Late => Err(Reason::Cut),
-        Fate::Deliver => read_once(alloc, replicas, slot, state, asking, pick),
+        Fate::Deliver => read_once(replicas, slot, state, asking, pick),
         Fate::Twice => {
-            let heard = read_once(alloc, replicas, slot, state, asking, pick);
-            drop(read_once(alloc, replicas, slot, state, asking, pick));
+            let heard = read_once(replicas, slot, state, asking, pick);
+            drop(read_once(replicas, slot, state, asking, pick));
             heard
         }
     }
@@ -192,7 +189,7 @@ pub(crate) fn ask_nodes<D: Disk>(
     for node in nodes {
         let slot = Slot { shard, node: *node };
         let fate = fate_to(fates, asking.id, *node);
-        let said = read_by_fate(alloc, replicas, fate, slot, state, asking, pick);
+        let said = read_by_fate(replicas, fate, slot, state, asking, pick);
         take_answer(alloc, into, tally, *node, said)?;
     }
     Ok(())

@@ -1,7 +1,6 @@
 //! The read of one shard, from its start in the list to its end.
-ghost use Rattle.std.specs.Prelude.{◌≡◌, ◌<◌, ◌≤◌, ◌+◌, ◌*◌, ℕ, List, [], ◌∷◌, length, IfOk, IfErr, OnErr, nat_le};
+ghost use Rattle.std.specs.Prelude.{◌≡◌, ◌<◌, ◌≤◌, ◌+◌, ◌*◌, [], ◌∷◌, length, IfOk, IfErr, nat_le};
 ghost use Rattle.m3_model.specs.Reads.{space_picked};
-ghost use Rattle.m3_model.specs.declared.point.Series.{Series as Found};
 ghost use Rattle.cluster_core.specs.Earlier.{HasClock, HasShard};
 ghost use Rattle.cluster_core.specs.Legal.{IsFetched};
 ghost use Rattle.cluster_core.specs.declared.event.Event.TheVariants as event;
@@ -15,9 +14,7 @@ ghost use Rattle.session_net.specs.Runs.{Ran};
 ghost use Rattle.session_reads.specs.Gathering.{wish_of, IsShardRead, IsUnread};
 
 use crate::ask::{Asking, ask_nodes};
-use cluster_core::event::Event;
-use m3_model::duplicate::Duplicate;
-use m3_model::memory::Memory;
+use event_trail::views::EventView;
 use m3_model::point::{Pick, Series};
 use m3_model::rules::MetaState;
 use m3_model::seq::Seq;
@@ -37,84 +34,33 @@ pub(crate) struct Gave {
     pub(crate) whole: bool,
 }
 
-// The FetchStart of a shard.
-fn start_event(
-    alloc: Global,
-    state: &MetaState,
-    asking: &Asking,
-    pick: &Pick,
-    shard: u32,
-) -> Result<Event, Memory>
-    ensures { IfOk result (λ made. made ≡ event.FetchStart state.entry.now.place.version shard state.entry.now.rules pick.now asking.now.from asking.now.to) }
-{
-    Ok(Event::FetchStart {
-        version: state.place.version,
-        shard,
-        rules: state.rules.copy(alloc)?,
-        pick: pick.copy(alloc)?,
-        from: asking.from,
-        to: asking.to,
-    })
-}
-
-// Adds it to the list, which has room for it, and gives its place.
+// Adds the FetchStart of a shard to the list, which has room for it, and gives its place.
 fn start<D: Disk>(
-    alloc: Global,
     replicas: &mut Replicas<D>,
     state: &MetaState,
     asking: &Asking,
     pick: &Pick,
     shard: u32,
-) -> Result<u64, Memory>
+) -> u64
     requires clock { HasClock replicas.old.events state.now.rules }
     requires shard { HasShard replicas.old.events state.now.place.version shard }
     requires room { HasRoom 1 replicas.old.events }
-    ensures ok { IfOk result (λ place. (place ≡ length replicas.old.events) × Ran D.state replicas.old (event.FetchStart state.entry.now.place.version shard state.entry.now.rules pick.now asking.now.from asking.now.to ∷ []) replicas.new) }
-    ensures err { OnErr result (replicas.new ≡ replicas.old) }
+    ensures place { result ≡ length replicas.old.events }
+    ensures ran { Ran D.state replicas.old (event.FetchStart state.entry.now.place.version shard state.entry.now.rules pick.now asking.now.from asking.now.to ∷ []) replicas.new }
 {
-    let event = start_event(alloc, state, asking, pick, shard)?;
-    let place = add(replicas, &event);
-    drop(event);
-    Ok(place)
+    let version = state.place.version;
+    let event = EventView::fetch_start(version, shard, &state.rules, pick, asking.from, asking.to);
+    add(replicas, &event)
 }
 
-// The FetchDone of the FetchStart at this place.
-fn done_event(start: u64, nodes: Seq<u8>, series: Seq<Series>) -> Event
-    ensures { result ≡ event.FetchDone start nodes series }
-{
-    Event::FetchDone {
-        start,
-        nodes,
-        series,
-    }
-}
-
-// The series of a FetchDone.
-fn series_in(done: Event) -> Seq<Series>
-    requires { (start : ℕ) × (nodes : List ℕ) × (series : List Found) × (done ≡ event.FetchDone start nodes series) }
-    ensures { (start : ℕ) (nodes : List ℕ) (series : List Found) → done ≡ event.FetchDone start nodes series → result ≡ series }
-{
-    match done {
-        Event::FetchDone { series, .. } => series,
-        _ => unreachable!(),
-    }
-}
-
-// Adds the FetchDone of the FetchStart at this place to the list, which has room for it, and gives its series back.
-fn finish<D: Disk>(
-    replicas: &mut Replicas<D>,
-    start: u64,
-    nodes: Seq<u8>,
-    series: Seq<Series>,
-) -> Seq<Series>
-    requires ends { IsFetched replicas.old.events start nodes series }
+// Adds the FetchDone of the FetchStart at this place to the list, which has room for it.
+fn finish<D: Disk>(replicas: &mut Replicas<D>, start: u64, nodes: &Seq<u8>, series: &Seq<Series>)
+    requires ends { IsFetched replicas.old.events start nodes.now series.now }
     requires room { HasRoom 1 replicas.old.events }
-    ensures series { result ≡ series }
-    ensures ran { Ran D.state replicas.old (event.FetchDone start nodes series ∷ []) replicas.new }
+    ensures { Ran D.state replicas.old (event.FetchDone start nodes.now series.now ∷ []) replicas.new }
 {
-    let done = done_event(start, nodes, series);
+    let done = EventView::fetch_done(start, nodes, series);
     add(replicas, &done);
-    series_in(done)
 }
 
 // Ends the read of the shard that began at this place, where enough nodes answered: then the list has its FetchDone.
@@ -137,8 +83,12 @@ fn settle<D: Disk>(
     }
     let whole = asking.quorum.majority as usize <= tally.answered.len();
     let Tally { answered, .. } = tally;
-    let series = finish(replicas, start, Seq::from_vec(answered), joined);
-    Ok(Gave { series, whole })
+    let nodes = Seq::from_vec(answered);
+    finish(replicas, start, &nodes, &joined);
+    Ok(Gave {
+        series: joined,
+        whole,
+    })
 }
 
 // Whether the list has room for all that the read of so many nodes may add.
@@ -171,7 +121,7 @@ fn read_nodes<D: Disk>(
     ensures ok { IfOk result (λ gave. IsShardRead D.state state.entry.now fates.now asking.now.id (wish_of pick.now asking.now) shard asking.now.quorum.needed asking.now.quorum.majority gave.series gave.whole replicas.old replicas.new) }
     ensures err { IfErr result (IsUnread D.state state.entry.now fates.now asking.now.id (wish_of pick.now asking.now) shard asking.now.quorum.needed replicas.old replicas.new) }
 {
-    let place = start(alloc, replicas, state, asking, pick, shard)?;
+    let place = start(replicas, state, asking, pick, shard);
     let mut joined = Seq::new(alloc);
     ask_nodes(
         alloc,

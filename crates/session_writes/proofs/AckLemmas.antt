@@ -57,8 +57,7 @@ took_later : (a : Assignment) (members : Shard) (s : ℕ) (c : StepCall) (first 
 took_later a members s c first rest puts n parts t = record { a = t.a; member = inr t.member; counted = t.counted; node = t.node; put = subst (λ es. IsIn es (event.Step n s c reply.Done)) (sym parts) (IsIn-append_right first rest (event.Step n s c reply.Done) t.put) }
 
 did : (n s : ℕ) (c : StepCall) (u : ⊤) (events : List Event) → IsDelivery (λ (u : ⊤). reply.Done) n s c (Ok u) events → IsIn events (event.Step n s c reply.Done)
-did n s c u events (inl is) = subst (λ es. IsIn es (event.Step n s c reply.Done)) (sym is) (inr (inl refl))
-did n s c u events (inr none) = let clash : Ok u ≡ Err reason.Memory = none.0 in cc
+did n s c u events is = subst (λ es. IsIn es (event.Step n s c reply.Done)) (sym is) (inr (inl refl))
 
 heard_did : (f : Fate) (n s : ℕ) (c : StepCall) (u : ⊤) (events : List Event) → IsHeard (λ (u : ⊤). reply.Done) f n s c (Ok u) events → IsIn events (event.Step n s c reply.Done)
 heard_did fate.Lose n s c u events h = let clash : Ok u ≡ Err reason.Cut = h.0 in cc

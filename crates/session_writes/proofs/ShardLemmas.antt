@@ -1,5 +1,5 @@
 -- The shard to which a write goes, and its members.
-use Rattle.std.proofs.Common.{◌≡◌, ℕ, ◌<◌, ◌%◌, List, [], length, filter, true, refl, sym, subst, ap₂, ◌∙◌, arith, IsPermutation, swap}
+use Rattle.std.proofs.Common.{◌≡◌, ℕ, ◌<◌, ◌%◌, List, [], length, filter, true, refl, sym, subst, ◌∙◌, arith, IsPermutation, swap}
 use Rattle.std.specs.Prelude.{◌≢◌, None}
 use Rattle.std.specs.FinMap as finite
 use Rattle.std.proofs.lemmas.List.{get_or_default}
@@ -15,8 +15,6 @@ use Rattle.m3_model.proofs.MemberLemmas.{map-IsIn}
 use Rattle.m3_outside.specs.declared.disk.Disk.{Ghosts}
 use Rattle.cluster_core.specs.Earlier.{PlacesShard, CountsNodes, HasShard, AreCounted}
 use Rattle.cluster_core.specs.Lists.{At}
-use Rattle.placement_core.specs.Lawful.{IsLawful}
-use Rattle.placement_core.specs.NodeNames.{IsNamedBelow}
 use Rattle.placement_core.specs.Shards.{Shard, shard_at, is_available, counts, counted}
 use Rattle.placement_core.proofs.ListLemmas.{IsIn-from_index, index-from_IsIn, filter-IsIn, at_index, All-from_each}
 use Rattle.placement_core.proofs.OrderLemmas.{came, apart_of, apart_permutation, ascends-from_at}

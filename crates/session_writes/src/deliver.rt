@@ -39,7 +39,6 @@ fn room_for(alloc: Global, outcomes: usize) -> Result<Vec<(u8, u32, Option<Reaso
 
 // Puts each late write on its replica, one after the other, and counts what becomes of it.
 fn put_late<D: Disk>(
-    alloc: Global,
     replicas: &mut Replicas<D>,
     rules: &Rules,
     late: &[LateWrite],
@@ -65,7 +64,7 @@ fn put_late<D: Disk>(
                 client: one.client,
                 number: one.number,
             };
-            let said = put_once(alloc, replicas, slot, id, rules, one.version, &one.point);
+            let said = put_once(replicas, slot, id, rules, one.version, &one.point);
             outcomes.push_reserved((one.node, one.shard, said.err()));
         }
     }
@@ -96,7 +95,6 @@ pub fn deliver<D: Disk>(
     let late = net.bag.empty()?;
     let mut outcomes = room_for(alloc, late.len())?;
     put_late(
-        alloc,
         &mut net.replicas,
         &net.state.rules,
         late.as_slice(),

@@ -17,11 +17,9 @@ use replica_calls::replicas::Replicas;
 use replica_exchange::CallErr;
 use replica_exchange::call_id::CallId;
 use replica_exchange::slot::Slot;
-use std::alloc::Global;
 
 // Puts the point on the replica at the slot, which is there.
 pub(crate) fn put_once<D: Disk>(
-    alloc: Global,
     replicas: &mut Replicas<D>,
     slot: Slot,
     id: CallId,
@@ -37,7 +35,7 @@ pub(crate) fn put_once<D: Disk>(
     requires bounded { IsBounded point.now }
     ensures { Delivered D.state (λ (u : ⊤). reply.Done) slot.node slot.shard (put_of id rules.entry.now version point.now) result replicas.old replicas.new }
 {
-    match replicas.put(alloc, slot, id, rules, version, point) {
+    match replicas.put(slot, id, rules, version, point) {
         Ok(()) => Ok(()),
         Err(CallErr::Refused(why)) => Err(why),
         Err(CallErr::Full) => unreachable!(),
@@ -47,7 +45,6 @@ pub(crate) fn put_once<D: Disk>(
 // Puts the point there as the message's fate has it: a message that is cut isn't delivered, and of one that is delivered
 // twice the first answer is heard.
 pub(crate) fn put_by_fate<D: Disk>(
-    alloc: Global,
     replicas: &mut Replicas<D>,
     fate: Fate,
     slot: Slot,
@@ -66,10 +63,10 @@ pub(crate) fn put_by_fate<D: Disk>(
 {
     match fate {
         Fate::Lose | Fate::Late => Err(Reason::Cut),
-        Fate::Deliver => put_once(alloc, replicas, slot, id, rules, version, point),
+        Fate::Deliver => put_once(replicas, slot, id, rules, version, point),
         Fate::Twice => {
-            let heard = put_once(alloc, replicas, slot, id, rules, version, point);
-            drop(put_once(alloc, replicas, slot, id, rules, version, point));
+            let heard = put_once(replicas, slot, id, rules, version, point);
+            drop(put_once(replicas, slot, id, rules, version, point));
             heard
         }
     }

@@ -1,4 +1,4 @@
-ghost use Rattle.std.specs.Prelude.{◌≡◌, ◌≢◌, ◌<◌, ◌≤◌, ◌*◌, ◌^◌, ℕ, suc, ⊤, List, [], ◌∷◌, ◌++◌, map, true, None, length, take, IfOk, IfErr, OnOk, OnErr, IsErr};
+ghost use Rattle.std.specs.Prelude.{◌≡◌, ◌≢◌, ◌<◌, ◌≤◌, ◌*◌, ◌^◌, ℕ, suc, ⊤, List, [], ◌∷◌, ◌++◌, map, true, None, length, take, IfOk, IfErr, OnOk, OnErr};
 ghost use Rattle.std.specs.FinMap as finite;
 ghost use Rattle.wire_bytes.specs.Entries.{IsBounded};
 ghost use Rattle.m3_model.specs.Members.{IsIn};
@@ -19,7 +19,7 @@ ghost use Rattle.session_net.specs.Tallies.{HasRoom as Counts};
 ghost use Rattle.session_net.specs.Writes.{shard_of_point, AreMembers, put_of, late_to, late_among, filled, told_if_counted, counted_among, most_added, IsSettled, IsUnsettled, IsAcknowledged, IsRefused};
 
 use crate::put::put_by_fate;
-use cluster_core::event::Event;
+use event_trail::views::EventView;
 use m3_model::act::{Fate, WriteLevel};
 use m3_model::duplicate::Duplicate;
 use m3_model::memory::Memory;
@@ -53,33 +53,15 @@ struct Sending {
     version: u64,
 }
 
-// The Send of a point.
-fn send_event(alloc: Global, sending: &Sending, point: &Point) -> Result<Event, Memory>
-    ensures { IfOk result (λ made. made ≡ event.Send sending.now.version sending.now.shard point.now) }
-{
-    Ok(Event::Send {
-        version: sending.version,
-        shard: sending.shard,
-        point: point.copy(alloc)?,
-    })
-}
-
 // Adds the Send of the write to the list, which has room for it, and gives its place.
-fn send<D: Disk>(
-    alloc: Global,
-    replicas: &mut Replicas<D>,
-    sending: &Sending,
-    point: &Point,
-) -> Result<u64, Memory>
+fn send<D: Disk>(replicas: &mut Replicas<D>, sending: &Sending, point: &Point) -> u64
     requires shard { HasShard replicas.old.events sending.now.version sending.now.shard }
     requires room { HasRoom 1 replicas.old.events }
-    ensures ok { IfOk result (λ place. (place ≡ length replicas.old.events) × Ran D.state replicas.old (event.Send sending.now.version sending.now.shard point.now ∷ []) replicas.new) }
-    ensures err { OnErr result (replicas.new ≡ replicas.old) }
+    ensures place { result ≡ length replicas.old.events }
+    ensures ran { Ran D.state replicas.old (event.Send sending.now.version sending.now.shard point.now ∷ []) replicas.new }
 {
-    let event = send_event(alloc, sending, point)?;
-    let place = add(replicas, &event);
-    drop(event);
-    Ok(place)
+    let event = EventView::send(sending.version, sending.shard, point);
+    add(replicas, &event)
 }
 
 // Holds the late ones of the messages to these members back.
@@ -143,7 +125,6 @@ fn count(tally: &mut Tally, member: &Assignment, outcome: Option<Reason>)
 
 // Puts the point on the replicas of these members, one after the other, and counts what those say that count.
 fn put_all<D: Disk>(
-    alloc: Global,
     replicas: &mut Replicas<D>,
     fates: &Fates,
     sending: &Sending,
@@ -173,7 +154,6 @@ fn put_all<D: Disk>(
         };
         let fate = fate_to(fates, sending.id, member.node);
         let said = put_by_fate(
-            alloc,
             replicas,
             fate,
             slot,
@@ -186,34 +166,14 @@ fn put_all<D: Disk>(
     }
 }
 
-// The Ack of a Send by these nodes.
-fn ack_event(send: u64, nodes: Seq<u8>) -> Event
-    ensures { result ≡ event.Ack send nodes }
-{
-    Event::Ack { send, nodes }
-}
-
-// The nodes of an Ack.
-fn acks_in(ack: Event) -> Seq<u8>
-    requires { (send : ℕ) × (nodes : List ℕ) × (ack ≡ event.Ack send nodes) }
-    ensures { (send : ℕ) (nodes : List ℕ) → ack ≡ event.Ack send nodes → result ≡ nodes }
-{
-    match ack {
-        Event::Ack { nodes, .. } => nodes,
-        _ => unreachable!(),
-    }
-}
-
-// Adds the Ack of the Send at this place to the list, which has room for it, and gives its nodes back.
-fn acknowledge<D: Disk>(replicas: &mut Replicas<D>, send: u64, nodes: Seq<u8>) -> Seq<u8>
-    requires acks { IsAck replicas.old.events send nodes }
+// Adds the Ack of the Send at this place to the list, which has room for it.
+fn acknowledge<D: Disk>(replicas: &mut Replicas<D>, send: u64, nodes: &Seq<u8>)
+    requires acks { IsAck replicas.old.events send nodes.now }
     requires room { HasRoom 1 replicas.old.events }
-    ensures nodes { result ≡ nodes }
-    ensures ran { Ran D.state replicas.old (event.Ack send nodes ∷ []) replicas.new }
+    ensures { Ran D.state replicas.old (event.Ack send nodes.now ∷ []) replicas.new }
 {
-    let ack = ack_event(send, nodes);
+    let ack = EventView::ack(send, nodes);
     add(replicas, &ack);
-    acks_in(ack)
 }
 
 // Acknowledged where enough of the nodes that count took it: then the list has the Ack.
@@ -233,7 +193,9 @@ fn settle<D: Disk>(
         return Err(tally.too_few(shard, needed));
     }
     let Tally { answered, .. } = tally;
-    Ok(acknowledge(replicas, send, Seq::from_vec(answered)))
+    let nodes = Seq::from_vec(answered);
+    acknowledge(replicas, send, &nodes);
+    Ok(nodes)
 }
 
 // Sends the write to these members and acknowledges it where enough of those that count took it. The list has room for all
@@ -261,11 +223,9 @@ fn send_all<D: Disk>(
     ensures err { IfErr result (IsUnsettled D.state fates.now (record { id = sending.now.id; rules = rules.entry.now; version = sending.now.version; shard = sending.now.shard; point = point.now }) members.now needed replicas.old replicas.new bag.old bag.new) }
 {
     let mut tally = Tally::with_room(alloc, members.len())?;
-    let place = send(alloc, replicas, sending, point)?;
+    let place = send(replicas, sending, point);
     keep_late(alloc, bag, fates, sending, point, members)?;
-    put_all(
-        alloc, replicas, fates, sending, rules, point, members, &mut tally,
-    );
+    put_all(replicas, fates, sending, rules, point, members, &mut tally);
     settle(replicas, place, sending.shard, needed, tally)
 }
 

@@ -7,13 +7,10 @@ use Rattle.first_cluster.specs.Depots.{depot_by}
 use Rattle.first_cluster.specs.Lending.{AreOpened, IsUnopened}
 use Rattle.first_cluster.specs.Slots.{AreApart, slots_in}
 use Rattle.first_cluster.proofs.FirstLemmas.{opened_room}
-use Rattle.first_cluster.proofs.GiveAll.{all_returned, returned_none}
+use Rattle.first_cluster.proofs.GiveAll.{all_returned}
 use Rattle.first_cluster.proofs.PlacedSlots.{slots_same, tenure_given}
 use Rattle.first_cluster.proofs.SlotLists.{slots_apart}
 use Rattle.first_cluster.proofs.lending.opened.Goals as goal
-
-pub returns-in_default-clause-err : goal.returns-in_default-clause-err
-returns-in_default-clause-err g c = record { returned = returned_none g.D.Disk.state (depot_by g.X.Disks.held g.X.Disks.counted g.X.Disks.all_faults c.args.disks.now); cause = tt }
 
 pub open_all-requires-clause-apart : goal.open_all-requires-clause-apart
 open_all-requires-clause-apart g c κs lives =
@@ -27,24 +24,24 @@ open_all-requires-clause-first g c κs lives = λ s i. c.requires.first s (subst
 
 pub open_all-requires-clause-tenures : goal.open_all-requires-clause-tenures
 open_all-requires-clause-tenures g c κs lives = λ s i.
-    subst (λ events. HasTenure events s.slot.node s.slot.shard s.tenure) (sym (ap (λ t. t.events) c.in-Ok.ensures))
+    subst (λ events. HasTenure events s.slot.node s.slot.shard s.tenure) (sym (ap (λ t. t.events) c.listed-replicas.ensures))
     (tenure_given c.args.plan.now.state.place [] (event.Clock c.args.plan.now.state.rules ∷ []) s (subst (λ xs. IsIn xs s) (c.as_slice.ensures.value ∙ c.requires.starts) i))
 
 pub open_all-requires-clause-room : goal.open_all-requires-clause-room
 open_all-requires-clause-room g c κs lives =
-    opened_room c.in-Ok.replicas.events c.args.plan.now.state c.as_slice.result.now (ap (λ t. t.events) c.in-Ok.ensures) (subst (λ xs. length xs ≤ 1024) (sym (c.as_slice.ensures.value ∙ c.requires.starts)) c.requires.few)
+    opened_room (c.listed-replicas.result).events c.args.plan.now.state c.as_slice.result.now (ap (λ t. t.events) c.listed-replicas.ensures) (subst (λ xs. length xs ≤ 1024) (sym (c.as_slice.ensures.value ∙ c.requires.starts)) c.requires.few)
 
 pub open_all-requires-clause-none : goal.open_all-requires-clause-none
-open_all-requires-clause-none g c κs lives = ap (λ t. t.members) c.in-Ok.ensures
+open_all-requires-clause-none g c κs lives = ap (λ t. t.members) c.listed-replicas.ensures
 
 pub open_all-requires-clause-new : goal.open_all-requires-clause-new
-open_all-requires-clause-new g c κs lives = λ n s. ap (λ t. replica n s t.events) c.in-Ok.ensures
+open_all-requires-clause-new g c κs lives = λ n s. ap (λ t. replica n s t.events) c.listed-replicas.ensures
 
-pub returns-in-Ok-open_all-clause-ok : goal.returns-in-Ok-open_all-clause-ok
-returns-in-Ok-open_all-clause-ok g c =
-    subst (λ events. AreOpened g.D.Disk.state c.args.plan.now.slots.items c.args.plan.now.starts.items events (depot_by g.X.Disks.held g.X.Disks.counted g.X.Disks.all_faults c.args.disks.now) (depot_by g.X.Disks.held g.X.Disks.counted g.X.Disks.all_faults c.open_all.new.disks) c.open_all.new.replicas) (ap (λ t. t.events) c.in-Ok.ensures)
-    (subst (λ slots. AreOpened g.D.Disk.state slots c.args.plan.now.starts.items c.in-Ok.replicas.events (depot_by g.X.Disks.held g.X.Disks.counted g.X.Disks.all_faults c.args.disks.now) (depot_by g.X.Disks.held g.X.Disks.counted g.X.Disks.all_faults c.open_all.new.disks) c.open_all.new.replicas) c.as_slice-slots.ensures.value
-    (subst (λ starts. AreOpened g.D.Disk.state c.as_slice-slots.result.now starts c.in-Ok.replicas.events (depot_by g.X.Disks.held g.X.Disks.counted g.X.Disks.all_faults c.args.disks.now) (depot_by g.X.Disks.held g.X.Disks.counted g.X.Disks.all_faults c.open_all.new.disks) c.open_all.new.replicas) c.as_slice.ensures.value c.in-Ok-open_all.ensures.ok))
+pub returns-in-Ok-clause-ok : goal.returns-in-Ok-clause-ok
+returns-in-Ok-clause-ok g c =
+    subst (λ events. AreOpened g.D.Disk.state c.args.plan.now.slots.items c.args.plan.now.starts.items events (depot_by g.X.Disks.held g.X.Disks.counted g.X.Disks.all_faults c.args.disks.now) (depot_by g.X.Disks.held g.X.Disks.counted g.X.Disks.all_faults c.open_all.new.disks) c.open_all.new.replicas) (ap (λ t. t.events) c.listed-replicas.ensures)
+    (subst (λ slots. AreOpened g.D.Disk.state slots c.args.plan.now.starts.items (c.listed-replicas.result).events (depot_by g.X.Disks.held g.X.Disks.counted g.X.Disks.all_faults c.args.disks.now) (depot_by g.X.Disks.held g.X.Disks.counted g.X.Disks.all_faults c.open_all.new.disks) c.open_all.new.replicas) c.as_slice-slots.ensures.value
+    (subst (λ starts. AreOpened g.D.Disk.state c.as_slice-slots.result.now starts (c.listed-replicas.result).events (depot_by g.X.Disks.held g.X.Disks.counted g.X.Disks.all_faults c.args.disks.now) (depot_by g.X.Disks.held g.X.Disks.counted g.X.Disks.all_faults c.open_all.new.disks) c.open_all.new.replicas) c.as_slice.ensures.value c.in-Ok.ensures.ok))
 
 pub returns-in-Err-clause-err : goal.returns-in-Err-clause-err
 returns-in-Err-clause-err g c =

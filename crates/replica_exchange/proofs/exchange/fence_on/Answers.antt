@@ -1,4 +1,4 @@
-use Rattle.std.proofs.Common.{refl, ◌∙◌, inr}
+use Rattle.std.proofs.Common.{refl, inr}
 use Rattle.cluster_core.specs.declared.event.StepCall.TheVariants as call
 use Rattle.cluster_core.specs.declared.event.StepReply.TheVariants as reply
 use Rattle.replica_machine.specs.Steps.{reply_by}
@@ -7,13 +7,13 @@ use Rattle.replica_exchange.proofs.ExchangeLemmas.{Went, opened_after, is_answer
 use Rattle.replica_exchange.proofs.exchange.fence_on.Given.{Over}
 use Rattle.replica_exchange.proofs.exchange.fence_on.Goals as goal
 
-pub answer-reply-requires-clause-answers : goal.answer-reply-requires-clause-answers
-answer-reply-requires-clause-answers g c κs lives =
-    is_answer g.D.Disk.state c.args.slot c.args.trail.now c.ask-call.new.trail c.args.member.now c.fence-said.new.self (call.Fence c.args.version) (call.Fence c.args.version) c.ask-call.result (reply_by (λ _. reply.Done) c.fence-said.result) c.done_reply.result c.ask-call.ensures.asked refl c.ask-call.ensures.call c.done_reply.ensures
+pub answer-requires-clause-answers : goal.answer-requires-clause-answers
+answer-requires-clause-answers g c κs lives =
+    is_answer g.D.Disk.state c.args.slot c.args.trail.now c.ask.new.trail c.args.member.now c.fence-said.new.self (call.Fence c.args.version) c.fence-call.result c.fence-call.result (reply_by (λ _. reply.Done) c.fence-said.result) c.done_view-reply.result c.ask.ensures c.fence-call.ensures c.fence-call.ensures c.done_view-reply.ensures
     c.requires.opened tt c.requires.is c.fence-said.ensures.step (λ e. cc)
 
-both : (g : Over) (c : goal.After-done_in g) → Went g.D.Disk.state c.args.slot (AddsBoth c.args.slot) (call.Fence c.args.version) (reply_by (λ _. reply.Done) c.fence-said.result) c.args.trail.now c.answer-reply.new.trail (record c.args.member.now { machine = c.fence-said.new.self })
-both g c = went g.D.Disk.state c.args.slot c.args.trail.now c.ask-call.new.trail c.answer-reply.new.trail c.args.member.now (record c.args.member.now { machine = c.fence-said.new.self }) (call.Fence c.args.version) (call.Fence c.args.version) c.ask-call.result (reply_by (λ _. reply.Done) c.fence-said.result) c.done_reply.result c.ask-call.ensures.asked c.answer-reply.ensures.answered refl c.ask-call.ensures.call c.done_reply.ensures c.requires.is c.fence-said.ensures.step refl
+both : (g : Over) (c : goal.Joined-call g) → Went g.D.Disk.state c.args.slot (AddsBoth c.args.slot) (call.Fence c.args.version) (reply_by (λ _. reply.Done) c.fence-said.result) c.args.trail.now c.answer.new.trail (record c.args.member.now { machine = c.fence-said.new.self })
+both g c = went g.D.Disk.state c.args.slot c.args.trail.now c.ask.new.trail c.answer.new.trail c.args.member.now (record c.args.member.now { machine = c.fence-said.new.self }) (call.Fence c.args.version) c.fence-call.result c.fence-call.result (reply_by (λ _. reply.Done) c.fence-said.result) c.done_view-reply.result c.ask.ensures c.answer.ensures c.fence-call.ensures c.fence-call.ensures c.done_view-reply.ensures c.requires.is c.fence-said.ensures.step refl
 
 pub returns-clause-is : goal.returns-clause-is
 returns-clause-is g c = (both g c).is
@@ -31,5 +31,5 @@ returns-clause-answered g c = inr (record {
   promised = record { ok = c.fence-said.ensures.ok; err = c.fence-said.ensures.err; plain = c.fence-said.ensures.plain; unchanged = c.fence-said.ensures.unchanged; fault = c.fence-said.ensures.fault; refused = c.fence-said.ensures.refused; disk = c.fence-said.ensures.disk };
   first = refl;
   adds = (both g c).adds;
-  told = c.done_in.ensures.done c.fence-said.result (c.answer-reply.ensures.reply ∙ c.done_reply.ensures);
+  told = c.done_of.ensures;
 })

@@ -1,4 +1,4 @@
-use Rattle.std.proofs.Common.{refl, ◌∙◌, inr}
+use Rattle.std.proofs.Common.{refl, inr}
 use Rattle.cluster_core.specs.declared.event.StepCall.TheVariants as call
 use Rattle.cluster_core.specs.declared.event.StepReply.TheVariants as reply
 use Rattle.replica_machine.specs.Steps.{reply_by}
@@ -7,13 +7,13 @@ use Rattle.replica_exchange.proofs.ExchangeLemmas.{Went, opened_after, is_answer
 use Rattle.replica_exchange.proofs.exchange.restart_on.Given.{Over}
 use Rattle.replica_exchange.proofs.exchange.restart_on.Goals as goal
 
-pub answer-reply-requires-clause-answers : goal.answer-reply-requires-clause-answers
-answer-reply-requires-clause-answers g c κs lives =
-    is_answer g.D.Disk.state c.args.slot c.args.trail.now c.ask-call.new.trail c.args.member.now c.restart-said.new.self call.Restart call.Restart c.ask-call.result (reply_by (λ _. reply.Done) c.restart-said.result) c.done_reply.result c.ask-call.ensures.asked refl c.ask-call.ensures.call c.done_reply.ensures
+pub answer-requires-clause-answers : goal.answer-requires-clause-answers
+answer-requires-clause-answers g c κs lives =
+    is_answer g.D.Disk.state c.args.slot c.args.trail.now c.ask.new.trail c.args.member.now c.restart-said.new.self call.Restart c.restart-call.result c.restart-call.result (reply_by (λ _. reply.Done) c.restart-said.result) c.done_view-reply.result c.ask.ensures c.restart-call.ensures c.restart-call.ensures c.done_view-reply.ensures
     c.requires.opened tt c.requires.is c.restart-said.ensures.step (λ e. cc)
 
-both : (g : Over) (c : goal.After-done_in g) → Went g.D.Disk.state c.args.slot (AddsBoth c.args.slot) call.Restart (reply_by (λ _. reply.Done) c.restart-said.result) c.args.trail.now c.answer-reply.new.trail (record c.args.member.now { machine = c.restart-said.new.self })
-both g c = went g.D.Disk.state c.args.slot c.args.trail.now c.ask-call.new.trail c.answer-reply.new.trail c.args.member.now (record c.args.member.now { machine = c.restart-said.new.self }) call.Restart call.Restart c.ask-call.result (reply_by (λ _. reply.Done) c.restart-said.result) c.done_reply.result c.ask-call.ensures.asked c.answer-reply.ensures.answered refl c.ask-call.ensures.call c.done_reply.ensures c.requires.is c.restart-said.ensures.step refl
+both : (g : Over) (c : goal.Joined-call g) → Went g.D.Disk.state c.args.slot (AddsBoth c.args.slot) call.Restart (reply_by (λ _. reply.Done) c.restart-said.result) c.args.trail.now c.answer.new.trail (record c.args.member.now { machine = c.restart-said.new.self })
+both g c = went g.D.Disk.state c.args.slot c.args.trail.now c.ask.new.trail c.answer.new.trail c.args.member.now (record c.args.member.now { machine = c.restart-said.new.self }) call.Restart c.restart-call.result c.restart-call.result (reply_by (λ _. reply.Done) c.restart-said.result) c.done_view-reply.result c.ask.ensures c.answer.ensures c.restart-call.ensures c.restart-call.ensures c.done_view-reply.ensures c.requires.is c.restart-said.ensures.step refl
 
 pub returns-clause-is : goal.returns-clause-is
 returns-clause-is g c = (both g c).is
@@ -31,5 +31,5 @@ returns-clause-answered g c = inr (record {
   promised = record { ok = c.restart-said.ensures.ok; memory = c.restart-said.ensures.memory; fault = c.restart-said.ensures.fault; err = c.restart-said.ensures.err; disk = c.restart-said.ensures.restarts };
   first = refl;
   adds = (both g c).adds;
-  told = c.done_in.ensures.done c.restart-said.result (c.answer-reply.ensures.reply ∙ c.done_reply.ensures);
+  told = c.done_of.ensures;
 })

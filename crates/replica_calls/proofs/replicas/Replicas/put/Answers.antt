@@ -1,10 +1,10 @@
-use Rattle.std.proofs.Common.{refl, inl, inr}
+use Rattle.std.proofs.Common.{refl, inl}
 use Rattle.cluster_core.specs.declared.event.StepCall.TheVariants as call
 use Rattle.cluster_core.specs.declared.event.StepReply.TheVariants as reply
 use Rattle.replica_exchange.specs.MachineCalls.{AddsBoth}
 use Rattle.replica_exchange.specs.Promises.{Puts}
 use Rattle.replica_calls.proofs.SlotLemmas.{wrote, none_at}
-use Rattle.replica_calls.proofs.TrackLemmas.{at_slot, tracked_with, may_copy_and_call, missing}
+use Rattle.replica_calls.proofs.TrackLemmas.{at_slot, tracked_with, may_call, missing}
 use Rattle.replica_calls.proofs.replicas.Replicas.put.Goals as goal
 
 pub put_on-requires-clause-is : goal.put_on-requires-clause-is
@@ -18,9 +18,9 @@ invariant_of-self g c =
 
 pub returns-in-Some : goal.returns-in-Some
 returns-in-Some g c =
-    may_copy_and_call g.D.Disk.state 2 (AddsBoth c.args.slot) c.args.slot (call.Put c.args.id.client c.args.id.number c.args.rules.now c.args.version c.args.point.now) (λ _. reply.Done) (Puts g.D.Disk.state c.args.rules.now c.args.point.now) (λ u. u) c.self.inside.map (c.get_mut.follows.lender c.put_on.new.member) c.in-Some.member.now c.put_on.new.member c.self.inside.trail c.put_on.new.trail c.put_on.result
+    may_call g.D.Disk.state 2 (AddsBoth c.args.slot) c.args.slot (call.Put c.args.id.client c.args.id.number c.args.rules.now c.args.version c.args.point.now) (λ _. reply.Done) (Puts g.D.Disk.state c.args.rules.now c.args.point.now) (λ u. u) c.self.inside.map (c.get_mut.follows.lender c.put_on.new.member) c.in-Some.member.now c.put_on.new.member c.self.inside.trail c.put_on.new.trail c.put_on.result
     (wrote c.self.inside.map (c.get_mut.follows.lender c.put_on.new.member) c.args.slot c.in-Some.member.now c.put_on.new.member c.self.invariant.sorted (c.get_mut.follows.holds c.put_on.new.member) c.in-Some.ensures.value)
     c.args.self.now c.self.view_is c.put_on.ensures.answered
 
 pub returns-in-None : goal.returns-in-None
-returns-in-None g c = rw c.get_mut.follows.holds-at-none (inr (inl (missing g.D.Disk.state 2 c.args.slot c.self.inside.map c.self.inside.trail _ c.args.self.now c.self.view_is (none_at c.self.inside.map c.args.slot c.self.invariant.sorted c.in-None.ensures.value) refl)))
+returns-in-None g c = rw c.get_mut.follows.holds-at-none (inl (missing g.D.Disk.state 2 c.args.slot c.self.inside.map c.self.inside.trail _ c.args.self.now c.self.view_is (none_at c.self.inside.map c.args.slot c.self.invariant.sorted c.in-None.ensures.value) refl))
