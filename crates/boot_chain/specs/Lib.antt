@@ -1,0 +1,4 @@
+pub mod Ranges
+pub mod Chains
+pub mod Origins
+pub mod Laws

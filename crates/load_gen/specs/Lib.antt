@@ -1,0 +1,5 @@
+pub mod Draws
+pub mod Lines
+pub mod Script
+pub mod Left
+pub mod Laws

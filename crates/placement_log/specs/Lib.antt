@@ -1,0 +1,4 @@
+pub mod States
+pub mod MetaHolds
+pub mod Damage
+pub mod MetaLaws

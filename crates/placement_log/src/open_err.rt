@@ -1,0 +1,35 @@
+use m3_outside::disk_err::DiskErr;
+
+/// Why the log of the meta disk can't be opened.
+#[derive(Clone, Copy, Debug, PartialEq, Eq)]
+pub enum OpenErr {
+    /// The disk failed. Its count of faults rose in that call.
+    Disk,
+    /// Want of memory.
+    Memory,
+    /// Of a state in the segment of this number another digest is kept than is found.
+    Digest {
+        number: u64,
+        kept: [u8; 32],
+        found: [u8; 32],
+    },
+    /// The bytes of the segment of this number are those of no log of states, by the place `at`.
+    Form {
+        number: u64,
+        at: u64,
+    },
+}
+
+impl From<DiskErr> for OpenErr {
+    ghost use Rattle.std.specs.Prelude.{◌≡◌};
+    ghost use Rattle.placement_log.specs.Damage.{of_disk};
+
+    ghost from_gives = { λ d e. e ≡ of_disk d };
+
+    fn from(e: DiskErr) -> OpenErr {
+        match e {
+            DiskErr::Failed => OpenErr::Disk,
+            DiskErr::Memory => OpenErr::Memory,
+        }
+    }
+}
