@@ -1,0 +1,96 @@
+//! What the words of a story name: numbers, files, volumes and series.
+use m3_model::memory::Memory;
+use m3_model::point::Series;
+use m3_model::seq::Seq;
+use m3_model::text::Text;
+use m3_outside::file_name::FileName;
+use std::alloc::Global;
+use volume_bytes::Head;
+
+/// The text that the bytes are, and the empty one where they are none.
+pub fn text(bytes: &[u8]) -> &str {
+    str::from_utf8(bytes).unwrap_or("")
+}
+
+/// A number; 0 where the text is none.
+pub fn number(text: &str) -> u64 {
+    text.parse::<u64>().unwrap_or(0)
+}
+
+fn small(text: &str) -> u8 {
+    text.parse::<u8>().unwrap_or(0)
+}
+
+/// The file of this kind of the volume `2.100.1`: its namespace, its start and its number.
+pub fn part(kind: u8, text: &str) -> FileName {
+    let (ns, rest) = text.split_once('.').unwrap_or((text, ""));
+    let (block, last) = rest.split_once('.').unwrap_or((rest, ""));
+    FileName {
+        kind,
+        ns: small(ns),
+        block: number(block),
+        number: number(last),
+    }
+}
+
+/// The file `4.2.100.1`: its kind, and what a volume is named by.
+pub fn file(text: &str) -> FileName {
+    let (kind, rest) = text.split_once('.').unwrap_or((text, ""));
+    part(small(kind), rest)
+}
+
+/// The block `2.100.50`: its namespace, its start and its size.
+pub fn block(text: &str) -> Head {
+    let (ns, rest) = text.split_once('.').unwrap_or((text, ""));
+    let (start, size) = rest.split_once('.').unwrap_or((rest, ""));
+    Head {
+        ns: small(ns),
+        start: number(start),
+        size: number(size),
+        number: 0,
+    }
+}
+
+fn pairs(alloc: Global, text: &str) -> Result<Vec<(u64, i64)>, Memory> {
+    let mut pairs = Vec::new(alloc);
+    for pair in text.split(',') {
+        if let Some((t, v)) = pair.split_once('=') {
+            pairs.push((number(t), v.parse::<i64>().unwrap_or(0)))?;
+        }
+    }
+    Ok(pairs)
+}
+
+// A series with its times and values, as `hello,100=5,120=-3`.
+fn one(alloc: Global, text: &str) -> Result<Series, Memory> {
+    let (id, rest) = text.split_once(',').unwrap_or((text, ""));
+    let points = Seq::from_vec(pairs(alloc, rest)?);
+    Ok(Series {
+        id: Text::from_str(alloc, id)?,
+        points,
+    })
+}
+
+/// Series, one behind the other, with `;` between them.
+pub fn series(alloc: Global, text: &str) -> Result<Seq<Series>, Memory> {
+    let mut all = Vec::new(alloc);
+    for text in text.split(';') {
+        all.push(one(alloc, text)?)?;
+    }
+    Ok(Seq::from_vec(all))
+}
+
+// The series s07, with the value 7 at 1007, for 7.
+fn numbered(alloc: Global, number: u64) -> Result<Series, Memory> {
+    let id = format!(in alloc; "s{number:02},{}={number}", number.saturating_add(1000))?;
+    one(alloc, id.as_str())
+}
+
+/// So many series: s00, s01 and so on.
+pub fn many(alloc: Global, count: u64) -> Result<Seq<Series>, Memory> {
+    let mut all = Vec::new(alloc);
+    for number in 0..count.min(100) {
+        all.push(numbered(alloc, number)?)?;
+    }
+    Ok(Seq::from_vec(all))
+}
