@@ -31,8 +31,13 @@ fn open_gate<D: Disk>(disk: &mut D, name: FileName, digest: &[u8]) -> Result<(),
 }
 
 /// Makes these files, then the checkpoint with this digest behind a closed gate, and opens the gate last. All of it is
-/// synced before that.
-pub(crate) fn put_all<D: Disk>(
+/// synced before that. Room is taken for two calls at a time.
+///
+/// # Errors
+///
+/// A fault, by which the disk's count rose in this call; all of it is there then, or the gate isn't open. Want of memory; the
+/// gate isn't open then.
+pub fn put_all<D: Disk>(
     disk: &mut D,
     files: &[NewFile],
     checkpoint: FileName,

@@ -1,4 +1,5 @@
-//! Volumes written and taken away: at every moment one is there whole, or it doesn't count.
+//! Volumes written and taken away: at every moment one is there whole, or it doesn't count. And what a snapshot is written
+//! with, too: files, and a checkpoint whose gate is opened last.
 #![tactic(auto)]
 
 mod gate;
@@ -9,5 +10,7 @@ mod removal;
 mod volume;
 mod writing;
 
+pub use gate::put_all;
+pub use new_file::NewFile;
 pub use removal::remove;
 pub use writing::write;

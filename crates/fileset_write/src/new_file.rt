@@ -3,7 +3,7 @@ use m3_outside::file_name::FileName;
 
 /// A file that is to be made: its name and its bytes.
 #[derive(Drop)]
-pub(crate) struct NewFile {
+pub struct NewFile {
     pub name: FileName,
     pub bytes: Seq<u8>,
 }

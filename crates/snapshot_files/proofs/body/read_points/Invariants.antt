@@ -1,0 +1,12 @@
+use Rattle.std.proofs.Common.{◌≡◌, ◌-◌, length}
+use Rattle.wire_bytes.specs.Entries.{PointsStand}
+use Rattle.shard_files.specs.Entries.{HavePoints}
+use Rattle.snapshot_files.proofs.body.read_points.Given as goal
+
+-- the first of the points are read, and the others stand behind them where all do
+abbrev pub invariant-loop-i : goal.invariant-loop-i
+invariant-loop-i l = record {
+  read : PointsStand l.points.items l.bytes l.from l.place;
+  counted : length l.points.items ≡ l._i;
+  left : HavePoints l.count l.bytes l.from → HavePoints (l.count - l._i) l.bytes l.place;
+}

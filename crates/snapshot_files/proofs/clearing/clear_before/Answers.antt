@@ -1,0 +1,58 @@
+use Rattle.std.proofs.Common.{sym, subst, ◌∙◌, List}
+use Rattle.m3_outside.specs.declared.file_name.FileName.{FileName}
+use Rattle.m3_outside.specs.DiskState.{Elapses, Becomes}
+use Rattle.m3_outside.specs.Removal.{without_files, MayTakeAway, HasTakenAway, AreRemovable}
+use Rattle.m3_outside.proofs.Moments.{becomes_stays}
+use Rattle.m3_outside.proofs.Removal.{left_elapses, left_all, then_elapses, then_becomes, then_taken}
+use Rattle.shard_files.specs.Steps.{snapshots_below}
+use Rattle.snapshot_files.proofs.ClearLemmas.{below_removable}
+use Rattle.snapshot_files.proofs.clearing.clear_before.Goals as goal
+
+pub returns-in_err-older-clause-any_moment : goal.returns-in_err-older-clause-any_moment
+returns-in_err-older-clause-any_moment g c = λ t.
+    left_elapses _ (snapshots_below c.args.number (g.D.Disk.state c.args.disk.now).files) (g.D.Disk.state c.args.disk.now) (g.D.Disk.state c.find_below.new.disk) c.find_below.ensures.leaves t
+
+pub returns-in_err-older-clause-memory : goal.returns-in_err-older-clause-memory
+returns-in_err-older-clause-memory g c = λ t m.
+    becomes_stays _ (g.D.Disk.state c.args.disk.now) (g.D.Disk.state c.find_below.new.disk) c.find_below.ensures.leaves t
+
+pub returns-in_err-older-clause-files : goal.returns-in_err-older-clause-files
+returns-in_err-older-clause-files g c = λ t.
+    left_all _ (snapshots_below c.args.number (g.D.Disk.state c.args.disk.now).files) (g.D.Disk.state c.args.disk.now) (g.D.Disk.state c.find_below.new.disk) c.find_below.ensures.leaves t
+
+pub take_away-requires-clause-present : goal.take_away-requires-clause-present
+take_away-requires-clause-present g c = λ a b h.
+    let t = sym c.find_below.ensures.leaves.proceeds.tells ∙ h in
+    let same = c.find_below.ensures.leaves.files t in
+    subst (λ (l : List FileName). AreRemovable l (g.D.Disk.state c.find_below.new.disk).files) (sym (c.deref.ensures.value ∙ c.in_ok-older.ensures.ok t))
+    (subst (AreRemovable (snapshots_below c.args.number (g.D.Disk.state c.args.disk.now).files)) (sym same) (below_removable c.args.number (g.D.Disk.state c.args.disk.now).files))
+
+pub returns-in_err-take_away-clause-any_moment : goal.returns-in_err-take_away-clause-any_moment
+returns-in_err-take_away-clause-any_moment g c = λ t.
+    let told = c.find_below.ensures.leaves.proceeds.tells ∙ t in
+    then_elapses _ (snapshots_below c.args.number (g.D.Disk.state c.args.disk.now).files) (g.D.Disk.state c.args.disk.now) (g.D.Disk.state c.find_below.new.disk) c.find_below.ensures.leaves (g.D.Disk.state c.take_away.new.disk) t
+    (subst (λ (l : List FileName). Elapses (MayTakeAway l) (g.D.Disk.state c.find_below.new.disk) (g.D.Disk.state c.take_away.new.disk)) (c.deref.ensures.value ∙ c.in_ok-older.ensures.ok t) (c.take_away.ensures.any_moment told))
+
+pub returns-in_err-take_away-clause-files : goal.returns-in_err-take_away-clause-files
+returns-in_err-take_away-clause-files g c = λ t.
+    let told = c.find_below.ensures.leaves.proceeds.tells ∙ t in
+    then_taken _ (snapshots_below c.args.number (g.D.Disk.state c.args.disk.now).files) (g.D.Disk.state c.args.disk.now) (g.D.Disk.state c.find_below.new.disk) c.find_below.ensures.leaves (g.D.Disk.state c.take_away.new.disk) t
+    (subst (λ (l : List FileName). HasTakenAway l (g.D.Disk.state c.find_below.new.disk) (g.D.Disk.state c.take_away.new.disk)) (c.deref.ensures.value ∙ c.in_ok-older.ensures.ok t) (c.take_away.ensures.files told))
+
+pub returns-clause-any_moment : goal.returns-clause-any_moment
+returns-clause-any_moment g c = λ t.
+    let told = c.find_below.ensures.leaves.proceeds.tells ∙ t in
+    then_elapses _ (snapshots_below c.args.number (g.D.Disk.state c.args.disk.now).files) (g.D.Disk.state c.args.disk.now) (g.D.Disk.state c.find_below.new.disk) c.find_below.ensures.leaves (g.D.Disk.state c.take_away.new.disk) t
+    (subst (λ (l : List FileName). Elapses (MayTakeAway l) (g.D.Disk.state c.find_below.new.disk) (g.D.Disk.state c.take_away.new.disk)) (c.deref.ensures.value ∙ c.in_ok-older.ensures.ok t) (c.take_away.ensures.any_moment told))
+
+pub returns-clause-ok : goal.returns-clause-ok
+returns-clause-ok g c = λ t.
+    let told = c.find_below.ensures.leaves.proceeds.tells ∙ t in
+    then_becomes _ (snapshots_below c.args.number (g.D.Disk.state c.args.disk.now).files) (g.D.Disk.state c.args.disk.now) (g.D.Disk.state c.find_below.new.disk) c.find_below.ensures.leaves (g.D.Disk.state c.take_away.new.disk) t (snapshots_below c.args.number (g.D.Disk.state c.args.disk.now).files)
+    (subst (λ (l : List FileName). Becomes (without_files l) (g.D.Disk.state c.find_below.new.disk) (g.D.Disk.state c.take_away.new.disk)) (c.deref.ensures.value ∙ c.in_ok-older.ensures.ok t) (c.in_ok-take_away.ensures.ok told))
+
+pub returns-clause-files : goal.returns-clause-files
+returns-clause-files g c = λ t.
+    let told = c.find_below.ensures.leaves.proceeds.tells ∙ t in
+    then_taken _ (snapshots_below c.args.number (g.D.Disk.state c.args.disk.now).files) (g.D.Disk.state c.args.disk.now) (g.D.Disk.state c.find_below.new.disk) c.find_below.ensures.leaves (g.D.Disk.state c.take_away.new.disk) t
+    (subst (λ (l : List FileName). HasTakenAway l (g.D.Disk.state c.find_below.new.disk) (g.D.Disk.state c.take_away.new.disk)) (c.deref.ensures.value ∙ c.in_ok-older.ensures.ok t) (c.take_away.ensures.files told))

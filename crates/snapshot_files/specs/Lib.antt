@@ -1,0 +1,4 @@
+pub mod Snaps
+pub mod Bodies
+pub mod Told
+pub mod Laws

@@ -1,0 +1,18 @@
+//! Snapshots saved, read and taken away: at every moment one is there whole, or it doesn't count.
+#![tactic(auto)]
+
+mod body;
+mod bytes;
+mod check;
+mod clearing;
+pub mod laws;
+mod names;
+mod order;
+mod reading;
+mod saving;
+mod snap;
+
+pub use clearing::clear_before;
+pub use reading::newest;
+pub use saving::save;
+pub use snap::Snap;
