@@ -1,5 +1,4 @@
-//! What a cluster over disks in memory answers to words; disks in memory that fail.
+//! What a cluster answers to words.
 #![tactic(auto)]
 
-pub mod disks;
 pub mod runs;

@@ -2,8 +2,6 @@
 #![tactic(auto)]
 
 #[cfg(test)]
-mod members;
-#[cfg(test)]
 mod replicas;
 #[cfg(test)]
 mod sessions;

@@ -2,22 +2,22 @@
 ghost use Rattle.std.specs.Prelude.{◌≢◌};
 ghost use Rattle.m3_outside.specs.Slots.{Out};
 ghost use Rattle.m3_outside.specs.declared.slot.Slot.{Slot as Place};
-ghost use Rattle.cluster_tests.specs.Ready.{IsReadyCluster};
+ghost use Rattle.member_runs.specs.Ready.{IsReadyCluster};
 
-use crate::members::{first, tell};
 use cluster_members::members::Members;
-use cluster_runs::disks::disks_with;
 use cluster_words::answers::letter_of_reason;
 use cluster_words::words::{number, text};
 use m3_model::memory::Memory;
 use m3_model::replica::{Report, Standing};
 use m3_outside::disk::Disk;
 use m3_outside::disks::Disks;
+use member_runs::members::{first, tell};
 use replica_calls::replicas::Replicas;
 use replica_exchange::CallErr;
 use replica_exchange::slot::Slot;
 use std::alloc::Global;
 use std::test::Fail;
+use test_disks::disks::disks_with;
 
 fn spell_refusal(out: &mut String, refused: &CallErr) -> Result<(), Memory> {
     match refused {
@@ -116,7 +116,7 @@ fn story<X: Disks>(
 ) -> Result<(), Memory>
     requires free { (place : Place) → X.held disks.old place ≢ Out }
 {
-    let mut members = first(alloc, disks)?;
+    let mut members = first(alloc, disks, 1)?;
     let told = tell_both(alloc, &mut members, words, calls, out);
     drop(members);
     told

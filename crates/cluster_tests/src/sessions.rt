@@ -2,17 +2,17 @@
 ghost use Rattle.std.specs.Prelude.{◌≢◌};
 ghost use Rattle.m3_outside.specs.Slots.{Out};
 ghost use Rattle.m3_outside.specs.declared.slot.Slot.{Slot as Place};
-ghost use Rattle.cluster_tests.specs.Ready.{IsReadyCluster};
+ghost use Rattle.member_runs.specs.Ready.{IsReadyCluster};
 
-use crate::members::{first, tell};
 use cluster_members::members::Members;
-use cluster_runs::disks::disks_with;
 use cluster_words::words::number;
 use m3_model::memory::Memory;
 use m3_outside::disk::Disk;
 use m3_outside::disks::Disks;
+use member_runs::members::{first, tell};
 use std::alloc::Global;
 use std::test::Fail;
+use test_disks::disks::disks_with;
 
 // Sets the namespace m at moment 100, and these fates.
 fn is_set_up<D: Disk>(alloc: Global, members: &mut Members<D>, fates: &str) -> Result<bool, Memory>
@@ -52,7 +52,7 @@ fn story<X: Disks>(
 ) -> Result<(), Memory>
     requires free { (place : Place) → X.held disks.old place ≢ Out }
 {
-    let mut members = first(alloc, disks)?;
+    let mut members = first(alloc, disks, 1)?;
     let told = tell_story(alloc, &mut members, client, fates, words, out);
     drop(members);
     told

@@ -7,7 +7,8 @@ use m3_model::point::Series;
 use m3_model::reason::Reason;
 use m3_model::turn::Reply;
 
-fn letter_of_node(node: u8) -> char {
+/// The letter of a node by its number.
+pub fn letter_of_node(node: u8) -> char {
     match node {
         0 => 'a',
         1 => 'b',
@@ -53,8 +54,8 @@ fn spell_series(out: &mut String, series: &Series) -> Result<(), Memory> {
     Ok(())
 }
 
-// Each series by its letter with its points, and whether the read came short: `u100=5,101=6,!`.
-fn spell_found(out: &mut String, found: &[Series], short: bool) -> Result<(), Memory> {
+/// Each series by its letter with its points, and whether the read came short: `u100=5,101=6,!`.
+pub fn spell_found(out: &mut String, found: &[Series], short: bool) -> Result<(), Memory> {
     for series in found {
         spell_series(out, series)?;
     }

@@ -5,5 +5,3 @@
 mod model;
 #[cfg(test)]
 mod random;
-#[cfg(test)]
-mod scripts;

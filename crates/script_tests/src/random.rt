@@ -1,44 +1,12 @@
 //! Random scripts, over disks that fail now and then.
-ghost use Rattle.std.specs.Prelude.{◌≡◌, IfOk};
-ghost use Rattle.m3_outside.specs.Slots.{Out};
-ghost use Rattle.m3_outside.specs.declared.slot.Slot.{Slot as Place};
-ghost use Rattle.mem_disk.specs.Slots.{held_of};
-
 use crate::model::first_wrong;
-use crate::scripts::{Dice, script};
-use cluster_runs::disks::put;
 use cluster_runs::runs::run;
+use cluster_words::scripts::script;
 use m3_model::memory::Memory;
 use m3_outside::disks::Disks;
-use m3_outside::slot::Slot;
-use mem_disk::disk::MemDisk;
-use mem_disk::disks::MemDisks;
 use std::alloc::Global;
 use std::test::Fail;
-
-// A disk of which some calls fail, and maybe all after so many, until it is restarted.
-fn failing_disk(alloc: Global, dice: &mut Dice) -> Result<MemDisk, Memory> {
-    let fail = [dice.roll(100), 100 + dice.roll(100), 200 + dice.roll(100)];
-    let fuse = if dice.roll(3) == 0 {
-        Some(dice.roll(300))
-    } else {
-        None
-    };
-    MemDisk::new(alloc, &fail, fuse)
-}
-
-// Those of the three nodes for shard 0 are such disks.
-fn failing_disks(alloc: Global, seed: u64) -> Result<MemDisks, Memory>
-    ensures { IfOk result (λ disks. (place : Place) → ¬ (held_of disks place ≡ Out)) }
-{
-    let mut dice = Dice::new(seed);
-    let mut disks = MemDisks::new(alloc)?;
-    for node in 0..3u8 {
-        let disk = failing_disk(alloc, &mut dice)?;
-        put(&mut disks, Slot { node, shard: 0 }, disk);
-    }
-    Ok(disks)
-}
+use test_disks::failing::failing_disks;
 
 // What is wrong with the answers to the script of this seed.
 fn tell_script(alloc: Global, seed: u64, out: &mut String) -> Result<(), Memory> {

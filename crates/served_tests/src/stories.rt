@@ -1,9 +1,9 @@
 //! Stories of requests that a cluster serves.
-use cluster_runs::disks::disks_with;
 use cluster_runs::runs::run;
 use m3_model::memory::Memory;
 use std::alloc::Global;
 use std::test::Fail;
+use test_disks::disks::disks_with;
 
 // Over disks that never fail.
 fn story(alloc: Global, words: &str, out: &mut String) -> Result<(), Memory> {

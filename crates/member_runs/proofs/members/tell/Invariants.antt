@@ -1,5 +1,5 @@
-use Rattle.cluster_tests.specs.Ready.{IsReadyCluster}
-use Rattle.cluster_tests.proofs.members.tell.Given as goal
+use Rattle.member_runs.specs.Ready.{IsReadyCluster}
+use Rattle.member_runs.proofs.members.tell.Given as goal
 
 abbrev pub invariant-loop-number : goal.invariant-loop-number
 invariant-loop-number g l = IsReadyCluster l.members

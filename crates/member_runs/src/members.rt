@@ -1,10 +1,11 @@
 //! A cluster that stands, and what it answers to words.
-ghost use Rattle.std.specs.Prelude.{◌≢◌, IfOk, IsTrue};
+ghost use Rattle.std.specs.Prelude.{◌≢◌, ◌≤◌, IfOk, IsTrue};
 ghost use Rattle.m3_model.specs.Limits.{MeetsLimits};
+ghost use Rattle.m3_model.specs.declared.limits.TheConstants.{MOST_SHARDS};
 ghost use Rattle.m3_outside.specs.Slots.{Out};
 ghost use Rattle.m3_outside.specs.declared.slot.Slot.{Slot as Place};
 ghost use Rattle.node_calls.specs.Halts.{AreManned};
-ghost use Rattle.cluster_tests.specs.Ready.{IsReadyCluster};
+ghost use Rattle.member_runs.specs.Ready.{IsReadyCluster};
 
 use cluster_members::calls::Range;
 use cluster_members::members::Members;
@@ -129,8 +130,8 @@ fn call<D: Disk>(alloc: Global, members: &mut Members<D>, id: CallId, act: Act) 
     }
 }
 
-// The answer to a word, as this call, with a colon.
-fn tell_word<D: Disk>(
+/// The answer to a word, as this call, ended by a colon.
+pub fn tell_word<D: Disk>(
     alloc: Global,
     members: &mut Members<D>,
     id: CallId,
@@ -167,13 +168,15 @@ pub fn tell<D: Disk>(
     Ok(())
 }
 
-/// The nodes a, b and c, which have the only shard, at moment 0 without namespaces.
-pub fn first<X: Disks>(alloc: Global, disks: &mut X) -> Result<Members<X::D>, Memory>
+/// The nodes a, b and c, each of which has all shards, at moment 0 without namespaces.
+pub fn first<X: Disks>(alloc: Global, disks: &mut X, shards: u32) -> Result<Members<X::D>, Memory>
+    requires some { 1 ≤ shards }
+    requires few { shards ≤ MOST_SHARDS }
     requires free { (place : Place) → X.held disks.old place ≢ Out }
     ensures ready { IfOk result IsReadyCluster }
 {
     let nodes = three_nodes(alloc)?;
-    match first_members(alloc, disks, 3, 1, 0, nodes) {
+    match first_members(alloc, disks, 3, shards, 0, nodes) {
         Ok((members, placement)) => {
             drop(placement);
             Ok(members)

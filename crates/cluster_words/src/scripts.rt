@@ -4,13 +4,14 @@ ghost use Rattle.std.specs.Prelude.{◌≤◌, ◌<◌};
 use m3_model::memory::Memory;
 use std::alloc::Global;
 
-// A xorshift generator, whose state isn't 0.
+/// A xorshift generator, whose state isn't 0.
 #[derive(Clone, Copy)]
 pub struct Dice {
     state: u64,
 }
 
 impl Dice {
+    /// The generator of a seed.
     pub fn new(seed: u64) -> Dice {
         Dice {
             state: seed.wrapping_mul(0x9E37_79B9_7F4A_7C15) | 1,

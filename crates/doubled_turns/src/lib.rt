@@ -1,0 +1,5 @@
+//! What a cluster would answer to words whose replicas are doubles, for tests.
+#![tactic(auto)]
+
+pub mod sessions;
+pub mod turns;

@@ -1,0 +1,5 @@
+//! A double of a cluster's replicas, for tests: machines over equal disks, called as the replicas are, with each event kept.
+#![tactic(auto)]
+
+pub mod doubles;
+pub mod heard;

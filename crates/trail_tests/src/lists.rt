@@ -1,0 +1,261 @@
+//! Random scripts over a cluster and its double: the cluster answers as the double does, and its list is as long as the double's, which
+//! is legal.
+ghost use Rattle.std.specs.Prelude.{◌<◌, ◌≤◌, IfSome};
+ghost use Rattle.member_runs.specs.Ready.{IsReadyCluster};
+
+use cluster_core::event::{Event, StepCall, StepReply};
+use cluster_members::members::Members;
+use cluster_words::acts::act_of;
+use cluster_words::scripts::{Dice, script};
+use doubled_turns::turns::{keep, open};
+use legal_events::legal::any_legal;
+use m3_model::memory::Memory;
+use m3_model::reason::Reason;
+use m3_model::seq::Seq;
+use m3_outside::disk::Disk;
+use mem_disk::disk::MemDisk;
+use member_runs::members::{first, tell_word};
+use replica_calls::replicas::Replicas;
+use replica_doubles::doubles::{Double, NODES};
+use replica_exchange::call_id::CallId;
+use replica_machine::machine::Machine;
+use std::alloc::Global;
+use std::mem::replace;
+use std::test::Fail;
+use test_disks::failing::{failing_disk, failing_disks};
+
+// A disk like that of the cluster: for shard 0 it fails now and then.
+fn disk_for(alloc: Global, dice: &mut Dice, shard: u32) -> Result<MemDisk, Memory> {
+    if shard == 0 {
+        failing_disk(alloc, dice)
+    } else {
+        MemDisk::new(alloc, &[], None)
+    }
+}
+
+fn machines_over(alloc: Global, seed: u64, shards: u32) -> Result<Vec<Machine<MemDisk>>, Memory> {
+    let mut dice = Dice::new(seed);
+    let mut machines = Vec::new(alloc);
+    for shard in 0..shards {
+        for _ in 0..NODES {
+            let disk = disk_for(alloc, &mut dice, shard)?;
+            machines.push(Machine::new(alloc, disk))?;
+        }
+    }
+    Ok(machines)
+}
+
+// A list takes 2^62 events.
+const MOST_EVENTS: u64 = 1 << 62;
+
+// Whether the cluster's list has so many events.
+fn is_as_long<D: Disk>(replicas: &Replicas<D>, len: usize) -> bool {
+    let rest = MOST_EVENTS.saturating_sub(len as u64);
+    replicas.has_room(rest) && !replicas.has_room(rest.saturating_add(1))
+}
+
+fn keep_act<D: Disk>(
+    alloc: Global,
+    double: &mut Double<D>,
+    members: &Members<D>,
+    number: u64,
+    word: &str,
+    told: &str,
+    own: &mut String,
+) -> Result<(), Memory> {
+    let act = act_of(alloc, word)?;
+    let said = keep(alloc, double, members, number, &act, told, own);
+    drop(act);
+    said
+}
+
+// Keeps the events of a word, and tells of it where the double has another answer or a list of another length.
+fn keep_word<D: Disk>(
+    alloc: Global,
+    double: &mut Double<D>,
+    members: &Members<D>,
+    number: u64,
+    word: &str,
+    told: &str,
+    out: &mut String,
+) -> Result<(), Memory> {
+    let mut kept = String::new(alloc);
+    keep_act(alloc, double, members, number, word, told, &mut kept)?;
+    let own = kept.as_str();
+    if own != told || !is_as_long(&members.net.replicas, double.events.len()) {
+        write!(out, "{word} {told} {own} ")?;
+    }
+    Ok(())
+}
+
+fn tell_one<D: Disk>(
+    alloc: Global,
+    double: &mut Double<D>,
+    members: &mut Members<D>,
+    number: u64,
+    word: &str,
+    out: &mut String,
+) -> Result<(), Memory>
+    requires ready { IsReadyCluster members.old }
+    ensures ready { IsReadyCluster members.new }
+{
+    let mut answer = String::new(alloc);
+    let id = CallId { client: 0, number };
+    tell_word(alloc, members, id, word, &mut answer)?;
+    let told = answer.as_str().trim_end_matches(':');
+    keep_word(alloc, double, members, number, word, told, out)
+}
+
+// Fates begin the numbers of calls anew.
+fn number_after(number: u64, word: &str) -> u64 {
+    match word.as_bytes().first() {
+        Some(b'f') => 0,
+        Some(b'w' | b'r' | b'q') => number.saturating_add(1),
+        _ => number,
+    }
+}
+
+fn tell_words<D: Disk>(
+    alloc: Global,
+    double: &mut Double<D>,
+    members: &mut Members<D>,
+    words: &str,
+    out: &mut String,
+) -> Result<(), Memory>
+    requires ready { IsReadyCluster members.old }
+{
+    open(alloc, double, members)?;
+    let mut number = 0;
+    for word in words.split(' ') {
+        tell_one(alloc, double, members, number, word, out)?;
+        number = number_after(number, word);
+    }
+    Ok(())
+}
+
+fn run_beside(
+    alloc: Global,
+    double: &mut Double<MemDisk>,
+    seed: u64,
+    shards: u32,
+    words: &str,
+    out: &mut String,
+) -> Result<(), Memory>
+    requires some { 1 ≤ shards }
+    requires few { shards ≤ 2 }
+{
+    let mut disks = failing_disks(alloc, seed)?;
+    let mut members = first(alloc, &mut disks, shards)?;
+    let told = tell_words(alloc, double, &mut members, words, out);
+    drop(members);
+    drop(disks);
+    told
+}
+
+// ---- the list
+
+// The kinds of events of which a list has to have some: a fault of a disk, a restart, a write that was acknowledged, and a read that
+// enough nodes answered.
+fn kind_of(event: &Event) -> Option<usize>
+    ensures { IfSome result (λ kind. kind < 4) }
+{
+    match event {
+        Event::Step {
+            reply: StepReply::Refused {
+                reason: Reason::Disk,
+            },
+            ..
+        } => Some(0),
+        Event::Step {
+            call: StepCall::Restart,
+            ..
+        } => Some(1),
+        Event::Ack { .. } => Some(2),
+        Event::FetchDone { .. } => Some(3),
+        _ => None,
+    }
+}
+
+fn has_each_kind(events: &[Event]) -> bool {
+    let mut seen = [false; 4];
+    for event in events {
+        if let Some(kind) = kind_of(event) {
+            seen[kind] = true;
+        }
+    }
+    seen == [true; 4]
+}
+
+// Whether the double's list is legal, and long enough.
+fn tell_list(alloc: Global, double: &mut Double<MemDisk>, out: &mut String) -> Result<(), Memory> {
+    if double.events.len() < 500 || !has_each_kind(double.events.as_slice()) {
+        out.push_str("few ")?;
+    }
+    let list = Seq::from_vec(replace(&mut double.events, Vec::new(alloc)));
+    let is_legal = any_legal(alloc, &list);
+    drop(list);
+    Ok(write!(out, "{}", is_legal?)?)
+}
+
+fn tell_double(
+    alloc: Global,
+    double: &mut Double<MemDisk>,
+    seed: u64,
+    shards: u32,
+    words: &str,
+    out: &mut String,
+) -> Result<(), Memory>
+    requires some { 1 ≤ shards }
+    requires few { shards ≤ 2 }
+{
+    run_beside(alloc, double, seed, shards, words, out)?;
+    tell_list(alloc, double, out)
+}
+
+// A script begins with `i1` or `i2`.
+fn shards_of(head: &str) -> u32
+    ensures some { 1 ≤ result }
+    ensures few { result ≤ 2 }
+{
+    if head == "i1" { 1 } else { 2 }
+}
+
+fn tell_script(alloc: Global, seed: u64, script: &str, out: &mut String) -> Result<(), Memory> {
+    let (head, words) = script.split_once(' ').unwrap_or(("", ""));
+    let shards = shards_of(head);
+    let machines = machines_over(alloc, seed, shards)?;
+    let mut double = Double::new(alloc, machines);
+    let told = tell_double(alloc, &mut double, seed, shards, words, out);
+    drop(double);
+    told
+}
+
+fn tell_seed(alloc: Global, seed: u64, out: &mut String) -> Result<(), Memory> {
+    let script = script(alloc, seed, 200)?;
+    write!(out, "{seed}:")?;
+    tell_script(alloc, seed, script.as_str(), out)?;
+    Ok(out.push('\n')?)
+}
+
+fn tell_seeds(alloc: Global, seeds: &[u64], out: &mut String) -> Result<(), Memory> {
+    for seed in seeds {
+        tell_seed(alloc, *seed, out)?;
+    }
+    Ok(())
+}
+
+#[test]
+fn lists_are_legal(rt: HostRuntime) -> Result<(), Fail> {
+    let mut out = String::new(rt.alloc());
+    tell_seeds(rt.alloc(), &[1, 2, 3, 4], &mut out)?;
+    assert_eq!(rt; out.as_str(), "1:true\n2:true\n3:true\n4:true\n");
+    Ok(())
+}
+
+#[test]
+fn other_lists_are_legal(rt: HostRuntime) -> Result<(), Fail> {
+    let mut out = String::new(rt.alloc());
+    tell_seeds(rt.alloc(), &[5, 6, 7, 8], &mut out)?;
+    assert_eq!(rt; out.as_str(), "5:true\n6:true\n7:true\n8:true\n");
+    Ok(())
+}
