@@ -1,6 +1,6 @@
 -- The blocks of a content; M3DB's page "Storage Engine", of blocks.
-use Rattle.std.specs.Prelude.{◌≡◌, ℕ, ℤ, ◌<◌, ◌*◌, ◌/◌, List, Option, Some, None, Bool, false, ◌&&◌, is_some, slice_get, ◌⊎◌, option_map}
-use Rattle.std.specs.Ordering.{nat_cmp, ordering_then, is_eq}
+use Rattle.std.specs.Prelude.{◌≡◌, ℕ, ℤ, ◌<◌, ◌*◌, ◌/◌, List, Option, Some, slice_get, ◌⊎◌, option_map}
+use Rattle.std.specs.Ordering.{nat_cmp, ordering_then}
 use Rattle.std.specs.declared.cmp.Ordering.{Ordering}
 use Rattle.m3_model.specs.declared.point.Key.{Key}
 use Rattle.m3_model.specs.declared.point.Point.{Point}
@@ -8,7 +8,9 @@ use Rattle.m3_model.specs.declared.rules.Rules.{Rules}
 use Rattle.m3_model.specs.Ascends.{Ascends}
 use Rattle.m3_model.specs.Members.{IsIn}
 use Rattle.m3_model.specs.Contents.{Contents, key_of}
-use Rattle.block_buffer.specs.Ranges.{Stands}
+use Rattle.series_slots.specs.Ranges.{Stands}
+use Rattle.series_slots.specs.Points.{value_of}
+use Rattle.series_slots.specs.Places.{Places, slots_of}
 
 -- the start of the block in which a time lies: the last multiple of the block size up to it
 abbrev pub block_start : ℕ → ℕ → ℕ
@@ -32,11 +34,17 @@ pub record IsBlocksOf (rules : Rules) (c : Contents) (blocks : List (ℕ × ℕ)
 abbrev pub block_cmp : ℕ × ℕ → ℕ × ℕ → Ordering
 block_cmp a b = ordering_then (nat_cmp a.0 b.0) (nat_cmp a.1 b.1)
 
--- whether it is this block
-abbrev pub is_block : Option (ℕ × ℕ) → ℕ × ℕ → Bool
-is_block None q = false
-is_block (Some block) q = is_eq (block_cmp block q)
+-- it is the start of the block of this size of a value of the namespace
+pub record IsStartOf (es : Places) (ns size : ℕ) (q : ℕ × ℕ) : Type 0 where
+  pub key : Key
+  pub value : ℤ
+  pub stands : value_of (slots_of es) key ≡ Some value
+  pub space : key.ns ≡ ns
+  pub is : q ≡ (ns, block_start size key.t)
 
--- whether a slot has a value in this block
-abbrev pub has_value_in : ℕ → ℕ → ℕ × ℕ → ℕ × Option ℤ → Bool
-has_value_in ns size q e = is_some e.1 && is_eq (block_cmp (ns, block_start size e.0) q)
+-- it is the block of a value
+pub record IsBlockOf (rules : Rules) (es : Places) (q : ℕ × ℕ) : Type 0 where
+  pub key : Key
+  pub value : ℤ
+  pub stands : value_of (slots_of es) key ≡ Some value
+  pub is : block_of rules key ≡ Some q

@@ -7,7 +7,7 @@ use Rattle.m3_model.specs.declared.rules.Rules.{Rules}
 use Rattle.m3_model.specs.Contents.{key_of}
 use Rattle.m3_model.specs.Reads.{Matches}
 use Rattle.m3_model.specs.Rules.{HasExpired}
-use Rattle.block_buffer.specs.Ranges.{IsNamedBy}
+use Rattle.series_slots.specs.Ranges.{IsNamedBy}
 use Rattle.block_buffer.specs.Held.{has_expired}
 
 -- the pick has no matchers

@@ -1,9 +1,7 @@
-pub mod SeriesKeys
-pub mod Slots
-pub mod Points
-pub mod Places
+pub mod Room
+pub mod Timed
 pub mod Held
-pub mod Ranges
+pub mod Taken
 pub mod Blocks
 pub mod Laws
 pub mod Joins

@@ -1,57 +1,62 @@
-ghost use Rattle.std.specs.Prelude.{◌≡◌, ◌||◌, ℕ, ◌+◌, ◌-◌, ◌<◌, ◌^◌, List, [], None, Some, cond, not, false, length, min, count_by, is_some, IfOk, IfSome, OnOk, ◌++◌, IsPermutation, IsSortedByKey};
-ghost use Rattle.std.specs.List.{flat_map, filter_map, list_any, All, IsDistinct};
-ghost use Rattle.std.specs.Map.{keys_of};
-ghost use Rattle.std.specs.BTreeSet.{contains, IsOrdered};
-ghost use Rattle.std.specs.Cmp.Lexicographic.{slice_cmp};
-ghost use Rattle.std.specs.Ordering.{nat_cmp, eq_by_cmp};
+ghost use Rattle.std.specs.Prelude.{◌≡◌, ◌≢◌, ◌⊎◌, ℕ, ℤ, List, ◌<◌, ◌≤◌, ◌^◌, [], Some, None, true, false, IsTrue, IsSome, cond, length, slice_get, is_some, IfOk, IfSome, OnOk, OnErr, MatchOption};
+ghost use Rattle.std.specs.BTreeSet.{contains};
 ghost use Rattle.std.specs.FinMap as finite;
+ghost use Rattle.std.specs.Ordering.{nat_cmp};
 ghost use Rattle.m3_model.specs.declared.point.Key.{Key};
 ghost use Rattle.m3_model.specs.declared.point.Matcher.{Matcher};
 ghost use Rattle.m3_model.specs.declared.point.Pick.TheVariants as pick;
-ghost use Rattle.m3_model.specs.Keys.{key_cmp};
 ghost use Rattle.m3_model.specs.Contents.{higher, is_higher};
-ghost use Rattle.block_buffer.specs.declared.series_key.SeriesKey.{SeriesKey};
-ghost use Rattle.block_buffer.specs.Blocks.{block_cmp, block_of, is_block, IsBlocksOf};
-ghost use Rattle.block_buffer.specs.SeriesKeys.{key_at, series_eq};
-ghost use Rattle.block_buffer.specs.Slots.{valued_in};
-ghost use Rattle.block_buffer.specs.Points.{value_of, series_points, points_of};
-ghost use Rattle.block_buffer.specs.Places.{IsAt, StandsAt, slots_of};
-ghost use Rattle.block_buffer.specs.Ranges.{IsRangeOf, some_series, series_in};
-ghost use Rattle.block_buffer.specs.Held.{without, has_expired, is_in_block};
+ghost use Rattle.place_numbers.specs.Inverse.{AreDistinct};
+ghost use Rattle.series_slots.specs.declared.series_key.SeriesKey.{SeriesKey};
+ghost use Rattle.series_slots.specs.SeriesKeys.{key_at};
+ghost use Rattle.series_slots.specs.Slots.{Slots, settled};
+ghost use Rattle.series_slots.specs.Points.{slot_at, value_of, points_of};
+ghost use Rattle.series_slots.specs.Places.{IsAt, StandsAt, slots_of};
+ghost use Rattle.series_slots.specs.Ranges.{IsRangeOf};
+ghost use Rattle.block_buffer.specs.Taken.{is_settled};
+ghost use Rattle.block_buffer.specs.Timed.{IsTakenAt, is_bare, time_cmp, IsTimed, IsSlotSet, AreSameSlots, IsFirst, HasNoneFrom, IsValueOf, HasNoValue, HasNoSlots, HasSlots};
 
-use crate::series_buffer::SeriesBuffer;
-use crate::series_key::SeriesKey;
-use indexmap::IndexMap;
+use crate::spot::Spot;
+use crate::taken::Taken;
 use m3_model::duplicate::Duplicate;
 use m3_model::memory::Memory;
 use m3_model::point::Series;
-use m3_model::rules::Rules;
 use m3_model::seq::Seq;
 use m3_model::text::Text;
-use retention::{last_expired, space_of};
+use place_numbers::PlaceNumbers;
+use series_slots::placed::PlacedSeries;
+use series_slots::series_key::SeriesKey;
 use std::alloc::Global;
 use std::collections::BTreeSet;
 use std::marker::Model;
 
-// The slots of each series, at its place. A place is that of its series until a series leaves.
+// The slots of each series, at its place, and an index of their times. A place is that of its series until a series
+// leaves.
 #[derive(Drop)]
 pub(crate) struct AllSeries {
-    map: IndexMap<SeriesKey, SeriesBuffer>,
+    placed: PlacedSeries,
+    // The number of each place.
+    numbers: PlaceNumbers,
+    // The namespace and the time of each slot, under the number of its series.
+    times: BTreeSet<(u8, u64, u32)>,
+    // One above the highest namespace that a series had.
+    spaces: usize,
 }
 
 impl Model for AllSeries {
-    ghost use Rattle.std.specs.List.{IsDistinct};
-    ghost use Rattle.std.specs.Map.{keys_of};
-    ghost use Rattle.block_buffer.specs.SeriesKeys.{series_eq};
-    ghost use Rattle.block_buffer.specs.Places.{Places, places_code};
+    ghost use Rattle.std.specs.Prelude.{◌≤◌};
+    ghost use Rattle.std.specs.BTreeSet.{contains};
+    ghost use Rattle.series_slots.specs.Places.{Places, places_code};
+    ghost use Rattle.block_buffer.specs.Taken.{is_settled};
+    ghost use Rattle.block_buffer.specs.Timed.{IsTakenAt, is_bare, time_cmp, IsTimed, SpacesBelow};
 
     ghost Value = { Places };
 
     ghost coded = { places_code };
 
-    ghost view = { λ a. a.map.entries };
+    ghost view = { λ a. a.placed };
 
-    ghost invariant = { λ a. IsDistinct series_eq (keys_of a.map.entries) };
+    ghost invariant = { λ a. IsTimed a.placed a.numbers (contains time_cmp a.times) × SpacesBelow a.spaces a.placed × (a.spaces ≤ 256) };
 }
 
 // Where a slot is: the place of its series, and whether it has a value.
@@ -61,13 +66,132 @@ pub(crate) struct Found {
     pub(crate) valued: bool,
 }
 
+// The number of the place, which is there.
+fn number_of(numbers: &PlaceNumbers, place: usize) -> u32
+    requires { place < length numbers.now }
+    ensures number { slice_get numbers.now place ≡ Some result }
+    ensures distinct { AreDistinct numbers.now }
+{
+    match numbers.number_at(place) {
+        Some(number) => number,
+        None => 0,
+    }
+}
+
+// The value of a slot, if there is a slot and it has one.
+fn settled(slot: Option<Option<i64>>) -> Option<i64>
+    ensures { result ≡ settled slot }
+{
+    match slot {
+        Some(value) => value,
+        None => None,
+    }
+}
+
+// The value under this number at this time, if there is one.
+fn spot(placed: &PlacedSeries, numbers: &PlaceNumbers, t: u64, number: u32) -> Option<Spot>
+    requires { length numbers.now ≡ length placed.now }
+    ensures some { IfSome result (λ x. (x.t ≡ t) × IsValueOf placed.now numbers.now x.place t number x.v) }
+    ensures none { result ≡ None → HasNoValue placed.now numbers.now t number }
+    ensures distinct { AreDistinct numbers.now }
+{
+    let place = numbers.place_of(number)?;
+    let v = settled(placed.slot_at(place, t))?;
+    Some(Spot { place, t, v })
+}
+
+// Whether there is a slot, and it has no value.
+fn is_bare(slot: Option<Option<i64>>) -> bool
+    ensures { result ≡ is_bare slot }
+{
+    match slot {
+        Some(value) => value.is_none(),
+        None => false,
+    }
+}
+
+fn higher_of(a: usize, b: usize) -> usize
+    ensures first { a ≤ result }
+    ensures second { b ≤ result }
+    ensures one { (result ≡ a) ⊎ (result ≡ b) }
+{
+    if a < b { b } else { a }
+}
+
+// The first value of the namespace at the times from `low` on.
+fn first_in(
+    placed: &PlacedSeries,
+    numbers: &PlaceNumbers,
+    times: &BTreeSet<(u8, u64, u32)>,
+    ns: u8,
+    low: u64,
+) -> Option<Spot>
+    requires { IsTimed placed.now numbers.now (contains time_cmp times.now) }
+    ensures none { result ≡ None → HasNoneFrom placed.now ns low }
+    ensures some { IfSome result (λ x. IsFirst placed.now ns low x.place x.t x.v) }
+{
+    for (space, t, number) in times.range((ns, low, 0)..) {
+        if *space != ns {
+            return None;
+        }
+        if let Some(found) = spot(placed, numbers, *t, *number) {
+            return Some(found);
+        }
+    }
+    None
+}
+
+// The places of the series that have slots of the namespace with `from <= t < to`.
+fn places_in(
+    alloc: Global,
+    numbers: &PlaceNumbers,
+    times: &BTreeSet<(u8, u64, u32)>,
+    ns: u8,
+    from: u64,
+    to: u64,
+) -> Result<BTreeSet<usize>, Memory>
+    ensures { IfOk result (λ places. (place n t : ℕ) → slice_get numbers.now place ≡ Some n → contains time_cmp times.now (ns, t, n) ≡ true → from ≤ t → t < to → contains nat_cmp places place ≡ true) }
+{
+    let mut places = BTreeSet::new(alloc);
+    if to <= from {
+        return Ok(places);
+    }
+    for (_, _, number) in times.range((ns, from, 0)..(ns, to, 0)) {
+        if let Some(place) = numbers.place_of(*number) {
+            places.insert(place)?;
+        }
+    }
+    Ok(places)
+}
+
 impl AllSeries {
     pub(crate) fn new(alloc: Global) -> AllSeries
         ensures { result ≡ [] }
     {
         AllSeries {
-            map: IndexMap::new(alloc),
+            placed: PlacedSeries::new(alloc),
+            numbers: PlaceNumbers::new(alloc),
+            times: BTreeSet::new(alloc),
+            spaces: 0,
         }
+    }
+
+    // The place of the series, if it is there.
+    pub(crate) fn place_of(&self, series: &SeriesKey) -> Option<usize>
+        ensures there { IfSome result (λ place. IsAt self.now place series.now) }
+        ensures absent { result ≡ None → finite.get (slots_of self.now) series.now ≡ None }
+    {
+        self.placed.place_of(series)
+    }
+
+    // The slot of the series at this place and time, if there is one.
+    pub(crate) fn slot(&self, place: usize, t: u64) -> Option<Option<i64>>
+        requires { (s : SeriesKey) × IsAt self.now place s }
+        ensures slot { (s : SeriesKey) → IsAt self.now place s → result ≡ slot_at (slots_of self.now) (key_at s t) }
+        ensures stands { (s : SeriesKey) → IsAt self.now place s → IfSome result (λ _. StandsAt self.now place t s) }
+        ensures bare { (s : SeriesKey) (slots : Slots) → slice_get self.now place ≡ Some (s, slots) → result ≡ finite.get slots t }
+    {
+        self.placed.slot_at(place, t)
     }
 
     // Makes a slot of the series at this time, if there is none. No value changes.
@@ -77,94 +201,207 @@ impl AllSeries {
         series: &SeriesKey,
         t: u64,
     ) -> Result<Found, Memory>
-        ensures kept { (k : Key) → value_of (slots_of self.new) k ≡ value_of (slots_of self.old) k }
+        ensures ok { OnOk result (IsSlotSet self.old self.new (key_at series.now t) (Some (value_of (slots_of self.old) (key_at series.now t)))) }
         ensures stands { IfOk result (λ found. StandsAt self.new found.place t series.now) }
         ensures valued { IfOk result (λ found. found.valued ≡ is_some (value_of (slots_of self.old) (key_at series.now t))) }
+        ensures err { OnErr result (AreSameSlots self.old self.new) }
     {
         match self.place_of(series) {
             Some(place) => {
                 let valued = self.hold_at(place, t)?;
                 Ok(Found { place, valued })
             }
-            None => self.hold_new(alloc, series.copy(alloc)?, t),
+            None => {
+                let place = self.hold_new(alloc, series.copy(alloc)?, t)?;
+                Ok(Found {
+                    place,
+                    valued: false,
+                })
+            }
         }
-    }
-
-    // The place of the series, if it is there.
-    fn place_of(&self, series: &SeriesKey) -> Option<usize>
-        ensures there { IfSome result (λ place. IsAt self.now place series.now) }
-        ensures absent { result ≡ None → finite.get (slots_of self.now) series.now ≡ None }
-    {
-        let (place, _, _) = self.map.get_full(series)?;
-        Some(place)
     }
 
     // Makes a slot of the series at this place, if there is none. Says whether there is a value.
     fn hold_at(&mut self, place: usize, t: u64) -> Result<bool, Memory>
         requires { (s : SeriesKey) × IsAt self.old place s }
-        ensures kept { (k : Key) → value_of (slots_of self.new) k ≡ value_of (slots_of self.old) k }
+        ensures ok { (s : SeriesKey) → IsAt self.old place s → OnOk result (IsSlotSet self.old self.new (key_at s t) (Some (value_of (slots_of self.old) (key_at s t)))) }
         ensures stands { (s : SeriesKey) → IsAt self.old place s → OnOk result (StandsAt self.new place t s) }
         ensures valued { (s : SeriesKey) → IsAt self.old place s → IfOk result (λ valued. valued ≡ is_some (value_of (slots_of self.old) (key_at s t))) }
+        ensures err { OnErr result (self.new ≡ self.old) }
     {
-        self.map[place].hold(t)
+        match self.slot(place, t) {
+            Some(slot) => Ok(slot.is_some()),
+            None => {
+                self.hold_absent(place, t)?;
+                Ok(false)
+            }
+        }
+    }
+
+    // Makes a slot of the series at this place and time, where there is none.
+    fn hold_absent(&mut self, place: usize, t: u64) -> Result<(), Memory>
+        requires { (s : SeriesKey) × (slots : Slots) × (slice_get self.old place ≡ Some (s, slots)) × (finite.get slots t ≡ None) }
+        ensures ok { (s : SeriesKey) → IsAt self.old place s → OnOk result (IsSlotSet self.old self.new (key_at s t) (Some None)) }
+        ensures stands { (s : SeriesKey) → IsAt self.old place s → OnOk result (StandsAt self.new place t s) }
+        ensures err { OnErr result (self.new ≡ self.old) }
+    {
+        let time = (
+            self.placed.space_at(place),
+            t,
+            number_of(&self.numbers, place),
+        );
+        self.times.insert(time)?;
+        match self.placed.hold(place, t) {
+            Ok(()) => Ok(()),
+            Err(e) => {
+                self.times.remove(&time);
+                Err(e)
+            }
+        }
     }
 
     // Makes a slot of a series that isn't there. It comes last.
-    fn hold_new(&mut self, alloc: Global, series: SeriesKey, t: u64) -> Result<Found, Memory>
+    fn hold_new(&mut self, alloc: Global, series: SeriesKey, t: u64) -> Result<usize, Memory>
         requires { finite.get (slots_of self.old) series ≡ None }
-        ensures kept { (k : Key) → value_of (slots_of self.new) k ≡ value_of (slots_of self.old) k }
-        ensures stands { IfOk result (λ found. StandsAt self.new found.place t series) }
-        ensures valued { IfOk result (λ found. found.valued ≡ is_some (value_of (slots_of self.old) (key_at series t))) }
+        ensures ok { OnOk result (IsSlotSet self.old self.new (key_at series t) (Some None)) }
+        ensures stands { IfOk result (λ place. StandsAt self.new place t series) }
+        ensures err { OnErr result (AreSameSlots self.old self.new) }
     {
-        let mut buffer = SeriesBuffer::new(alloc);
-        buffer.hold(t)?;
-        let place = self.map.len();
-        self.map.insert(series, buffer)?;
-        Ok(Found {
-            place,
-            valued: false,
-        })
+        let place = self.add(alloc, series)?;
+        match self.hold_absent(place, t) {
+            Ok(()) => Ok(place),
+            Err(e) => {
+                drop(self.leave(place));
+                Err(e)
+            }
+        }
+    }
+
+    // Adds a series that isn't there, without slots.
+    fn add(&mut self, alloc: Global, series: SeriesKey) -> Result<usize, Memory>
+        requires { finite.get (slots_of self.old) series ≡ None }
+        ensures at { IfOk result (λ place. slice_get self.new place ≡ Some (series, finite.empty)) }
+        ensures kept { AreSameSlots self.old self.new }
+    {
+        let spaces = series.ns as usize + 1;
+        self.numbers.push()?;
+        match self.placed.add(alloc, series) {
+            Ok(place) => {
+                self.spaces = higher_of(self.spaces, spaces);
+                Ok(place)
+            }
+            Err(e) => {
+                self.numbers.pop();
+                Err(e)
+            }
+        }
     }
 
     // Puts the value into the slot of the series at this place and time, unless one at least as high stands there. Says
     // whether it was put.
     pub(crate) fn raise(&mut self, place: usize, t: u64, v: i64) -> bool
         requires { (s : SeriesKey) × StandsAt self.old place t s }
-        ensures raised { (s : SeriesKey) → StandsAt self.old place t s → (k : Key) → value_of (slots_of self.new) k ≡ cond (eq_by_cmp key_cmp k (key_at s t)) (Some (higher (value_of (slots_of self.old) (key_at s t)) v)) (value_of (slots_of self.old) k) }
+        ensures raised { (s : SeriesKey) → StandsAt self.old place t s → IsSlotSet self.old self.new (key_at s t) (Some (Some (higher (value_of (slots_of self.old) (key_at s t)) v))) }
         ensures changed { (s : SeriesKey) → StandsAt self.old place t s → result ≡ is_higher (value_of (slots_of self.old) (key_at s t)) v }
     {
-        self.map[place].raise(t, v)
+        self.placed.raise(place, t, v)
     }
 
-    // Takes the slot of the series at this place and time out, if it has no value, and the series if it then has no slot.
-    pub(crate) fn release(&mut self, place: usize, t: u64)
+    // Takes the slot of the series at this place and time out, if it has no value, and then the series if it has no slot.
+    pub(crate) fn vacate(&mut self, place: usize, t: u64)
         requires { (s : SeriesKey) × StandsAt self.old place t s }
-        ensures { (k : Key) → value_of (slots_of self.new) k ≡ value_of (slots_of self.old) k }
-    {
-        self.release_slot(place, t);
-        self.release_series(place);
-    }
-
-    fn release_slot(&mut self, place: usize, t: u64)
-        requires { (s : SeriesKey) × IsAt self.old place s }
         ensures kept { (k : Key) → value_of (slots_of self.new) k ≡ value_of (slots_of self.old) k }
-        ensures there { (s : SeriesKey) → IsAt self.old place s → IsAt self.new place s }
+        ensures vacated { (s : SeriesKey) → StandsAt self.old place t s → (k : Key) → slot_at (slots_of self.new) k ≡ Some None → (slot_at (slots_of self.old) k ≡ Some None) × (k ≢ key_at s t) }
     {
-        self.map[place].release(t);
-    }
-
-    // Takes the series at this place out, if it has no slot.
-    fn release_series(&mut self, place: usize)
-        requires { (s : SeriesKey) × IsAt self.old place s }
-        ensures { (k : Key) → value_of (slots_of self.new) k ≡ value_of (slots_of self.old) k }
-    {
-        if self.map[place].is_empty() {
-            drop(self.map.swap_remove_index(place));
+        if is_bare(self.slot(place, t)) {
+            drop(self.take(place, t));
         }
     }
 
-    // The points of a series with `from <= t < to`. The series is found in constant expected time, the points in logarithmic
-    // time and in proportion to the answer.
+    // Takes the slot of the series at this place and time out, and then the series if it has no slot. Answers the series that
+    // left.
+    pub(crate) fn take(&mut self, place: usize, t: u64) -> Option<SeriesKey>
+        requires { (s : SeriesKey) × StandsAt self.old place t s }
+        ensures taken { (s : SeriesKey) → StandsAt self.old place t s → IsSlotSet self.old self.new (key_at s t) None }
+        ensures left { (s : SeriesKey) → StandsAt self.old place t s → MatchOption result (HasSlots self.new place s) (λ gone. (gone ≡ s) × HasNoSlots self.new s) }
+    {
+        self.take_slot(place, t);
+        self.leave(place)
+    }
+
+    // Takes the value of the series at this place and time out, if it isn't above this one, and then the series if it has no
+    // slot.
+    pub(crate) fn take_settled(&mut self, place: usize, t: u64, v: i64) -> Option<Taken>
+        requires { (s : SeriesKey) × IsAt self.old place s }
+        ensures same { result ≡ None → self.new ≡ self.old }
+        ensures none { result ≡ None → (s : SeriesKey) → IsAt self.old place s → is_settled (value_of (slots_of self.old) (key_at s t)) v ≡ false }
+        ensures taken { IfSome result (λ x. (s : SeriesKey) → IsAt self.old place s → (is_settled (Some x.v) v ≡ true) × IsTakenAt self.old self.new place s t x) }
+    {
+        let stands = settled(self.slot(place, t))?;
+        if v < stands {
+            return None;
+        }
+        let gone = self.take(place, t);
+        Some(Taken { t, v: stands, gone })
+    }
+
+    // Takes the slot of the series at this place and time out.
+    fn take_slot(&mut self, place: usize, t: u64)
+        requires { (s : SeriesKey) × IsAt self.old place s }
+        ensures taken { (s : SeriesKey) → IsAt self.old place s → IsSlotSet self.old self.new (key_at s t) None }
+        ensures there { (s : SeriesKey) → IsAt self.old place s → IsAt self.new place s }
+    {
+        let time = (
+            self.placed.space_at(place),
+            t,
+            number_of(&self.numbers, place),
+        );
+        self.times.remove(&time);
+        self.placed.take(place, t);
+    }
+
+    // Takes the series at this place out, if it has no slot.
+    fn leave(&mut self, place: usize) -> Option<SeriesKey>
+        requires { (s : SeriesKey) × IsAt self.old place s }
+        ensures kept { AreSameSlots self.old self.new }
+        ensures left { (s : SeriesKey) → IsAt self.old place s → MatchOption result (HasSlots self.new place s) (λ gone. (gone ≡ s) × HasNoSlots self.new s) }
+    {
+        if !self.placed.is_vacant(place) {
+            return None;
+        }
+        self.numbers.swap_remove(place);
+        self.placed.remove(place)
+    }
+
+    // The first value of the namespace at the times from `low` on.
+    pub(crate) fn first(&self, ns: u8, low: u64) -> Option<Spot>
+        ensures none { result ≡ None → HasNoneFrom self.now ns low }
+        ensures some { IfSome result (λ x. IsFirst self.now ns low x.place x.t x.v) }
+        ensures small { (k : Key) → IsSome (slot_at (slots_of self.now) k) → k.t < 2 ^ 64 }
+    {
+        first_in(&self.placed, &self.numbers, &self.times, ns, low)
+    }
+
+    // A number of namespaces: each slot is of one of the first ones.
+    pub(crate) fn spaces(&self) -> usize
+        ensures below { (k : Key) → IsSome (slot_at (slots_of self.now) k) → k.ns < result }
+        ensures limit { result ≤ 256 }
+    {
+        self.spaces
+    }
+
+    // Whether the series has a slot.
+    pub(crate) fn has(&self, series: &SeriesKey) -> bool
+        ensures some { IsTrue result → (t : ℕ) × IsSome (slot_at (slots_of self.now) (key_at series.now t)) }
+        ensures none { result ≡ false → HasNoSlots self.now series.now }
+    {
+        match self.placed.place_of(series) {
+            Some(place) => !self.placed.is_vacant(place),
+            None => false,
+        }
+    }
+
+    // The points of a series with `from <= t < to`.
     pub(crate) fn range_of(
         &self,
         alloc: Global,
@@ -175,18 +412,7 @@ impl AllSeries {
     ) -> Result<Seq<Series>, Memory>
         ensures { IfOk result (IsRangeOf (points_of (slots_of self.now)) (pick.One ns id.now) from to) }
     {
-        let mut found = Vec::new(alloc);
-        let key = SeriesKey {
-            ns,
-            id: id.copy(alloc)?,
-        };
-        match self.map.get(&key) {
-            Some(buffer) => {
-                push_range(alloc, &mut found, id, buffer, from, to)?;
-                Ok(Seq::from_vec(found))
-            }
-            None => Ok(Seq::new(alloc)),
-        }
+        self.placed.range_of(alloc, ns, id, from, to)
     }
 
     // The points of a namespace with `from <= t < to`, in proportion to all series, to the answer and to its order.
@@ -199,167 +425,20 @@ impl AllSeries {
     ) -> Result<Seq<Series>, Memory>
         ensures { IfOk result (λ found. (wanted : List Matcher) → IsRangeOf (points_of (slots_of self.now)) (pick.Match ns wanted) from to found) }
     {
-        let found = self.series_of(alloc, ns, from, to)?;
-        Ok(Seq::from_vec(by_id(found)))
+        self.placed.range_of_space(alloc, ns, from, to)
     }
 
-    // The same, by the places of the series.
-    fn series_of(&self, alloc: Global, ns: u8, from: u64, to: u64) -> Result<Vec<Series>, Memory>
-        ensures answer { IfOk result (λ found. found.items ≡ flat_map (series_in ns from to) self.now) }
-        ensures distinct { IsDistinct series_eq (keys_of self.now) }
+    // The same, in proportion to the answer, and to its order.
+    pub(crate) fn range_by_time(
+        &self,
+        alloc: Global,
+        ns: u8,
+        from: u64,
+        to: u64,
+    ) -> Result<Seq<Series>, Memory>
+        ensures { IfOk result (λ found. (wanted : List Matcher) → IsRangeOf (points_of (slots_of self.now)) (pick.Match ns wanted) from to found) }
     {
-        let mut found = Vec::new(alloc);
-        for (series, buffer) in &self.map {
-            if series.ns == ns {
-                push_range(alloc, &mut found, &series.id, buffer, from, to)?;
-            }
-        }
-        Ok(found)
-    }
-
-    // The blocks that have points, ascending.
-    pub(crate) fn blocks(&self, alloc: Global, rules: &Rules) -> Result<Seq<(u8, u64)>, Memory>
-        requires { All (λ space. 0 < space.block) rules.now.spaces }
-        ensures { IfOk result (IsBlocksOf rules.entry.now (points_of (slots_of self.now))) }
-    {
-        let starts = self.starts(alloc, rules)?;
-        let blocks = listed(alloc, &starts)?;
-        Ok(Seq::from_vec(blocks))
-    }
-
-    fn starts(&self, alloc: Global, rules: &Rules) -> Result<BTreeSet<(u8, u64)>, Memory>
-        requires { All (λ space. 0 < space.block) rules.now.spaces }
-        ensures { IfOk result (λ starts. (q : ℕ × ℕ) → contains block_cmp starts q ≡ list_any (λ x. is_block (block_of rules.entry.now x.0) q) (flat_map series_points (finite.entries (slots_of self.now)))) }
-    {
-        let mut starts = BTreeSet::new(alloc);
-        for (series, buffer) in &self.map {
-            add_blocks(rules, series, buffer, &mut starts)?;
-        }
-        Ok(starts)
-    }
-
-    // Takes the expired slots out, and the series that then have none. Costs in proportion to the series, and for each
-    // slot that goes its logarithm.
-    pub(crate) fn expire(&mut self, rules: &Rules)
-        ensures { points_of (slots_of self.new) ≡ without (points_of (slots_of self.old)) (has_expired rules.entry.now) }
-    {
-        self.map
-            .retain(|series, buffer| keep_unexpired(rules, series, buffer));
-    }
-
-    // Takes the slots of one block out, and the series that then have none.
-    pub(crate) fn drop_block(&mut self, ns: u8, start: u64, size: u64)
-        requires { start + size < 2 ^ 64 }
-        ensures { points_of (slots_of self.new) ≡ without (points_of (slots_of self.old)) (is_in_block ns start size) }
-    {
-        self.map.retain(|series, buffer| keep_outside(ns, start, size, series, buffer));
-    }
-
-    // How many points have expired, up to the greatest number.
-    pub(crate) fn count_expired(&self, rules: &Rules) -> u64
-        ensures { result ≡ min (count_by (λ x. has_expired rules.entry.now x.0) (flat_map series_points (finite.entries (slots_of self.now)))) (2 ^ 64 - 1) }
-    {
-        let mut count: u64 = 0;
-        for (series, buffer) in &self.map {
-            count = count.saturating_add(expired_in(rules, series, buffer));
-        }
-        count
-    }
-}
-
-// Takes the expired slots of a series out, and says whether it keeps any.
-fn keep_unexpired(rules: &Rules, series: &SeriesKey, buffer: &mut SeriesBuffer) -> bool
-    ensures left { buffer.new ≡ finite.retain_keys buffer.old (λ t. not (has_expired rules.entry.now (key_at series.now t))) }
-    ensures empty { result ≡ false → length (finite.entries buffer.new) ≡ 0 }
-{
-    if let Some(last) = last_expired(rules, series.ns) {
-        buffer.cut(0, last);
-    }
-    !buffer.is_empty()
-}
-
-// Takes the slots of a block of the namespace out, and says whether the series keeps any.
-fn keep_outside(
-    ns: u8,
-    start: u64,
-    size: u64,
-    series: &SeriesKey,
-    buffer: &mut SeriesBuffer,
-) -> bool
-    requires { start + size < 2 ^ 64 }
-    ensures left { buffer.new ≡ finite.retain_keys buffer.old (λ t. not (is_in_block ns start size (key_at series.now t))) }
-    ensures empty { result ≡ false → length (finite.entries buffer.new) ≡ 0 }
-{
-    if series.ns == ns && 0 < size {
-        buffer.cut(start, start + (size - 1));
-    }
-    !buffer.is_empty()
-}
-
-// How many points of a series have expired.
-fn expired_in(rules: &Rules, series: &SeriesKey, buffer: &SeriesBuffer) -> u64
-    ensures { result ≡ count_by (λ x. has_expired rules.entry.now x.0) (series_points (series.now, buffer.now)) }
-{
-    match last_expired(rules, series.ns) {
-        Some(last) => buffer.count(0, last) as u64,
-        None => 0,
-    }
-}
-
-// The series in the order of their identifiers.
-fn by_id(mut found: Vec<Series>) -> Vec<Series>
-    ensures same { IsPermutation found.items result.items }
-    ensures order { IsSortedByKey (λ s. s.id) (slice_cmp nat_cmp) result.items }
-{
-    found.sort_unstable_by(|a, b| a.id.cmp(&b.id));
-    found
-}
-
-// Pushes the series with its pairs in the range, if there are any.
-fn push_range(
-    alloc: Global,
-    found: &mut Vec<Series>,
-    id: &Text,
-    buffer: &SeriesBuffer,
-    from: u64,
-    to: u64,
-) -> Result<(), Memory>
-    ensures { OnOk result (found.new.items ≡ found.old.items ++ some_series id.now (filter_map (valued_in from to) (finite.entries buffer.now))) }
-{
-    let pairs = buffer.pairs(alloc, from, to)?;
-    if pairs.is_empty() {
-        return Ok(());
-    }
-    let id = id.copy(alloc)?;
-    let points = Seq::from_vec(pairs);
-    found.push(Series { id, points })?;
-    Ok(())
-}
-
-// The blocks of a set, which ascend.
-fn listed(alloc: Global, starts: &BTreeSet<(u8, u64)>) -> Result<Vec<(u8, u64)>, Memory>
-    ensures same { IfOk result (λ blocks. blocks.items ≡ starts.now.keys) }
-    ensures ordered { OnOk result (IsOrdered block_cmp starts.now) }
-{
-    let mut blocks = Vec::new(alloc);
-    for start in starts {
-        blocks.push(*start)?;
-    }
-    Ok(blocks)
-}
-
-// Adds the blocks in which the series has points.
-fn add_blocks(
-    rules: &Rules,
-    series: &SeriesKey,
-    buffer: &SeriesBuffer,
-    starts: &mut BTreeSet<(u8, u64)>,
-) -> Result<(), Memory>
-    requires { All (λ space. 0 < space.block) rules.now.spaces }
-    ensures { OnOk result ((q : ℕ × ℕ) → contains block_cmp starts.new q ≡ (contains block_cmp starts.old q || list_any (λ x. is_block (block_of rules.entry.now x.0) q) (series_points (series.now, buffer.now)))) }
-{
-    match space_of(rules, series.ns) {
-        Some(space) => buffer.add_blocks(series.ns, space.block, starts),
-        None => Ok(()),
+        let places = places_in(alloc, &self.numbers, &self.times, ns, from, to)?;
+        self.placed.range_at(alloc, ns, &places, from, to)
     }
 }

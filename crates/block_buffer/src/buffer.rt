@@ -1,21 +1,29 @@
-ghost use Rattle.std.specs.Prelude.{◌≡◌, ◌+◌, ◌-◌, ◌^◌, ◌<◌, min, Some, None, is_some, IfOk, OnOk, OnErr};
+ghost use Rattle.std.specs.Prelude.{◌≡◌, ◌+◌, ◌-◌, ◌^◌, ◌<◌, List, min, Some, None, true, is_some, IfOk, IfSome, OnOk, OnErr, MatchOption};
 ghost use Rattle.std.specs.FinMap as finite;
-ghost use Rattle.m3_model.specs.Contents.{raised, raised_at, is_higher, key_of};
-ghost use Rattle.block_buffer.specs.Joins.{joined, points_of_series, IsJoinedInPart};
-ghost use Rattle.block_buffer.specs.SeriesKeys.{key_at};
-ghost use Rattle.block_buffer.specs.Held.{without, has_expired, is_in_block};
 ghost use Rattle.std.specs.List.{All};
-ghost use Rattle.block_buffer.specs.Ranges.{IsRangeOf};
+ghost use Rattle.m3_model.specs.declared.point.Matcher.{Matcher};
+ghost use Rattle.m3_model.specs.declared.point.Pick.TheVariants as pick;
+ghost use Rattle.m3_model.specs.Contents.{raised, raised_at, is_higher, key_of};
+ghost use Rattle.series_slots.specs.SeriesKeys.{key_at};
+ghost use Rattle.series_slots.specs.Slots.{is_within};
+ghost use Rattle.series_slots.specs.Ranges.{IsRangeOf};
 ghost use Rattle.block_buffer.specs.Blocks.{IsBlocksOf};
+ghost use Rattle.block_buffer.specs.Held.{without, has_expired, is_in_block};
+ghost use Rattle.block_buffer.specs.Joins.{joined, points_of_series, IsJoinedInPart};
+ghost use Rattle.block_buffer.specs.Taken.{HasSeries, HasId, HasNone, IsTaken, IsEarliest, settled_at, settled_with, IsSettledInPart};
 
 use crate::all_series::AllSeries;
+use crate::blocks::{block_starts, listed};
 use crate::room::Room;
-use crate::series_key::SeriesKey;
+use crate::taken::Taken;
 use m3_model::duplicate::Duplicate;
 use m3_model::memory::Memory;
 use m3_model::point::{Pick, Point, Series};
 use m3_model::rules::Rules;
 use m3_model::seq::Seq;
+use m3_model::text::Text;
+use retention::last_expired;
+use series_slots::series_key::SeriesKey;
 use std::alloc::Global;
 use std::marker::Model;
 
@@ -33,8 +41,9 @@ pub struct Buffer {
 }
 
 impl Model for Buffer {
-    ghost use Rattle.block_buffer.specs.Points.{points_of};
-    ghost use Rattle.block_buffer.specs.Places.{slots_of, room_key, RoomStands};
+    ghost use Rattle.series_slots.specs.Points.{points_of};
+    ghost use Rattle.series_slots.specs.Places.{slots_of};
+    ghost use Rattle.block_buffer.specs.Room.{room_key, RoomStands, OnlyRoomIsEmpty};
     ghost use Rattle.block_buffer.specs.Held.{Held, held_code};
 
     ghost Value = { Held };
@@ -43,7 +52,7 @@ impl Model for Buffer {
 
     ghost view = { λ b. record { points = points_of (slots_of b.all); room = room_key b.sought b.room } };
 
-    ghost invariant = { λ b. RoomStands b.room b.sought b.all };
+    ghost invariant = { λ b. RoomStands b.room b.sought b.all × OnlyRoomIsEmpty (room_key b.sought b.room) b.all };
 }
 
 impl Buffer {
@@ -148,31 +157,97 @@ impl Buffer {
         }
     }
 
-    /// The namespace and the start of each block of the rules that has a point, ascending. Costs in proportion to the
-    /// points, and for each its logarithm in the blocks.
+    /// The points of the namespace with `start <= t < start + size`, as the rows of a volume: identifiers ascend strictly by
+    /// bytes, times ascend strictly, and no series is empty. Costs for each point the logarithm of all, and the order of the
+    /// series.
+    ///
+    /// The end of the block is below 2^64, as that of each block of rules within their limits.
+    pub fn block(&self, alloc: Global, ns: u8, start: u64, size: u64) -> Result<Seq<Series>, Memory>
+        requires { start + size < 2 ^ 64 }
+        ensures { IfOk result (λ rows. (wanted : List Matcher) → IsRangeOf self.now.points (pick.Match ns wanted) start (start + size) rows) }
+    {
+        self.all.range_by_time(alloc, ns, start, start + size)
+    }
+
+    /// The namespace and the start of each block of the rules that has a point, ascending. Costs for each block the logarithm of
+    /// the points.
     ///
     /// Block sizes are at least 1, as in all rules within their limits.
     pub fn blocks(&self, alloc: Global, rules: &Rules) -> Result<Seq<(u8, u64)>, Memory>
         requires { All (λ space. 0 < space.block) rules.now.spaces }
         ensures { IfOk result (IsBlocksOf rules.entry.now self.now.points) }
     {
-        self.all.blocks(alloc, rules)
+        let starts = block_starts(alloc, &self.all, rules)?;
+        let blocks = listed(alloc, &starts)?;
+        Ok(Seq::from_vec(blocks))
+    }
+
+    /// Takes the first point, by time, of the namespace at the times from `low` up to and with `high` out, and gives up the
+    /// room. Takes no memory, and the logarithm of the points.
+    pub fn take_first(&mut self, ns: u8, low: u64, high: u64) -> Option<Taken>
+        ensures room { self.new.room ≡ None }
+        ensures same { result ≡ None → self.new.points ≡ self.old.points }
+        ensures none { result ≡ None → HasNone self.old.points (λ k. (k.ns ≡ ns) × (is_within low high k.t ≡ true)) }
+        ensures taken { IfSome result (IsTaken self.old.points self.new.points (λ k. (k.ns ≡ ns) × (is_within low high k.t ≡ true))) }
+        ensures earliest { IfSome result (λ x. IsEarliest self.old.points ns low x.t) }
+    {
+        self.release();
+        let spot = self.all.first(ns, low)?;
+        if high < spot.t {
+            return None;
+        }
+        let gone = self.all.take(spot.place, spot.t);
+        Some(Taken {
+            t: spot.t,
+            v: spot.v,
+            gone,
+        })
+    }
+
+    /// Takes an expired point out, and gives up the room. Takes no memory, and for each namespace the logarithm of the points.
+    pub fn take_expired(&mut self, rules: &Rules) -> Option<Taken>
+        ensures room { self.new.room ≡ None }
+        ensures same { result ≡ None → self.new.points ≡ self.old.points }
+        ensures none { result ≡ None → HasNone self.old.points (λ k. has_expired rules.entry.now k ≡ true) }
+        ensures taken { IfSome result (IsTaken self.old.points self.new.points (λ k. has_expired rules.entry.now k ≡ true)) }
+    {
+        self.release();
+        for space in 0..self.all.spaces() {
+            if let Some(taken) = self.take_expired_of(rules, space as u8) {
+                return Some(taken);
+            }
+        }
+        None
+    }
+
+    // Takes an expired point of the namespace out, and gives up the room.
+    fn take_expired_of(&mut self, rules: &Rules, ns: u8) -> Option<Taken>
+        requires { self.old.room ≡ None }
+        ensures same { result ≡ None → self.new ≡ self.old }
+        ensures room { self.new.room ≡ None }
+        ensures none { result ≡ None → HasNone self.old.points (λ k. (k.ns ≡ ns) × (has_expired rules.entry.now k ≡ true)) }
+        ensures taken { IfSome result (IsTaken self.old.points self.new.points (λ k. has_expired rules.entry.now k ≡ true)) }
+    {
+        let last = last_expired(rules, ns)?;
+        self.take_first(ns, 0, last)
     }
 
     /// Takes the expired points out, and gives up the room. Answers how many points went, up to the greatest number.
-    /// Takes no memory; costs in proportion to the series, and for each point that goes its logarithm.
+    /// Takes no memory; costs for each point that goes the logarithm of all.
     pub fn expire(&mut self, rules: &Rules) -> u64
         ensures taken { self.new ≡ record { points = without self.old.points (has_expired rules.entry.now); room = None } }
         ensures counted { result ≡ min (finite.len self.old.points - finite.len self.new.points) (2 ^ 64 - 1) }
     {
-        self.release();
-        let count = self.all.count_expired(rules);
-        self.all.expire(rules);
+        let mut count: u64 = 0;
+        while let Some(taken) = self.take_expired(rules) {
+            drop(taken);
+            count = count.saturating_add(1);
+        }
         count
     }
 
     /// Takes the points of the namespace with `start <= t < start + size` out, and gives up the room. Takes no memory;
-    /// costs in proportion to the series, and for each point that goes its logarithm.
+    /// costs for each point that goes the logarithm of all.
     ///
     /// The end of the block is below 2^64, as that of each block of rules within their limits.
     pub fn drop_block(&mut self, ns: u8, start: u64, size: u64)
@@ -180,7 +255,105 @@ impl Buffer {
         ensures { self.new ≡ record { points = without self.old.points (is_in_block ns start size); room = None } }
     {
         self.release();
-        self.all.drop_block(ns, start, size);
+        if size == 0 {
+            return;
+        }
+        while let Some(taken) = self.take_first(ns, start, start + (size - 1)) {
+            drop(taken);
+        }
+    }
+
+    /// Takes the points of the namespace with `start <= t < start + size` out, gives up the room, and answers them as `block`
+    /// does.
+    ///
+    /// # Errors
+    ///
+    /// Want of memory changes nothing but the room, which is given up.
+    pub fn take_block(
+        &mut self,
+        alloc: Global,
+        ns: u8,
+        start: u64,
+        size: u64,
+    ) -> Result<Seq<Series>, Memory>
+        requires { start + size < 2 ^ 64 }
+        ensures rows { IfOk result (λ rows. (wanted : List Matcher) → IsRangeOf self.old.points (pick.Match ns wanted) start (start + size) rows) }
+        ensures ok { OnOk result (self.new ≡ record { points = without self.old.points (is_in_block ns start size); room = None }) }
+        ensures err { OnErr result (self.new ≡ record { points = self.old.points; room = None }) }
+    {
+        self.release();
+        let rows = self.block(alloc, ns, start, size)?;
+        self.drop_block(ns, start, size);
+        Ok(rows)
+    }
+
+    /// Takes the point of the series of the namespace at this time out, if its value isn't above this one, and gives up the
+    /// room. Finds the series in constant expected time; where a point goes, that takes the logarithm of the points.
+    ///
+    /// # Errors
+    ///
+    /// Want of memory changes nothing but the room, which is given up.
+    pub fn take_settled(
+        &mut self,
+        ns: u8,
+        id: &Text,
+        t: u64,
+        v: i64,
+    ) -> Result<Option<Taken>, Memory>
+        ensures room { self.new.room ≡ None }
+        ensures settled { OnOk result (self.new.points ≡ settled_at self.old.points (record { ns = ns; id = id.now; t = t; v = v })) }
+        ensures taken { IfOk result (λ found. IfSome found (IsTaken self.old.points self.new.points (λ k. k ≡ record { ns = ns; id = id.now; t = t }))) }
+        ensures none { IfOk result (λ found. found ≡ None → self.new.points ≡ self.old.points) }
+        ensures err { OnErr result (self.new.points ≡ self.old.points) }
+    {
+        self.release();
+        self.sought.set(self.alloc, ns, id)?;
+        match self.all.place_of(&self.sought) {
+            Some(place) => Ok(self.all.take_settled(place, t, v)),
+            None => Ok(None),
+        }
+    }
+
+    /// Takes each point of the series of the namespace out whose value isn't above the one that is given for its time, and gives
+    /// up the room. Each point that is given costs constant expected time, and each that goes the logarithm of all.
+    ///
+    /// # Errors
+    ///
+    /// Want of memory leaves the first ones of them settled.
+    pub fn settle(&mut self, ns: u8, series: &Series) -> Result<(), Memory>
+        ensures room { self.new.room ≡ None }
+        ensures ok { OnOk result (self.new.points ≡ settled_with self.old.points (points_of_series ns series.now)) }
+        ensures err { OnErr result (IsSettledInPart self.old.points (points_of_series ns series.now) self.new.points) }
+    {
+        self.release();
+        for (t, v) in series.points.as_slice() {
+            self.settle_one(ns, &series.id, *t, *v)?;
+        }
+        Ok(())
+    }
+
+    // Takes the point of the series at this time out, if its value isn't above this one.
+    fn settle_one(&mut self, ns: u8, id: &Text, t: u64, v: i64) -> Result<(), Memory>
+        ensures ok { OnOk result (self.new ≡ record { points = settled_at self.old.points (record { ns = ns; id = id.now; t = t; v = v }); room = None }) }
+        ensures err { OnErr result (self.new ≡ record { points = self.old.points; room = None }) }
+    {
+        drop(self.take_settled(ns, id, t, v)?);
+        Ok(())
+    }
+
+    /// The identifier of the series, if no point with it stands, in whatever namespace. Takes constant expected time for each
+    /// namespace that had a point.
+    pub fn unheld(&self, mut series: SeriesKey) -> Option<Text>
+        requires { self.now.room ≡ None }
+        ensures { MatchOption result (HasId self.now.points series.id) (λ id. (id ≡ series.id) × (HasId self.now.points series.id → ⊥)) }
+    {
+        for space in 0..self.all.spaces() {
+            series.ns = space as u8;
+            if self.all.has(&series) {
+                return None;
+            }
+        }
+        Some(series.id)
     }
 
     /// Gives up the room. Takes no memory.
@@ -188,7 +361,7 @@ impl Buffer {
         ensures { self.new ≡ record { points = self.old.points; room = None } }
     {
         if let Some(room) = self.room.take() {
-            self.all.release(room.place, room.t);
+            self.all.vacate(room.place, room.t);
         }
     }
 }

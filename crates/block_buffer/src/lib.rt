@@ -2,8 +2,9 @@
 #![tactic(auto)]
 
 mod all_series;
+mod blocks;
 pub mod buffer;
 pub mod laws;
 mod room;
-mod series_buffer;
-mod series_key;
+mod spot;
+pub mod taken;

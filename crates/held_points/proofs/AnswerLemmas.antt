@@ -13,8 +13,8 @@ use Rattle.m3_model.specs.Answers.{IsAnswer}
 use Rattle.series_id.proofs.Excluded.{same_tags_of}
 use Rattle.tag_index.specs.declared.entry.Entry.{Entry}
 use Rattle.tag_index.specs.Listed.{Listed, IsAt}
-use Rattle.block_buffer.specs.Ranges.{IsRangeOf}
-use Rattle.block_buffer.proofs.AnswerLemmas.{point_in, in_points}
+use Rattle.series_slots.specs.Ranges.{IsRangeOf}
+use Rattle.series_slots.proofs.AnswerLemmas.{point_in, in_points}
 use Rattle.held_points.specs.Matched.{IsMatched, MeetsUnequal, MeetsEqual, HasNoEqual, AreCandidates, IsNamed}
 use Rattle.held_points.specs.Selected.{IsSelection}
 use Rattle.held_points.specs.Indexed.{IsIndexed}

@@ -1,14 +1,15 @@
 -- How many points are held, with one more and with room for one.
-use Rattle.std.proofs.Common.{◌≡◌, ℕ, ◌+◌, ◌<◌, refl, sym, ap, ◌∙◌, subst, Bool, true, false, cond, not, Option, Some, None, arith}
+use Rattle.std.proofs.Common.{◌≡◌, ℕ, ◌+◌, ◌-◌, ◌<◌, ◌≤◌, refl, sym, ap, ◌∙◌, subst, Bool, true, false, cond, not, Option, Some, None, arith}
 use Rattle.std.specs.Prelude.{is_some, IfSome, ℤ}
 use Rattle.std.specs.FinMap as finite
 use Rattle.std.specs.FinMap.{len-empty, len-insert}
 use Rattle.m3_model.specs.declared.limits.TheConstants.{MOST_REPLICA_POINTS}
 use Rattle.m3_model.specs.declared.point.Key.{Key}
 use Rattle.m3_model.specs.declared.point.Point.{Point}
-use Rattle.m3_model.specs.Contents.{Contents, raised, key_of, higher}
+use Rattle.m3_model.specs.Contents.{raised, key_of, higher}
 use Rattle.m3_model.specs.Keys.{key_cmp, key_cmp_total}
 use Rattle.block_buffer.specs.Held.{Held}
+use Rattle.block_buffer.proofs.ContentLemmas.{len_removed}
 use Rattle.held_points.specs.Counted.{IsCounted}
 
 pub none_counted : (held : Held) → held ≡ record { points = finite.empty; room = None } → IsCounted 0 false held
@@ -43,3 +44,37 @@ counted_more count next adds held new p room is more h =
     by true false e low more longer = let was = h.counted in let lt = low refl in subst (IsCounted next true) (sym is) (record { counted = omega (arith, more, longer, was); limit = omega (arith, more, lt); fits = tt })
     by false true e low more longer = let was = h.counted in let le = h.limit in subst (IsCounted next false) (sym is) (record { counted = omega (arith, more, longer, was); limit = omega (arith, more, le); fits = tt })
     by false false e low more longer = absurd (cc)
+
+-- ---- one point fewer
+
+one_less : (held : Held) (key : Key) (v : ℤ) → finite.get held.points key ≡ Some v → 1 + finite.len (finite.remove held.points key) ≡ finite.len held.points
+one_less held key v stands = let less = len_removed held.points key v stands in omega (arith, less)
+
+-- where a point stands, there is one
+pub some_counted : (count : ℕ) (adds : Bool) (held : Held) (key : Key) (v : ℤ) → finite.get held.points key ≡ Some v → IsCounted count adds held → 1 ≤ count
+some_counted count adds held key v stands h = let less = one_less held key v stands in let was = h.counted in omega (arith, less, was)
+
+-- without it
+pub counted_fewer : (count : ℕ) (adds : Bool) (held new : Held) (key : Key) (v : ℤ) → finite.get held.points key ≡ Some v → new.points ≡ finite.remove held.points key → new.room ≡ None → IsCounted count adds held → IsCounted (count - 1) adds new
+counted_fewer count adds held new key v stands left room h =
+    let less = one_less held key v stands in
+    let was = h.counted in
+    let limit = h.limit in
+    let size : finite.len new.points ≡ finite.len (finite.remove held.points key) = ap finite.len left in
+    record {
+      counted = omega (arith, less, was, size);
+      limit = omega (arith, limit);
+      fits = subst (λ (o : Option Key). IfSome o (λ k. (adds ≡ not (is_some (finite.get new.points k))) × (adds ≡ true → count - 1 < MOST_REPLICA_POINTS))) (sym room) tt;
+    }
+
+-- with the same points, and no room
+pub counted_same : (count : ℕ) (adds : Bool) (held new : Held) → new.points ≡ held.points → new.room ≡ None → IsCounted count adds held → IsCounted count adds new
+counted_same count adds held new same room h = record {
+  counted = h.counted ∙ ap finite.len (sym same);
+  limit = h.limit;
+  fits = subst (λ (o : Option Key). IfSome o (λ k. (adds ≡ not (is_some (finite.get new.points k))) × (adds ≡ true → count < MOST_REPLICA_POINTS))) (sym room) tt;
+}
+
+pub some_of : {X : Type 0} (o : Option X) (P : X → Type 0) → is_some o ≡ true → IfSome o P → (x : X) × P x
+some_of None P e h = cc
+some_of (Some x) P e h = (x, h)

@@ -7,3 +7,4 @@ pub mod CandidateLemmas
 pub mod AnswerLemmas
 pub mod JoinLemmas
 pub mod CountLemmas
+pub mod ForgetLemmas

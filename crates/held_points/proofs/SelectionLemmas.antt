@@ -10,8 +10,8 @@ use Rattle.m3_model.specs.Tags.{IsBelow}
 use Rattle.m3_model.specs.Contents.{Contents}
 use Rattle.m3_model.specs.Reads.{IsOrdered, points_in}
 use Rattle.m3_model.proofs.MemberLemmas.{IsIn-append_left, IsIn-append_right, IsIn-append_cases}
-use Rattle.block_buffer.specs.Ranges.{IsRangeOf}
-use Rattle.block_buffer.proofs.AnswerLemmas.{point_in, in_points}
+use Rattle.series_slots.specs.Ranges.{IsRangeOf}
+use Rattle.series_slots.proofs.AnswerLemmas.{point_in, in_points}
 use Rattle.held_points.specs.Selected.{IsSelected, IsSelection}
 use Rattle.held_points.proofs.ListLemmas.{some_element, ascends_append}
 

@@ -1,11 +1,12 @@
 -- How the index of held points agrees with them.
-use Rattle.std.specs.Prelude.{◌≡◌, ℕ, ℤ, List, Option, Some, None, Bool, MatchBool}
+use Rattle.std.specs.Prelude.{◌≡◌, ℕ, ℤ, List, ◌⊎◌, Option, Some, None, Bool, MatchBool}
 use Rattle.std.specs.FinMap as finite
 use Rattle.m3_model.specs.Contents.{Contents}
 use Rattle.m3_model.specs.Tags.{HasTags}
 use Rattle.m3_model.specs.declared.point.Key.{Key}
+use Rattle.series_slots.specs.declared.series_key.SeriesKey.{SeriesKey}
 use Rattle.tag_index.specs.declared.entry.Entry.{Entry}
-use Rattle.tag_index.specs.Listed.{Listed, IsPresent}
+use Rattle.tag_index.specs.Listed.{Listed, IsAt, IsPresent}
 
 -- a point of the identifier stands in the content, in whatever namespace
 pub record HoldsSeries (c : Contents) (id : List ℕ) : Type 0 where
@@ -38,3 +39,18 @@ pub record WasListed (old new : Listed) (id : List ℕ) : Type 0 where
 abbrev pub IsIndexedFor : Option Key → Bool → Contents → Listed → Type 0
 IsIndexedFor None newly c index = IsIndexed c index
 IsIndexedFor (Some key) newly c index = (before : Listed) × IsIndexed c before × MatchBool newly (IsNewlyListed before index key.id) (WasListed before index key.id)
+
+-- no point with the identifier is held, and the index, which had it, has it no more
+pub record IsUnlisted (c : Contents) (old new : Listed) (id : List ℕ) : Type 0 where
+  pub unheld : HoldsSeries c id → ⊥
+  pub removed : (o : ℕ) → IsAt old o id → new ≡ finite.remove old o
+
+-- a point with the identifier is held, and nothing changed
+pub record IsStillListed (c : Contents) (old new : Listed) (id : List ℕ) : Type 0 where
+  pub held : HoldsSeries c id
+  pub unchanged : new ≡ old
+
+-- The index forgot the identifier of the series that went, if no point with it is held.
+abbrev pub IsForgotten : Contents → Option SeriesKey → Listed → Listed → Type 0
+IsForgotten c None old new = new ≡ old
+IsForgotten c (Some series) old new = IsUnlisted c old new series.id ⊎ IsStillListed c old new series.id

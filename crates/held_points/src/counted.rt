@@ -1,14 +1,25 @@
-ghost use Rattle.std.specs.Prelude.{◌≡◌, ◌⊎◌, ◌<◌, ◌≤◌, Some, None, IsSome, IfOk, OnOk, OnErr};
+ghost use Rattle.std.specs.Prelude.{◌≡◌, ◌⊎◌, ◌+◌, ◌^◌, ◌<◌, ◌≤◌, List, Some, None, true, IsSome, IfOk, IfSome, OnOk, OnErr, MatchOption};
+ghost use Rattle.std.specs.List.{All};
 ghost use Rattle.std.specs.FinMap as finite;
 ghost use Rattle.m3_model.specs.Contents.{raised, key_of};
 ghost use Rattle.m3_model.specs.declared.limits.TheConstants.{MOST_REPLICA_POINTS};
-ghost use Rattle.block_buffer.specs.Ranges.{IsRangeOf};
+ghost use Rattle.m3_model.specs.declared.point.Matcher.{Matcher};
+ghost use Rattle.m3_model.specs.declared.point.Pick.TheVariants as pick;
+ghost use Rattle.series_slots.specs.Slots.{is_within};
+ghost use Rattle.series_slots.specs.Ranges.{IsRangeOf};
+ghost use Rattle.block_buffer.specs.Blocks.{IsBlocksOf};
+ghost use Rattle.block_buffer.specs.Held.{has_expired};
+ghost use Rattle.block_buffer.specs.Taken.{HasId, HasNone, IsTaken, settled_at};
 
 use block_buffer::buffer::Buffer;
+use block_buffer::taken::Taken;
 use m3_model::limits::MOST_REPLICA_POINTS;
 use m3_model::memory::Memory;
 use m3_model::point::{Pick, Point, Series};
+use m3_model::rules::Rules;
 use m3_model::seq::Seq;
+use m3_model::text::Text;
+use series_slots::series_key::SeriesKey;
 use std::alloc::Global;
 use std::marker::Model;
 
@@ -100,5 +111,82 @@ impl CountedBuffer {
         ensures limit { result ≤ MOST_REPLICA_POINTS }
     {
         self.count
+    }
+
+    // Takes the first point, by time, of the namespace at the times from `low` up to and with `high` out, and gives up the
+    // room.
+    pub(crate) fn take_first(&mut self, ns: u8, low: u64, high: u64) -> Option<Taken>
+        ensures room { self.new.room ≡ None }
+        ensures same { result ≡ None → self.new.points ≡ self.old.points }
+        ensures none { result ≡ None → HasNone self.old.points (λ k. (k.ns ≡ ns) × (is_within low high k.t ≡ true)) }
+        ensures taken { IfSome result (IsTaken self.old.points self.new.points (λ k. (k.ns ≡ ns) × (is_within low high k.t ≡ true))) }
+    {
+        let taken = self.buffer.take_first(ns, low, high)?;
+        self.count -= 1;
+        Some(taken)
+    }
+
+    // Takes an expired point out, and gives up the room.
+    pub(crate) fn take_expired(&mut self, rules: &Rules) -> Option<Taken>
+        ensures room { self.new.room ≡ None }
+        ensures same { result ≡ None → self.new.points ≡ self.old.points }
+        ensures none { result ≡ None → HasNone self.old.points (λ k. has_expired rules.entry.now k ≡ true) }
+        ensures taken { IfSome result (IsTaken self.old.points self.new.points (λ k. has_expired rules.entry.now k ≡ true)) }
+    {
+        let taken = self.buffer.take_expired(rules)?;
+        self.count -= 1;
+        Some(taken)
+    }
+
+    // Takes the point of the series at this time out, if its value isn't above this one, and gives up the room. Want of memory
+    // changes no point.
+    pub(crate) fn take_settled(
+        &mut self,
+        ns: u8,
+        id: &Text,
+        t: u64,
+        v: i64,
+    ) -> Result<Option<Taken>, Memory>
+        ensures room { self.new.room ≡ None }
+        ensures settled { OnOk result (self.new.points ≡ settled_at self.old.points (record { ns = ns; id = id.now; t = t; v = v })) }
+        ensures taken { IfOk result (λ found. IfSome found (IsTaken self.old.points self.new.points (λ k. k ≡ record { ns = ns; id = id.now; t = t }))) }
+        ensures none { IfOk result (λ found. found ≡ None → self.new.points ≡ self.old.points) }
+        ensures err { OnErr result (self.new.points ≡ self.old.points) }
+    {
+        let found = self.buffer.take_settled(ns, id, t, v)?;
+        if found.is_some() {
+            self.count -= 1;
+        }
+        Ok(found)
+    }
+
+    // The points of a block, as `Buffer::block` finds them.
+    pub(crate) fn block(
+        &self,
+        alloc: Global,
+        ns: u8,
+        start: u64,
+        size: u64,
+    ) -> Result<Seq<Series>, Memory>
+        requires { start + size < 2 ^ 64 }
+        ensures { IfOk result (λ rows. (wanted : List Matcher) → IsRangeOf self.now.points (pick.Match ns wanted) start (start + size) rows) }
+    {
+        self.buffer.block(alloc, ns, start, size)
+    }
+
+    // The namespaces and starts of the blocks of the rules that have points, as `Buffer::blocks` finds them.
+    pub(crate) fn blocks(&self, alloc: Global, rules: &Rules) -> Result<Seq<(u8, u64)>, Memory>
+        requires { All (λ space. 0 < space.block) rules.now.spaces }
+        ensures { IfOk result (IsBlocksOf rules.entry.now self.now.points) }
+    {
+        self.buffer.blocks(alloc, rules)
+    }
+
+    // The identifier of the series, if no point with it stands.
+    pub(crate) fn unheld(&self, series: SeriesKey) -> Option<Text>
+        requires { self.now.room ≡ None }
+        ensures { MatchOption result (HasId self.now.points series.id) (λ id. (id ≡ series.id) × (HasId self.now.points series.id → ⊥)) }
+    {
+        self.buffer.unheld(series)
     }
 }

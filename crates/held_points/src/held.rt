@@ -1,17 +1,29 @@
-ghost use Rattle.std.specs.Prelude.{◌≡◌, ◌⊎◌, ◌<◌, ◌≤◌, Some, None, IsSome, IfOk, OnOk, OnErr};
+ghost use Rattle.std.specs.Prelude.{◌≡◌, ◌⊎◌, ◌+◌, ◌-◌, ◌^◌, ◌<◌, ◌≤◌, List, Some, None, true, false, IsTrue, IsSome, IfOk, OnOk, OnErr};
+ghost use Rattle.std.specs.List.{All};
 ghost use Rattle.std.specs.FinMap as finite;
 ghost use Rattle.m3_model.specs.Contents.{raised, content_of, key_of};
 ghost use Rattle.m3_model.specs.Answers.{IsAnswer};
+ghost use Rattle.m3_model.specs.declared.point.Matcher.{Matcher};
+ghost use Rattle.m3_model.specs.declared.point.Pick.TheVariants as pick;
+ghost use Rattle.series_slots.specs.Slots.{is_within};
+ghost use Rattle.series_slots.specs.Ranges.{IsRangeOf};
+ghost use Rattle.block_buffer.specs.Blocks.{IsBlocksOf};
+ghost use Rattle.block_buffer.specs.Held.{without, has_expired, is_in_block};
+ghost use Rattle.block_buffer.specs.Joins.{points_of_series};
+ghost use Rattle.block_buffer.specs.Taken.{HasNone, settled_at, settled_with, IsSettledInPart};
+ghost use Rattle.held_points.specs.Counted.{TakesOne};
 ghost use Rattle.m3_model.specs.declared.limits.TheConstants.{MOST_REPLICA_POINTS};
 
 use crate::candidates::{candidates, names};
 use crate::counted::CountedBuffer;
-use crate::listing::{list, unlist};
+use crate::listing::{forget, list, unlist};
 use crate::matching::unequal;
 use crate::ranges::ranges;
 use m3_model::memory::Memory;
 use m3_model::point::{Pick, Point, Series};
+use m3_model::rules::Rules;
 use m3_model::seq::Seq;
+use m3_model::text::Text;
 use std::alloc::Global;
 use std::marker::Model;
 use tag_index::Index;
@@ -128,6 +140,135 @@ impl HeldPoints {
                     }
                 }
             }
+        }
+    }
+
+    /// The namespace and the start of each block of the rules that has a point, ascending. Costs for each block the logarithm of
+    /// the points.
+    ///
+    /// Block sizes are at least 1, as in all rules within their limits.
+    pub fn blocks(&self, rules: &Rules) -> Result<Seq<(u8, u64)>, Memory>
+        requires { All (λ space. 0 < space.block) rules.now.spaces }
+        ensures { IfOk result (IsBlocksOf rules.entry.now self.now.points) }
+    {
+        self.buffer.blocks(self.alloc, rules)
+    }
+
+    /// The points of the namespace with `start <= t < start + size`, as the rows of a volume: identifiers ascend strictly by
+    /// bytes, times ascend strictly, and no series is empty. Costs for each point the logarithm of all, and the order of the
+    /// series.
+    ///
+    /// The end of the block is below 2^64, as that of each block of rules within their limits.
+    pub fn block(&self, ns: u8, start: u64, size: u64) -> Result<Seq<Series>, Memory>
+        requires { start + size < 2 ^ 64 }
+        ensures { IfOk result (λ rows. (wanted : List Matcher) → IsRangeOf self.now.points (pick.Match ns wanted) start (start + size) rows) }
+    {
+        self.buffer.block(self.alloc, ns, start, size)
+    }
+
+    /// Takes the expired points out, and answers how many went. Takes no memory; costs for each point that goes the logarithm of
+    /// all, and for each identifier that goes the removal of its tags.
+    pub fn expire(&mut self, rules: &Rules) -> u64
+        requires { self.old.room ≡ None }
+        ensures taken { self.new ≡ record { points = without self.old.points (has_expired rules.entry.now); room = None } }
+        ensures counted { result ≡ finite.len self.old.points - finite.len self.new.points }
+    {
+        let before = self.len();
+        while self.take_expired(rules) {}
+        before - self.len()
+    }
+
+    // Takes an expired point out, and says whether there was one.
+    fn take_expired(&mut self, rules: &Rules) -> bool
+        requires { self.old.room ≡ None }
+        ensures taken { IsTrue result → TakesOne self.old self.new (λ k. has_expired rules.entry.now k ≡ true) }
+        ensures none { result ≡ false → (self.new ≡ self.old) × HasNone self.old.points (λ k. has_expired rules.entry.now k ≡ true) }
+    {
+        match self.buffer.take_expired(rules) {
+            Some(taken) => {
+                forget(&self.buffer, &mut self.index, taken.gone);
+                true
+            }
+            None => false,
+        }
+    }
+
+    /// Takes the points of the namespace with `start <= t < start + size` out. Takes no memory; costs as `expire`.
+    ///
+    /// The end of the block is below 2^64, as that of each block of rules within their limits.
+    pub fn drop_block(&mut self, ns: u8, start: u64, size: u64)
+        requires room { self.old.room ≡ None }
+        requires end { start + size < 2 ^ 64 }
+        ensures { self.new ≡ record { points = without self.old.points (is_in_block ns start size); room = None } }
+    {
+        if size == 0 {
+            return;
+        }
+        while self.take_first(ns, start, start + (size - 1)) {}
+    }
+
+    // Takes a point of the namespace at the times from `low` up to and with `high` out, and says whether there was one.
+    fn take_first(&mut self, ns: u8, low: u64, high: u64) -> bool
+        requires { self.old.room ≡ None }
+        ensures taken { IsTrue result → TakesOne self.old self.new (λ k. (k.ns ≡ ns) × (is_within low high k.t ≡ true)) }
+        ensures none { result ≡ false → (self.new ≡ self.old) × HasNone self.old.points (λ k. (k.ns ≡ ns) × (is_within low high k.t ≡ true)) }
+    {
+        match self.buffer.take_first(ns, low, high) {
+            Some(taken) => {
+                forget(&self.buffer, &mut self.index, taken.gone);
+                true
+            }
+            None => false,
+        }
+    }
+
+    /// Takes the points of the namespace with `start <= t < start + size` out, and answers them as `block` does.
+    ///
+    /// # Errors
+    ///
+    /// Want of memory changes nothing.
+    pub fn take_block(&mut self, ns: u8, start: u64, size: u64) -> Result<Seq<Series>, Memory>
+        requires room { self.old.room ≡ None }
+        requires end { start + size < 2 ^ 64 }
+        ensures rows { IfOk result (λ rows. (wanted : List Matcher) → IsRangeOf self.old.points (pick.Match ns wanted) start (start + size) rows) }
+        ensures ok { OnOk result (self.new ≡ record { points = without self.old.points (is_in_block ns start size); room = None }) }
+        ensures err { OnErr result (self.new ≡ self.old) }
+    {
+        let rows = self.block(ns, start, size)?;
+        self.drop_block(ns, start, size);
+        Ok(rows)
+    }
+
+    /// Takes each point of the series of the namespace out whose value isn't above the one that is given for its time. Each point
+    /// that is given costs constant expected time; each that goes costs as in `expire`.
+    ///
+    /// # Errors
+    ///
+    /// Want of memory leaves the first ones of them settled.
+    pub fn settle(&mut self, ns: u8, series: &Series) -> Result<(), Memory>
+        requires { self.old.room ≡ None }
+        ensures room { self.new.room ≡ None }
+        ensures ok { OnOk result (self.new.points ≡ settled_with self.old.points (points_of_series ns series.now)) }
+        ensures err { OnErr result (IsSettledInPart self.old.points (points_of_series ns series.now) self.new.points) }
+    {
+        for (t, v) in series.points.as_slice() {
+            self.settle_one(ns, &series.id, *t, *v)?;
+        }
+        Ok(())
+    }
+
+    // Takes the point of the series at this time out, if its value isn't above this one.
+    fn settle_one(&mut self, ns: u8, id: &Text, t: u64, v: i64) -> Result<(), Memory>
+        requires { self.old.room ≡ None }
+        ensures ok { OnOk result (self.new ≡ record { points = settled_at self.old.points (record { ns = ns; id = id.now; t = t; v = v }); room = None }) }
+        ensures err { OnErr result (self.new ≡ self.old) }
+    {
+        match self.buffer.take_settled(ns, id, t, v)? {
+            Some(taken) => {
+                forget(&self.buffer, &mut self.index, taken.gone);
+                Ok(())
+            }
+            None => Ok(()),
         }
     }
 }

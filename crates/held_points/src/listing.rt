@@ -1,12 +1,14 @@
-ghost use Rattle.std.specs.Prelude.{◌≡◌, IfOk, OnErr, MatchBool};
+ghost use Rattle.std.specs.Prelude.{◌≡◌, None, IfOk, OnErr, MatchBool};
 ghost use Rattle.m3_model.specs.Tags.{HasTags};
 ghost use Rattle.tag_index.specs.Listed.{Listed};
-ghost use Rattle.held_points.specs.Indexed.{IsNewlyListed, WasListed};
+ghost use Rattle.held_points.specs.Indexed.{IsNewlyListed, WasListed, IsForgotten};
 
+use crate::counted::CountedBuffer;
 use m3_model::memory::Memory;
 use m3_model::seq::Seq;
 use m3_model::text::Text;
 use series_id::{IdErr, parse};
+use series_slots::series_key::SeriesKey;
 use std::alloc::Global;
 use tag_index::Index;
 
@@ -40,5 +42,18 @@ pub(crate) fn unlist(index: &mut Index, newly: bool, id: &Text)
 {
     if newly {
         index.remove(id.as_str());
+    }
+}
+
+// Takes the series' identifier out of the index, where a series is named and no point with its identifier is held in
+// whatever namespace. Takes no memory.
+pub(crate) fn forget(buffer: &CountedBuffer, index: &mut Index, gone: Option<SeriesKey>)
+    requires { buffer.now.room ≡ None }
+    ensures { IsForgotten buffer.now.points gone index.old index.new }
+{
+    if let Some(series) = gone {
+        if let Some(id) = buffer.unheld(series) {
+            index.remove(id.as_str());
+        }
     }
 }

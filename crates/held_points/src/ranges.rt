@@ -3,7 +3,7 @@ ghost use Rattle.m3_model.specs.Ascends.{Ascends};
 ghost use Rattle.m3_model.specs.Members.{IsIn};
 ghost use Rattle.m3_model.specs.Tags.{IsBelow};
 ghost use Rattle.m3_model.specs.declared.point.Series.{Series};
-ghost use Rattle.block_buffer.specs.Ranges.{IsRangeOf};
+ghost use Rattle.series_slots.specs.Ranges.{IsRangeOf};
 ghost use Rattle.held_points.specs.Selected.{IsSelection};
 
 use crate::counted::CountedBuffer;

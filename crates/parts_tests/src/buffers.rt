@@ -1,5 +1,6 @@
 use block_buffer::buffer::Buffer;
 use block_buffer::laws::{expires_as_rules_say, names_all_matched};
+use block_buffer::taken::Taken;
 use m3_model::memory::Memory;
 use m3_model::point::{Pick, Point};
 use m3_model::seq::Seq;
@@ -56,5 +57,57 @@ fn calls_succeed(rt: HostRuntime) -> Result<(), Fail> {
     assert_eq!(rt; out.as_str(), "true false false true true 1 0 0 ");
     names_all_matched();
     expires_as_rules_say();
+    Ok(())
+}
+
+fn put_of(alloc: Global, buffer: &mut Buffer, id: &str, t: u64, v: i64) -> Result<(), Memory> {
+    let id = Text::from_str(alloc, id)?;
+    let p = Point { ns: 0, id, t, v };
+    buffer.room(&p)?;
+    buffer.put(&p);
+    Ok(())
+}
+
+// The point that leaves, and whether its series does.
+fn write_taken(taken: Option<Taken>, out: &mut String) -> Result<(), Fail> {
+    match taken {
+        Some(taken) => {
+            let gone = taken.gone.is_some();
+            write!(out, "{}={} {gone} ", taken.t, taken.v)?;
+        }
+        None => write!(out, "none ")?,
+    }
+    Ok(())
+}
+
+fn take_three(buffer: &mut Buffer, out: &mut String) -> Result<(), Fail> {
+    for _ in 0..3 {
+        write_taken(buffer.take_first(0, 0, 29), out)?;
+    }
+    Ok(())
+}
+
+// What leaves a buffer of two series: first the block of 10, whose series are counted, and then what is earlier than 30.
+fn left(alloc: Global, out: &mut String) -> Result<(), Fail> {
+    let mut buffer = Buffer::new(alloc);
+    for (id, t, v) in [
+        ("b", 12, 1),
+        ("a", 19, 2),
+        ("a", 25, 3),
+        ("a", 20, 4),
+        ("b", 30, 5),
+    ] {
+        put_of(alloc, &mut buffer, id, t, v)?;
+    }
+    let rows = buffer.take_block(alloc, 0, 10, 10)?.len();
+    write!(out, "{rows} ")?;
+    take_three(&mut buffer, out)
+}
+
+#[test]
+fn points_leave_in_order(rt: HostRuntime) -> Result<(), Fail> {
+    let mut out = String::new(rt.alloc());
+    left(rt.alloc(), &mut out)?;
+    assert_eq!(rt; out.as_str(), "2 20=4 false 25=3 true none ");
     Ok(())
 }

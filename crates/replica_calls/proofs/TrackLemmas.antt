@@ -8,7 +8,7 @@ use Rattle.std.specs.FinMap.{from_sorted, same_map, is_sorted, get-empty, get-re
 use Rattle.std.specs.Ordering.{eq_by_cmp, is_eq}
 use Rattle.std.specs.declared.snapshot.Snapshot.{Snapshot}
 use Rattle.m3_model.proofs.RaiseLemmas.{from_sorted-empty}
-use Rattle.block_buffer.proofs.MapLemmas.{get_of}
+use Rattle.series_slots.proofs.MapLemmas.{get_of}
 use Rattle.m3_model.specs.declared.reason.Reason.TheVariants as reason
 use Rattle.m3_outside.specs.DiskState.{DiskState}
 use Rattle.cluster_core.specs.Replicas.{replica, fresh}

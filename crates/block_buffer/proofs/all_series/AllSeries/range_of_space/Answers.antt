@@ -1,12 +1,12 @@
-use Rattle.std.proofs.Common.{List, sym, subst, IsPermutation, IsSortedByKey}
-use Rattle.std.specs.Cmp.Lexicographic.{slice_cmp}
-use Rattle.std.specs.Ordering.{nat_cmp}
-use Rattle.m3_model.specs.declared.point.Series.{Series}
-use Rattle.block_buffer.proofs.AnswerLemmas.{space_range}
+use Rattle.std.proofs.Common.{List, subst}
+use Rattle.std.specs.Prelude.{IfOk}
+use Rattle.m3_model.specs.declared.point.Matcher.{Matcher}
+use Rattle.m3_model.specs.declared.point.Pick.TheVariants as pick
+use Rattle.series_slots.specs.Points.{points_of}
+use Rattle.series_slots.specs.Places.{Places, slots_of}
+use Rattle.series_slots.specs.Ranges.{IsRangeOf}
 use Rattle.block_buffer.proofs.all_series.AllSeries.range_of_space.Goals as goal
 
 pub returns : goal.returns
-returns c wanted =
-    space_range c.args.self.now c.args.ns c.args.from c.args.to wanted c.from_vec.result c.series_of.ensures.distinct
-    (subst (IsPermutation _) (sym c.from_vec.ensures) (subst (λ (xs : List Series). IsPermutation xs c.by_id.result.items) c.in_ok-found.ensures.answer c.by_id.ensures.same))
-    (subst (IsSortedByKey (λ (s : Series). s.id) (slice_cmp nat_cmp)) (sym c.from_vec.ensures) c.by_id.ensures.order)
+returns c =
+    subst (λ (ps : Places). IfOk c.range_of_space.result (λ found. (wanted : List Matcher) → IsRangeOf (points_of (slots_of ps)) (pick.Match c.args.ns wanted) c.args.from c.args.to found)) c.self.view_is c.range_of_space.ensures

@@ -1,24 +1,25 @@
-use Rattle.std.proofs.Common.{◌≡◌, ap, ◌∙◌, None}
-use Rattle.std.specs.Prelude.{min, ◌-◌, ◌^◌, ℕ, Option}
+use Rattle.std.proofs.Common.{◌∙◌, arith}
 use Rattle.std.specs.FinMap as finite
-use Rattle.m3_model.specs.declared.point.Key.{Key}
-use Rattle.m3_model.specs.Contents.{Contents}
-use Rattle.block_buffer.specs.Points.{points_of}
-use Rattle.block_buffer.specs.Places.{slots_of, room_key}
-use Rattle.block_buffer.specs.Held.{Held, has_expired}
-use Rattle.block_buffer.proofs.CutLemmas.{cut_number}
-use Rattle.block_buffer.proofs.RoomLemmas.{none_stands}
+use Rattle.block_buffer.specs.Held.{has_expired}
+use Rattle.block_buffer.proofs.TakenLemmas.{counted_more, held_of, kept_taken, none_kept, one_fewer, fewer_points}
 use Rattle.block_buffer.proofs.buffer.Buffer.expire.Goals as goal
 
-abbrev held : Contents → Option Key → Held
-held points room = record { points = points; room = room }
+pub loop-taken-smaller : goal.loop-taken-smaller
+loop-taken-smaller c = fewer_points c.loop-taken.self.points c.take_expired.new.self.points _ c.in-Some.taken c.in-Some.ensures.taken
 
-pub returns-clause-counted : goal.returns-clause-counted
-returns-clause-counted c =
-    let was : held (points_of (slots_of c.self.inside.all)) (room_key c.self.inside.sought c.self.inside.room) ≡ held c.args.self.now.points None = c.self.view_is ∙ c.release.ensures in
-    c.count_expired-count.ensures ∙ ap (λ (n : ℕ). min n (2 ^ 64 - 1))
-    (cut_number (slots_of c.self.inside.all) (has_expired c.args.rules.now) (points_of (slots_of c.expire.new.self)) c.expire.ensures
-    ∙ ap (λ (h : Held). finite.len h.points - finite.len (points_of (slots_of c.expire.new.self))) was)
+pub loop-taken-preserved : goal.loop-taken-preserved
+loop-taken-preserved c =
+    let before = c.loop-taken.self.points in
+    let after = c.take_expired.new.self.points in
+    let one = one_fewer before after _ c.in-Some.taken c.in-Some.ensures.taken in
+    let low = c.loop-taken.invariant.fewer in
+    record {
+      kept = kept_taken before after c.args.self.now.points (has_expired c.args.rules.now) c.in-Some.taken c.in-Some.ensures.taken c.loop-taken.invariant.kept;
+      fewer = omega (arith, one, low);
+      counted = c.saturating_add-count.ensures ∙ counted_more c.loop-taken.count (finite.len c.args.self.now.points) (finite.len before) (finite.len after) one low c.loop-taken.invariant.counted;
+    }
 
-pub invariant_of-self : goal.invariant_of-self
-invariant_of-self c = none_stands c.self.inside.sought c.self.inside.room c.self.inside.sought c.expire.new.self (ap (λ (h : Held). h.room) (c.self.view_is ∙ c.release.ensures))
+pub returns-clause-taken : goal.returns-clause-taken
+returns-clause-taken c =
+    held_of c.take_expired.new.self _ (none_kept c.loop-taken.self.points c.take_expired.new.self.points c.args.self.now.points (has_expired c.args.rules.now) (c.take_expired.ensures.same c.in_default.is) (c.take_expired.ensures.none c.in_default.is) c.loop-taken.invariant.kept)
+    c.take_expired.ensures.room

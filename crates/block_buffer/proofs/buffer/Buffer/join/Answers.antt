@@ -4,8 +4,8 @@ use Rattle.std.proofs.lemmas.Int.{to_z-of_z}
 use Rattle.m3_model.specs.Contents.{Contents, raised, raised_at}
 use Rattle.block_buffer.specs.Held.{Held}
 use Rattle.block_buffer.specs.Joins.{joined}
-use Rattle.block_buffer.specs.SeriesKeys.{key_at}
-use Rattle.block_buffer.proofs.PointLemmas.{always_err}
+use Rattle.series_slots.specs.SeriesKeys.{key_at}
+use Rattle.series_slots.proofs.PointLemmas.{always_err}
 use Rattle.block_buffer.proofs.JoinLemmas.{timed_point, joined_more, first_points}
 use Rattle.block_buffer.proofs.buffer.Buffer.join.Goals as goal
 

@@ -2,10 +2,10 @@ use Rattle.std.proofs.Common.{sym, subst}
 use Rattle.std.specs.Prelude.{IfOk}
 use Rattle.std.proofs.lemmas.Result.{IfOk-weaker}
 use Rattle.m3_model.specs.declared.point.Pick.{Pick}
-use Rattle.block_buffer.specs.Points.{points_of}
-use Rattle.block_buffer.specs.Places.{slots_of}
+use Rattle.series_slots.specs.Points.{points_of}
+use Rattle.series_slots.specs.Places.{slots_of}
 use Rattle.block_buffer.specs.Held.{Held}
-use Rattle.block_buffer.specs.Ranges.{IsRangeOf}
+use Rattle.series_slots.specs.Ranges.{IsRangeOf}
 use Rattle.block_buffer.proofs.buffer.Buffer.range.Goals as goal
 
 pub returns-in-Match : goal.returns-in-Match

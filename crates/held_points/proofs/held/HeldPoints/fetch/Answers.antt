@@ -9,7 +9,7 @@ use Rattle.m3_model.specs.Contents.{Contents}
 use Rattle.m3_model.specs.Answers.{IsAnswer}
 use Rattle.m3_model.specs.declared.point.Pick.{Pick}
 use Rattle.m3_model.specs.declared.point.Pick.TheVariants as pick
-use Rattle.block_buffer.specs.Ranges.{IsRangeOf}
+use Rattle.series_slots.specs.Ranges.{IsRangeOf}
 use Rattle.held_points.specs.Matched.{HasNoEqual, AreCandidates, IsNamed}
 use Rattle.held_points.specs.Selected.{IsSelection}
 use Rattle.held_points.proofs.AnswerLemmas.{named_answer, unequal_answer}

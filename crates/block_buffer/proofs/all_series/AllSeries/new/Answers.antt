@@ -1,7 +1,0 @@
-use Rattle.block_buffer.proofs.all_series.AllSeries.new.Goals as goal
-
-pub invariant_of-result : goal.invariant_of-result
-invariant_of-result c = c.new.ensures.unique
-
-pub returns : goal.returns
-returns c = c.new.ensures.empty

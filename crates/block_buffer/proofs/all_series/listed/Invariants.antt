@@ -1,5 +1,0 @@
-use Rattle.std.proofs.Common.{◌≡◌, ◌++◌}
-use Rattle.block_buffer.proofs.all_series.listed.Given as goal
-
-abbrev pub invariant-loop-start : goal.invariant-loop-start
-invariant-loop-start l = l.blocks.items ++ l.start-iterator ≡ l.starts.keys

@@ -1,0 +1,12 @@
+use series_slots::series_key::SeriesKey;
+
+/// A point that was taken out.
+#[derive(Drop)]
+pub struct Taken {
+    /// Its time.
+    pub t: u64,
+    /// Its value.
+    pub v: i64,
+    /// Its series, where no point of that is left.
+    pub gone: Option<SeriesKey>,
+}

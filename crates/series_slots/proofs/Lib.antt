@@ -1,0 +1,9 @@
+pub mod MapLemmas
+pub mod HashLemmas
+pub mod MoveLemmas
+pub mod SortLemmas
+pub mod SlotLemmas
+pub mod PointLemmas
+pub mod SeriesLemmas
+pub mod AnswerLemmas
+pub mod PlaceLemmas

@@ -1,0 +1,6 @@
+pub mod SeriesKeys
+pub mod Slots
+pub mod Points
+pub mod Places
+pub mod Ranges
+pub mod Written

@@ -1,0 +1,300 @@
+ghost use Rattle.std.specs.Prelude.{◌≡◌, ℕ, ◌<◌, ◌↔◌, List, [], Some, None, false, length, slice_get, option_map, IsTrue, IfOk, IfSome, OnOk, OnErr, ◌++◌, IsPermutation, IsSortedByKey};
+ghost use Rattle.std.specs.List.{flat_map, filter_map, IsDistinct};
+ghost use Rattle.std.specs.Map.{keys_of};
+ghost use Rattle.std.specs.BTreeSet.{contains};
+ghost use Rattle.std.specs.Cmp.Lexicographic.{slice_cmp};
+ghost use Rattle.std.specs.Ordering.{nat_cmp};
+ghost use Rattle.std.specs.FinMap as finite;
+ghost use Rattle.m3_model.specs.declared.point.Matcher.{Matcher};
+ghost use Rattle.m3_model.specs.declared.point.Pick.TheVariants as pick;
+ghost use Rattle.m3_model.specs.Contents.{higher, is_higher};
+ghost use Rattle.series_slots.specs.declared.series_key.SeriesKey.{SeriesKey};
+ghost use Rattle.series_slots.specs.SeriesKeys.{series_eq};
+ghost use Rattle.series_slots.specs.Slots.{Slots, value_at, valued_in};
+ghost use Rattle.series_slots.specs.Points.{points_of};
+ghost use Rattle.series_slots.specs.Places.{IsAt, StandsAt, slots_of};
+ghost use Rattle.series_slots.specs.Written.{IsWritten, IsAdded, IsRemoved};
+ghost use Rattle.series_slots.specs.Ranges.{IsRangeOf, some_series, series_in, series_of_entry};
+
+use crate::series_buffer::SeriesBuffer;
+use crate::series_key::SeriesKey;
+use indexmap::IndexMap;
+use m3_model::duplicate::Duplicate;
+use m3_model::memory::Memory;
+use m3_model::point::Series;
+use m3_model::seq::Seq;
+use m3_model::text::Text;
+use std::alloc::Global;
+use std::collections::BTreeSet;
+use std::marker::Model;
+
+/// Series with their slots. Contracts see them by their places, which count from 0. A place is that of its series until a
+/// series leaves.
+#[derive(Drop)]
+pub struct PlacedSeries {
+    map: IndexMap<SeriesKey, SeriesBuffer>,
+}
+
+impl Model for PlacedSeries {
+    ghost use Rattle.std.specs.List.{IsDistinct};
+    ghost use Rattle.std.specs.Map.{keys_of};
+    ghost use Rattle.series_slots.specs.SeriesKeys.{series_eq};
+    ghost use Rattle.series_slots.specs.Places.{Places, places_code};
+
+    ghost Value = { Places };
+
+    ghost coded = { places_code };
+
+    ghost view = { λ a. a.map.entries };
+
+    ghost invariant = { λ a. IsDistinct series_eq (keys_of a.map.entries) };
+}
+
+impl PlacedSeries {
+    /// No series. Takes no memory.
+    pub fn new(alloc: Global) -> PlacedSeries
+        ensures { result ≡ [] }
+    {
+        PlacedSeries {
+            map: IndexMap::new(alloc),
+        }
+    }
+
+    /// The place of the series, if it is there, in constant expected time.
+    pub fn place_of(&self, series: &SeriesKey) -> Option<usize>
+        ensures there { IfSome result (λ place. IsAt self.now place series.now) }
+        ensures absent { result ≡ None → finite.get (slots_of self.now) series.now ≡ None }
+    {
+        let (place, _, _) = self.map.get_full(series)?;
+        Some(place)
+    }
+
+    /// The namespace of the series at this place, in constant time.
+    pub fn space_at(&self, place: usize) -> u8
+        requires { (s : SeriesKey) × IsAt self.now place s }
+        ensures { (s : SeriesKey) → IsAt self.now place s → result ≡ s.ns }
+    {
+        match self.map.get_index(place) {
+            Some((series, _)) => series.ns,
+            None => 0,
+        }
+    }
+
+    /// The slot of the series at this place and time, if there is one, in the logarithm of the series' slots.
+    pub fn slot_at(&self, place: usize, t: u64) -> Option<Option<i64>>
+        requires { (s : SeriesKey) × IsAt self.now place s }
+        ensures slot { (s : SeriesKey) (slots : Slots) → slice_get self.now place ≡ Some (s, slots) → result ≡ finite.get slots t }
+        ensures found { (s : SeriesKey) (slots : Slots) → slice_get self.now place ≡ Some (s, slots) → finite.get (slots_of self.now) s ≡ Some slots }
+    {
+        self.map[place].get(t)
+    }
+
+    /// Whether the series at this place has no slot, in constant time.
+    pub fn is_vacant(&self, place: usize) -> bool
+        requires { (s : SeriesKey) × IsAt self.now place s }
+        ensures vacant { (s : SeriesKey) (slots : Slots) → slice_get self.now place ≡ Some (s, slots) → IsTrue result ↔ (length (finite.entries slots) ≡ 0) }
+        ensures found { (s : SeriesKey) (slots : Slots) → slice_get self.now place ≡ Some (s, slots) → finite.get (slots_of self.now) s ≡ Some slots }
+    {
+        self.map[place].is_empty()
+    }
+
+    /// Adds the series without slots, at the last place, in constant expected time.
+    ///
+    /// # Errors
+    ///
+    /// Want of memory changes nothing.
+    pub fn add(&mut self, alloc: Global, series: SeriesKey) -> Result<usize, Memory>
+        requires { finite.get (slots_of self.old) series ≡ None }
+        ensures ok { IfOk result (IsAdded self.old self.new series) }
+        ensures err { OnErr result (self.new ≡ self.old) }
+    {
+        let place = self.map.len();
+        self.map.insert(series, SeriesBuffer::new(alloc))?;
+        Ok(place)
+    }
+
+    /// Makes the slot of the series at this place and time one without a value, in the logarithm of the series' slots.
+    ///
+    /// # Errors
+    ///
+    /// Want of memory changes nothing.
+    pub fn hold(&mut self, place: usize, t: u64) -> Result<(), Memory>
+        requires { (s : SeriesKey) × IsAt self.old place s }
+        ensures ok { (s : SeriesKey) (slots : Slots) → slice_get self.old place ≡ Some (s, slots) → OnOk result (IsWritten self.old self.new place s slots (finite.insert slots t None)) }
+        ensures err { OnErr result (self.new ≡ self.old) }
+    {
+        self.map[place].hold(t)
+    }
+
+    /// Puts the value into the slot of the series at this place and time, unless one at least as high stands there. Says
+    /// whether it was put. Takes no memory, and the logarithm of the series' slots.
+    pub fn raise(&mut self, place: usize, t: u64, v: i64) -> bool
+        requires { (s : SeriesKey) × StandsAt self.old place t s }
+        ensures raised { (s : SeriesKey) (slots : Slots) → slice_get self.old place ≡ Some (s, slots) → IsWritten self.old self.new place s slots (finite.insert slots t (Some (higher (value_at slots t) v))) }
+        ensures changed { (s : SeriesKey) (slots : Slots) → slice_get self.old place ≡ Some (s, slots) → result ≡ is_higher (value_at slots t) v }
+    {
+        self.map[place].raise(t, v)
+    }
+
+    /// Takes the slot of the series at this place and time out. Takes no memory, and the logarithm of the series' slots.
+    pub fn take(&mut self, place: usize, t: u64)
+        requires { (s : SeriesKey) × IsAt self.old place s }
+        ensures { (s : SeriesKey) (slots : Slots) → slice_get self.old place ≡ Some (s, slots) → IsWritten self.old self.new place s slots (finite.remove slots t) }
+    {
+        self.map[place].take(t);
+    }
+
+    /// Takes the series at this place out, with its slots; the last series takes its place. Takes no memory, and constant
+    /// expected time beside its slots.
+    pub fn remove(&mut self, place: usize) -> Option<SeriesKey>
+        requires { (s : SeriesKey) × IsAt self.old place s }
+        ensures key { (s : SeriesKey) (slots : Slots) → slice_get self.old place ≡ Some (s, slots) → result ≡ Some s }
+        ensures removed { (s : SeriesKey) (slots : Slots) → slice_get self.old place ≡ Some (s, slots) → IsRemoved self.old self.new place s slots }
+    {
+        let (series, buffer) = self.map.swap_remove_index(place)?;
+        drop(buffer);
+        Some(series)
+    }
+
+    /// The points of a series with `from <= t < to`. The series is found in constant expected time, the points in logarithmic
+    /// time and in proportion to the answer.
+    pub fn range_of(
+        &self,
+        alloc: Global,
+        ns: u8,
+        id: &Text,
+        from: u64,
+        to: u64,
+    ) -> Result<Seq<Series>, Memory>
+        ensures { IfOk result (IsRangeOf (points_of (slots_of self.now)) (pick.One ns id.now) from to) }
+    {
+        let mut found = Vec::new(alloc);
+        let key = SeriesKey {
+            ns,
+            id: id.copy(alloc)?,
+        };
+        match self.map.get(&key) {
+            Some(buffer) => {
+                push_range(alloc, &mut found, id, buffer, from, to)?;
+                Ok(Seq::from_vec(found))
+            }
+            None => Ok(Seq::new(alloc)),
+        }
+    }
+
+    /// The points of a namespace with `from <= t < to`, in proportion to all series, to the answer and to its order.
+    pub fn range_of_space(
+        &self,
+        alloc: Global,
+        ns: u8,
+        from: u64,
+        to: u64,
+    ) -> Result<Seq<Series>, Memory>
+        ensures { IfOk result (λ found. (wanted : List Matcher) → IsRangeOf (points_of (slots_of self.now)) (pick.Match ns wanted) from to found) }
+    {
+        let found = self.series_of(alloc, ns, from, to)?;
+        Ok(Seq::from_vec(by_id(found)))
+    }
+
+    // The same, by the places of the series.
+    fn series_of(&self, alloc: Global, ns: u8, from: u64, to: u64) -> Result<Vec<Series>, Memory>
+        ensures answer { IfOk result (λ found. found.items ≡ flat_map (series_in ns from to) self.now) }
+        ensures distinct { IsDistinct series_eq (keys_of self.now) }
+    {
+        let mut found = Vec::new(alloc);
+        for (series, buffer) in &self.map {
+            if series.ns == ns {
+                push_range(alloc, &mut found, &series.id, buffer, from, to)?;
+            }
+        }
+        Ok(found)
+    }
+
+    /// The points of a namespace with `from <= t < to`, where all of them are at these places. Costs in proportion to the
+    /// places, to the answer and to its order.
+    pub fn range_at(
+        &self,
+        alloc: Global,
+        ns: u8,
+        places: &BTreeSet<usize>,
+        from: u64,
+        to: u64,
+    ) -> Result<Seq<Series>, Memory>
+        requires { (place : ℕ) (s : SeriesKey) (slots : Slots) → slice_get self.now place ≡ Some (s, slots) → contains nat_cmp places.now place ≡ false → series_in ns from to (s, slots) ≡ [] }
+        ensures { IfOk result (λ found. (wanted : List Matcher) → IsRangeOf (points_of (slots_of self.now)) (pick.Match ns wanted) from to found) }
+    {
+        let found = self.series_at(alloc, ns, places, from, to)?;
+        Ok(Seq::from_vec(by_id(found)))
+    }
+
+    // The same, by the places of the series.
+    fn series_at(
+        &self,
+        alloc: Global,
+        ns: u8,
+        places: &BTreeSet<usize>,
+        from: u64,
+        to: u64,
+    ) -> Result<Vec<Series>, Memory>
+        requires { (place : ℕ) (s : SeriesKey) (slots : Slots) → slice_get self.now place ≡ Some (s, slots) → contains nat_cmp places.now place ≡ false → series_in ns from to (s, slots) ≡ [] }
+        ensures answer { IfOk result (λ found. found.items ≡ flat_map (series_in ns from to) self.now) }
+        ensures distinct { IsDistinct series_eq (keys_of self.now) }
+    {
+        let _ = &self.map;
+        let mut found = Vec::new(alloc);
+        for place in places {
+            self.push_at(alloc, &mut found, ns, *place, from, to)?;
+        }
+        Ok(found)
+    }
+
+    // Pushes the series at the place with its pairs in the range, if it is of the namespace and there are any.
+    fn push_at(
+        &self,
+        alloc: Global,
+        found: &mut Vec<Series>,
+        ns: u8,
+        place: usize,
+        from: u64,
+        to: u64,
+    ) -> Result<(), Memory>
+        ensures { OnOk result (found.new.items ≡ found.old.items ++ series_of_entry ns from to (slice_get self.now place)) }
+    {
+        match self.map.get_index(place) {
+            Some((series, buffer)) if series.ns == ns => {
+                push_range(alloc, found, &series.id, buffer, from, to)
+            }
+            _ => Ok(()),
+        }
+    }
+}
+
+// The series in the order of their identifiers.
+fn by_id(mut found: Vec<Series>) -> Vec<Series>
+    ensures same { IsPermutation found.items result.items }
+    ensures order { IsSortedByKey (λ s. s.id) (slice_cmp nat_cmp) result.items }
+{
+    found.sort_unstable_by(|a, b| a.id.cmp(&b.id));
+    found
+}
+
+// Pushes the series with its pairs in the range, if there are any.
+fn push_range(
+    alloc: Global,
+    found: &mut Vec<Series>,
+    id: &Text,
+    buffer: &SeriesBuffer,
+    from: u64,
+    to: u64,
+) -> Result<(), Memory>
+    ensures { OnOk result (found.new.items ≡ found.old.items ++ some_series id.now (filter_map (valued_in from to) (finite.entries buffer.now))) }
+{
+    let pairs = buffer.pairs(alloc, from, to)?;
+    if pairs.is_empty() {
+        return Ok(());
+    }
+    let id = id.copy(alloc)?;
+    let points = Seq::from_vec(pairs);
+    found.push(Series { id, points })?;
+    Ok(())
+}
