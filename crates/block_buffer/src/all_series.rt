@@ -18,14 +18,9 @@ ghost use Rattle.block_buffer.specs.Timed.{IsTakenAt, is_bare, time_cmp, IsTimed
 
 use crate::spot::Spot;
 use crate::taken::Taken;
-use m3_model::duplicate::Duplicate;
-use m3_model::memory::Memory;
-use m3_model::point::Series;
-use m3_model::seq::Seq;
-use m3_model::text::Text;
+use m3_model::{Duplicate, Memory, Seq, Series, Text};
 use place_numbers::PlaceNumbers;
-use series_slots::placed::PlacedSeries;
-use series_slots::series_key::SeriesKey;
+use series_slots::{PlacedSeries, SeriesKey};
 use std::alloc::Global;
 use std::collections::BTreeSet;
 use std::marker::Model;

@@ -7,8 +7,7 @@ ghost use Rattle.series_slots.specs.Places.{slots_of};
 ghost use Rattle.block_buffer.specs.Blocks.{block_cmp, block_start, block_of, IsStartOf, IsBlockOf};
 
 use crate::all_series::AllSeries;
-use m3_model::memory::Memory;
-use m3_model::rules::Rules;
+use m3_model::{Memory, Rules};
 use retention::space_of;
 use std::alloc::Global;
 use std::collections::BTreeSet;

@@ -16,14 +16,9 @@ use crate::all_series::AllSeries;
 use crate::blocks::{block_starts, listed};
 use crate::room::Room;
 use crate::taken::Taken;
-use m3_model::duplicate::Duplicate;
-use m3_model::memory::Memory;
-use m3_model::point::{Pick, Point, Series};
-use m3_model::rules::Rules;
-use m3_model::seq::Seq;
-use m3_model::text::Text;
+use m3_model::{Duplicate, Memory, Pick, Point, Rules, Seq, Series, Text};
 use retention::last_expired;
-use series_slots::series_key::SeriesKey;
+use series_slots::SeriesKey;
 use std::alloc::Global;
 use std::marker::Model;
 

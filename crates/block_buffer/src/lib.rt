@@ -8,3 +8,6 @@ pub mod laws;
 mod room;
 mod spot;
 pub mod taken;
+
+pub use buffer::Buffer;
+pub use taken::Taken;

@@ -1,4 +1,4 @@
-use series_slots::series_key::SeriesKey;
+use series_slots::SeriesKey;
 
 /// A point that was taken out.
 #[derive(Drop)]

@@ -7,9 +7,7 @@ ghost use Rattle.block_cache.specs.Blocks.{no_blocks, same_block, rows_of, after
 ghost use Rattle.block_cache.specs.Uses.{Leaves};
 
 use lru::LruCache;
-use m3_model::memory::Memory;
-use m3_model::point::Series;
-use m3_model::seq::Seq;
+use m3_model::{Memory, Seq, Series};
 use std::alloc::Global;
 use std::marker::Model;
 use std::num::NonZeroUsize;

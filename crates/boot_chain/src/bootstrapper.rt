@@ -1,5 +1,5 @@
 use crate::range::RangeList;
-use m3_model::memory::Memory;
+use m3_model::Memory;
 use std::alloc::Global;
 
 /// One of the bootstrappers of a replica.

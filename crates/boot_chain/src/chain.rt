@@ -3,7 +3,7 @@ ghost use Rattle.boot_chain.specs.Chains.{HasAnswered, HasClaimed, HasStopped, c
 
 use crate::bootstrapper::Bootstrapper;
 use crate::range::RangeList;
-use m3_model::memory::Memory;
+use m3_model::Memory;
 use std::alloc::Global;
 
 /// Who claimed what, by bootstrapper, and what nobody did.

@@ -8,3 +8,8 @@ pub mod chain;
 pub mod laws;
 pub mod origin;
 pub mod range;
+
+pub use bootstrapper::Bootstrapper;
+pub use chain::{Claims, run_chain};
+pub use origin::{Claimant, Origin, claim_by_origin};
+pub use range::{Range, RangeList};

@@ -4,8 +4,7 @@ ghost use Rattle.boot_chain.specs.Origins.{claimants_of, claims_of};
 use crate::bootstrapper::Bootstrapper;
 use crate::chain::{Claims, run_chain};
 use crate::range::RangeList;
-use m3_model::duplicate::Duplicate;
-use m3_model::memory::Memory;
+use m3_model::{Duplicate, Memory};
 use std::alloc::Global;
 
 /// A bootstrapper that claims all or nothing of what it is asked for. To claim nothing takes no memory.

@@ -1,8 +1,7 @@
 ghost use Rattle.std.specs.Prelude.{◌≡◌, [], IfOk};
 ghost use Rattle.boot_chain.specs.Ranges.{range_eq, is_first, left_of};
 
-use m3_model::duplicate::Duplicate;
-use m3_model::memory::Memory;
+use m3_model::{Duplicate, Memory};
 use std::alloc::Global;
 use std::marker::Model;
 

@@ -1,9 +1,6 @@
 use block_cache::Cache;
 use block_cache::laws::{last_goes, only_what_was_put, others_stay, put_is_found};
-use m3_model::memory::Memory;
-use m3_model::point::Series;
-use m3_model::seq::Seq;
-use m3_model::text::Text;
+use m3_model::{Memory, Seq, Series, Text};
 use std::alloc::Global;
 use std::test::Fail;
 

@@ -1,8 +1,6 @@
-use boot_chain::chain::{Claims, run_chain};
 use boot_chain::laws::{claims_of_all_or_nothing, claims_part_what_was_asked};
-use boot_chain::origin::{Claimant, Origin, claim_by_origin};
-use boot_chain::range::{Range, RangeList};
-use m3_model::memory::Memory;
+use boot_chain::{Claimant, Claims, Origin, Range, RangeList, claim_by_origin, run_chain};
+use m3_model::Memory;
 use std::alloc::Global;
 use std::test::Fail;
 

@@ -1,7 +1,4 @@
-use m3_model::memory::Memory;
-use m3_model::point::{Key, Page, Point};
-use m3_model::seq::Seq;
-use m3_model::text::Text;
+use m3_model::{Key, Memory, Page, Point, Seq, Text};
 use page_cut::laws::{pages_are_full, pages_end, pages_hold_the_list};
 use page_cut::{ascend, cut};
 use std::alloc::Global;

@@ -1,8 +1,6 @@
 use load_gen::Script;
 use load_gen::laws::{has_all_lines, keeps_limits};
-use m3_model::act::Act;
-use m3_model::memory::Memory;
-use m3_model::turn::Request;
+use m3_model::{Act, Memory, Request};
 use std::alloc::Global;
 use std::test::Fail;
 

@@ -4,8 +4,8 @@ ghost use Rattle.call_lines.specs.Sample.{SampleIsLeft};
 ghost use Rattle.call_lines.specs.ReadLaws.{EndedTells, FirstShortTells, FoundTells, FullTells};
 ghost use Rattle.call_lines.specs.Laws.{AcknowledgedTells, DeliveredTells, NothingServes, NothingTells, UnmetTells, UnsentTells};
 
-use m3_outside::disk::Disk;
-use session_net::net::Net;
+use m3_outside::Disk;
+use session_net::Net;
 
 /// A write that begins so leaves events that tell of its line: where it was acknowledged, where too few took it, and where
 /// it wanted memory once it was sent.

@@ -8,8 +8,7 @@ ghost use Rattle.commit_log.specs.LogEnd.{Stands};
 ghost use Rattle.callers.specs.Chunks.{EndsWith};
 
 use commit_log::Log;
-use m3_outside::disk::Disk;
-use m3_outside::disk_err::DiskErr;
+use m3_outside::{Disk, DiskErr};
 
 /// Appends a chunk to a log. From `Ok` on each stop leaves it as the last chunk of the log's segment.
 ///

@@ -1,10 +1,8 @@
 ghost use Rattle.std.specs.Prelude.{◌≡◌, true, None, IfOk, IsErrOf};
 ghost use Rattle.m3_outside.specs.declared.disk_err.DiskErr.TheVariants.{Failed as DiskFailed};
 
-use m3_outside::disk::Disk;
-use m3_outside::disk_err::DiskErr;
-use m3_outside::file_name::FileName;
-use mem_disk::disk::MemDisk;
+use m3_outside::{Disk, DiskErr, FileName};
+use mem_disk::MemDisk;
 use std::alloc::Global;
 
 /// Asks an empty disk, of which the first call fails and no other, twice for the size of a file: whether the first call

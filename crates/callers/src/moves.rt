@@ -3,9 +3,8 @@ ghost use Rattle.placement_core.specs.Lawful.{IsLawful};
 ghost use Rattle.placement_plan.specs.Plans.{AreJoining, IsAvailable};
 ghost use Rattle.placement_plan.specs.Refusals.{IsMemory};
 
-use m3_model::placement::Placement;
-use placement_plan::completion::{are_joining, available};
-use placement_plan::plan_err::PlaceErr;
+use m3_model::Placement;
+use placement_plan::{PlaceErr, are_joining, available};
 use std::alloc::Global;
 
 /// The placement where these moves end, each a shard and the node that joins it, or `None` where one of them isn't under

@@ -2,9 +2,8 @@ ghost use Rattle.std.specs.Prelude.{◌≡◌, None, OnOk, OnErr, IfOk};
 ghost use Rattle.std.specs.FinMap as finite;
 ghost use Rattle.m3_model.specs.Contents.{raised, is_higher, key_of};
 
-use block_buffer::buffer::Buffer;
-use m3_model::memory::Memory;
-use m3_model::point::Point;
+use block_buffer::Buffer;
+use m3_model::{Memory, Point};
 
 /// Puts a point into a buffer, and says whether that changed it: the key was absent, or its value rises.
 ///

@@ -3,9 +3,7 @@ ghost use Rattle.m3_model.specs.Ascends.{Ascends};
 ghost use Rattle.m3_model.specs.Members.{IsIn};
 ghost use Rattle.tag_index.specs.Listed.{HasTagAt, IsPresent};
 
-use m3_model::memory::Memory;
-use m3_model::seq::Seq;
-use m3_model::text::Text;
+use m3_model::{Memory, Seq, Text};
 use tag_index::Index;
 
 /// Adds a series where it isn't present, and answers the ordinals of all series with the tag, ascending.

@@ -1,6 +1,6 @@
 use crate::stories::story;
-use legal_events::legal::any_legal;
-use m3_model::memory::Memory;
+use legal_events::any_legal;
+use m3_model::Memory;
 use std::alloc::Global;
 use std::test::Fail;
 

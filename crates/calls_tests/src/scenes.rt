@@ -1,10 +1,8 @@
 //! Placements, rules, points and pages for stories, each by a letter.
-use m3_model::memory::Memory;
-use m3_model::placement::{Assignment, Instance, Placement, ShardState};
-use m3_model::point::{Key, Page, Pick, Point, Series};
-use m3_model::rules::{Rules, Space};
-use m3_model::seq::Seq;
-use m3_model::text::Text;
+use m3_model::{
+    Assignment, Instance, Key, Memory, Page, Pick, Placement, Point, Rules, Seq, Series,
+    ShardState, Space, Text,
+};
 use std::alloc::Global;
 
 pub fn digit(byte: u8) -> u8 {

@@ -3,13 +3,8 @@ use crate::scenes::{
     NUMBERED, digit, done, nodes, number, numbered_point, page, page_after, pick, placement, point,
     points, rules, series,
 };
-use cluster_core::event::{Asked, Event, StepCall, StepReply};
-use m3_model::memory::Memory;
-use m3_model::point::Point;
-use m3_model::reason::{Damage, Reason};
-use m3_model::replica::{Report, Standing};
-use m3_model::seq::Seq;
-use m3_model::text::Text;
+use cluster_core::{Asked, Event, StepCall, StepReply};
+use m3_model::{Damage, Memory, Point, Reason, Report, Seq, Standing, Text};
 use std::alloc::Global;
 
 // What a word means where it stands: the present moment, the shard of which it is, and the place of the last Send or

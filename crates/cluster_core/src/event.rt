@@ -1,11 +1,8 @@
 //! What happens in a cluster, as far as its points, its placement and its moments go.
 use event_book::Entries;
-use m3_model::placement::Placement;
-use m3_model::point::{Key, Page, Pick, Point, Series};
-use m3_model::reason::Reason;
-use m3_model::replica::{BlockDigest, Report};
-use m3_model::rules::Rules;
-use m3_model::seq::Seq;
+use m3_model::{
+    BlockDigest, Key, Page, Pick, Placement, Point, Reason, Report, Rules, Seq, Series,
+};
 
 /// A call of one replica: of a node's slot for a shard.
 #[derive(Drop)]

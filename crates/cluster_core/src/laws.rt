@@ -6,7 +6,7 @@ ghost use Rattle.cluster_core.specs.Makers.{StaysLawful, FollowsFromItsSeat, Add
 ghost use Rattle.cluster_core.specs.Shown.{FoundShows, PageShows};
 
 use crate::event::Event;
-use m3_model::seq::Seq;
+use m3_model::Seq;
 
 /// The core theorem: whatever is lost, late, repeated, fenced, moved or restarted, a fetch that a majority answered
 /// holds each point that a majority took before it began, and nothing that wasn't written.

@@ -5,13 +5,7 @@ ghost use Rattle.cluster_core.specs.declared.event.StepReply.TheVariants as repl
 ghost use Rattle.m3_model.specs.declared.reason.Reason.TheVariants as reason;
 
 use crate::event::{Event, StepCall, StepReply};
-use m3_model::duplicate::Duplicate;
-use m3_model::memory::Memory;
-use m3_model::point::Point;
-use m3_model::reason::Reason;
-use m3_model::replica::Standing;
-use m3_model::rules::Rules;
-use m3_model::seq::Seq;
+use m3_model::{Duplicate, Memory, Point, Reason, Rules, Seq, Standing};
 use std::alloc::Global;
 
 /// The state of one replica, folded over its own steps.

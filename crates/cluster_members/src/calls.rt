@@ -9,15 +9,11 @@ ghost use Rattle.cluster_members.specs.Calls.{answer_of, IsWritten, IsFetched, I
 
 use crate::members::Members;
 use crate::spaces::namespace_place;
-use m3_model::act::{ReadLevel, WriteLevel};
-use m3_model::answer::Answer;
-use m3_model::point::{Matcher, Pick, Point};
-use m3_model::seq::Seq;
-use m3_model::text::Text;
-use m3_outside::disk::Disk;
-use replica_exchange::call_id::CallId;
-use session_net::session_err::SessionErr;
-use session_reads::read::fetch;
+use m3_model::{Answer, Matcher, Pick, Point, ReadLevel, Seq, Text, WriteLevel};
+use m3_outside::Disk;
+use replica_exchange::CallId;
+use session_net::SessionErr;
+use session_reads::fetch;
 use session_writes::write::write;
 use std::alloc::Global;
 

@@ -7,12 +7,11 @@ ghost use Rattle.replica_exchange.specs.MachineCalls.{HasRoom};
 ghost use Rattle.session_net.specs.Runs.{Ran};
 ghost use Rattle.cluster_members.specs.Steps.{clock_events};
 
-use event_trail::apart::tell_apart;
-use event_trail::views::EventView;
-use m3_model::rules::Rules;
-use m3_outside::disk::Disk;
-use replica_calls::replicas::Replicas;
-use session_net::adding::add;
+use event_trail::{EventView, tell_apart};
+use m3_model::Rules;
+use m3_outside::Disk;
+use replica_calls::Replicas;
+use session_net::add;
 
 // Adds an Ask for a Clock of the rules to the list, which has room for it.
 fn ask<D: Disk>(replicas: &mut Replicas<D>, rules: &Rules)

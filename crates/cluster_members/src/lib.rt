@@ -6,3 +6,6 @@ mod clock;
 pub mod members;
 pub mod rules;
 mod spaces;
+
+pub use calls::Range;
+pub use members::Members;

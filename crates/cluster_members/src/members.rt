@@ -1,9 +1,9 @@
 ghost use Rattle.std.specs.Prelude.{◌≡◌, ◌≤◌, ◌<◌, ◌*◌, length};
 ghost use Rattle.m3_model.specs.declared.limits.TheConstants.{MOST_NAMESPACES, MOST_NODES, MOST_SHARDS, TIME_END};
 
-use m3_outside::disk::Disk;
-use replica_exchange::slot::Slot;
-use session_net::net::Net;
+use m3_outside::Disk;
+use replica_exchange::Slot;
+use session_net::Net;
 
 /// A cluster that stands: what its calls meet, the slots that have a replica by shard, and which of its nodes are stopped.
 #[derive(Drop)]

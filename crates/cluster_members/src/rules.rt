@@ -9,12 +9,9 @@ ghost use Rattle.cluster_members.specs.Steps.{IsMoved, IsNamed, SetsRules, at_mo
 use crate::clock::tick;
 use crate::members::Members;
 use crate::spaces::namespace_place;
-use m3_model::answer::Answer;
-use m3_model::duplicate::Duplicate;
 use m3_model::limits::MOST_NAMESPACES;
-use m3_model::memory::Memory;
-use m3_model::rules::{Rules, Space};
-use m3_outside::disk::Disk;
+use m3_model::{Answer, Duplicate, Memory, Rules, Space};
+use m3_outside::Disk;
 use std::alloc::Global;
 use std::mem::replace;
 

@@ -1,7 +1,7 @@
 ghost use Rattle.std.specs.Prelude.{◌≡◌, ◌<◌, length, IfSome};
 ghost use Rattle.m3_model.specs.Rules.{namespace_place};
 
-use m3_model::rules::Space;
+use m3_model::Space;
 
 /// The place of a namespace, by its name.
 pub(crate) fn namespace_place(spaces: &[Space], name: &str) -> Option<usize>

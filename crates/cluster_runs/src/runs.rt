@@ -4,13 +4,10 @@ ghost use Rattle.m3_outside.specs.Slots.{Out};
 ghost use Rattle.m3_outside.specs.declared.slot.Slot.{Slot as Place};
 ghost use Rattle.served_cluster.specs.Owned.{MayServe};
 
-use cluster_words::acts::act_of;
-use cluster_words::answers::{spell_placement, spell_reply};
-use m3_model::memory::Memory;
-use m3_model::turn::{Reply, Request};
-use m3_outside::disk::Disk;
-use m3_outside::disks::Disks;
-use served_cluster::cluster::Cluster;
+use cluster_words::{act_of, spell_placement, spell_reply};
+use m3_model::{Memory, Reply, Request};
+use m3_outside::{Disk, Disks};
+use served_cluster::Cluster;
 use std::alloc::Global;
 
 fn answered<X: Disks>(

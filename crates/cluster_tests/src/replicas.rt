@@ -4,20 +4,16 @@ ghost use Rattle.m3_outside.specs.Slots.{Out};
 ghost use Rattle.m3_outside.specs.declared.slot.Slot.{Slot as Place};
 ghost use Rattle.member_runs.specs.Ready.{IsReadyCluster};
 
-use cluster_members::members::Members;
-use cluster_words::answers::letter_of_reason;
-use cluster_words::words::{number, text};
-use m3_model::memory::Memory;
-use m3_model::replica::{Report, Standing};
-use m3_outside::disk::Disk;
-use m3_outside::disks::Disks;
-use member_runs::members::{first, tell};
-use replica_calls::replicas::Replicas;
-use replica_exchange::CallErr;
-use replica_exchange::slot::Slot;
+use cluster_members::Members;
+use cluster_words::{letter_of_reason, number, text};
+use m3_model::{Memory, Report, Standing};
+use m3_outside::{Disk, Disks};
+use member_runs::{first, tell};
+use replica_calls::Replicas;
+use replica_exchange::{CallErr, Slot};
 use std::alloc::Global;
 use std::test::Fail;
-use test_disks::disks::disks_with;
+use test_disks::disks_with;
 
 fn spell_refusal(out: &mut String, refused: &CallErr) -> Result<(), Memory> {
     match refused {

@@ -4,15 +4,14 @@ ghost use Rattle.m3_outside.specs.Slots.{Out};
 ghost use Rattle.m3_outside.specs.declared.slot.Slot.{Slot as Place};
 ghost use Rattle.member_runs.specs.Ready.{IsReadyCluster};
 
-use cluster_members::members::Members;
-use cluster_words::words::number;
-use m3_model::memory::Memory;
-use m3_outside::disk::Disk;
-use m3_outside::disks::Disks;
-use member_runs::members::{first, tell};
+use cluster_members::Members;
+use cluster_words::number;
+use m3_model::Memory;
+use m3_outside::{Disk, Disks};
+use member_runs::{first, tell};
 use std::alloc::Global;
 use std::test::Fail;
-use test_disks::disks::disks_with;
+use test_disks::disks_with;
 
 // Sets the namespace m at moment 100, and these fates.
 fn is_set_up<D: Disk>(alloc: Global, members: &mut Members<D>, fates: &str) -> Result<bool, Memory>

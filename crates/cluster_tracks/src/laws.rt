@@ -8,10 +8,10 @@ ghost use Rattle.cluster_tracks.specs.Quiet.{QuietLinesStandOn, QuietTurnsMakeNo
 ghost use Rattle.cluster_tracks.specs.Runs.{RunFindsNoDamage, RunGoesOn, RunIsCounted, RunOpensEmpty};
 ghost use Rattle.cluster_tracks.specs.Steps.{FirstStandsSo, StandsAfterLine, TracksAtFirst, TracksOn};
 
-use cluster_members::members::Members;
-use m3_outside::disk::Disk;
-use replica_calls::replicas::Replicas;
-use session_net::net::Net;
+use cluster_members::Members;
+use m3_outside::Disk;
+use replica_calls::Replicas;
+use session_net::Net;
 
 /// Each disk counts the faults for which its slot's steps were refused, also those of the steps that come; and a slot that takes
 /// none of them has its replica as before.

@@ -4,3 +4,8 @@
 
 pub mod laws;
 pub mod lines;
+
+pub use lines::{
+    acts_keep_slots, calls_are_tracked, inits_are_tracked, lines_are_tracked, nodes_are_tracked,
+    settings_are_tracked,
+};

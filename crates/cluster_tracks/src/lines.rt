@@ -2,8 +2,8 @@
 ghost use Rattle.cluster_tracks.specs.Lines.{BootstrapsAreTracked, DeliveriesAreTracked, FatesAreTracked, FetchesAreTracked, InitsAreTracked, LinesAreTracked, MatchesAreTracked, MomentsAreTracked, NamespacesAreTracked, OrdersAreTracked, RestartsAreTracked, StopsAreTracked, WritesAreTracked};
 ghost use Rattle.cluster_tracks.specs.Slots.{ActsKeepSlots};
 
-use cluster_members::members::Members;
-use m3_outside::disk::Disk;
+use cluster_members::Members;
+use m3_outside::Disk;
 
 /// An act leaves the slots, and which of them have replicas.
 pub fn acts_keep_slots<D: Disk>(members: &Members<D>)

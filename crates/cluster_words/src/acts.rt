@@ -4,8 +4,7 @@ ghost use Rattle.cluster_words.specs.Asks.{MayAsk};
 
 use crate::lists::{fates, one_matcher, three_nodes};
 use crate::words::{identifier, name, number, read_level, text, value, write_level};
-use m3_model::act::Act;
-use m3_model::memory::Memory;
+use m3_model::{Act, Memory};
 use std::alloc::Global;
 
 // `i4` is of three nodes and 4 shards.

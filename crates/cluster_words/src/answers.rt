@@ -1,11 +1,6 @@
 //! Answers as texts.
 use crate::words::letter_of;
-use m3_model::answer::Answer;
-use m3_model::memory::Memory;
-use m3_model::placement::Placement;
-use m3_model::point::Series;
-use m3_model::reason::Reason;
-use m3_model::turn::Reply;
+use m3_model::{Answer, Memory, Placement, Reason, Reply, Series};
 
 /// The letter of a node by its number.
 pub fn letter_of_node(node: u8) -> char {

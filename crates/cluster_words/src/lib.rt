@@ -6,3 +6,11 @@ pub mod answers;
 pub mod lists;
 pub mod scripts;
 pub mod words;
+
+pub use acts::act_of;
+pub use answers::{
+    letter_of_node, letter_of_reason, spell, spell_found, spell_placement, spell_reply,
+};
+pub use lists::{fates, one_matcher, three_nodes};
+pub use scripts::{Dice, script};
+pub use words::{identifier, letter_of, name, number, read_level, text, value, write_level};

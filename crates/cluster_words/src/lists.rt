@@ -7,12 +7,8 @@ ghost use Rattle.m3_model.specs.declared.act.Act.TheVariants as act;
 ghost use Rattle.m3_model.specs.declared.act.Fate.{Fate as Outcome};
 
 use crate::words::name;
-use m3_model::act::Fate;
 use m3_model::limits::MOST_FATES;
-use m3_model::memory::Memory;
-use m3_model::point::Matcher;
-use m3_model::seq::Seq;
-use m3_model::text::Text;
+use m3_model::{Fate, Matcher, Memory, Seq, Text};
 use std::alloc::Global;
 
 fn push_node(

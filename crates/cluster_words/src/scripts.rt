@@ -1,7 +1,7 @@
 //! Random scripts for a cluster on the nodes a, b and c.
 ghost use Rattle.std.specs.Prelude.{◌≤◌, ◌<◌};
 
-use m3_model::memory::Memory;
+use m3_model::Memory;
 use std::alloc::Global;
 
 /// A xorshift generator, whose state isn't 0.

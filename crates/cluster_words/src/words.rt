@@ -3,9 +3,7 @@ ghost use Rattle.std.specs.Prelude.{◌≤◌, IfOk, IsTrue};
 ghost use Rattle.m3_model.specs.Identifiers.{IsIdentifier};
 ghost use Rattle.m3_model.specs.Names.{is_name};
 
-use m3_model::act::{ReadLevel, WriteLevel};
-use m3_model::memory::Memory;
-use m3_model::text::Text;
+use m3_model::{Memory, ReadLevel, Text, WriteLevel};
 use series_id::valid;
 use std::alloc::Global;
 

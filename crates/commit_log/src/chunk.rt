@@ -6,9 +6,7 @@ ghost use Rattle.commit_log.specs.Segment.{segment, MayAdd, Adds, OthersStay, Is
 
 use byteorder::{BigEndian, ByteOrder};
 use log_chunks::{HEAD_BYTES, OPEN};
-use m3_outside::disk::Disk;
-use m3_outside::failed::Failed;
-use m3_outside::file_name::FileName;
+use m3_outside::{Disk, Failed, FileName};
 
 /// The file of the segment of this number.
 pub(crate) fn segment_name(number: u64) -> FileName

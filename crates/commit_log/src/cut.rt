@@ -10,11 +10,9 @@ ghost use Rattle.commit_log.specs.Cutting.{numbers_below, segments_below};
 
 use crate::chunk::segment_name;
 use crate::read::segment_numbers;
-use m3_model::memory::Memory;
-use m3_outside::disk::Disk;
-use m3_outside::disk_err::DiskErr;
-use m3_outside::file_name::FileName;
+use m3_model::Memory;
 use m3_outside::take_away::take_away;
+use m3_outside::{Disk, DiskErr, FileName};
 use std::alloc::Global;
 
 // The names of the segments of these numbers.

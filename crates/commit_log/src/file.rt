@@ -12,9 +12,7 @@ ghost use Rattle.commit_log.specs.Segment.{segment};
 
 use crate::chunk::segment_name;
 use m3_model::limits::SEGMENT_BYTES;
-use m3_outside::disk::Disk;
-use m3_outside::disk_err::DiskErr;
-use m3_outside::file_name::FileName;
+use m3_outside::{Disk, DiskErr, FileName};
 use std::alloc::Global;
 
 /// The first bytes of a segment's file, at most as many as a segment has.

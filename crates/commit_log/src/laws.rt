@@ -5,7 +5,7 @@ ghost use Rattle.m3_outside.specs.Files.{Files};
 ghost use Rattle.commit_log.specs.Segment.{Reads};
 ghost use Rattle.commit_log.specs.LogLaws.{NothingBehindGate, NumbersAreThere, LogIsOne, DamagedIsNone, ReaderFindsLog, AppendGrowsLog, BeginLeavesLog, CutLeavesEnd};
 
-use m3_outside::disk::Disk;
+use m3_outside::Disk;
 
 /// A segment reads as at most one list of chunks.
 pub fn chunks_are_one()

@@ -11,9 +11,7 @@ ghost use Rattle.commit_log.specs.LogEnd.{NoneFrom, Stands, IsReadyFor, MayBegin
 use crate::chunk::{put_chunk, segment_name};
 use log_chunks::HEAD_BYTES;
 use m3_model::limits::{NUMBER_END, SEGMENT_BYTES};
-use m3_outside::disk::Disk;
-use m3_outside::disk_err::DiskErr;
-use m3_outside::failed::Failed;
+use m3_outside::{Disk, DiskErr, Failed};
 use std::marker::Model;
 
 // The device calls of an append that use up room.

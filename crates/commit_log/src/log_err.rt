@@ -1,17 +1,20 @@
 ghost use Rattle.std.specs.Prelude.{◌≡◌};
 
-use m3_outside::disk_err::DiskErr;
-use m3_outside::failed::Failed;
+use m3_outside::{DiskErr, Failed};
 use std::alloc::{AllocError, AllocFailed};
+use thiserror::Error;
 
 /// Why a log can't be read.
-#[derive(Clone, Copy, Debug, PartialEq, Eq)]
+#[derive(Clone, Copy, Debug, PartialEq, Eq, Error)]
 pub enum LogErr {
     /// The disk failed. Its count of faults rose in that call.
+    #[error("the disk failed")]
     Disk,
     /// Want of memory.
+    #[error("out of memory")]
     Memory,
     /// From the place `at` on the bytes of the segment are none of a log.
+    #[error("segment {number} is damaged at byte {at}")]
     Form { number: u64, at: u64 },
 }
 

@@ -13,11 +13,9 @@ ghost use Rattle.commit_log.specs.declared.log_err.LogErr.TheVariants as errors;
 use crate::file::read_front;
 use crate::log_err::LogErr;
 use crate::segment::read_chunks;
+use m3_model::Seq;
 use m3_model::limits::NUMBER_END;
-use m3_model::seq::Seq;
-use m3_outside::disk::Disk;
-use m3_outside::disk_err::DiskErr;
-use m3_outside::file_name::FileName;
+use m3_outside::{Disk, DiskErr, FileName};
 use std::alloc::Global;
 
 /// What a log holds.

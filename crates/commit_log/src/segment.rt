@@ -6,7 +6,7 @@ ghost use Rattle.commit_log.specs.declared.log_err.LogErr.TheVariants as errors;
 use crate::file::Front;
 use crate::log_err::LogErr;
 use log_chunks::{ChunkAt, get_chunk};
-use m3_model::seq::Seq;
+use m3_model::Seq;
 use std::alloc::Global;
 
 /// Appends the chunks of the segment of this number, whose file begins so.

@@ -5,8 +5,8 @@ use crate::file_table::FileTable;
 use crate::pending::PendingWrites;
 use crate::picks::apply;
 use crate::settle::settle;
-use m3_model::memory::Memory;
-use m3_outside::file_name::FileName;
+use m3_model::Memory;
+use m3_outside::FileName;
 use std::alloc::Global;
 use std::mem;
 

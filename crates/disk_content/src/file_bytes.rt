@@ -1,7 +1,7 @@
 ghost use Rattle.std.specs.Prelude.{◌≡◌, ◌≤◌, ◌+◌, [], IfOk, length, replicate, take, drop};
 ghost use Rattle.m3_outside.specs.Files.{patched};
 
-use m3_model::memory::Memory;
+use m3_model::Memory;
 use std::alloc::{AllocError, Global};
 use std::marker::Model;
 use std::mem;

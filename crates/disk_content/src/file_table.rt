@@ -6,8 +6,8 @@ ghost use Rattle.disk_content.specs.Tables.{with_bytes};
 
 use crate::file_bytes::FileBytes;
 use indexmap::IndexMap;
-use m3_model::memory::Memory;
-use m3_outside::file_name::FileName;
+use m3_model::Memory;
+use m3_outside::FileName;
 use std::alloc::Global;
 use std::marker::Model;
 

@@ -7,3 +7,8 @@ pub mod file_table;
 pub mod pending;
 mod picks;
 mod settle;
+
+pub use content::Content;
+pub use file_bytes::FileBytes;
+pub use file_table::FileTable;
+pub use pending::{PendingWrite, PendingWrites, is_other};

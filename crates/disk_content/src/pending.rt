@@ -2,8 +2,8 @@ ghost use Rattle.std.specs.Prelude.{◌≡◌, ◌≤◌, [], OnOk, OnErr, lengt
 ghost use Rattle.disk_content.specs.Writes.{is_other, to_others, AreBuffers, pending_after_write, pending_without};
 
 use crate::file_bytes::FileBytes;
-use m3_model::memory::Memory;
-use m3_outside::file_name::FileName;
+use m3_model::Memory;
+use m3_outside::FileName;
 use std::alloc::Global;
 use std::marker::Model;
 use std::mem;

@@ -4,7 +4,7 @@ ghost use Rattle.disk_content.specs.Picks.{picked_bytes, picked_files};
 
 use crate::file_table::FileTable;
 use crate::pending::PendingWrite;
-use m3_model::memory::Memory;
+use m3_model::Memory;
 use std::alloc::Global;
 
 // What a digit leaves of a write.

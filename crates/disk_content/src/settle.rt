@@ -5,7 +5,7 @@ ghost use Rattle.disk_content.specs.Images.{MayLeave};
 
 use crate::file_table::FileTable;
 use crate::pending::{PendingWrite, is_other};
-use m3_outside::file_name::FileName;
+use m3_outside::FileName;
 
 // The bytes of a file that a write covers.
 fn covered_by<'a>(write: &PendingWrite, file: &'a [u8]) -> &'a [u8]

@@ -3,3 +3,6 @@
 
 pub mod sessions;
 pub mod turns;
+
+pub use sessions::{deliver, read, write};
+pub use turns::{keep, open};

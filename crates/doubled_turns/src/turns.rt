@@ -1,19 +1,13 @@
 //! What words add to the events once the cluster answered them, and what they are to be answered as far as the double tells that.
 use crate::sessions::{deliver, read, write};
-use cluster_core::event::{Asked, Event};
-use cluster_members::members::Members;
-use cluster_words::answers::{letter_of_node, spell_placement};
-use m3_model::act::{Act, ReadLevel};
-use m3_model::duplicate::Duplicate;
-use m3_model::memory::Memory;
-use m3_model::point::{Matcher, Pick, Point};
-use m3_model::rules::Rules;
-use m3_model::seq::Seq;
-use m3_model::text::Text;
-use m3_outside::disk::Disk;
-use replica_doubles::doubles::{Change, Double, Range};
-use replica_exchange::slot::Slot;
-use session_net::net::Net;
+use cluster_core::{Asked, Event};
+use cluster_members::Members;
+use cluster_words::{letter_of_node, spell_placement};
+use m3_model::{Act, Duplicate, Matcher, Memory, Pick, Point, ReadLevel, Rules, Seq, Text};
+use m3_outside::Disk;
+use replica_doubles::{Change, Double, Range};
+use replica_exchange::Slot;
+use session_net::Net;
 use std::alloc::Global;
 
 // ---- the opening and the rules

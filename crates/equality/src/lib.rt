@@ -2,3 +2,5 @@
 #![tactic(auto)]
 
 pub mod same;
+
+pub use same::{Same, are_same};

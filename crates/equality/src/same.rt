@@ -1,12 +1,11 @@
 //! Whether two values are equal.
 ghost use Rattle.std.specs.Prelude.{◌≡◌, ◌↔◌, IsTrue};
 
-use cluster_core::event::StepCall;
-use m3_model::placement::{Assignment, Instance, Placement};
-use m3_model::point::{Key, Matcher, Page, Pick, Point, Series};
-use m3_model::rules::{Rules, Space};
-use m3_model::seq::Seq;
-use m3_model::text::Text;
+use cluster_core::StepCall;
+use m3_model::{
+    Assignment, Instance, Key, Matcher, Page, Pick, Placement, Point, Rules, Seq, Series, Space,
+    Text,
+};
 
 /// A type whose values can be compared.
 pub trait Same {

@@ -7,8 +7,8 @@ ghost use Rattle.m3_model.specs.Reads.{IsOrdered};
 ghost use Rattle.m3_model.specs.Tags as tags;
 ghost use Rattle.cluster_core.specs.Answers.{IsBelow};
 
-use m3_model::point::{Key, Point, Series};
-use placement_core::ascending::{Order, ascend};
+use m3_model::{Key, Point, Series};
+use placement_core::{Order, ascend};
 use std::cmp::Ordering;
 
 /// The nodes of a list differ.

@@ -2,11 +2,9 @@
 ghost use Rattle.std.specs.Prelude.{◌≡◌, ◌↔◌, IsTrue, MatchOption, None, Some, slice_get};
 ghost use Rattle.cluster_core.specs.Earlier.{GivesTenure, GavePage, HasClock, HasSend, HasTenure, HasPage};
 
-use cluster_core::event::{Event, StepReply};
-use equality::same::Same;
-use m3_model::placement::{Assignment, Placement};
-use m3_model::point::{Page, Point};
-use m3_model::rules::Rules;
+use cluster_core::{Event, StepReply};
+use equality::Same;
+use m3_model::{Assignment, Page, Placement, Point, Rules};
 
 /// The assignments of the shard, where the placement has it.
 pub fn shard_of(place: &Placement, shard: u32) -> Option<&[Assignment]>

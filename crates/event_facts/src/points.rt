@@ -6,13 +6,9 @@ ghost use Rattle.m3_model.specs.Rules.{InWindow, HasExpired};
 ghost use Rattle.cluster_core.specs.Answers.{HoldsOf, IsWanted};
 ghost use Rattle.cluster_core.specs.Replicas.{IsGone};
 
-use cluster_core::replica_state::ReplicaState;
-use equality::same::Same;
-use m3_model::duplicate::Duplicate;
-use m3_model::memory::Memory;
-use m3_model::point::{Matcher, Pick, Point, Series};
-use m3_model::rules::Rules;
-use m3_model::text::Text;
+use cluster_core::ReplicaState;
+use equality::Same;
+use m3_model::{Duplicate, Matcher, Memory, Pick, Point, Rules, Series, Text};
 use series_id::has_tag;
 use std::alloc::Global;
 

@@ -5,3 +5,7 @@ pub mod apart;
 mod past;
 pub mod trail;
 pub mod views;
+
+pub use apart::tell_apart;
+pub use trail::{Trail, reads_keep};
+pub use views::{CallView, EventView, ReplyView};

@@ -9,9 +9,8 @@ ghost use Rattle.event_trail.specs.Trails.{IsLegalOver, IsLawfulOver};
 use crate::past::Past;
 use crate::views::EventView;
 use event_book::Full;
-use m3_model::placement::Placement;
-use m3_model::rules::Rules;
-use m3_outside::disk::Disk;
+use m3_model::{Placement, Rules};
+use m3_outside::Disk;
 use std::marker::{Model, PhantomData};
 
 // So many events a list takes.

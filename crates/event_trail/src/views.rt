@@ -6,12 +6,7 @@ ghost use Rattle.cluster_core.specs.declared.event.Event.TheVariants as event;
 ghost use Rattle.cluster_core.specs.declared.event.StepCall.TheVariants as call;
 ghost use Rattle.cluster_core.specs.declared.event.StepReply.TheVariants as reply;
 
-use m3_model::placement::Placement;
-use m3_model::point::{Pick, Point, Series};
-use m3_model::reason::Reason;
-use m3_model::replica::Report;
-use m3_model::rules::Rules;
-use m3_model::seq::Seq;
+use m3_model::{Pick, Placement, Point, Reason, Report, Rules, Seq, Series};
 use std::marker::Model;
 use std::snapshot::Snapshot;
 

@@ -4,8 +4,7 @@ ghost use Rattle.fileset_check.specs.PartFiles.{IsBody, MayBeNoData};
 
 use crate::lawful::is_volume;
 use fileset_read::{RowErr, rows_in};
-use m3_model::point::Series;
-use m3_model::seq::Seq;
+use m3_model::{Seq, Series};
 use std::alloc::Global;
 use volume_bytes::{Head, Tables, tables_of};
 

@@ -1,16 +1,19 @@
 use crate::part_err::PartErr;
-use m3_outside::disk_err::DiskErr;
-use m3_outside::file_name::FileName;
+use m3_outside::{DiskErr, FileName};
 use std::alloc::AllocFailed;
+use thiserror::Error;
 
 /// Why volumes aren't listed.
-#[derive(Clone, Copy, Debug)]
+#[derive(Clone, Copy, Debug, Error)]
 pub enum CheckErr {
     /// The disk failed. Its count of faults rose in that call.
+    #[error("the disk failed")]
     Disk,
     /// Want of memory.
+    #[error("out of memory")]
     Memory,
     /// The SHA-256 of the file isn't the one that is kept of it.
+    #[error("the digest of {file:?} differs from the one kept")]
     Digest {
         file: FileName,
         kept: [u8; 32],
@@ -19,6 +22,7 @@ pub enum CheckErr {
     /// The file isn't that of a volume. `at` is the first byte with which no such file goes on, or its end; 0 where it isn't
     /// there. Of data that keeps to its digest, and of the info of a name that no volume has, it is 0, too: no place in them is
     /// looked for.
+    #[error("{file:?} is damaged at byte {at}")]
     Form {
         file: FileName,
         at: u64,

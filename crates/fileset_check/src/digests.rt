@@ -7,8 +7,8 @@ ghost use Rattle.fileset_check.specs.Told.{FirstTells, Says, at_digests, at_gate
 use crate::gate::gate_stop;
 use crate::part_err::PartErr;
 use crate::parts::{bytes_in, file_of, is_there};
-use m3_model::seq::Seq;
-use m3_outside::file_name::FileName;
+use m3_model::Seq;
+use m3_outside::FileName;
 use wire_bytes::digest;
 
 // How many bytes a digest has, and how many the digests of five files.

@@ -10,8 +10,8 @@ use crate::body::Body;
 use crate::gate::first_difference;
 use crate::part_err::PartErr;
 use crate::parts::{bytes_in, file_of};
-use m3_model::seq::Seq;
-use m3_outside::file_name::FileName;
+use m3_model::Seq;
+use m3_outside::FileName;
 use std::alloc::Global;
 use volume_bytes::{Head, bloom_filter, info};
 

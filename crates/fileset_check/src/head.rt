@@ -7,7 +7,7 @@ ghost use Rattle.fileset_check.specs.Told.{HeadStops, IsInside};
 
 use crate::numbers::{Field, field_of, number_stop};
 use m3_model::limits::{DURATION_END, MOST_NAMESPACES, NUMBER_END, TIME_END};
-use m3_outside::file_name::FileName;
+use m3_outside::FileName;
 use volume_bytes::Head;
 use wire_bytes::get_number;
 

@@ -3,8 +3,8 @@ ghost use Rattle.wire_bytes.specs.Volumes.{IsHead, IsVolume};
 ghost use Rattle.volume_bytes.specs.Heads.{head_of};
 ghost use Rattle.fileset_check.specs.Lawful.{AreRows, AreTimes, IsRowIn};
 
+use m3_model::Series;
 use m3_model::limits::{DURATION_END, MOST_ID_BYTES, MOST_NAMESPACES, NUMBER_END, TIME_END};
-use m3_model::point::Series;
 use std::cmp::Ordering;
 use volume_bytes::Head;
 

@@ -14,9 +14,8 @@ ghost use Rattle.fileset_check.specs.declared.check_err.CheckErr.TheVariants as 
 use crate::check_err::CheckErr;
 use crate::volume::{Volume, check_volume};
 use fileset_read::counted;
-use m3_model::seq::Seq;
-use m3_outside::disk::Disk;
-use m3_outside::file_name::FileName;
+use m3_model::Seq;
+use m3_outside::{Disk, FileName};
 use std::alloc::Global;
 
 // Appends the volumes of these checkpoints.

@@ -1,5 +1,5 @@
-use m3_model::memory::Memory;
-use m3_outside::file_name::FileName;
+use m3_model::Memory;
+use m3_outside::FileName;
 
 /// Why files that were read aren't those of a volume.
 #[derive(Clone, Copy)]

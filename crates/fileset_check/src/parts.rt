@@ -5,10 +5,8 @@ ghost use Rattle.m3_outside.specs.declared.disk_err.DiskErr.TheVariants.{Failed 
 ghost use Rattle.fileset_check.specs.PartFiles.{AreParts, bytes_in, file_of, part_in};
 
 use fileset_read::read_file;
-use m3_model::seq::Seq;
-use m3_outside::disk::Disk;
-use m3_outside::disk_err::DiskErr;
-use m3_outside::file_name::FileName;
+use m3_model::Seq;
+use m3_outside::{Disk, DiskErr, FileName};
 use std::alloc::Global;
 
 /// The name of the file of this kind of the volume of which this is a file.

@@ -17,9 +17,8 @@ use crate::head::read_head;
 use crate::part_err::PartErr;
 use crate::parts::{bytes_in, file_of, read_parts};
 use fileset_read::RowErr;
-use m3_model::seq::Seq;
-use m3_outside::disk::Disk;
-use m3_outside::file_name::FileName;
+use m3_model::Seq;
+use m3_outside::{Disk, FileName};
 use std::alloc::Global;
 use volume_bytes::Head;
 

@@ -1,15 +1,18 @@
-use m3_model::memory::Memory;
-use m3_outside::disk_err::DiskErr;
-use m3_outside::file_name::FileName;
+use m3_model::Memory;
+use m3_outside::{DiskErr, FileName};
+use thiserror::Error;
 
 /// Why a volume isn't read.
-#[derive(Clone, Copy, Debug, PartialEq, Eq)]
+#[derive(Clone, Copy, Debug, PartialEq, Eq, Error)]
 pub enum FileErr {
     /// The disk failed. Its count of faults rose in that call.
+    #[error("the disk failed")]
     Disk,
     /// Want of memory.
+    #[error("out of memory")]
     Memory,
     /// The file isn't that of a volume.
+    #[error("{file:?} is damaged")]
     Form { file: FileName },
 }
 

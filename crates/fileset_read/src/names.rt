@@ -8,12 +8,8 @@ ghost use Rattle.shard_files.specs.Parts as parts;
 ghost use Rattle.shard_files.specs.Parts.{counted_volumes};
 ghost use Rattle.fileset_read.specs.Volumes.{is_counted};
 
-use m3_model::memory::Memory;
-use m3_model::seq::Seq;
-use m3_outside::disk::Disk;
-use m3_outside::disk_err::DiskErr;
-use m3_outside::failed::Failed;
-use m3_outside::file_name::FileName;
+use m3_model::{Memory, Seq};
+use m3_outside::{Disk, DiskErr, Failed, FileName};
 use std::alloc::Global;
 
 // An open gate.

@@ -1,13 +1,16 @@
-use m3_model::memory::Memory;
+use m3_model::Memory;
 use std::alloc::AllocFailed;
+use thiserror::Error;
 use wire_bytes::WireErr;
 
 /// Why bytes aren't read as series.
-#[derive(Clone, Copy)]
+#[derive(Clone, Copy, Debug, Error)]
 pub enum RowErr {
     /// Want of memory.
+    #[error("out of memory")]
     Memory,
     /// They are none.
+    #[error("the bytes are no series")]
     Form,
 }
 

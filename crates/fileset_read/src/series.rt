@@ -5,9 +5,7 @@ ghost use Rattle.fileset_read.specs.Rows.{ArePairs, AreInside, AreSpelled, Gives
 
 use crate::row_at::{RowAt, find_row};
 use crate::row_err::RowErr;
-use m3_model::point::Series;
-use m3_model::seq::Seq;
-use m3_model::text::Text;
+use m3_model::{Seq, Series, Text};
 use std::alloc::Global;
 use wire_bytes::get_number;
 

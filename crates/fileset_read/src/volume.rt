@@ -15,10 +15,8 @@ use crate::file::read_file;
 use crate::file_err::FileErr;
 use crate::row_err::RowErr;
 use crate::series::{rows_in, series_in};
-use m3_model::point::Series;
-use m3_model::seq::Seq;
-use m3_outside::disk::Disk;
-use m3_outside::file_name::FileName;
+use m3_model::{Seq, Series};
+use m3_outside::{Disk, FileName};
 use std::alloc::Global;
 use volume_bytes::Head;
 

@@ -4,10 +4,8 @@ use crate::stories::{first_wrong, steps};
 use crate::words::file;
 use fileset_check::{CheckErr, volumes};
 use fileset_read::read_file;
-use m3_outside::disk::Disk;
-use m3_outside::disk_err::DiskErr;
-use m3_outside::file_name::FileName;
-use mem_disk::disk::MemDisk;
+use m3_outside::{Disk, DiskErr, FileName};
+use mem_disk::MemDisk;
 use std::alloc::Global;
 use std::test::Fail;
 

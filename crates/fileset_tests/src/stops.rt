@@ -2,10 +2,8 @@
 use crate::acts::digest_of;
 use crate::stories::steps;
 use crate::words::{number, part};
-use m3_outside::disk::Disk;
-use m3_outside::disk_err::DiskErr;
-use m3_outside::file_name::FileName;
-use mem_disk::disk::MemDisk;
+use m3_outside::{Disk, DiskErr, FileName};
+use mem_disk::MemDisk;
 use std::alloc::Global;
 use std::test::Fail;
 

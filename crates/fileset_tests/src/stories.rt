@@ -1,9 +1,8 @@
 //! Stories of words on one disk in memory: volumes written, read, numbered and taken away.
 use crate::acts::act;
 use crate::tells::tell;
-use m3_outside::disk::Disk;
-use m3_outside::disk_err::DiskErr;
-use mem_disk::disk::MemDisk;
+use m3_outside::{Disk, DiskErr};
+use mem_disk::MemDisk;
 use std::alloc::Global;
 use std::test::Fail;
 

@@ -9,11 +9,8 @@ ghost use Rattle.fileset_check.specs.declared.volume.Volume.{Volume as Listed};
 use crate::words::{file, number, part, text};
 use fileset_check::{CheckErr, Volume, volumes};
 use fileset_read::{FileErr, counted, read_file, row, rows};
-use m3_model::memory::Memory;
-use m3_model::point::Series;
-use m3_outside::disk::Disk;
-use m3_outside::disk_err::DiskErr;
-use m3_outside::file_name::FileName;
+use m3_model::{Memory, Series};
+use m3_outside::{Disk, DiskErr, FileName};
 use std::alloc::Global;
 use wire_bytes::digest;
 

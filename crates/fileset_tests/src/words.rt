@@ -1,9 +1,6 @@
 //! What the words of a story name: numbers, files, volumes and series.
-use m3_model::memory::Memory;
-use m3_model::point::Series;
-use m3_model::seq::Seq;
-use m3_model::text::Text;
-use m3_outside::file_name::FileName;
+use m3_model::{Memory, Seq, Series, Text};
+use m3_outside::FileName;
 use std::alloc::Global;
 use volume_bytes::Head;
 

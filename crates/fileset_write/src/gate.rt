@@ -7,9 +7,7 @@ ghost use Rattle.fileset_write.specs.Putting.{IsShut, MayOpen, MayPutAll, PutNon
 
 use crate::new_file::NewFile;
 use crate::put_file::{CALLS, put_file, put_files};
-use m3_outside::disk::Disk;
-use m3_outside::disk_err::DiskErr;
-use m3_outside::file_name::FileName;
+use m3_outside::{Disk, DiskErr, FileName};
 
 // An open gate.
 const OPEN: u8 = 1;

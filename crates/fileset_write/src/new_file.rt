@@ -1,5 +1,5 @@
-use m3_model::seq::Seq;
-use m3_outside::file_name::FileName;
+use m3_model::Seq;
+use m3_outside::FileName;
 
 /// A file that is to be made: its name and its bytes.
 #[derive(Drop)]

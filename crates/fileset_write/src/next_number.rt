@@ -8,9 +8,7 @@ ghost use Rattle.shard_files.specs.Steps as steps;
 ghost use Rattle.shard_files.specs.Steps.{next_volume};
 
 use commit_log::next_after;
-use m3_outside::disk::Disk;
-use m3_outside::disk_err::DiskErr;
-use m3_outside::file_name::FileName;
+use m3_outside::{Disk, DiskErr, FileName};
 use std::alloc::Global;
 
 // Whether the name is that of a file of some volume of this namespace and this start.

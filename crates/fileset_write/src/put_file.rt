@@ -6,9 +6,7 @@ ghost use Rattle.m3_outside.specs.declared.disk_err.DiskErr.TheVariants.{Failed 
 ghost use Rattle.fileset_write.specs.Putting.{MayPut, OthersOf, AreAbsent, AreApart, behind, names_of, with_file, with_files};
 
 use crate::new_file::NewFile;
-use m3_outside::disk::Disk;
-use m3_outside::disk_err::DiskErr;
-use m3_outside::file_name::FileName;
+use m3_outside::{Disk, DiskErr, FileName};
 
 /// Room for a write and a sync.
 pub(crate) const CALLS: u64 = 2;

@@ -6,11 +6,8 @@ ghost use Rattle.m3_outside.specs.Removal.{without_files, MayTakeAway, HasTakenA
 ghost use Rattle.m3_outside.specs.declared.disk_err.DiskErr.TheVariants.{Failed as DiskFailed, Memory as WantOfMemory};
 ghost use Rattle.shard_files.specs.Steps.{files_of_volume, parts_there, those_there};
 
-use m3_outside::disk::Disk;
-use m3_outside::disk_err::DiskErr;
-use m3_outside::failed::Failed;
-use m3_outside::file_name::FileName;
 use m3_outside::take_away::take_away;
+use m3_outside::{Disk, DiskErr, Failed, FileName};
 
 // How many files a volume has.
 const FILES: usize = 7;

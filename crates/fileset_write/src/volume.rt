@@ -4,10 +4,8 @@ ghost use Rattle.volume_bytes.specs.Heads.{head_of};
 ghost use Rattle.fileset_write.specs.NewVolumes.{IsNewVolume};
 
 use crate::new_file::NewFile;
-use m3_model::memory::Memory;
-use m3_model::point::Series;
-use m3_model::seq::Seq;
-use m3_outside::file_name::FileName;
+use m3_model::{Memory, Seq, Series};
+use m3_outside::FileName;
 use std::alloc::Global;
 use volume_bytes::{Head, Tables, bloom_filter, digests, info, tables_of};
 use wire_bytes::digest;

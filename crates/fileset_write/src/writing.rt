@@ -10,10 +10,8 @@ ghost use Rattle.shard_files.specs.Steps.{next_volume, volume_after, MayWrite, W
 use crate::gate::put_all;
 use crate::next_number::next_number;
 use crate::volume::new_volume;
-use m3_model::point::Series;
-use m3_model::seq::Seq;
-use m3_outside::disk::Disk;
-use m3_outside::disk_err::DiskErr;
+use m3_model::{Seq, Series};
+use m3_outside::{Disk, DiskErr};
 use std::alloc::Global;
 use volume_bytes::Head;
 

@@ -11,10 +11,9 @@ ghost use Rattle.first_cluster.specs.Slots.{AreApart, slots_in};
 ghost use Rattle.first_cluster.specs.declared.start.Start.{Start as AtStart};
 
 use crate::start::Start;
-use m3_model::memory::Memory;
-use m3_model::reason::Reason;
-use m3_outside::disk::Disk;
-use replica_calls::replicas::Replicas;
+use m3_model::{Memory, Reason};
+use m3_outside::Disk;
+use replica_calls::Replicas;
 use replica_exchange::CallErr;
 
 // What is counted of the answer of a begin: only want of memory is a refusal.

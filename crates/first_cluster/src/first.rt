@@ -11,17 +11,12 @@ ghost use Rattle.first_cluster.specs.First.{IsFirst, IsDiskAnswer, IsRefusedInit
 use crate::lending::opened;
 use crate::plan::planned;
 use crate::unopened::Unopened;
-use cluster_members::members::Members;
-use m3_model::answer::Answer;
-use m3_model::duplicate::Duplicate;
-use m3_model::placement::Placement;
-use m3_model::seq::Seq;
-use m3_model::text::Text;
-use m3_outside::disk::Disk;
-use m3_outside::disks::Disks;
-use net_plan::fates::Fates;
-use replica_exchange::slot::Slot;
-use session_net::net::Net;
+use cluster_members::Members;
+use m3_model::{Answer, Duplicate, Placement, Seq, Text};
+use m3_outside::{Disk, Disks};
+use net_plan::Fates;
+use replica_exchange::Slot;
+use session_net::Net;
 use std::alloc::Global;
 
 // That the disk of the slot couldn't be taken.

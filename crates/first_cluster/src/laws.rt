@@ -1,8 +1,8 @@
 //! What replicas over disks without points begin with.
 ghost use Rattle.first_cluster.specs.Bare.{FirstBeginsBare, ReturnedBare};
 
-use cluster_members::members::Members;
-use m3_outside::disk::Disk;
+use cluster_members::Members;
+use m3_outside::Disk;
 
 /// Over disks that tell and have no points, each replica of a first cluster that begins has its tenure as its fence, and none is
 /// refused as not owned.

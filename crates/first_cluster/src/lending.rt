@@ -19,16 +19,11 @@ use crate::begins::begin_all;
 use crate::plan::Plan;
 use crate::start::Start;
 use crate::unopened::Unopened;
-use event_trail::trail::Trail;
-use m3_model::memory::Memory;
-use m3_model::rules::MetaState;
-use m3_outside::disk::Disk;
-use m3_outside::disk_err::DiskErr;
-use m3_outside::disks::Disks;
-use m3_outside::slot::Slot as Place;
-use replica_calls::replicas::Replicas;
-use replica_exchange::member::Member;
-use replica_exchange::slot::Slot;
+use event_trail::Trail;
+use m3_model::{Memory, MetaState};
+use m3_outside::{Disk, DiskErr, Disks, Slot as Place};
+use replica_calls::Replicas;
+use replica_exchange::{Member, Slot};
 use std::alloc::Global;
 
 // The place of a slot's disk.

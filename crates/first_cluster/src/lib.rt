@@ -9,3 +9,7 @@ pub mod lending;
 mod plan;
 pub mod start;
 mod unopened;
+
+pub use first::first_members;
+pub use lending::give_all;
+pub use start::Start;

@@ -7,14 +7,9 @@ ghost use Rattle.first_cluster.specs.Slots.{slots_in, starts_of};
 
 use crate::start::Start;
 use first_placement::initial::initial;
-use m3_model::duplicate::Duplicate;
-use m3_model::memory::Memory;
-use m3_model::placement::Placement;
-use m3_model::rules::{MetaState, Rules};
-use m3_model::seq::Seq;
-use m3_model::text::Text;
-use net_plan::bag::Bag;
-use replica_exchange::slot::Slot;
+use m3_model::{Duplicate, Memory, MetaState, Placement, Rules, Seq, Text};
+use net_plan::Bag;
+use replica_exchange::Slot;
 use std::alloc::Global;
 
 // What a cluster is to be.

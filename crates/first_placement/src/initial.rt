@@ -10,13 +10,8 @@ ghost use Rattle.placement_plan.specs.Choices.{IsLeastLoaded};
 ghost use Rattle.placement_plan.specs.Loads.{AreLoads, IsRaised};
 
 use isolation_groups::group_of;
-use m3_model::memory::Memory;
-use m3_model::placement::{Assignment, Instance, Placement, ShardState};
-use m3_model::seq::Seq;
-use m3_model::text::Text;
-use placement_plan::choice::better;
-use placement_plan::loads::loads_of;
-use placement_plan::plan_err::PlaceErr;
+use m3_model::{Assignment, Instance, Memory, Placement, Seq, ShardState, Text};
+use placement_plan::{PlaceErr, better, loads_of};
 use std::alloc::Global;
 
 fn is_new_group(instances: &[Instance], shard: &[Assignment], node: u8) -> bool

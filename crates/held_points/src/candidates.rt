@@ -6,11 +6,7 @@ ghost use Rattle.tag_index.specs.Listed.{IsAt, HasTagAt};
 ghost use Rattle.held_points.specs.Matched.{HasNoEqual, AreCandidates, MeetsUnequal, IsNamed};
 
 use crate::matching::meets_unequal;
-use m3_model::duplicate::Duplicate;
-use m3_model::memory::Memory;
-use m3_model::point::Matcher;
-use m3_model::seq::Seq;
-use m3_model::text::Text;
+use m3_model::{Duplicate, Matcher, Memory, Seq, Text};
 use std::alloc::Global;
 use std::collections::BTreeSet;
 use tag_index::Index;

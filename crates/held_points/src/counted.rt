@@ -11,15 +11,10 @@ ghost use Rattle.block_buffer.specs.Blocks.{IsBlocksOf};
 ghost use Rattle.block_buffer.specs.Held.{has_expired};
 ghost use Rattle.block_buffer.specs.Taken.{HasId, HasNone, IsTaken, settled_at};
 
-use block_buffer::buffer::Buffer;
-use block_buffer::taken::Taken;
+use block_buffer::{Buffer, Taken};
 use m3_model::limits::MOST_REPLICA_POINTS;
-use m3_model::memory::Memory;
-use m3_model::point::{Pick, Point, Series};
-use m3_model::rules::Rules;
-use m3_model::seq::Seq;
-use m3_model::text::Text;
-use series_slots::series_key::SeriesKey;
+use m3_model::{Memory, Pick, Point, Rules, Seq, Series, Text};
+use series_slots::SeriesKey;
 use std::alloc::Global;
 use std::marker::Model;
 

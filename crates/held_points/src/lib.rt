@@ -7,3 +7,5 @@ pub mod held;
 mod listing;
 mod matching;
 mod ranges;
+
+pub use held::{HeldPoints, hold};

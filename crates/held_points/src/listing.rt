@@ -4,11 +4,9 @@ ghost use Rattle.tag_index.specs.Listed.{Listed};
 ghost use Rattle.held_points.specs.Indexed.{IsNewlyListed, WasListed, IsForgotten};
 
 use crate::counted::CountedBuffer;
-use m3_model::memory::Memory;
-use m3_model::seq::Seq;
-use m3_model::text::Text;
+use m3_model::{Memory, Seq, Text};
 use series_id::{IdErr, parse};
-use series_slots::series_key::SeriesKey;
+use series_slots::SeriesKey;
 use std::alloc::Global;
 use tag_index::Index;
 

@@ -5,8 +5,7 @@ ghost use Rattle.m3_model.specs.Tags.{HasTags};
 ghost use Rattle.m3_model.specs.declared.point.Series.{Series};
 ghost use Rattle.held_points.specs.Matched.{MeetsUnequal};
 
-use m3_model::point::{Matcher, Series};
-use m3_model::seq::Seq;
+use m3_model::{Matcher, Seq, Series};
 use series_id::has_tag;
 
 // Whether the matcher is one of inequality that doesn't hold for the tags of the identifier.

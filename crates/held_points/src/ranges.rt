@@ -7,10 +7,7 @@ ghost use Rattle.series_slots.specs.Ranges.{IsRangeOf};
 ghost use Rattle.held_points.specs.Selected.{IsSelection};
 
 use crate::counted::CountedBuffer;
-use m3_model::memory::Memory;
-use m3_model::point::{Pick, Series};
-use m3_model::seq::Seq;
-use m3_model::text::Text;
+use m3_model::{Memory, Pick, Seq, Series, Text};
 use std::alloc::Global;
 
 // Adds the points of one series in the range, if there are any.

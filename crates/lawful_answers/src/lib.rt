@@ -8,16 +8,14 @@ ghost use Rattle.m3_model.specs.Members.{IsIn};
 ghost use Rattle.cluster_core.specs.Answers.{IsWanted, IsFound, AsksFor, IsPast, IsUpTo, GoesOn, IsPage};
 ghost use Rattle.lawful_answers.specs.Shows.{IsAnswered, IsPaged};
 
-use cluster_core::event::StepCall;
-use cluster_core::replica_state::ReplicaState;
-use equality::same::Same;
-use event_facts::ascending::{ByKey, is_below, is_ordered};
-use event_facts::points::{covers, has_point, is_gone, is_wanted, points_in, space_picked};
+use cluster_core::{ReplicaState, StepCall};
+use equality::Same;
+use event_facts::{
+    ByKey, covers, has_point, is_below, is_gone, is_ordered, is_wanted, points_in, space_picked,
+};
 use m3_model::limits::MOST_PAGE_POINTS;
-use m3_model::memory::Memory;
-use m3_model::point::{Key, Page, Pick, Point, Series};
-use m3_model::rules::Rules;
-use placement_core::ascending::ascend;
+use m3_model::{Key, Memory, Page, Pick, Point, Rules, Series};
+use placement_core::ascend;
 use std::alloc::Global;
 
 // Whether the points are sure ones that the read asks for.

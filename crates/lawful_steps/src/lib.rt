@@ -3,3 +3,5 @@
 
 mod refusals;
 pub mod rows;
+
+pub use rows::is_lawful_step;

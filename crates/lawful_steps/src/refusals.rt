@@ -3,13 +3,9 @@ ghost use Rattle.std.specs.Prelude.{◌≡◌, ◌≤◌, ◌<◌, ◌↔◌, Is
 ghost use Rattle.std.specs.Option.{option_or};
 ghost use Rattle.cluster_core.specs.Refusals.{shut, closed, unowned, untenured, outdated, outside, first_refusal, uses_disk, reads_files};
 
-use cluster_core::event::StepCall;
-use cluster_core::replica_state::ReplicaState;
-use event_facts::points::has_passed;
-use m3_model::point::Point;
-use m3_model::reason::Reason;
-use m3_model::replica::Standing;
-use m3_model::rules::Rules;
+use cluster_core::{ReplicaState, StepCall};
+use event_facts::has_passed;
+use m3_model::{Point, Reason, Rules, Standing};
 
 fn shut(standing: Standing) -> Option<Reason>
     ensures { result ≡ shut standing }

@@ -11,15 +11,12 @@ ghost use Rattle.cluster_core.specs.declared.event.StepReply.TheVariants as repl
 ghost use Rattle.m3_model.specs.declared.replica.Standing.TheVariants as standing;
 
 use crate::refusals::{first_refusal, reads_files, uses_disk};
-use cluster_core::event::{Event, StepCall, StepReply};
-use cluster_core::replica_state::ReplicaState;
-use event_facts::earlier::{has_clock, has_page, has_send, has_tenure};
-use event_facts::points::{covers, has_point, in_window, is_gone};
+use cluster_core::{Event, ReplicaState, StepCall, StepReply};
+use event_facts::{
+    covers, has_clock, has_page, has_point, has_send, has_tenure, in_window, is_gone,
+};
 use lawful_answers::{is_found, is_page};
-use m3_model::memory::Memory;
-use m3_model::point::{Page, Point};
-use m3_model::reason::Reason;
-use m3_model::replica::{Report, Standing};
+use m3_model::{Memory, Page, Point, Reason, Report, Standing};
 use std::alloc::Global;
 
 fn is_owned(r: &ReplicaState) -> bool

@@ -12,25 +12,18 @@ ghost use Rattle.legal_events.specs.Sumless.{IsAskedStep, HasNoSums};
 ghost use Rattle.cluster_core.specs.Legal.{IsNextClock, JoinedThere, JoinedAt, IsNextPlace, AcksSend, IsAck, IsJoined, EndsFetch, IsFetched, Lawful, LawfulAt, Legal};
 ghost use Rattle.cluster_core.specs.Lists.{IsPrefix};
 
-use cluster_core::event::{Event, StepCall, StepReply};
-use cluster_core::replica_state::replica_of;
-use equality::same::{Same, are_same};
-use event_facts::ascending::{Distinct, is_ordered};
-use event_facts::earlier::{has_clock, shard_of};
-use event_facts::points::{covers, has_point, points_in, space_picked};
-use lawful_steps::rows::is_lawful_step;
-use m3_model::duplicate::Duplicate;
-use m3_model::memory::Memory;
-use m3_model::placement::{Assignment, Placement, ShardState};
-use m3_model::point::{Pick, Point, Series};
-use m3_model::rules::{Rules, Space};
-use m3_model::seq::Seq;
-use past_events::asks::was_asked;
-use past_events::earlier::{are_counted, has_put, has_shard, last_clock, last_place};
-use past_events::joins::has_joined;
-use placement_core::ascending::ascend;
-use placement_core::lawful::is_lawful;
-use placement_steps::step::is_step;
+use cluster_core::{Event, StepCall, StepReply, replica_of};
+use equality::{Same, are_same};
+use event_facts::{
+    Distinct, covers, has_clock, has_point, is_ordered, points_in, shard_of, space_picked,
+};
+use lawful_steps::is_lawful_step;
+use m3_model::{
+    Assignment, Duplicate, Memory, Pick, Placement, Point, Rules, Seq, Series, ShardState, Space,
+};
+use past_events::{are_counted, has_joined, has_put, has_shard, last_clock, last_place, was_asked};
+use placement_core::{ascend, is_lawful};
+use placement_steps::is_step;
 use std::alloc::Global;
 
 fn is_prefix(first: &[Space], whole: &[Space]) -> bool

@@ -2,3 +2,5 @@
 #![tactic(auto)]
 
 pub mod legal;
+
+pub use legal::any_legal;

@@ -3,15 +3,19 @@ ghost use Rattle.line_fields.specs.declared.fault.LineErr.TheVariants.{Memory};
 
 use m3_model::memory;
 use std::alloc::{AllocError, AllocFailed};
+use thiserror::Error;
 
 /// Why a line is no request that is served.
-#[derive(Clone, Copy, Debug, PartialEq, Eq)]
+#[derive(Clone, Copy, Debug, PartialEq, Eq, Error)]
 pub enum LineErr {
     /// The line isn't in the grammar.
+    #[error("the line is no request")]
     Form,
     /// The line is in the grammar, and no part of the program serves it yet.
+    #[error("the request is not served yet")]
     Later,
     /// Want of memory.
+    #[error("out of memory")]
     Memory,
 }
 

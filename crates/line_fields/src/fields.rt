@@ -8,7 +8,7 @@ ghost use Rattle.line_fields.specs.Fields.{Gives, has_only, text_of, name_in, nu
 use crate::fault::LineErr;
 use crate::names::is_name;
 use json::Value;
-use line_parse::values::{as_i64, as_object, as_str, as_u64, get};
+use line_parse::{as_i64, as_object, as_str, as_u64, get};
 
 /// Whether the text is one of these.
 pub fn is_one_of(texts: &[&str], text: &str) -> bool

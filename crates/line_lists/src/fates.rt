@@ -5,14 +5,10 @@ ghost use Rattle.line_lists.specs.Fates.{fate_named, fate_of_four, fate_of_items
 
 use crate::lists::{Entry, list_at};
 use json::Value;
-use line_fields::fault::LineErr;
-use line_fields::fields::{name_in, number_of, text_of};
-use line_parse::values::as_array;
-use m3_model::act::Fate;
-use m3_model::duplicate::Duplicate;
+use line_fields::{LineErr, name_in, number_of, text_of};
+use line_parse::as_array;
 use m3_model::limits::{MOST_CLIENTS, MOST_FATES, TIME_END};
-use m3_model::seq::Seq;
-use m3_model::text::Text;
+use m3_model::{Duplicate, Fate, Seq, Text};
 use std::alloc::Global;
 use std::collections::BTreeSet;
 

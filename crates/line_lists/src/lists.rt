@@ -6,10 +6,9 @@ ghost use Rattle.line_fields.specs.Fields.{Gives};
 ghost use Rattle.line_lists.specs.Lists.{has_count, items_at, entries_of, list_at};
 
 use json::Value;
-use line_fields::fault::LineErr;
-use line_fields::fields::field;
-use line_parse::values::as_array;
-use m3_model::seq::Seq;
+use line_fields::{LineErr, field};
+use line_parse::as_array;
+use m3_model::Seq;
 use std::alloc::Global;
 
 /// What an item of an array spells.

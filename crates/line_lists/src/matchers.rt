@@ -6,14 +6,10 @@ ghost use Rattle.line_lists.specs.Matchers.{tag_name_of, sign_named, matcher_of_
 
 use crate::lists::{Entry, list_at};
 use json::Value;
-use line_fields::fault::LineErr;
-use line_fields::fields::text_of;
-use line_fields::names::is_tag_name;
-use line_parse::values::as_array;
+use line_fields::{LineErr, is_tag_name, text_of};
+use line_parse::as_array;
 use m3_model::limits::MOST_MATCHERS;
-use m3_model::point::Matcher;
-use m3_model::seq::Seq;
-use m3_model::text::Text;
+use m3_model::{Matcher, Seq, Text};
 use std::alloc::Global;
 
 fn tag_name_of<'a>(value: &Value<'a>) -> Result<&'a str, LineErr>

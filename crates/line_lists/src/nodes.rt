@@ -7,12 +7,10 @@ ghost use Rattle.line_lists.specs.Nodes.{node_of_two, node_of_items, node_of, na
 
 use crate::lists::{Entry, list_at};
 use json::Value;
-use line_fields::fault::LineErr;
-use line_fields::fields::name_in;
-use line_parse::values::as_array;
+use line_fields::{LineErr, name_in};
+use line_parse::as_array;
 use m3_model::limits::MOST_NODES;
-use m3_model::seq::Seq;
-use m3_model::text::Text;
+use m3_model::{Seq, Text};
 use std::alloc::Global;
 
 fn node_of_two(alloc: Global, name: &Value<'_>, group: &Value<'_>) -> Result<(Text, Text), LineErr>

@@ -4,3 +4,6 @@
 pub mod numbers;
 pub mod parse;
 pub mod values;
+
+pub use numbers::number_of;
+pub use values::{as_array, as_i64, as_object, as_str, as_u64, get};

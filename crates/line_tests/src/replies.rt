@@ -1,12 +1,7 @@
-use m3_model::answer::{Answer, RepairLine, StatusLine};
-use m3_model::memory::Memory;
-use m3_model::placement::{Assignment, Instance, Placement, ShardState};
-use m3_model::point::Series;
-use m3_model::reason::{Damage, Reason};
-use m3_model::replica::Standing;
-use m3_model::seq::Seq;
-use m3_model::text::Text;
-use m3_model::turn::Reply;
+use m3_model::{
+    Answer, Assignment, Damage, Instance, Memory, Placement, Reason, RepairLine, Reply, Seq,
+    Series, ShardState, Standing, StatusLine, Text,
+};
 use m3_replies::print_reply;
 use std::alloc::Global;
 use std::test::Fail;

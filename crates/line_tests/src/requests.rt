@@ -1,8 +1,6 @@
-use line_fields::fault::LineErr;
-use m3_json::lines::read_line;
-use m3_model::act::Act;
-use m3_model::point::Matcher;
-use m3_model::turn::Request;
+use line_fields::LineErr;
+use m3_json::read_line;
+use m3_model::{Act, Matcher, Request};
 use std::alloc::Global;
 use std::test::Fail;
 

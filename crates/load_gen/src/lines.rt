@@ -3,11 +3,7 @@ ghost use Rattle.std.specs.Prelude.{◌≡◌, IfOk};
 ghost use Rattle.load_gen.specs.Lines.{init_line, namespace_line, now_line, write_line, replace_line, bootstrap_line, match_line};
 
 use crate::draws::{draw, drawn};
-use m3_model::act::{Act, ReadLevel, WriteLevel};
-use m3_model::memory::Memory;
-use m3_model::seq::Seq;
-use m3_model::text::Text;
-use m3_model::turn::Request;
+use m3_model::{Act, Memory, ReadLevel, Request, Seq, Text, WriteLevel};
 use std::alloc::Global;
 
 fn node(alloc: Global, name: &str, group: &str) -> Result<(Text, Text), Memory>

@@ -4,9 +4,7 @@ ghost use Rattle.load_gen.specs.Left.{next_by_moment, next_after_move, left_from
 
 use crate::draws::drawn;
 use crate::lines::{bootstrap, init, match_all, namespace, replace, write};
-use m3_model::act::Act;
-use m3_model::memory::Memory;
-use m3_model::turn::Request;
+use m3_model::{Act, Memory, Request};
 use std::alloc::Global;
 
 // How many rounds there are, each with a moment of its own: 1 to this.

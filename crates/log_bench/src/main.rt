@@ -2,8 +2,8 @@
 #![tactic(auto)]
 
 use commit_log::{Log, LogErr, read_all};
-use m3_outside::disk::Disk;
-use mem_disk::disk::MemDisk;
+use m3_outside::Disk;
+use mem_disk::MemDisk;
 use std::alloc::Global;
 use std::env;
 use std::process::ExitCode;

@@ -1,11 +1,9 @@
 // A log on a disk in memory: its bytes, and what each stop within it leaves.
 use commit_log::{Found, Log, LogErr, cut_before, read_all};
+use m3_model::Memory;
 use m3_model::limits::SEGMENT_BYTES;
-use m3_model::memory::Memory;
-use m3_outside::disk::Disk;
-use m3_outside::disk_err::DiskErr;
-use m3_outside::file_name::FileName;
-use mem_disk::disk::MemDisk;
+use m3_outside::{Disk, DiskErr, FileName};
+use mem_disk::MemDisk;
 use std::alloc::Global;
 use std::test::Fail;
 

@@ -1,14 +1,13 @@
 //! The program `m3`: its words, the standard streams and disks in memory go to `run`, and its status to the system.
 #![tactic(auto)]
 
+use m3_program::Status;
 use m3_program::run::run;
-use m3_program::status::Status;
-use mem_disk::disks::MemDisks;
+use mem_disk::MemDisks;
 use std::env;
 use std::io::ErrorKind;
 use std::process::ExitCode;
-use std_streams::sink::StdSink;
-use std_streams::source::StdSource;
+use std_streams::{StdSink, StdSource};
 
 /// The words after the program's name. A word that isn't UTF-8 is none of a command.
 fn words_given(rt: HostRuntime) -> Result<Vec<String>, Status> {

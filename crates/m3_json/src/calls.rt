@@ -6,12 +6,10 @@ ghost use Rattle.m3_json.specs.Requests.{NamesSeries};
 ghost use Rattle.m3_json.specs.Rows.{write_level_named, read_level_named, write_level_at, read_level_at, version_at, write_of, fetch_of};
 
 use json::Value;
-use line_fields::fault::LineErr;
-use line_fields::fields::{has_only, name_at, number_at, number_of, text_at, text_of, value_at};
-use line_parse::values::get;
-use m3_model::act::{Act, ReadLevel, WriteLevel};
+use line_fields::{LineErr, has_only, name_at, number_at, number_of, text_at, text_of, value_at};
+use line_parse::get;
 use m3_model::limits::TIME_END;
-use m3_model::text::Text;
+use m3_model::{Act, ReadLevel, Text, WriteLevel};
 use std::alloc::Global;
 
 fn write_level_named(name: &str) -> Result<WriteLevel, LineErr>

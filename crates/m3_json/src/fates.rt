@@ -5,10 +5,9 @@ ghost use Rattle.line_fields.specs.Fields.{Gives};
 ghost use Rattle.m3_json.specs.Fates.{fates_of, deliver_of};
 
 use json::Value;
-use line_fields::fault::LineErr;
-use line_fields::fields::has_only;
-use line_lists::fates::fates_at;
-use m3_model::act::Act;
+use line_fields::{LineErr, has_only};
+use line_lists::fates_at;
+use m3_model::Act;
 use std::alloc::Global;
 
 /// The fates that an object spells.

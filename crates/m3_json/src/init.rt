@@ -5,10 +5,9 @@ ghost use Rattle.line_fields.specs.Fields.{Gives};
 ghost use Rattle.m3_json.specs.Rows.{init_of};
 
 use json::Value;
-use line_fields::fault::LineErr;
-use line_fields::fields::{has_only, number_at};
-use line_lists::nodes::nodes_at;
-use m3_model::act::Act;
+use line_fields::{LineErr, has_only, number_at};
+use line_lists::nodes_at;
+use m3_model::Act;
 use m3_model::limits::{MOST_REPLICAS, MOST_SHARDS, SEED_END};
 use std::alloc::Global;
 

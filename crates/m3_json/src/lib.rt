@@ -11,3 +11,5 @@ mod moment;
 mod namespace;
 mod nodes;
 mod not_yet;
+
+pub use lines::read_line;

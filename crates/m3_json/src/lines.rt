@@ -15,11 +15,9 @@ use crate::namespace::namespace_of;
 use crate::nodes::{bootstrap_of, restart_of, stop_of};
 use crate::not_yet::{is_put_off, refusal_of};
 use json::{Error, Scratch, Value};
-use line_fields::fault::LineErr;
-use line_fields::fields::text_at;
+use line_fields::{LineErr, text_at};
 use line_parse::parse::parse;
-use m3_model::act::Act;
-use m3_model::turn::Request;
+use m3_model::{Act, Request};
 use series_id::valid;
 use std::alloc::Global;
 

@@ -6,12 +6,10 @@ ghost use Rattle.m3_json.specs.Rows.{match_of};
 
 use crate::calls::{read_level_at, version_at};
 use json::Value;
-use line_fields::fault::LineErr;
-use line_fields::fields::{has_only, name_at, number_at};
-use line_lists::matchers::matchers_at;
-use m3_model::act::Act;
+use line_fields::{LineErr, has_only, name_at, number_at};
+use line_lists::matchers_at;
 use m3_model::limits::TIME_END;
-use m3_model::text::Text;
+use m3_model::{Act, Text};
 use std::alloc::Global;
 
 /// The match that an object spells.

@@ -5,9 +5,8 @@ ghost use Rattle.line_fields.specs.Fields.{Gives};
 ghost use Rattle.m3_json.specs.Rows.{now_of};
 
 use json::Value;
-use line_fields::fault::LineErr;
-use line_fields::fields::{has_only, number_at};
-use m3_model::act::Act;
+use line_fields::{LineErr, has_only, number_at};
+use m3_model::Act;
 use m3_model::limits::TIME_END;
 
 /// The moment that an object spells.

@@ -5,11 +5,9 @@ ghost use Rattle.line_fields.specs.Fields.{Gives};
 ghost use Rattle.m3_json.specs.Rows.{namespace_of};
 
 use json::Value;
-use line_fields::fault::LineErr;
-use line_fields::fields::{has_only, name_at, number_at};
-use m3_model::act::Act;
+use line_fields::{LineErr, has_only, name_at, number_at};
 use m3_model::limits::DURATION_END;
-use m3_model::text::Text;
+use m3_model::{Act, Text};
 use std::alloc::Global;
 
 /// The namespace that an object spells.

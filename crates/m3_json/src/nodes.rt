@@ -6,12 +6,10 @@ ghost use Rattle.line_fields.specs.Fields.{Gives};
 ghost use Rattle.m3_json.specs.Rows.{stop_of, pick_at, restart_of, shard_asked, bootstrap_of};
 
 use json::Value;
-use line_fields::fault::LineErr;
-use line_fields::fields::{has_only, name_at, number_of};
-use line_parse::values::get;
-use m3_model::act::Act;
+use line_fields::{LineErr, has_only, name_at, number_of};
+use line_parse::get;
 use m3_model::limits::{MOST_SHARDS, TIME_END};
-use m3_model::text::Text;
+use m3_model::{Act, Text};
 use std::alloc::Global;
 
 /// The stop of a node that an object spells.

@@ -4,10 +4,8 @@ ghost use Rattle.std.specs.Cmp.Lexicographic.{pointwise};
 ghost use Rattle.m3_model.specs.NotYet.{groups_differ, fills_its_nodes};
 ghost use Rattle.m3_json.specs.NotYet.{refusal_of, is_put_off};
 
-use line_fields::fault::LineErr;
-use line_fields::fields::is_one_of;
-use m3_model::act::Act;
-use m3_model::text::Text;
+use line_fields::{LineErr, is_one_of};
+use m3_model::{Act, Text};
 
 /// What an op without a row is answered: `Later` where it is put off, else `Form`.
 #[tactic(auto, using(line_fields::proofs::Keys::one_of_texts), unfolding(crate::specs::NotYet::refusal_of))]

@@ -7,7 +7,7 @@ use crate::text::Text;
 use std::alloc::Global;
 
 /// What is wrong with a file that counts.
-#[derive(Drop)]
+#[derive(Debug, Drop)]
 pub enum Damage {
     /// Its SHA-256 isn't the one that was kept for it.
     Digest {
@@ -23,7 +23,7 @@ pub enum Damage {
 }
 
 /// Why a replica didn't answer.
-#[derive(Drop)]
+#[derive(Debug, Drop)]
 pub enum Reason {
     /// The message was lost, or is late.
     Cut,

@@ -6,7 +6,7 @@ use std::alloc::Global;
 use std::marker::Model;
 
 /// A list of values, which contracts see as the list.
-#[derive(Drop)]
+#[derive(Debug, Drop)]
 pub struct Seq<T> {
     vec: Vec<T>,
 }

@@ -1,13 +1,16 @@
 use crate::failed::Failed;
-use m3_model::memory::Memory;
+use m3_model::Memory;
 use std::alloc::{AllocError, AllocFailed};
+use thiserror::Error;
 
 /// Why a disk refused a call that may take memory.
-#[derive(Clone, Copy, Debug, PartialEq, Eq)]
+#[derive(Clone, Copy, Debug, PartialEq, Eq, Error)]
 pub enum DiskErr {
     /// The disk failed. Its count of faults rose in that call.
+    #[error("the disk failed")]
     Failed,
     /// Want of memory.
+    #[error("out of memory")]
     Memory,
 }
 

@@ -15,3 +15,15 @@ pub mod sink;
 pub mod slot;
 pub mod source;
 pub mod take_away;
+
+pub use disk::Disk;
+pub use disk_err::DiskErr;
+pub use disks::Disks;
+pub use failed::Failed;
+pub use file_name::FileName;
+pub use mem_sink::MemSink;
+pub use mem_source::MemSource;
+pub use name_list::NameList;
+pub use sink::Sink;
+pub use slot::Slot;
+pub use source::Source;

@@ -7,7 +7,7 @@ ghost use Rattle.m3_outside.specs.Intake.{intake_after_write, intake_after_stall
 use crate::failed::Failed;
 use crate::schedule::Schedule;
 use crate::sink::Sink;
-use m3_model::memory::Memory;
+use m3_model::Memory;
 use std::alloc::Global;
 use std::marker::Model;
 

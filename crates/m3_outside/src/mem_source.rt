@@ -7,7 +7,7 @@ ghost use Rattle.m3_outside.specs.Feed.{feed_after_read, feed_after_fault};
 use crate::failed::Failed;
 use crate::schedule::Schedule;
 use crate::source::Source;
-use m3_model::memory::Memory;
+use m3_model::Memory;
 use std::alloc::Global;
 use std::marker::Model;
 

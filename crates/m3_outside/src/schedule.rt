@@ -1,7 +1,7 @@
 ghost use Rattle.std.specs.Prelude.{◌≡◌, ◌↔◌, ◌≤◌, if◌then◌else◌, Contains, IfOk, IsTrue};
 ghost use Rattle.m3_outside.specs.Causes.{count_after};
 
-use m3_model::memory::Memory;
+use m3_model::Memory;
 use std::alloc::Global;
 
 // Which calls of an object in memory fail, how many came, and how many of them failed.

@@ -4,15 +4,12 @@ ghost use Rattle.served_cluster.specs.Owned.{MayServe};
 ghost use Rattle.m3_program.specs.Exchanges.{is_blank, reply_line};
 ghost use Rattle.m3_program.specs.Streams.{Advances, Drops, stage};
 
-use line_fields::fault::LineErr;
-use m3_json::lines::read_line;
-use m3_model::answer::Answer;
-use m3_model::memory::Memory;
-use m3_model::placement::Placement;
-use m3_model::turn::Reply;
-use m3_outside::disks::Disks;
+use line_fields::LineErr;
+use m3_json::read_line;
+use m3_model::{Answer, Memory, Placement, Reply};
+use m3_outside::Disks;
 use m3_replies::print_reply;
-use served_cluster::cluster::Cluster;
+use served_cluster::Cluster;
 use std::alloc::Global;
 
 fn is_blank(line: &[u8]) -> bool

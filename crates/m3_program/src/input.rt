@@ -6,10 +6,9 @@ ghost use Rattle.m3_program.specs.Causes.{EndsLine};
 
 use crate::output::serve_line;
 use crate::status::Status;
-use m3_outside::disks::Disks;
-use m3_outside::sink::Sink;
+use m3_outside::{Disks, Sink};
 use memchr::memchr;
-use served_cluster::cluster::Cluster;
+use served_cluster::Cluster;
 use std::alloc::Global;
 
 /// Takes the rest of a line, up to its newline: `line` is what was taken of it before.

@@ -8,3 +8,5 @@ mod output;
 pub mod run;
 pub mod status;
 mod words;
+
+pub use status::Status;

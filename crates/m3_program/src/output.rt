@@ -6,9 +6,8 @@ ghost use Rattle.m3_program.specs.Causes.{EndsLine};
 
 use crate::exchange::answer_line;
 use crate::status::Status;
-use m3_outside::disks::Disks;
-use m3_outside::sink::Sink;
-use served_cluster::cluster::Cluster;
+use m3_outside::{Disks, Sink};
+use served_cluster::Cluster;
 use std::alloc::Global;
 
 /// Writes all of the bytes, or a front of them.

@@ -16,10 +16,8 @@ use crate::output::serve_line;
 use crate::status::Status;
 use crate::words::is_run;
 use m3_model::limits::INPUT_END;
-use m3_outside::disks::Disks;
-use m3_outside::sink::Sink;
-use m3_outside::source::Source;
-use served_cluster::cluster::Cluster;
+use m3_outside::{Disks, Sink, Source};
+use served_cluster::Cluster;
 use std::alloc::Global;
 
 /// How much is taken at once.

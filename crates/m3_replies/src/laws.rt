@@ -6,10 +6,7 @@ ghost use Rattle.reply_items.specs.Names.{node_name};
 ghost use Rattle.reply_items.specs.Placements.{placement_fields};
 ghost use Rattle.m3_replies.specs.Replies.{reply_fields, answer_data};
 
-use m3_model::answer::Answer;
-use m3_model::placement::{Instance, Placement};
-use m3_model::point::Series;
-use m3_model::turn::Reply;
+use m3_model::{Answer, Instance, Placement, Reply, Series};
 
 /// The keys of a reply ascend by their bytes.
 pub fn reply_keys_ascend(reply: &Reply, instances: &[Instance])

@@ -12,18 +12,12 @@ use crate::success::{
     acks_value, available_value, found_value, outcomes_value, placed_value, repaired_value,
     status_value, swept_value,
 };
-use m3_model::answer::Answer;
-use m3_model::memory::Memory;
-use m3_model::placement::{Instance, Placement};
-use m3_model::seq::Seq;
-use m3_model::text::Text;
-use m3_model::turn::Reply;
-use reply_items::names::instances_of;
-use reply_texts::texts::{acks_text, found_text};
-use reply_values::fields::{put_bool, put_value};
-use reply_values::refusal::{
-    clock_value, corrupt_value, group_value, limit_value, plain_value, replica_value, state_value,
-    unknown_value,
+use m3_model::{Answer, Instance, Memory, Placement, Reply, Seq, Text};
+use reply_items::instances_of;
+use reply_texts::{acks_text, found_text};
+use reply_values::{
+    clock_value, corrupt_value, group_value, limit_value, plain_value, put_bool, put_value,
+    replica_value, state_value, unknown_value,
 };
 use serde_json::{Map, Value, json};
 use std::alloc::{AllocError, Global};

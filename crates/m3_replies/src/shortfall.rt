@@ -3,10 +3,9 @@ ghost use Rattle.serde_json.specs.View.{view};
 ghost use Rattle.reply_values.specs.Json.{object_of};
 ghost use Rattle.m3_replies.specs.Shortfalls.{quorum_fields};
 
-use m3_model::placement::Instance;
-use m3_model::reason::Reason;
-use reply_items::fields::put_list;
-use reply_values::fields::{put_bool, put_number, put_text};
+use m3_model::{Instance, Reason};
+use reply_items::put_list;
+use reply_values::{put_bool, put_number, put_text};
 use serde_json::{Map, Value};
 use std::alloc::{AllocError, Global};
 

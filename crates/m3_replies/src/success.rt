@@ -2,13 +2,9 @@ ghost use Rattle.std.specs.Prelude.{◌≡◌, IfOk};
 ghost use Rattle.serde_json.specs.View.{view};
 ghost use Rattle.m3_replies.specs.Replies.{answer_data};
 
-use m3_model::answer::{Answer, RepairLine, StatusLine};
-use m3_model::placement::{Instance, Placement};
-use m3_model::point::Series;
-use m3_model::reason::Reason;
-use m3_model::seq::Seq;
-use reply_items::fields::{put_item, put_list};
-use reply_values::fields::{put_bool, put_number};
+use m3_model::{Answer, Instance, Placement, Reason, RepairLine, Seq, Series, StatusLine};
+use reply_items::{put_item, put_list};
+use reply_values::{put_bool, put_number};
 use serde_json::{Map, Value};
 use std::alloc::{AllocError, Global};
 

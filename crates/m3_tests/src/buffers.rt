@@ -1,10 +1,6 @@
 // The blocks of a buffer, and what expires in it.
-use block_buffer::buffer::Buffer;
-use m3_model::memory::Memory;
-use m3_model::point::Point;
-use m3_model::rules::{Rules, Space};
-use m3_model::seq::Seq;
-use m3_model::text::Text;
+use block_buffer::Buffer;
+use m3_model::{Memory, Point, Rules, Seq, Space, Text};
 use std::alloc::Global;
 use std::test::Fail;
 

@@ -7,13 +7,10 @@ ghost use Rattle.mem_disk.specs.Slots.{held_of};
 use crate::lines::told;
 use crate::nodes::FAILED_AT_ONCE;
 use crate::script::{INIT, NAMESPACE, PLACED, ended_over};
-use m3_model::memory::Memory;
-use m3_outside::disk::Disk;
-use m3_outside::disks::Disks;
-use m3_outside::slot::Slot;
-use m3_program::status::Status;
-use mem_disk::disk::MemDisk;
-use mem_disk::disks::MemDisks;
+use m3_model::Memory;
+use m3_outside::{Disk, Disks, Slot};
+use m3_program::Status;
+use mem_disk::{MemDisk, MemDisks};
 use std::alloc::Global;
 use std::test::Fail;
 

@@ -6,7 +6,7 @@ use crate::stories::{
     BEFORE_INIT, EXPIRY, FETCH_RETURNS_WRITE, HIGHER_VALUE_STAYS, INITS, MATCHES, NAMESPACES,
     RANGES, REFUSALS, WINDOW,
 };
-use m3_program::status::Status;
+use m3_program::Status;
 use std::alloc::Global;
 use std::process::Abort;
 use std::test::Fail;

@@ -4,11 +4,10 @@ ghost use Rattle.m3_outside.specs.Slots.{Out};
 ghost use Rattle.m3_outside.specs.declared.slot.Slot.{Slot as AtSlot};
 ghost use Rattle.mem_disk.specs.Slots.{held_of};
 
-use m3_outside::mem_sink::MemSink;
-use m3_outside::mem_source::MemSource;
+use m3_outside::{MemSink, MemSource};
+use m3_program::Status;
 use m3_program::run::run;
-use m3_program::status::Status;
-use mem_disk::disks::MemDisks;
+use mem_disk::MemDisks;
 use std::alloc::Global;
 use std::test::Fail;
 

@@ -1,6 +1,6 @@
 // How runs end.
 use crate::script::{INIT, PLACED, ended};
-use m3_program::status::Status;
+use m3_program::Status;
 use std::test::Fail;
 
 #[test]

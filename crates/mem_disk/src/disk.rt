@@ -3,13 +3,9 @@ ghost use Rattle.std.specs.FinMap as finite;
 ghost use Rattle.disk_content.specs.Images.{IsSound, IsSound-prop};
 
 use crate::schedule::Schedule;
-use disk_content::content::Content;
-use m3_model::memory::Memory;
-use m3_outside::disk::Disk;
-use m3_outside::disk_err::DiskErr;
-use m3_outside::failed::Failed;
-use m3_outside::file_name::FileName;
-use m3_outside::name_list::NameList;
+use disk_content::Content;
+use m3_model::Memory;
+use m3_outside::{Disk, DiskErr, Failed, FileName, NameList};
 use std::alloc::Global;
 use std::snapshot::Snapshot;
 

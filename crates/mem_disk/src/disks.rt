@@ -3,11 +3,8 @@ ghost use Rattle.mem_disk.specs.Places.{meta_place, AreEmpty};
 
 use crate::disk::MemDisk;
 use crate::place::{PLACES, Place, place_of};
-use m3_model::memory::Memory;
-use m3_outside::disk::Disk;
-use m3_outside::disk_err::DiskErr;
-use m3_outside::disks::Disks;
-use m3_outside::slot::Slot;
+use m3_model::Memory;
+use m3_outside::{Disk, DiskErr, Disks, Slot};
 use std::alloc::Global;
 
 /// Disks in memory that never fail: one for each node below 16 and each shard below 64, and the meta disk. Another

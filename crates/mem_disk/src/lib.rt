@@ -5,3 +5,6 @@ pub mod disk;
 pub mod disks;
 mod place;
 mod schedule;
+
+pub use disk::MemDisk;
+pub use disks::MemDisks;

@@ -6,10 +6,9 @@ ghost use Rattle.mem_disk.specs.Parts.{calls_of, state_of};
 ghost use Rattle.mem_disk.specs.Places as places;
 
 use crate::disk::MemDisk;
+use m3_model::Memory;
 use m3_model::limits::{MOST_NODES, MOST_SHARDS};
-use m3_model::memory::Memory;
-use m3_outside::disk::Disk;
-use m3_outside::slot::Slot;
+use m3_outside::{Disk, Slot};
 use std::alloc::Global;
 use std::mem;
 

@@ -2,7 +2,7 @@ ghost use Rattle.std.specs.Prelude.{◌≡◌, IfOk, IsTrue, None};
 ghost use Rattle.m3_outside.specs.Causes.{CountsFaults};
 ghost use Rattle.mem_disk.specs.Calls.{is_listed, fails_next, calls_after, calls_after_restart};
 
-use m3_model::memory::Memory;
+use m3_model::Memory;
 use std::alloc::Global;
 use std::marker::Model;
 

@@ -2,3 +2,5 @@
 #![tactic(auto)]
 
 pub mod members;
+
+pub use members::{first, tell, tell_word};

@@ -7,24 +7,14 @@ ghost use Rattle.m3_outside.specs.declared.slot.Slot.{Slot as Place};
 ghost use Rattle.node_calls.specs.Halts.{AreManned};
 ghost use Rattle.member_runs.specs.Ready.{IsReadyCluster};
 
-use cluster_members::calls::Range;
-use cluster_members::members::Members;
-use cluster_words::acts::act_of;
-use cluster_words::answers::spell;
-use cluster_words::lists::three_nodes;
-use first_cluster::first::first_members;
-use m3_model::act::Act;
-use m3_model::answer::Answer;
-use m3_model::memory::Memory;
-use m3_model::rules::Space;
-use m3_model::text::Text;
-use m3_outside::disk::Disk;
-use m3_outside::disks::Disks;
-use node_calls::boots::{bootstrap, restart};
-use node_calls::nodes::{deliver, set_fates, stop};
-use replica_calls::replicas::Replicas;
-use replica_exchange::call_id::CallId;
-use replica_exchange::slot::Slot;
+use cluster_members::{Members, Range};
+use cluster_words::{act_of, spell, three_nodes};
+use first_cluster::first_members;
+use m3_model::{Act, Answer, Memory, Space, Text};
+use m3_outside::{Disk, Disks};
+use node_calls::{bootstrap, deliver, restart, set_fates, stop};
+use replica_calls::Replicas;
+use replica_exchange::{CallId, Slot};
 use std::alloc::Global;
 
 // Whether each slot has a replica.

@@ -7,9 +7,8 @@ ghost use Rattle.meta_bytes.specs.StateParts.{HasDurations, AreApart, HasMoment,
 
 use crate::names::is_name;
 use m3_model::limits::{DURATION_END, MOST_NAMESPACES, SEED_END, TIME_END};
-use m3_model::rules::{MetaState, Space};
-use placement_core::ascending::{Order, ascend};
-use placement_core::lawful::is_lawful;
+use m3_model::{MetaState, Space};
+use placement_core::{Order, ascend, is_lawful};
 
 fn has_durations(space: &Space) -> bool
     ensures { IsTrue result ↔ HasDurations space.now }

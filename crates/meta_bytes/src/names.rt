@@ -10,8 +10,7 @@ ghost use Rattle.meta_bytes.specs.States.{name_form, name_bytes};
 use crate::numbers::read_number;
 use crate::read_err::ReadErr;
 use m3_model::limits::MOST_NAME_BYTES;
-use m3_model::memory::Memory;
-use m3_model::text::Text;
+use m3_model::{Memory, Text};
 use std::alloc::Global;
 use wire_bytes::{WireErr, put_number};
 

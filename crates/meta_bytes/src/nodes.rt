@@ -5,8 +5,7 @@ use crate::names::{put_name, read_name};
 use crate::numbers::read_number;
 use crate::read_err::ReadErr;
 use crate::spelled::Spelled;
-use m3_model::memory::Memory;
-use m3_model::placement::Instance;
+use m3_model::{Instance, Memory};
 use std::alloc::Global;
 use wire_bytes::put_number;
 

@@ -1,4 +1,4 @@
-use m3_model::memory::Memory;
+use m3_model::Memory;
 use std::alloc::AllocFailed;
 use wire_bytes::WireErr;
 

@@ -7,9 +7,7 @@ use crate::numbers::read_number;
 use crate::read_err::ReadErr;
 use crate::spelled::{Spelled, put_all, read_all};
 use m3_model::limits::{MOST_NODES, MOST_REPLICAS, NUMBER_END};
-use m3_model::memory::Memory;
-use m3_model::placement::{Assignment, ShardState};
-use m3_model::seq::Seq;
+use m3_model::{Assignment, Memory, Seq, ShardState};
 use std::alloc::Global;
 use wire_bytes::{WireErr, put_number};
 

@@ -3,8 +3,7 @@ use crate::numbers::read_number;
 use crate::read_err::ReadErr;
 use crate::spelled::Spelled;
 use m3_model::limits::DURATION_END;
-use m3_model::memory::Memory;
-use m3_model::rules::Space;
+use m3_model::{Memory, Space};
 use std::alloc::Global;
 use wire_bytes::put_number;
 

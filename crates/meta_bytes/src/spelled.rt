@@ -7,8 +7,7 @@ ghost use Rattle.meta_bytes.specs.States.{counted_bytes};
 
 use crate::numbers::read_number;
 use crate::read_err::ReadErr;
-use m3_model::memory::Memory;
-use m3_model::seq::Seq;
+use m3_model::{Memory, Seq};
 use std::alloc::Global;
 use wire_bytes::put_number;
 

@@ -2,8 +2,7 @@ ghost use Rattle.std.specs.Prelude.{◌≡◌, ◌++◌, IfOk, OnOk};
 ghost use Rattle.meta_bytes.specs.States.{FitsState, IsMetaState, state_bytes};
 
 use crate::spelled::put_all;
-use m3_model::memory::Memory;
-use m3_model::rules::MetaState;
+use m3_model::{Memory, MetaState};
 use std::alloc::Global;
 use wire_bytes::put_number;
 

@@ -10,20 +10,23 @@ use crate::state::FORMAT;
 use m3_model::limits::{
     MOST_NAMESPACES, MOST_NODES, MOST_REPLICAS, MOST_SHARDS, NUMBER_END, SEED_END, TIME_END,
 };
-use m3_model::placement::Placement;
-use m3_model::rules::{MetaState, Rules};
+use m3_model::{MetaState, Placement, Rules};
 use std::alloc::Global;
+use thiserror::Error;
 use wire_bytes::WireErr;
 
 /// Why some bytes aren't read as a state.
-#[derive(Clone, Copy, Debug, PartialEq, Eq)]
+#[derive(Clone, Copy, Debug, PartialEq, Eq, Error)]
 pub enum StateErr {
     /// Want of memory.
+    #[error("out of memory")]
     Memory,
     /// They haven't the form of a state: some bytes of the form begin with those before the place `at`, and none go on with
     /// the byte there, or there is none.
+    #[error("no state goes on with the byte at {at}")]
     Form { at: usize },
     /// They have the form of a state, but what its fields say doesn't go together: no cluster may have it.
+    #[error("the fields of the state do not go together")]
     Rules,
 }
 

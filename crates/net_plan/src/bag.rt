@@ -3,8 +3,7 @@ ghost use Rattle.m3_model.specs.declared.limits.TheConstants.{MOST_LATE_WRITES};
 
 use crate::late_write::LateWrite;
 use m3_model::limits::MOST_LATE_WRITES;
-use m3_model::memory::Memory;
-use m3_model::seq::Seq;
+use m3_model::{Memory, Seq};
 use std::alloc::Global;
 use std::marker::Model;
 use std::mem;

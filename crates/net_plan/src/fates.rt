@@ -6,8 +6,7 @@ ghost use Rattle.net_plan.specs.FateKeys.{fate_key_cmp};
 ghost use Rattle.net_plan.specs.Fates.{key_of, fate_of, fates_of, IsFatesRow};
 
 use crate::fate_key::FateKey;
-use m3_model::act::Fate;
-use m3_model::seq::Seq;
+use m3_model::{Fate, Seq};
 use std::alloc::Global;
 use std::marker::Model;
 

@@ -1,6 +1,4 @@
-use m3_model::duplicate::Duplicate;
-use m3_model::memory::Memory;
-use m3_model::point::Point;
+use m3_model::{Duplicate, Memory, Point};
 use std::alloc::Global;
 
 /// The message of a write to one node, held back to be delivered later.

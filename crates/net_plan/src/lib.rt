@@ -7,3 +7,9 @@ pub mod fate_key;
 pub mod fates;
 pub mod late_write;
 pub mod laws;
+
+pub use bag::Bag;
+pub use calls::Calls;
+pub use fate_key::FateKey;
+pub use fates::{Fates, is_fates_row};
+pub use late_write::LateWrite;

@@ -11,12 +11,10 @@ ghost use Rattle.node_calls.specs.Begins.{EndsBoots, tenure_in};
 ghost use Rattle.node_calls.specs.Boots.{IsOfForm, IsBeginTried, IsShardTried, EndsBegins, BreaksBegins};
 
 use crate::refused::Refused;
-use m3_model::placement::{Assignment, Placement};
-use m3_model::reason::Reason;
-use m3_outside::disk::Disk;
-use replica_calls::replicas::Replicas;
-use replica_exchange::CallErr;
-use replica_exchange::slot::Slot;
+use m3_model::{Assignment, Placement, Reason};
+use m3_outside::Disk;
+use replica_calls::Replicas;
+use replica_exchange::{CallErr, Slot};
 
 // Whether a refusal ends a bootstrap: for others a replica is passed over.
 fn passed_over(shard: u32, why: Reason) -> Result<(), Refused>

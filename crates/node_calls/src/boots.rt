@@ -8,12 +8,9 @@ ghost use Rattle.node_calls.specs.Nodes.{IsRestarted, IsBootstrapped};
 use crate::begins::begin_all;
 use crate::halts::{restart_all, slots_of, stop_all};
 use crate::nodes::node_named;
-use cluster_members::members::Members;
-use m3_model::answer::Answer;
-use m3_model::duplicate::Duplicate;
-use m3_model::seq::Seq;
-use m3_model::text::Text;
-use m3_outside::disk::Disk;
+use cluster_members::Members;
+use m3_model::{Answer, Duplicate, Seq, Text};
+use m3_outside::Disk;
 use std::alloc::Global;
 
 // The shard that is asked for, where there aren't so many.

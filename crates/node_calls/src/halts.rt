@@ -8,10 +8,9 @@ ghost use Rattle.node_calls.specs.Boots.{IsRestartTried, EndsRestarts};
 ghost use Rattle.node_calls.specs.Halts.{slots_of_node, stop_at, restart_at, AreManned};
 
 use crate::refused::Refused;
-use m3_outside::disk::Disk;
-use replica_calls::replicas::Replicas;
-use replica_exchange::CallErr;
-use replica_exchange::slot::Slot;
+use m3_outside::Disk;
+use replica_calls::Replicas;
+use replica_exchange::{CallErr, Slot};
 
 /// How many of the slots are the node's.
 pub(crate) fn slots_of(slots: &[Slot], node: u8) -> u64

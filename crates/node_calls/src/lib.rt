@@ -6,3 +6,6 @@ pub mod boots;
 mod halts;
 pub mod nodes;
 mod refused;
+
+pub use boots::{bootstrap, restart};
+pub use nodes::{deliver, set_fates, stop};

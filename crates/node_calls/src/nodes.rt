@@ -8,15 +8,11 @@ ghost use Rattle.node_calls.specs.Halts.{AreManned, HaveSameSlots};
 ghost use Rattle.node_calls.specs.Nodes.{IsResolved, IsFated, IsDelivered, IsStopped};
 
 use crate::halts::{slots_of, stop_all};
-use cluster_members::members::Members;
-use m3_model::act::Fate;
-use m3_model::answer::Answer;
-use m3_model::placement::Instance;
-use m3_model::seq::Seq;
-use m3_model::text::Text;
-use m3_outside::disk::Disk;
-use net_plan::fates::Fates;
-use session_net::session_err::SessionErr;
+use cluster_members::Members;
+use m3_model::{Answer, Fate, Instance, Seq, Text};
+use m3_outside::Disk;
+use net_plan::Fates;
+use session_net::SessionErr;
 use std::alloc::Global;
 
 /// The number of the listed node of this name. There are at most 16.

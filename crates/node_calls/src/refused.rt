@@ -2,9 +2,7 @@
 ghost use Rattle.std.specs.Prelude.{◌≡◌};
 ghost use Rattle.node_calls.specs.Boots.{refused_answer};
 
-use m3_model::answer::Answer;
-use m3_model::reason::Reason;
-use m3_model::text::Text;
+use m3_model::{Answer, Reason, Text};
 
 // A shard of a node whose replica refused, and why.
 #[derive(Drop)]

@@ -2,14 +2,9 @@ ghost use Rattle.std.specs.Prelude.{◌≡◌, IfOk};
 ghost use Rattle.m3_outside.specs.Slots.{Out};
 ghost use Rattle.mem_disk.specs.Slots.{held_of};
 
-use m3_outside::disk::Disk;
-use m3_outside::disk_err::DiskErr;
-use m3_outside::disks::Disks;
-use m3_outside::file_name::FileName;
 use m3_outside::laws::{images_come_from_images, synced_is_read, writes_one_file};
-use m3_outside::slot::Slot;
-use mem_disk::disk::MemDisk;
-use mem_disk::disks::MemDisks;
+use m3_outside::{Disk, DiskErr, Disks, FileName, Slot};
+use mem_disk::{MemDisk, MemDisks};
 use std::alloc::Global;
 use std::test::Fail;
 

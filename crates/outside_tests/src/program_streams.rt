@@ -1,12 +1,10 @@
-use m3_outside::sink::Sink;
-use m3_outside::source::Source;
+use m3_outside::{Sink, Source};
 use std::alloc::{AllocError, Allocator, Global};
 use std::cell::RefCell;
 use std::fmt::Display;
 use std::io::{self, BufRead, Lines};
 use std::test::Fail;
-use std_streams::sink::StdSink;
-use std_streams::source::StdSource;
+use std_streams::{StdSink, StdSource};
 
 // An input whose readers all begin with these bytes.
 #[derive(Drop)]

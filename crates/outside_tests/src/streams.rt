@@ -1,9 +1,5 @@
-use m3_outside::failed::Failed;
 use m3_outside::laws::{constant_means_ok, constant_means_taken};
-use m3_outside::mem_sink::MemSink;
-use m3_outside::mem_source::MemSource;
-use m3_outside::sink::Sink;
-use m3_outside::source::Source;
+use m3_outside::{Failed, MemSink, MemSource, Sink, Source};
 use std::alloc::Global;
 use std::test::Fail;
 

@@ -6,10 +6,7 @@ ghost use Rattle.m3_model.specs.Contents.{key_of};
 ghost use Rattle.m3_model.specs.Keys.{key_cmp};
 ghost use Rattle.page_cut.specs.Pages.{IsBefore, is_below_first, in_order, points_past, page_of};
 
-use m3_model::duplicate::Duplicate;
-use m3_model::memory::Memory;
-use m3_model::point::{Key, Page, Point};
-use m3_model::seq::Seq;
+use m3_model::{Duplicate, Key, Memory, Page, Point, Seq};
 use std::alloc::Global;
 
 // Whether the one point's key is below the other's.

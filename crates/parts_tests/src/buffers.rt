@@ -1,10 +1,6 @@
-use block_buffer::buffer::Buffer;
 use block_buffer::laws::{expires_as_rules_say, names_all_matched};
-use block_buffer::taken::Taken;
-use m3_model::memory::Memory;
-use m3_model::point::{Pick, Point};
-use m3_model::seq::Seq;
-use m3_model::text::Text;
+use block_buffer::{Buffer, Taken};
+use m3_model::{Memory, Pick, Point, Seq, Text};
 use std::alloc::Global;
 use std::test::Fail;
 

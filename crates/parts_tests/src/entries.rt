@@ -1,5 +1,4 @@
-use m3_model::point::Point;
-use m3_model::text::Text;
+use m3_model::{Point, Text};
 use std::alloc::Global;
 use std::test::Fail;
 use wire_bytes::{

@@ -1,15 +1,6 @@
-use m3_model::act::Fate;
-use m3_model::duplicate::Duplicate;
 use m3_model::limits::MOST_LATE_WRITES;
-use m3_model::memory::Memory;
-use m3_model::point::Point;
-use m3_model::seq::Seq;
-use m3_model::text::Text;
-use net_plan::bag::Bag;
-use net_plan::calls::Calls;
-use net_plan::fate_key::FateKey;
-use net_plan::fates::{Fates, is_fates_row};
-use net_plan::late_write::LateWrite;
+use m3_model::{Duplicate, Fate, Memory, Point, Seq, Text};
+use net_plan::{Bag, Calls, FateKey, Fates, LateWrite, is_fates_row};
 use std::alloc::Global;
 use std::test::Fail;
 

@@ -1,5 +1,5 @@
 use crate::tags::tags_of;
-use m3_model::memory::Memory;
+use m3_model::Memory;
 use series_id::{IdErr, SeriesId, has_tag, of_tags, parse, shard_of, valid};
 use std::alloc::Global;
 use std::test::Fail;

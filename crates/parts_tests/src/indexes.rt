@@ -1,7 +1,5 @@
 use crate::tags::tags_of;
-use m3_model::memory::Memory;
-use m3_model::seq::Seq;
-use m3_model::text::Text;
+use m3_model::{Memory, Seq, Text};
 use std::alloc::Global;
 use std::test::Fail;
 use tag_index::Index;

@@ -1,4 +1,4 @@
-use m3_model::act::{ReadLevel, WriteLevel};
+use m3_model::{ReadLevel, WriteLevel};
 use quorum_count::{needed_read, needed_write};
 
 // Replicas, then how many a write needs at one, majority and all, then a read at one, unstrict, majority and all.

@@ -1,8 +1,5 @@
 use crate::tags::tags_of;
-use m3_model::memory::Memory;
-use m3_model::point::Matcher;
-use m3_model::seq::Seq;
-use m3_model::text::Text;
+use m3_model::{Matcher, Memory, Seq, Text};
 use std::alloc::Global;
 use std::test::Fail;
 use tag_query::{both, holds, minus};

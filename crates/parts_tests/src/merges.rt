@@ -1,12 +1,10 @@
 ghost use Rattle.std.specs.Prelude.{IfOk};
 ghost use Rattle.m3_model.specs.Reads.{IsOrdered};
 
-use block_buffer::buffer::Buffer;
-use m3_model::point::{Pick, Point, Series};
-use m3_model::seq::Seq;
-use m3_model::text::Text;
+use block_buffer::Buffer;
+use m3_model::{Pick, Point, Seq, Series, Text};
 use series_merge::laws::stands_for_its_points;
-use series_merge::merging::merge;
+use series_merge::merge;
 use std::alloc::Global;
 use std::test::Fail;
 

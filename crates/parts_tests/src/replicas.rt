@@ -1,7 +1,5 @@
-use cluster_core::event::{Event, StepCall, StepReply};
-use cluster_core::replica_state::{ReplicaState, replica_of};
-use m3_model::memory::Memory;
-use m3_model::seq::Seq;
+use cluster_core::{Event, ReplicaState, StepCall, StepReply, replica_of};
+use m3_model::{Memory, Seq};
 use std::alloc::Global;
 use std::test::Fail;
 

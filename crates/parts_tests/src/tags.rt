@@ -1,5 +1,4 @@
-use m3_model::seq::Seq;
-use m3_model::text::Text;
+use m3_model::{Seq, Text};
 use std::alloc::Global;
 use std::test::Fail;
 

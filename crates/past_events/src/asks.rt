@@ -2,8 +2,8 @@
 ghost use Rattle.std.specs.Prelude.{◌↔◌, IsTrue};
 ghost use Rattle.cluster_core.specs.Asks.{IsNamed, IsAskFor, IsLike, WasAsked};
 
-use cluster_core::event::{Asked, Event};
-use equality::same::Same;
+use cluster_core::{Asked, Event};
+use equality::Same;
 
 fn names(asked: &Asked, event: &Event) -> bool
     ensures { IsTrue result ↔ IsNamed asked.now event.now }

@@ -5,12 +5,10 @@ ghost use Rattle.placement_core.specs.Shards.{counted};
 ghost use Rattle.cluster_core.specs.Earlier.{PlacesShard, CountsNodes, TookPoint, HasShard, AreCounted, last_place, last_clock};
 ghost use Rattle.past_events.specs.Takes.{HasTaken};
 
-use cluster_core::event::{Event, StepCall, StepReply};
-use equality::same::Same;
-use event_facts::earlier::shard_of;
-use m3_model::placement::{Assignment, Placement, ShardState};
-use m3_model::point::Point;
-use m3_model::rules::Rules;
+use cluster_core::{Event, StepCall, StepReply};
+use equality::Same;
+use event_facts::shard_of;
+use m3_model::{Assignment, Placement, Point, Rules, ShardState};
 
 fn is_counted(shard: &[Assignment], node: u8) -> bool
     ensures { IsTrue result ↔ IsIn (counted shard.now) node }

@@ -5,12 +5,9 @@ ghost use Rattle.placement_core.specs.Shards.{is_steady};
 ghost use Rattle.cluster_core.specs.Joins.{BeganWith, FencedAt, GaveAsked, MergedPage, HasCover, HasFenced, HasStreamed, HasJoined};
 ghost use Rattle.past_events.specs.Joining.{IsNext, IsNoNext, IsNewPeer};
 
-use cluster_core::event::{Event, StepCall, StepReply};
-use equality::same::Same;
-use m3_model::duplicate::Duplicate;
-use m3_model::memory::Memory;
-use m3_model::placement::{Assignment, ShardState};
-use m3_model::point::{Key, Page};
+use cluster_core::{Event, StepCall, StepReply};
+use equality::Same;
+use m3_model::{Assignment, Duplicate, Key, Memory, Page, ShardState};
 use std::alloc::Global;
 
 fn began_with(event: &Event, node: u8, shard: u32, tenure: u64) -> bool

@@ -5,3 +5,7 @@
 pub mod asks;
 pub mod earlier;
 pub mod joins;
+
+pub use asks::was_asked;
+pub use earlier::{are_counted, has_put, has_shard, last_clock, last_place};
+pub use joins::has_joined;

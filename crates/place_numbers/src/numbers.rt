@@ -2,7 +2,7 @@ ghost use Rattle.std.specs.Prelude.{◌≡◌, ℕ, List, ◌<◌, [], ◌∷◌
 ghost use Rattle.slab.specs.Slab as slab;
 ghost use Rattle.place_numbers.specs.Inverse.{AreDistinct};
 
-use m3_model::memory::Memory;
+use m3_model::Memory;
 use slab::Slab;
 use std::alloc::Global;
 use std::marker::Model;

@@ -8,7 +8,7 @@ ghost use Rattle.placement_core.specs.LawfulParts.{IsNamed, IsSmall, AreNamed, I
 
 use crate::ascending::{Order, ascend};
 use m3_model::limits::{MOST_NAME_BYTES, MOST_NODES, MOST_REPLICAS, MOST_SHARDS, NUMBER_END};
-use m3_model::placement::{Assignment, Instance, Placement, ShardState};
+use m3_model::{Assignment, Instance, Placement, ShardState};
 
 fn is_name_byte(byte: u8) -> bool
     ensures { result ≡ is_name_byte byte }

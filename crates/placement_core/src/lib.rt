@@ -6,3 +6,7 @@ pub mod lawful;
 pub mod laws;
 mod names;
 pub mod replicas;
+
+pub use ascending::{Order, ascend};
+pub use lawful::is_lawful;
+pub use replicas::{counted, former, members};

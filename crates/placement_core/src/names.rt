@@ -3,7 +3,7 @@ ghost use Rattle.std.specs.Ordering.{nat_cmp};
 ghost use Rattle.std.specs.Cmp.Lexicographic.{slice_cmp};
 ghost use Rattle.placement_core.specs.NodeNames.{name_of};
 
-use m3_model::placement::Instance;
+use m3_model::Instance;
 use std::cmp::Ordering;
 
 /// The name of the node of this number, empty where no instance has it.

@@ -8,9 +8,7 @@ ghost use Rattle.placement_core.specs.Shards.{shard_at, is_available, is_holder,
 ghost use Rattle.placement_core.specs.Lawful.{IsLawful};
 
 use crate::names::compare_names;
-use m3_model::memory::Memory;
-use m3_model::placement::{Assignment, Instance, Placement, ShardState};
-use m3_model::seq::Seq;
+use m3_model::{Assignment, Instance, Memory, Placement, Seq, ShardState};
 use std::alloc::Global;
 
 fn assignments_of(place: &Placement, shard: u32) -> &[Assignment]

@@ -8,10 +8,8 @@ ghost use Rattle.commit_log.specs.Segment.{segment};
 ghost use Rattle.placement_log.specs.MetaHolds.{all_but_last};
 
 use commit_log::{Segments, list_segments};
-use m3_model::memory::Memory;
-use m3_outside::disk::Disk;
-use m3_outside::disk_err::DiskErr;
-use m3_outside::file_name::FileName;
+use m3_model::Memory;
+use m3_outside::{Disk, DiskErr, FileName};
 use std::alloc::Global;
 
 fn segment_name(number: u64) -> FileName

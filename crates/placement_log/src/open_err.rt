@@ -1,19 +1,24 @@
-use m3_outside::disk_err::DiskErr;
+use m3_outside::DiskErr;
+use thiserror::Error;
 
 /// Why the log of the meta disk can't be opened.
-#[derive(Clone, Copy, Debug, PartialEq, Eq)]
+#[derive(Clone, Copy, Debug, PartialEq, Eq, Error)]
 pub enum OpenErr {
     /// The disk failed. Its count of faults rose in that call.
+    #[error("the disk failed")]
     Disk,
     /// Want of memory.
+    #[error("out of memory")]
     Memory,
     /// Of a state in the segment of this number another digest is kept than is found.
+    #[error("the digest of a state in segment {number} differs from the one kept")]
     Digest {
         number: u64,
         kept: [u8; 32],
         found: [u8; 32],
     },
     /// The bytes of the segment of this number are those of no log of states, by the place `at`.
+    #[error("segment {number} is damaged at byte {at}")]
     Form {
         number: u64,
         at: u64,

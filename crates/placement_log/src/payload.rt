@@ -6,8 +6,7 @@ ghost use Rattle.meta_bytes.specs.States.{IsMetaState};
 ghost use Rattle.placement_log.specs.States.{payload_bytes, IsPayload};
 ghost use Rattle.placement_log.specs.Damage.{MayBreakPayload};
 
-use m3_model::memory::Memory;
-use m3_model::rules::MetaState;
+use m3_model::{Memory, MetaState};
 use meta_bytes::{StateErr, read_state, spell_state};
 use std::alloc::Global;
 use wire_bytes::digest;

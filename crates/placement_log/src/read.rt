@@ -13,8 +13,8 @@ use crate::open_err::OpenErr;
 use crate::payload::PayloadErr;
 use crate::segment::read_segment;
 use commit_log::{Segments, list_segments, read_front};
-use m3_model::rules::MetaState;
-use m3_outside::disk::Disk;
+use m3_model::MetaState;
+use m3_outside::Disk;
 use std::alloc::Global;
 
 // The same of the segment of this number.

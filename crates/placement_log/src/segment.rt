@@ -7,7 +7,7 @@ ghost use Rattle.placement_log.specs.Damage.{MayBreakFrom, ReadsStates, MayStop}
 
 use crate::payload::{PayloadErr, read_payload};
 use commit_log::{ChunkAt, Front, get_chunk};
-use m3_model::rules::MetaState;
+use m3_model::MetaState;
 use std::alloc::Global;
 use std::mem;
 

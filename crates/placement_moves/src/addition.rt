@@ -12,16 +12,11 @@ ghost use Rattle.placement_plan.specs.Loads.{AreLoads};
 ghost use Rattle.placement_plan.specs.Additions.{MayMove, MayGive, IsGiver, IsNextMove, IsAddition, Rebalances, giving_cmp};
 ghost use Rattle.placement_plan.specs.Refusals.{IsMemory, RefusesAdd};
 
-use m3_model::duplicate::Duplicate;
-use m3_model::memory::Memory;
-use m3_model::placement::{Assignment, Instance, Placement, ShardState};
-use m3_model::seq::Seq;
-use placement_plan::choice::may_take;
-use placement_plan::loads::{loads_of, shift};
-use placement_plan::nodes::{joined, listed_node, name_of, number_for};
-use placement_plan::plan_err::PlaceErr;
-use placement_plan::shards::{has_node, moved};
-use placement_plan::version::next_version;
+use m3_model::{Assignment, Duplicate, Instance, Memory, Placement, Seq, ShardState};
+use placement_plan::{
+    PlaceErr, has_node, joined, listed_node, loads_of, may_take, moved, name_of, next_version,
+    number_for, shift,
+};
 use std::alloc::Global;
 use std::cmp::Ordering;
 

@@ -11,17 +11,11 @@ ghost use Rattle.placement_plan.specs.Loads.{LoadsFollow};
 ghost use Rattle.placement_plan.specs.Plans.{IsDrain, IsReady, MakesAll, MovesBy, MovesAway};
 ghost use Rattle.placement_plan.specs.Refusals.{IsStuck, RefusesDrain};
 
-use m3_model::duplicate::Duplicate;
-use m3_model::memory::Memory;
-use m3_model::placement::{Assignment, Instance, Placement};
-use m3_model::seq::Seq;
-use placement_plan::choice::taker;
-use placement_plan::loads::{loads_of, shift};
-use placement_plan::nodes::{drained, listed_node};
-use placement_plan::plan_err::PlaceErr;
-use placement_plan::readiness::first_busy;
-use placement_plan::shards::{has_node, moved};
-use placement_plan::version::next_version;
+use m3_model::{Assignment, Duplicate, Instance, Memory, Placement, Seq};
+use placement_plan::{
+    PlaceErr, drained, first_busy, has_node, listed_node, loads_of, moved, next_version, shift,
+    taker,
+};
 use std::alloc::Global;
 
 // The shard moved away from the node, where the node has it; nothing where no other node may take it.

@@ -4,3 +4,7 @@
 pub mod addition;
 pub mod drainage;
 pub mod replacement;
+
+pub use addition::add;
+pub use drainage::drain;
+pub use replacement::replace;

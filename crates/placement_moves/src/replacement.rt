@@ -6,15 +6,11 @@ ghost use Rattle.placement_core.specs.Steps.{IsStep};
 ghost use Rattle.placement_plan.specs.Plans.{IsReplacement, MayReplace, MakesAll, MovesTo};
 ghost use Rattle.placement_plan.specs.Refusals.{RefusesReplace};
 
-use m3_model::duplicate::Duplicate;
-use m3_model::memory::Memory;
-use m3_model::placement::{Assignment, Placement};
-use m3_model::seq::Seq;
-use placement_plan::nodes::{drained, joined, listed_node, number_for};
-use placement_plan::plan_err::PlaceErr;
-use placement_plan::readiness::{first_busy, first_taken};
-use placement_plan::shards::{has_node, moved};
-use placement_plan::version::next_version;
+use m3_model::{Assignment, Duplicate, Memory, Placement, Seq};
+use placement_plan::{
+    PlaceErr, drained, first_busy, first_taken, has_node, joined, listed_node, moved, next_version,
+    number_for,
+};
 use std::alloc::Global;
 
 fn moved_shard(

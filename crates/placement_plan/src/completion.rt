@@ -10,10 +10,7 @@ use crate::nodes::listed_node;
 use crate::plan_err::PlaceErr;
 use crate::shards::{joins_from, settled, source_of};
 use crate::version::next_version;
-use m3_model::duplicate::Duplicate;
-use m3_model::memory::Memory;
-use m3_model::placement::{Assignment, Instance, Placement};
-use m3_model::seq::Seq;
+use m3_model::{Assignment, Duplicate, Instance, Memory, Placement, Seq};
 use std::alloc::Global;
 
 fn cancelled_shard(

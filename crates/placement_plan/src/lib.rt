@@ -12,3 +12,13 @@ pub mod readiness;
 pub mod removal;
 pub mod shards;
 pub mod version;
+
+pub use choice::{better, may_take, taker};
+pub use completion::{are_joining, available, cancel};
+pub use loads::{loads_of, serves, shift};
+pub use nodes::{drained, joined, listed_node, name_of, named_node, number_for, unlisted};
+pub use plan_err::PlaceErr;
+pub use readiness::{first_busy, first_taken};
+pub use removal::remove;
+pub use shards::{first_shard_of, has_node, joins_from, moved, settled, source_of};
+pub use version::next_version;

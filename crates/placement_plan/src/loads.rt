@@ -4,9 +4,7 @@ ghost use Rattle.m3_model.specs.declared.limits.TheConstants.{MOST_NODES, MOST_S
 ghost use Rattle.placement_plan.specs.Nodes.{serves, load};
 ghost use Rattle.placement_plan.specs.Loads.{AreLoads, IsShifted};
 
-use m3_model::memory::Memory;
-use m3_model::placement::{Assignment, ShardState};
-use m3_model::seq::Seq;
+use m3_model::{Assignment, Memory, Seq, ShardState};
 use std::alloc::Global;
 
 /// Whether the node is Available or Initializing in the shard.

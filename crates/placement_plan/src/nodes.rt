@@ -10,12 +10,8 @@ ghost use Rattle.placement_plan.specs.Plans.{HasRoom};
 ghost use Rattle.placement_plan.specs.Refusals.{IsPastLimit};
 
 use crate::plan_err::PlaceErr;
-use m3_model::duplicate::Duplicate;
 use m3_model::limits::MOST_NODES;
-use m3_model::memory::Memory;
-use m3_model::placement::Instance;
-use m3_model::seq::Seq;
-use m3_model::text::Text;
+use m3_model::{Duplicate, Instance, Memory, Seq, Text};
 use std::alloc::Global;
 
 /// The number of the listed node of this name.

@@ -10,9 +10,7 @@ ghost use Rattle.placement_plan.specs.Nodes.{Has, IsFirst};
 ghost use Rattle.placement_plan.specs.Choices.{moved};
 ghost use Rattle.placement_plan.specs.Plans.{JoinsFrom, IsJoining};
 
-use m3_model::memory::Memory;
-use m3_model::placement::{Assignment, ShardState};
-use m3_model::seq::Seq;
+use m3_model::{Assignment, Memory, Seq, ShardState};
 use std::alloc::Global;
 
 fn any_of(shard: &[Assignment], node: u8) -> bool

@@ -3,3 +3,5 @@
 
 mod shard_step;
 pub mod step;
+
+pub use step::is_step;

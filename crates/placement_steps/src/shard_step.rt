@@ -4,7 +4,7 @@ ghost use Rattle.m3_model.specs.declared.placement.ShardState.TheVariants.{Initi
 ghost use Rattle.placement_core.specs.Lawful.{IsServing};
 ghost use Rattle.placement_core.specs.Steps.{turned, settled, Begins, IsCancelOf, IsEndOf, IsShardStep};
 
-use m3_model::placement::{Assignment, ShardState};
+use m3_model::{Assignment, ShardState};
 
 fn is_same(a: &Assignment, b: &Assignment) -> bool
     ensures { IsTrue result ↔ (a.now ≡ b.now) }

@@ -4,8 +4,7 @@ ghost use Rattle.placement_core.specs.Shards.{Shard};
 ghost use Rattle.placement_core.specs.Steps.{IsDoneList, KeepsNames, IsShardStep, IsStep, done_at};
 
 use crate::shard_step::is_shard_step;
-use m3_model::placement::{Assignment, Instance, Placement};
-use m3_model::seq::Seq;
+use m3_model::{Assignment, Instance, Placement, Seq};
 
 fn is_done_list(shards: usize, done: &[(u32, u8)]) -> bool
     ensures { IsTrue result ↔ IsDoneList shards done.now }

@@ -1,10 +1,6 @@
-use m3_model::memory::Memory;
-use m3_model::placement::{Assignment, Instance, Placement, ShardState};
-use m3_model::seq::Seq;
-use m3_model::text::Text;
-use placement_core::lawful::is_lawful;
-use placement_core::replicas::{counted, former, members};
-use placement_steps::step::is_step;
+use m3_model::{Assignment, Instance, Memory, Placement, Seq, ShardState, Text};
+use placement_core::{counted, former, is_lawful, members};
+use placement_steps::is_step;
 use std::alloc::Global;
 use std::test::Fail;
 

@@ -3,16 +3,9 @@ ghost use Rattle.m3_model.specs.Names.{is_name};
 ghost use Rattle.placement_core.specs.Lawful.{IsLawful};
 
 use first_placement::initial::initial;
-use m3_model::memory::Memory;
-use m3_model::placement::{Assignment, Placement, ShardState};
-use m3_model::seq::Seq;
-use m3_model::text::Text;
-use placement_moves::addition::add;
-use placement_moves::drainage::drain;
-use placement_moves::replacement::replace;
-use placement_plan::completion::cancel;
-use placement_plan::plan_err::PlaceErr;
-use placement_plan::removal::remove;
+use m3_model::{Assignment, Memory, Placement, Seq, ShardState, Text};
+use placement_moves::{add, drain, replace};
+use placement_plan::{PlaceErr, cancel, remove};
 use std::alloc::{AllocError, Global};
 use std::test::Fail;
 

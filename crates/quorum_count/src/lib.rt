@@ -4,7 +4,7 @@
 ghost use Rattle.std.specs.Prelude.{◌≡◌};
 ghost use Rattle.m3_model.specs.Levels.{majority, needed_write, needed_read};
 
-use m3_model::act::{ReadLevel, WriteLevel};
+use m3_model::{ReadLevel, WriteLevel};
 
 /// More than half of `rf` replicas: rounded down before adding. Takes no memory.
 ///

@@ -2,3 +2,5 @@
 #![tactic(auto)]
 
 pub mod replicas;
+
+pub use replicas::Replicas;

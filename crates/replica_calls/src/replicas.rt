@@ -15,22 +15,14 @@ ghost use Rattle.replica_exchange.specs.Promises.{Begins, Puts, Reads, Fences, S
 ghost use Rattle.replica_calls.specs.Calls.{first_member, AreMembersOf, MayCall, MayTell, IsNoStep};
 
 use event_book::Full;
-use event_trail::trail::Trail;
-use event_trail::views::EventView;
-use m3_model::point::{Pick, Point, Series};
-use m3_model::reason::Reason;
-use m3_model::replica::Report;
-use m3_model::rules::Rules;
-use m3_model::seq::Seq;
-use m3_outside::disk::Disk;
-use replica_exchange::CallErr;
-use replica_exchange::call_id::CallId;
-use replica_exchange::exchange::{
-    boot_on, fence_on, put_on, read_on, report_on, restart_on, stop_on,
+use event_trail::{EventView, Trail};
+use m3_model::{Pick, Point, Reason, Report, Rules, Seq, Series};
+use m3_outside::Disk;
+use replica_exchange::{
+    CallErr, CallId, Member, Slot, boot_on, fence_on, put_on, read_on, report_on, restart_on,
+    stop_on,
 };
-use replica_exchange::member::Member;
-use replica_exchange::slot::Slot;
-use replica_machine::machine::Machine;
+use replica_machine::Machine;
 use std::alloc::Global;
 use std::collections::BTreeMap;
 use std::marker::Model;

@@ -6,18 +6,14 @@ ghost use Rattle.m3_model.specs.Reads.{space_picked};
 ghost use Rattle.wire_bytes.specs.Entries.{IsBounded};
 
 use crate::heard::Heard;
-use cluster_core::event::{Asked, Event, StepCall, StepReply};
-use cluster_words::answers::letter_of_reason;
-use m3_model::duplicate::Duplicate;
+use cluster_core::{Asked, Event, StepCall, StepReply};
+use cluster_words::letter_of_reason;
 use m3_model::limits::{MOST_ID_BYTES, MOST_NAMESPACES, TIME_END};
-use m3_model::memory::Memory;
-use m3_model::point::{Pick, Point};
-use m3_model::reason::Reason;
-use m3_model::rules::Rules;
-use m3_outside::disk::Disk;
-use net_plan::late_write::LateWrite;
-use replica_exchange::slot::Slot;
-use replica_machine::machine::{Began, Machine};
+use m3_model::{Duplicate, Memory, Pick, Point, Reason, Rules};
+use m3_outside::Disk;
+use net_plan::LateWrite;
+use replica_exchange::Slot;
+use replica_machine::{Began, Machine};
 use std::alloc::Global;
 
 /// So many nodes have each shard.

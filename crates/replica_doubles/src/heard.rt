@@ -1,9 +1,7 @@
 //! Who answered a call, and what was found.
-use block_buffer::buffer::Buffer;
-use cluster_words::answers::letter_of_node;
-use m3_model::memory::Memory;
-use m3_model::point::{Pick, Series};
-use m3_model::seq::Seq;
+use block_buffer::Buffer;
+use cluster_words::letter_of_node;
+use m3_model::{Memory, Pick, Seq, Series};
 use std::alloc::Global;
 
 /// The nodes that answered a call at one shard, as `ab`, the others with the letters of their reasons, as `b-cx`, and what was found:

@@ -3,3 +3,6 @@
 
 pub mod doubles;
 pub mod heard;
+
+pub use doubles::{Change, Double, NODES, Range, Sending, space_of};
+pub use heard::Heard;

@@ -17,15 +17,10 @@ use crate::call_id::CallId;
 use crate::member::Member;
 use crate::parts::{began_of, began_view, done_of, done_view, found_of, found_view};
 use crate::slot::Slot;
-use cluster_core::event::StepCall;
-use event_trail::apart::tell_apart;
-use event_trail::trail::Trail;
-use event_trail::views::{CallView, EventView, ReplyView};
-use m3_model::point::{Pick, Point, Series};
-use m3_model::replica::Report;
-use m3_model::rules::Rules;
-use m3_model::seq::Seq;
-use m3_outside::disk::Disk;
+use cluster_core::StepCall;
+use event_trail::{CallView, EventView, ReplyView, Trail, tell_apart};
+use m3_model::{Pick, Point, Report, Rules, Seq, Series};
+use m3_outside::Disk;
 
 // Adds an Ask for the call.
 fn ask<D: Disk>(trail: &mut Trail<D>, slot: Slot, call: &CallView)

@@ -1,5 +1,5 @@
-use m3_outside::disk::Disk;
-use replica_machine::machine::Machine;
+use m3_outside::Disk;
+use replica_machine::Machine;
 use std::snapshot::Snapshot;
 
 /// The replica at a slot.

@@ -5,11 +5,9 @@ ghost use Rattle.replica_machine.specs.Steps.{reply_by};
 ghost use Rattle.replica_exchange.specs.MachineCalls.{result_of};
 
 use crate::call_err::CallErr;
-use event_trail::views::ReplyView;
-use m3_model::point::Series;
-use m3_model::reason::Reason;
-use m3_model::seq::Seq;
-use replica_machine::machine::Began;
+use event_trail::ReplyView;
+use m3_model::{Reason, Seq, Series};
+use replica_machine::Began;
 
 pub(crate) fn done_view(said: &Result<(), Reason>) -> ReplyView
     ensures { result ≡ reply_by (λ _. reply.Done) said.now }

@@ -18,13 +18,10 @@ ghost use Rattle.replica_machine.specs.Steps.{reply_by, IsStep, BringsTo};
 use crate::damage::damaged_segment;
 use crate::machine::{Began, Machine, fall};
 use crate::opening::open_store;
-use m3_model::reason::Reason;
-use m3_model::replica::Standing;
-use m3_model::seq::Seq;
-use m3_outside::disk::Disk;
-use m3_outside::disk_err::DiskErr;
-use shard_files::load_err::LoadErr;
-use shard_open::load::Loaded;
+use m3_model::{Reason, Seq, Standing};
+use m3_outside::{Disk, DiskErr};
+use shard_files::LoadErr;
+use shard_open::Loaded;
 
 impl<D: Disk> Machine<D> {
     /// Begins a tenure. From Boot it syncs and loads the files, begins a fresh segment of the log, has the tenure in it where

@@ -1,9 +1,7 @@
 ghost use Rattle.std.specs.Prelude.{◌≡◌, IfOk};
 ghost use Rattle.replica_machine.specs.Damages.{damage_of};
 
-use m3_model::memory::Memory;
-use m3_model::reason::Damage;
-use m3_model::text::Text;
+use m3_model::{Damage, Memory, Text};
 use std::alloc::Global;
 
 /// The damage of the log segment of this number, from this place on.

@@ -3,7 +3,7 @@ ghost use Rattle.replica_machine.specs.MachineLaws.{NumbersAreKnown};
 ghost use Rattle.replica_machine.specs.Openings.{StaysAsMade, FirstBeginIsAsMade, TenuresAreKnown, StepsOverFiles};
 ghost use Rattle.replica_machine.specs.Rearranged.{KeptReplica, TickedReplica, KeptMachine, TickedMachine, MachineOverLog};
 
-use m3_outside::disk::Disk;
+use m3_outside::Disk;
 
 /// Once a machine's replica began, each stop leaves files of which tenure and fence are known: the tenure is one with which it
 /// began, or one in doubt with which it was to begin; the fence is the replica's, or one in doubt that isn't below it.

@@ -7,3 +7,5 @@ pub mod laws;
 pub mod machine;
 mod opening;
 mod refusals;
+
+pub use machine::{Began, Machine};

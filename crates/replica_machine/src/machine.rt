@@ -18,14 +18,9 @@ ghost use Rattle.replica_machine.specs.Machines.{first_machine, shut_machine, Is
 ghost use Rattle.replica_machine.specs.Steps.{reply_by, IsStep, BringsTo, RestartsTo};
 
 use crate::refusals::{check_fence, check_open, check_owner, check_window};
-use m3_model::point::{Pick, Point, Series};
-use m3_model::reason::Reason;
-use m3_model::replica::{Report, Standing};
-use m3_model::rules::Rules;
-use m3_model::seq::Seq;
-use m3_outside::disk::Disk;
-use m3_outside::disk_err::DiskErr;
-use shard_store::store::Store;
+use m3_model::{Pick, Point, Reason, Report, Rules, Seq, Series, Standing};
+use m3_outside::{Disk, DiskErr};
+use shard_store::Store;
 use std::alloc::Global;
 use std::marker::Model;
 

@@ -6,10 +6,9 @@ ghost use Rattle.shard_files.specs.Gains.{Brings, a_tenure};
 ghost use Rattle.shard_files.specs.Once.{HeldOnce};
 ghost use Rattle.shard_store.specs.Stores.{closed_over};
 
-use m3_outside::disk::Disk;
-use m3_outside::disk_err::DiskErr;
-use shard_open::load::Loaded;
-use shard_store::store::Store;
+use m3_outside::{Disk, DiskErr};
+use shard_open::Loaded;
+use shard_store::Store;
 
 /// Opens a store with what was loaded, and has the tenure in its log.
 ///

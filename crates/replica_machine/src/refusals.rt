@@ -2,10 +2,7 @@
 ghost use Rattle.std.specs.Prelude.{◌≡◌, ◌<◌, None, Some, OnOk, IfErr, length};
 ghost use Rattle.cluster_core.specs.Refusals.{shut, unowned, outdated, outside};
 
-use m3_model::point::Point;
-use m3_model::reason::Reason;
-use m3_model::replica::Standing;
-use m3_model::rules::Rules;
+use m3_model::{Point, Reason, Rules, Standing};
 
 /// Whether a call that needs an open replica may go on.
 pub(crate) fn check_open(standing: Standing) -> Result<(), Reason>

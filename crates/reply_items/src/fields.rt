@@ -5,8 +5,8 @@ ghost use Rattle.serde_json.specs.View.{view, members_view};
 ghost use Rattle.reply_values.specs.Json.{list_of};
 
 use crate::json::{ToJson, list_value};
-use m3_model::placement::Instance;
-use reply_values::fields::put_value;
+use m3_model::Instance;
+use reply_values::put_value;
 use serde_json::{Map, Value};
 use std::alloc::{AllocError, Global};
 

@@ -2,8 +2,7 @@ ghost use Rattle.std.specs.Prelude.{◌≡◌, map, IfOk};
 ghost use Rattle.serde_json.specs.View.{view};
 ghost use Rattle.reply_values.specs.Json.{list_of};
 
-use m3_model::placement::Instance;
-use m3_model::seq::Seq;
+use m3_model::{Instance, Seq};
 use serde_json::Value;
 use std::alloc::{AllocError, Global};
 

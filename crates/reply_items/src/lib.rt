@@ -10,3 +10,7 @@ mod reason;
 mod repair;
 mod series;
 mod status;
+
+pub use fields::{put_item, put_list};
+pub use json::{ToJson, list_value};
+pub use names::{instances_of, node_name};

@@ -4,7 +4,7 @@ ghost use Rattle.serde_json.specs.View.{view};
 ghost use Rattle.reply_items.specs.Names.{instances_of, node_name, node_data};
 
 use crate::json::ToJson;
-use m3_model::placement::{Instance, Placement};
+use m3_model::{Instance, Placement};
 use serde_json::Value;
 use std::alloc::{AllocError, Global};
 

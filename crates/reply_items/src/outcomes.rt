@@ -5,10 +5,8 @@ ghost use Rattle.reply_items.specs.Outcomes.{outcome_data, merged_data, swept_da
 use crate::json::{ToJson, list_value};
 use crate::names::node_name;
 use crate::reason::push_reason;
-use m3_model::placement::Instance;
-use m3_model::reason::Reason;
-use m3_model::seq::Seq;
-use reply_values::rows::{push_number, push_text};
+use m3_model::{Instance, Reason, Seq};
+use reply_values::{push_number, push_text};
 use serde_json::Value;
 use std::alloc::{AllocError, Global};
 

@@ -5,12 +5,8 @@ ghost use Rattle.reply_items.specs.Placements.{instance_item, instances_data, as
 
 use crate::json::ToJson;
 use crate::names::node_name;
-use m3_model::placement::{Assignment, Instance, Placement};
-use m3_model::seq::Seq;
-use reply_values::fields::{put_number, put_value};
-use reply_values::order::Roll;
-use reply_values::rows::{push_number, push_text};
-use reply_values::words::state_text;
+use m3_model::{Assignment, Instance, Placement, Seq};
+use reply_values::{Roll, push_number, push_text, put_number, put_value, state_text};
 use serde_json::{Map, Value};
 use std::alloc::{AllocError, Global};
 

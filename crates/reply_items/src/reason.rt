@@ -4,9 +4,8 @@ ghost use Rattle.reply_items.specs.Reasons.{reason_word, reason_items, reason_da
 
 use crate::json::ToJson;
 use crate::names::node_name;
-use m3_model::placement::Instance;
-use m3_model::reason::Reason;
-use reply_values::rows::{push_number, push_text};
+use m3_model::{Instance, Reason};
+use reply_values::{push_number, push_text};
 use serde_json::Value;
 use std::alloc::{AllocError, Global};
 

@@ -3,11 +3,8 @@ ghost use Rattle.reply_items.specs.Repairs.{digest_data, repair_data};
 use crate::fields::put_list;
 use crate::json::ToJson;
 use crate::names::node_name;
-use m3_model::answer::RepairLine;
-use m3_model::placement::Instance;
-use reply_values::digest::hex_value;
-use reply_values::fields::put_number;
-use reply_values::rows::push_text;
+use m3_model::{Instance, RepairLine};
+use reply_values::{hex_value, push_text, put_number};
 use serde_json::{Map, Value};
 use std::alloc::{AllocError, Global};
 

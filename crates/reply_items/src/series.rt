@@ -4,9 +4,8 @@ ghost use Rattle.reply_items.specs.Series.{pair_data, series_data};
 
 use crate::fields::put_list;
 use crate::json::ToJson;
-use m3_model::placement::Instance;
-use m3_model::point::Series;
-use reply_values::fields::put_text;
+use m3_model::{Instance, Series};
+use reply_values::put_text;
 use serde_json::{Map, Value, json};
 use std::alloc::{AllocError, Global};
 

@@ -2,10 +2,8 @@ ghost use Rattle.reply_items.specs.Statuses.{status_data};
 
 use crate::json::ToJson;
 use crate::names::node_name;
-use m3_model::answer::StatusLine;
-use m3_model::placement::Instance;
-use reply_values::fields::{put_number, put_text};
-use reply_values::words::{standing_text, state_text};
+use m3_model::{Instance, StatusLine};
+use reply_values::{put_number, put_text, standing_text, state_text};
 use serde_json::{Map, Value};
 use std::alloc::{AllocError, Global};
 

@@ -9,9 +9,8 @@ ghost use Rattle.reply_texts.specs.Tokens.{tokens_of, Reads};
 
 use crate::tokens::{Tokens, put_list, write_text};
 use json::Writer;
-use m3_model::placement::Instance;
-use m3_model::point::Series;
-use reply_items::names::node_name;
+use m3_model::{Instance, Series};
+use reply_items::node_name;
 use std::alloc::AllocError;
 
 /// A node's number stands as its name.

@@ -4,3 +4,5 @@
 mod items;
 pub mod texts;
 mod tokens;
+
+pub use texts::{acks_text, found_text};

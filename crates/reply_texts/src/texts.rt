@@ -11,8 +11,7 @@ ghost use Rattle.reply_texts.specs.Texts.{acks_fields, found_fields};
 
 use crate::tokens::{put_list, write_flag};
 use json::Writer;
-use m3_model::placement::Instance;
-use m3_model::point::Series;
+use m3_model::{Instance, Series};
 use std::alloc::{AllocError, Global};
 
 // Room for a reply to a write.

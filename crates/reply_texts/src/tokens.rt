@@ -4,7 +4,7 @@ ghost use Rattle.reply_values.specs.Json.{list_of};
 ghost use Rattle.reply_texts.specs.Tokens.{tokens_of, Reads};
 
 use json::Writer;
-use m3_model::placement::Instance;
+use m3_model::Instance;
 use std::alloc::AllocError;
 
 /// What is written into a reply, token by token.

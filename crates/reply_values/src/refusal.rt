@@ -7,7 +7,7 @@ ghost use Rattle.reply_values.specs.Refusals.{plain_fields, unknown_fields, limi
 
 use crate::digest::hex_value;
 use crate::fields::{put_bool, put_number, put_text, put_value};
-use m3_model::reason::Damage;
+use m3_model::Damage;
 use serde_json::{Map, Value};
 use std::alloc::{AllocError, Global};
 

@@ -2,8 +2,7 @@
 ghost use Rattle.std.specs.Prelude.{◌≡◌};
 ghost use Rattle.reply_values.specs.Words.{state_text, standing_text};
 
-use m3_model::placement::ShardState;
-use m3_model::replica::Standing;
+use m3_model::{ShardState, Standing};
 
 /// The word for a state.
 pub fn state_text(state: ShardState) -> &'static str

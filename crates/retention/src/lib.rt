@@ -5,7 +5,7 @@ ghost use Rattle.std.specs.Prelude.{◌≡◌, ℕ, None, false, nat_le, slice_g
 ghost use Rattle.std.specs.Option.{option_copied};
 ghost use Rattle.retention.specs.Expiry.{has_ended};
 
-use m3_model::rules::{Rules, Space};
+use m3_model::{Rules, Space};
 
 /// The namespace at this place, if it is there.
 pub fn space_of(rules: &Rules, ns: u8) -> Option<&Space>

@@ -1,8 +1,8 @@
 //! What answers to a script have to be, by what was written and acknowledged, by the moment and by the nodes that are stopped.
 ghost use Rattle.std.specs.Prelude.{◌<◌, ◌≤◌, IfSome};
 
-use cluster_words::words::{number, text, value};
-use m3_model::memory::Memory;
+use cluster_words::{number, text, value};
+use m3_model::Memory;
 use std::alloc::Global;
 
 // A point: the letters of its namespace and its series, its time and its value.

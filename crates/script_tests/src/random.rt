@@ -1,12 +1,12 @@
 //! Random scripts, over disks that fail now and then.
 use crate::model::first_wrong;
-use cluster_runs::runs::run;
-use cluster_words::scripts::script;
-use m3_model::memory::Memory;
-use m3_outside::disks::Disks;
+use cluster_runs::run;
+use cluster_words::script;
+use m3_model::Memory;
+use m3_outside::Disks;
 use std::alloc::Global;
 use std::test::Fail;
-use test_disks::failing::failing_disks;
+use test_disks::failing_disks;
 
 // What is wrong with the answers to the script of this seed.
 fn tell_script(alloc: Global, seed: u64, out: &mut String) -> Result<(), Memory> {

@@ -11,8 +11,7 @@ use crate::id_err::IdErr;
 use crate::place::{Place, Tag};
 use crate::scan::next_tag;
 use m3_model::limits::MOST_ID_BYTES;
-use m3_model::memory::Memory;
-use m3_model::text::Text;
+use m3_model::{Memory, Text};
 use std::alloc::Global;
 
 // The place of the first tag, if the text begins with `{`.

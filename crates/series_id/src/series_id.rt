@@ -9,9 +9,7 @@ ghost use Rattle.series_id.specs.declared.id_err.IdErr.TheVariants as errors;
 use crate::id_err::IdErr;
 use crate::read::{check, find, list};
 use crate::spell::spelled;
-use m3_model::memory::Memory;
-use m3_model::seq::Seq;
-use m3_model::text::Text;
+use m3_model::{Memory, Seq, Text};
 use std::alloc::Global;
 use std::marker::Model;
 

@@ -7,8 +7,7 @@ ghost use Rattle.series_id.specs.declared.id_err.IdErr.TheVariants as errors;
 use crate::bytes::{is_first_byte, name_len};
 use crate::id_err::IdErr;
 use m3_model::limits::{MOST_ID_BYTES, MOST_TAGS};
-use m3_model::memory::Memory;
-use m3_model::text::Text;
+use m3_model::{Memory, Text};
 use std::alloc::Global;
 use std::cmp::Ordering;
 

@@ -4,3 +4,5 @@
 pub mod laws;
 pub mod merging;
 mod pairs;
+
+pub use merging::merge;

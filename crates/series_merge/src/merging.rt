@@ -6,9 +6,7 @@ ghost use Rattle.series_merge.specs.Merges.{IsMergeOf};
 ghost use Rattle.series_merge.specs.Runs.{IsPartOfMerge, IsJoinedSeries, which_next};
 
 use crate::pairs::join_pairs;
-use m3_model::memory::Memory;
-use m3_model::point::Series;
-use m3_model::seq::Seq;
+use m3_model::{Memory, Seq, Series};
 use std::alloc::Global;
 use std::cmp::Ordering;
 use std::collections::VecDeque;

@@ -3,8 +3,7 @@ ghost use Rattle.std.specs.Prelude.{◌≡◌, ◌++◌, ◌≤◌, ◌⊎◌, t
 ghost use Rattle.m3_model.specs.Ascends.{Ascends};
 ghost use Rattle.series_merge.specs.Pairs.{IsEarlier, IsMergeOfPairs, IsNext, first_pair};
 
-use m3_model::memory::Memory;
-use m3_model::seq::Seq;
+use m3_model::{Memory, Seq};
 use std::alloc::Global;
 use std::cmp::Ordering;
 

@@ -4,3 +4,6 @@
 pub mod placed;
 mod series_buffer;
 pub mod series_key;
+
+pub use placed::PlacedSeries;
+pub use series_key::SeriesKey;

@@ -19,11 +19,7 @@ ghost use Rattle.series_slots.specs.Ranges.{IsRangeOf, some_series, series_in, s
 use crate::series_buffer::SeriesBuffer;
 use crate::series_key::SeriesKey;
 use indexmap::IndexMap;
-use m3_model::duplicate::Duplicate;
-use m3_model::memory::Memory;
-use m3_model::point::Series;
-use m3_model::seq::Seq;
-use m3_model::text::Text;
+use m3_model::{Duplicate, Memory, Seq, Series, Text};
 use std::alloc::Global;
 use std::collections::BTreeSet;
 use std::marker::Model;

@@ -8,7 +8,7 @@ ghost use Rattle.std.specs.BTreeMap.Range.{entries_between};
 ghost use Rattle.std.specs.declared.ops.Bound.TheVariants.{Included, Excluded};
 ghost use Rattle.series_slots.specs.Slots.{value_at, valued, valued_in};
 
-use m3_model::memory::Memory;
+use m3_model::Memory;
 use std::alloc::Global;
 use std::collections::BTreeMap;
 use std::marker::Model;

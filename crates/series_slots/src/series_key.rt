@@ -1,8 +1,6 @@
 ghost use Rattle.std.specs.Prelude.{◌≡◌, IfOk, OnOk};
 
-use m3_model::duplicate::Duplicate;
-use m3_model::memory::Memory;
-use m3_model::text::Text;
+use m3_model::{Duplicate, Memory, Text};
 use std::alloc::Global;
 use std::cmp::Ordering;
 use std::hash::{Hash, Hasher};

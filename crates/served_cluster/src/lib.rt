@@ -2,3 +2,5 @@
 #![tactic(auto)]
 
 pub mod cluster;
+
+pub use cluster::Cluster;

@@ -1,10 +1,10 @@
 //! Stories over a disk that fails, and disks that were given back.
-use cluster_runs::runs::run;
-use m3_model::memory::Memory;
-use m3_outside::disks::Disks;
+use cluster_runs::run;
+use m3_model::Memory;
+use m3_outside::Disks;
 use std::alloc::Global;
 use std::test::Fail;
-use test_disks::disks::{disks_with, spell_disks};
+use test_disks::{disks_with, spell_disks};
 
 // What is answered where a disk of c fails, and the faults of the disks that were given back.
 fn told(

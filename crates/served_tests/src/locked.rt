@@ -5,16 +5,13 @@ ghost use Rattle.m3_outside.specs.Slots.{Out};
 ghost use Rattle.m3_outside.specs.declared.slot.Slot.{Slot as Place};
 ghost use Rattle.mem_disk.specs.Slots.{held_of};
 
-use cluster_runs::runs::run;
-use m3_model::memory::Memory;
-use m3_outside::disk_err::DiskErr;
-use m3_outside::disks::Disks;
-use m3_outside::slot::Slot;
-use mem_disk::disk::MemDisk;
-use mem_disk::disks::MemDisks;
+use cluster_runs::run;
+use m3_model::Memory;
+use m3_outside::{DiskErr, Disks, Slot};
+use mem_disk::{MemDisk, MemDisks};
 use std::alloc::Global;
 use std::test::Fail;
-use test_disks::disks::spell_disks;
+use test_disks::spell_disks;
 
 // Disks that never fail, where the takings of these numbers do.
 #[derive(Drop)]

@@ -1,9 +1,9 @@
 //! Stories of requests that a cluster serves.
-use cluster_runs::runs::run;
-use m3_model::memory::Memory;
+use cluster_runs::run;
+use m3_model::Memory;
 use std::alloc::Global;
 use std::test::Fail;
-use test_disks::disks::disks_with;
+use test_disks::disks_with;
 
 // Over disks that never fail.
 fn story(alloc: Global, words: &str, out: &mut String) -> Result<(), Memory> {

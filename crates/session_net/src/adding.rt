@@ -5,9 +5,9 @@ ghost use Rattle.replica_exchange.specs.MachineCalls.{HasRoom};
 ghost use Rattle.replica_calls.specs.Calls.{IsNoStep};
 ghost use Rattle.session_net.specs.Runs.{Ran};
 
-use event_trail::views::EventView;
-use m3_outside::disk::Disk;
-use replica_calls::replicas::Replicas;
+use event_trail::EventView;
+use m3_outside::Disk;
+use replica_calls::Replicas;
 
 /// Adds an event that no replica makes to the list, after which it is lawful and which has room for it, and answers its
 /// place. Takes no memory.

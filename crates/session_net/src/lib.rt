@@ -6,3 +6,9 @@ pub mod messages;
 pub mod net;
 pub mod session_err;
 pub mod tally;
+
+pub use adding::add;
+pub use messages::{fate_to, is_cut};
+pub use net::Net;
+pub use session_err::SessionErr;
+pub use tally::Tally;

@@ -3,10 +3,9 @@ ghost use Rattle.std.specs.Prelude.{◌≡◌};
 ghost use Rattle.m3_model.specs.Delivery.{is_cut};
 ghost use Rattle.session_net.specs.Messages.{fate_to};
 
-use m3_model::act::Fate;
-use net_plan::fate_key::FateKey;
-use net_plan::fates::Fates;
-use replica_exchange::call_id::CallId;
+use m3_model::Fate;
+use net_plan::{FateKey, Fates};
+use replica_exchange::CallId;
 
 /// What becomes of the call's message to the node.
 pub fn fate_to(fates: &Fates, call: CallId, node: u8) -> Fate

@@ -3,11 +3,10 @@ ghost use Rattle.std.specs.List.{All};
 ghost use Rattle.std.proofs.Props.{props};
 ghost use Rattle.wire_bytes.specs.Entries.{IsBounded};
 
-use m3_model::rules::MetaState;
-use m3_outside::disk::Disk;
-use net_plan::bag::Bag;
-use net_plan::fates::Fates;
-use replica_calls::replicas::Replicas;
+use m3_model::MetaState;
+use m3_outside::Disk;
+use net_plan::{Bag, Fates};
+use replica_calls::Replicas;
 
 /// What calls of clients meet: the rules and the placement that they go by, the replicas that they reach with the list of
 /// the run's events, what becomes of their messages, and the late ones among these.

@@ -1,14 +1,14 @@
 ghost use Rattle.std.specs.Prelude.{◌≡◌};
 ghost use Rattle.session_net.specs.declared.session_err.SessionErr.TheVariants as errors;
 
-use m3_model::memory::Memory;
-use m3_model::reason::Reason;
-use m3_model::seq::Seq;
+use m3_model::{Memory, Reason, Seq};
+use thiserror::Error;
 
 /// Why a call of the session is refused.
-#[derive(Drop)]
+#[derive(Debug, Drop, Error)]
 pub enum SessionErr {
     /// Fewer replicas than needed answered.
+    #[error("{got} of {needed} replicas of shard {shard} answered")]
     Consistency {
         /// The shard of which too few answered.
         shard: u32,
@@ -20,8 +20,10 @@ pub enum SessionErr {
         reasons: Seq<(u8, Reason)>,
     },
     /// Want of memory.
+    #[error("out of memory")]
     Memory,
     /// The list of events has no room for what the call may add.
+    #[error("the list of events is full")]
     Full,
 }
 

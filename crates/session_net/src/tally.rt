@@ -4,9 +4,7 @@ ghost use Rattle.session_net.specs.Outcomes.{Told, answering, refusing, IsShortO
 ghost use Rattle.session_net.specs.Tallies.{HasRoom};
 
 use crate::session_err::SessionErr;
-use m3_model::memory::Memory;
-use m3_model::reason::Reason;
-use m3_model::seq::Seq;
+use m3_model::{Memory, Reason, Seq};
 use std::alloc::Global;
 
 /// The nodes that answered, and the others with their reasons, each in the order in which they were asked.

@@ -22,21 +22,13 @@ ghost use Rattle.session_net.specs.Tallies.{HasRoom as Counts};
 ghost use Rattle.series_merge.specs.Merges.{IsMergeOf};
 ghost use Rattle.session_reads.specs.Gathering.{wish_of, TakesIn, IsContentOf, WereAsked};
 
-use m3_model::act::Fate;
-use m3_model::memory::Memory;
-use m3_model::point::{Pick, Series};
-use m3_model::reason::Reason;
-use m3_model::rules::MetaState;
-use m3_model::seq::Seq;
-use m3_outside::disk::Disk;
-use net_plan::fates::Fates;
-use replica_calls::replicas::Replicas;
-use replica_exchange::CallErr;
-use replica_exchange::call_id::CallId;
-use replica_exchange::slot::Slot;
-use series_merge::merging::merge;
-use session_net::messages::fate_to;
-use session_net::tally::Tally;
+use m3_model::{Fate, Memory, MetaState, Pick, Reason, Seq, Series};
+use m3_outside::Disk;
+use net_plan::Fates;
+use replica_calls::Replicas;
+use replica_exchange::{CallErr, CallId, Slot};
+use series_merge::merge;
+use session_net::{Tally, fate_to};
 use std::alloc::Global;
 use std::mem::replace;
 

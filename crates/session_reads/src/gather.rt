@@ -9,14 +9,12 @@ ghost use Rattle.session_reads.specs.Gathering.{wish_of, IsGathered};
 
 use crate::ask::{Asking, join_answer};
 use crate::shard::{Gave, ask_shard};
-use m3_model::point::Pick;
-use m3_model::rules::MetaState;
-use m3_model::seq::Seq;
-use m3_outside::disk::Disk;
-use net_plan::fates::Fates;
-use replica_calls::replicas::Replicas;
+use m3_model::{MetaState, Pick, Seq};
+use m3_outside::Disk;
+use net_plan::Fates;
+use replica_calls::Replicas;
 use series_id::shard_of;
-use session_net::session_err::SessionErr;
+use session_net::SessionErr;
 use std::alloc::Global;
 
 // Reads all shards, one after the other, and joins what they give.

@@ -5,3 +5,5 @@ mod ask;
 mod gather;
 pub mod read;
 mod shard;
+
+pub use read::{Found, fetch};

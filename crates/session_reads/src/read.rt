@@ -6,14 +6,11 @@ ghost use Rattle.session_net.specs.Reads.{IsFound, IsRefusedRead};
 
 use crate::ask::{Asking, Quorum};
 use crate::gather::gather;
-use m3_model::act::ReadLevel;
-use m3_model::point::{Pick, Series};
-use m3_model::seq::Seq;
-use m3_outside::disk::Disk;
+use m3_model::{Pick, ReadLevel, Seq, Series};
+use m3_outside::Disk;
 use quorum_count::{majority, needed_read};
-use replica_exchange::call_id::CallId;
-use session_net::net::Net;
-use session_net::session_err::SessionErr;
+use replica_exchange::CallId;
+use session_net::{Net, SessionErr};
 use std::alloc::Global;
 
 /// What a fetch found.

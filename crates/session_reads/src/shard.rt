@@ -14,17 +14,13 @@ ghost use Rattle.session_net.specs.Runs.{Ran};
 ghost use Rattle.session_reads.specs.Gathering.{wish_of, IsShardRead, IsUnread};
 
 use crate::ask::{Asking, ask_nodes};
-use event_trail::views::EventView;
-use m3_model::point::{Pick, Series};
-use m3_model::rules::MetaState;
-use m3_model::seq::Seq;
-use m3_outside::disk::Disk;
-use net_plan::fates::Fates;
-use placement_core::replicas::counted;
-use replica_calls::replicas::Replicas;
-use session_net::adding::add;
-use session_net::session_err::SessionErr;
-use session_net::tally::Tally;
+use event_trail::EventView;
+use m3_model::{MetaState, Pick, Seq, Series};
+use m3_outside::Disk;
+use net_plan::Fates;
+use placement_core::counted;
+use replica_calls::Replicas;
+use session_net::{SessionErr, Tally, add};
 use std::alloc::Global;
 
 // What was given: the join of all answers, and whether at least a majority of each shard answered.

@@ -15,17 +15,12 @@ ghost use Rattle.session_net.specs.Deliveries.{known, outcome_of, AreDelivered, 
 
 use crate::put::put_once;
 use m3_model::limits::MOST_LATE_WRITES;
-use m3_model::memory::Memory;
-use m3_model::reason::Reason;
-use m3_model::rules::Rules;
-use m3_model::seq::Seq;
-use m3_outside::disk::Disk;
-use net_plan::late_write::LateWrite;
-use replica_calls::replicas::Replicas;
-use replica_exchange::call_id::CallId;
-use replica_exchange::slot::Slot;
-use session_net::net::Net;
-use session_net::session_err::SessionErr;
+use m3_model::{Memory, Reason, Rules, Seq};
+use m3_outside::Disk;
+use net_plan::LateWrite;
+use replica_calls::Replicas;
+use replica_exchange::{CallId, Slot};
+use session_net::{Net, SessionErr};
 use std::alloc::Global;
 
 // No outcomes yet, with room for so many.

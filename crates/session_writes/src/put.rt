@@ -8,15 +8,10 @@ ghost use Rattle.replica_exchange.specs.MachineCalls.{HasRoom};
 ghost use Rattle.session_net.specs.Brought.{Delivered, Brought};
 ghost use Rattle.session_net.specs.Writes.{put_of};
 
-use m3_model::act::Fate;
-use m3_model::point::Point;
-use m3_model::reason::Reason;
-use m3_model::rules::Rules;
-use m3_outside::disk::Disk;
-use replica_calls::replicas::Replicas;
-use replica_exchange::CallErr;
-use replica_exchange::call_id::CallId;
-use replica_exchange::slot::Slot;
+use m3_model::{Fate, Point, Reason, Rules};
+use m3_outside::Disk;
+use replica_calls::Replicas;
+use replica_exchange::{CallErr, CallId, Slot};
 
 // Puts the point on the replica at the slot, which is there.
 pub(crate) fn put_once<D: Disk>(

@@ -19,30 +19,19 @@ ghost use Rattle.session_net.specs.Tallies.{HasRoom as Counts};
 ghost use Rattle.session_net.specs.Writes.{shard_of_point, AreMembers, put_of, late_to, late_among, filled, told_if_counted, counted_among, most_added, IsSettled, IsUnsettled, IsAcknowledged, IsRefused};
 
 use crate::put::put_by_fate;
-use event_trail::views::EventView;
-use m3_model::act::{Fate, WriteLevel};
-use m3_model::duplicate::Duplicate;
-use m3_model::memory::Memory;
-use m3_model::placement::{Assignment, ShardState};
-use m3_model::point::Point;
-use m3_model::reason::Reason;
-use m3_model::rules::{MetaState, Rules};
-use m3_model::seq::Seq;
-use m3_outside::disk::Disk;
-use net_plan::bag::Bag;
-use net_plan::fates::Fates;
-use net_plan::late_write::LateWrite;
-use placement_core::replicas::members;
+use event_trail::EventView;
+use m3_model::{
+    Assignment, Duplicate, Fate, Memory, MetaState, Point, Reason, Rules, Seq, ShardState,
+    WriteLevel,
+};
+use m3_outside::Disk;
+use net_plan::{Bag, Fates, LateWrite};
+use placement_core::members;
 use quorum_count::needed_write;
-use replica_calls::replicas::Replicas;
-use replica_exchange::call_id::CallId;
-use replica_exchange::slot::Slot;
+use replica_calls::Replicas;
+use replica_exchange::{CallId, Slot};
 use series_id::shard_of;
-use session_net::adding::add;
-use session_net::messages::fate_to;
-use session_net::net::Net;
-use session_net::session_err::SessionErr;
-use session_net::tally::Tally;
+use session_net::{Net, SessionErr, Tally, add, fate_to};
 use std::alloc::Global;
 
 // What the messages of one write share beside their point.

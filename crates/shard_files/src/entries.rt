@@ -3,10 +3,7 @@ ghost use Rattle.wire_bytes.specs.Fields.{Stands};
 ghost use Rattle.wire_bytes.specs.Entries.{IsBounded, bytes_of_point, PointsStand, EntryStands};
 ghost use Rattle.shard_files.specs.Entries.{IsEntry, HasPoint, HavePoints, MayBreak, end_of};
 
-use m3_model::memory::Memory;
-use m3_model::point::Point;
-use m3_model::seq::Seq;
-use m3_model::text::Text;
+use m3_model::{Memory, Point, Seq, Text};
 use std::alloc::{AllocFailed, Global};
 use wire_bytes::{EntryAt, WireErr, get_entry, get_point};
 

@@ -9,7 +9,7 @@ ghost use Rattle.shard_files.specs.Loading.{IsDamagedAt};
 ghost use Rattle.shard_files.specs.HeldLaws.{OneSpelling, EntriesAreOne, HeldIsOne, OneMore, GrownIsJoined, StopLeavesPart};
 ghost use Rattle.shard_files.specs.Once.{OnceIsOne, OnceHasContent, HeldOnceIsOne};
 
-use m3_outside::disk::Disk;
+use m3_outside::Disk;
 
 /// No two entries within their bounds have the same bytes.
 pub fn one_spelling()

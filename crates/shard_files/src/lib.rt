@@ -7,3 +7,8 @@ pub mod file_laws;
 pub mod laws;
 pub mod load_err;
 pub mod segment_entries;
+
+pub use amount::{Amount, join_entries};
+pub use entries::{EntryErr, LogEntry, read_entry};
+pub use load_err::LoadErr;
+pub use segment_entries::read_segment;

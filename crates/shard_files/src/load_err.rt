@@ -1,5 +1,5 @@
-use m3_model::memory::Memory;
-use m3_outside::disk_err::DiskErr;
+use m3_model::Memory;
+use m3_outside::DiskErr;
 
 /// Why a replica's log can't be read.
 #[derive(Clone, Copy, Debug, PartialEq, Eq)]

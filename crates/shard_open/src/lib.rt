@@ -4,3 +4,5 @@
 pub mod load;
 mod once;
 mod sync;
+
+pub use load::Loaded;

@@ -13,13 +13,9 @@ ghost use Rattle.shard_files.specs.declared.load_err.LoadErr.TheVariants as fail
 use crate::once::each_once;
 use crate::sync::sync_all;
 use commit_log::{Segments, list_segments, read_front};
-use m3_model::point::Point;
-use m3_model::seq::Seq;
-use m3_outside::disk::Disk;
-use shard_files::amount::{Amount, join_entries};
-use shard_files::entries::{EntryErr, LogEntry};
-use shard_files::load_err::LoadErr;
-use shard_files::segment_entries::read_segment;
+use m3_model::{Point, Seq};
+use m3_outside::Disk;
+use shard_files::{Amount, EntryErr, LoadErr, LogEntry, join_entries, read_segment};
 use std::alloc::Global;
 
 // What a replica's log holds.

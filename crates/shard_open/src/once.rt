@@ -5,9 +5,7 @@ ghost use Rattle.m3_model.specs.Ascends.{Ascends};
 ghost use Rattle.shard_files.specs.Once.{IsBefore, IsEachOnce};
 ghost use Rattle.shard_open.specs.Ranks.{rank_cmp, ranked, unranked, AreRanksOf};
 
-use m3_model::memory::Memory;
-use m3_model::point::{Key, Point};
-use m3_model::seq::Seq;
+use m3_model::{Key, Memory, Point, Seq};
 use std::alloc::Global;
 use std::collections::BTreeSet;
 

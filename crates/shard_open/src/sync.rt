@@ -4,8 +4,7 @@ ghost use Rattle.m3_outside.specs.DiskState.{DiskState, EachImage, Elapses};
 ghost use Rattle.m3_outside.specs.Files.{Stays};
 ghost use Rattle.m3_outside.specs.declared.disk_err.DiskErr.TheVariants.{Failed as DiskFailed};
 
-use m3_outside::disk::Disk;
-use m3_outside::disk_err::DiskErr;
+use m3_outside::{Disk, DiskErr};
 
 /// Syncs all files: a stop then leaves what reads give, and nothing else.
 ///

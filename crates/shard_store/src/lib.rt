@@ -4,3 +4,5 @@
 mod log_step;
 mod opened;
 pub mod store;
+
+pub use store::Store;

@@ -15,9 +15,7 @@ ghost use Rattle.shard_files.specs.declared.entries.LogEntry.{LogEntry as Entry}
 ghost use Rattle.shard_files.specs.LogSteps.{gain_in};
 
 use commit_log::Log;
-use m3_outside::disk::Disk;
-use m3_outside::disk_err::DiskErr;
-use m3_outside::failed::Failed;
+use m3_outside::{Disk, DiskErr, Failed};
 
 /// Begins the segment of this number, above all that are there, as the log's end.
 ///

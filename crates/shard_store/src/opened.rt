@@ -8,10 +8,9 @@ ghost use Rattle.shard_store.specs.Stores.{IsKeptOn};
 
 use crate::log_step::{append_entry, log_entry, ready_entry};
 use commit_log::Log;
-use held_points::held::HeldPoints;
-use m3_model::point::Point;
-use m3_outside::disk::Disk;
-use m3_outside::disk_err::DiskErr;
+use held_points::HeldPoints;
+use m3_model::Point;
+use m3_outside::{Disk, DiskErr};
 use wire_bytes::{put_fence, put_points, put_tenure};
 
 // What is in memory while a store is open.

@@ -18,14 +18,12 @@ ghost use Rattle.shard_files.specs.declared.load_err.LoadErr.TheVariants as fail
 
 use crate::log_step::begin_log;
 use crate::opened::Opened;
-use held_points::held::hold;
-use m3_model::memory::Memory;
-use m3_model::point::{Pick, Point, Series};
-use m3_model::seq::Seq;
-use m3_outside::disk::Disk;
-use m3_outside::disk_err::DiskErr;
-use shard_files::load_err::LoadErr;
-use shard_open::load::{Loaded, load};
+use held_points::hold;
+use m3_model::{Memory, Pick, Point, Seq, Series};
+use m3_outside::{Disk, DiskErr};
+use shard_files::LoadErr;
+use shard_open::Loaded;
+use shard_open::load::load;
 use std::alloc::Global;
 use std::marker::Model;
 

@@ -12,9 +12,7 @@ use crate::order::is_ascending;
 use crate::snap::Snap;
 use fileset_read::RowErr;
 use m3_model::limits::NUMBER_END;
-use m3_model::point::Point;
-use m3_model::seq::Seq;
-use m3_model::text::Text;
+use m3_model::{Point, Seq, Text};
 use std::alloc::Global;
 use wire_bytes::{WireErr, get_between, get_number, get_point};
 

@@ -4,9 +4,7 @@ ghost use Rattle.wire_bytes.specs.Snapshots.{IsSnapshot, snapshot_bytes};
 ghost use Rattle.snapshot_files.specs.Snaps.{head_bytes, seen};
 
 use crate::snap::Snap;
-use m3_model::memory::Memory;
-use m3_model::point::Point;
-use m3_model::seq::Seq;
+use m3_model::{Memory, Point, Seq};
 use std::alloc::Global;
 use wire_bytes::{put_number, put_point};
 

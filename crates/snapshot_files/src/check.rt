@@ -18,9 +18,8 @@ use crate::names::{checkpoint_name, data_name};
 use crate::snap::Snap;
 use fileset_check::CheckErr;
 use fileset_read::{RowErr, read_file};
-use m3_model::seq::Seq;
-use m3_outside::disk::Disk;
-use m3_outside::disk_err::DiskErr;
+use m3_model::Seq;
+use m3_outside::{Disk, DiskErr};
 use std::alloc::Global;
 use wire_bytes::digest;
 

@@ -8,11 +8,9 @@ ghost use Rattle.shard_files.specs.Steps as steps;
 ghost use Rattle.shard_files.specs.Steps.{snapshots_below};
 
 use crate::names::{CHECKPOINT, DATA};
-use m3_model::memory::Memory;
-use m3_outside::disk::Disk;
-use m3_outside::disk_err::DiskErr;
-use m3_outside::file_name::FileName;
+use m3_model::Memory;
 use m3_outside::take_away::take_away;
+use m3_outside::{Disk, DiskErr, FileName};
 use std::alloc::Global;
 
 // Whether it is the name of a file of this kind of a snapshot below this number.

@@ -2,7 +2,7 @@ ghost use Rattle.std.specs.Prelude.{◌↔◌, IsTrue};
 ghost use Rattle.m3_model.specs.Ascends.{Ascends};
 ghost use Rattle.snapshot_files.specs.Snaps.{IsBefore};
 
-use m3_model::point::Point;
+use m3_model::Point;
 use std::cmp::Ordering;
 
 // Whether the key of the one is below that of the other.

@@ -16,10 +16,7 @@ use crate::check::check_snapshot;
 use crate::names::CHECKPOINT;
 use crate::snap::Snap;
 use fileset_check::CheckErr;
-use m3_outside::disk::Disk;
-use m3_outside::disk_err::DiskErr;
-use m3_outside::failed::Failed;
-use m3_outside::file_name::FileName;
+use m3_outside::{Disk, DiskErr, Failed, FileName};
 use std::alloc::Global;
 
 // An open gate.

@@ -11,8 +11,7 @@ use crate::bytes::bytes_of;
 use crate::names::{checkpoint_name, data_name};
 use crate::snap::Snap;
 use fileset_write::{NewFile, put_all};
-use m3_outside::disk::Disk;
-use m3_outside::disk_err::DiskErr;
+use m3_outside::{Disk, DiskErr};
 use std::alloc::Global;
 use wire_bytes::digest;
 

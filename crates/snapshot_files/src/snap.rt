@@ -1,5 +1,4 @@
-use m3_model::point::Point;
-use m3_model::seq::Seq;
+use m3_model::{Point, Seq};
 
 /// A snapshot of a replica.
 #[derive(Drop)]

@@ -3,3 +3,6 @@
 
 pub mod sink;
 pub mod source;
+
+pub use sink::StdSink;
+pub use source::StdSource;

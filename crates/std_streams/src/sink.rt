@@ -2,8 +2,7 @@ ghost use Rattle.std.specs.Prelude.{◌≡◌, ◌<◌, [], None, length, IfOk, 
 ghost use Rattle.std.specs.Io.{WritesAtMost};
 ghost use Rattle.m3_outside.specs.Causes.{HasCause, CountsStalls, count_after};
 
-use m3_outside::failed::Failed;
-use m3_outside::sink::Sink;
+use m3_outside::{Failed, Sink};
 use std::io::{self, Write};
 use std::marker::Model;
 

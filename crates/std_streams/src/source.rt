@@ -2,8 +2,7 @@ ghost use Rattle.std.specs.Prelude.{◌≡◌, None, OnOk, OnErr};
 ghost use Rattle.std.specs.Io.{ReadsAtMost};
 ghost use Rattle.m3_outside.specs.Causes.{HasCause, count_after};
 
-use m3_outside::failed::Failed;
-use m3_outside::source::Source;
+use m3_outside::{Failed, Source};
 use std::io::Read;
 use std::marker::Model;
 

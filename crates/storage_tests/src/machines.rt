@@ -2,15 +2,10 @@
 ghost use Rattle.std.specs.Prelude.{◌≡◌, ◌<◌, ◌≤◌, IfOk, length};
 
 use commit_log::{Log, LogErr, read_all};
-use m3_model::memory::Memory;
-use m3_model::point::{Pick, Point, Series};
-use m3_model::reason::{Damage, Reason};
-use m3_model::rules::{Rules, Space};
-use m3_model::seq::Seq;
-use m3_model::text::Text;
-use m3_outside::disk::Disk;
-use mem_disk::disk::MemDisk;
-use replica_machine::machine::{Began, Machine};
+use m3_model::{Damage, Memory, Pick, Point, Reason, Rules, Seq, Series, Space, Text};
+use m3_outside::Disk;
+use mem_disk::MemDisk;
+use replica_machine::{Began, Machine};
 use std::alloc::Global;
 use std::test::Fail;
 

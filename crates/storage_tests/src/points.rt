@@ -1,11 +1,9 @@
 // The points that a replica holds and finds again, and the entries of its log.
 ghost use Rattle.std.specs.Prelude.{◌≡◌, None};
 
-use held_points::held::{HeldPoints, hold};
-use m3_model::point::{Matcher, Pick, Point};
-use m3_model::seq::Seq;
-use m3_model::text::Text;
-use shard_files::entries::{LogEntry, read_entry};
+use held_points::{HeldPoints, hold};
+use m3_model::{Matcher, Pick, Point, Seq, Text};
+use shard_files::{LogEntry, read_entry};
 use std::alloc::Global;
 use std::test::Fail;
 

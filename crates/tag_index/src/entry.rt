@@ -1,5 +1,4 @@
-use m3_model::seq::Seq;
-use m3_model::text::Text;
+use m3_model::{Seq, Text};
 
 /// A series of an index: its identifier and its tags.
 #[derive(Drop)]

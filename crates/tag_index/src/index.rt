@@ -12,10 +12,7 @@ ghost use Rattle.tag_index.specs.Listed.{id_at, IsAt, IsPresent, HasTagAt, AreDi
 
 use crate::entry::Entry;
 use indexmap::IndexMap;
-use m3_model::duplicate::Duplicate;
-use m3_model::memory::Memory;
-use m3_model::seq::Seq;
-use m3_model::text::Text;
+use m3_model::{Duplicate, Memory, Seq, Text};
 use slab::Slab;
 use std::alloc::Global;
 use std::marker::Model;

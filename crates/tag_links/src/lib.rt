@@ -10,8 +10,7 @@ ghost use Rattle.m3_model.specs.Members.{IsIn};
 ghost use Rattle.tag_links.specs.Links.{Link, link_of, is_link_of, is_in, is_under, linked_at, is_linked_in};
 
 use indexmap::IndexMap;
-use m3_model::memory::Memory;
-use m3_model::text::Text;
+use m3_model::{Memory, Text};
 use std::alloc::Global;
 use std::collections::BTreeSet;
 

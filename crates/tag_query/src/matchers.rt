@@ -3,9 +3,7 @@ ghost use Rattle.m3_model.specs.Members.{IsIn};
 ghost use Rattle.m3_model.specs.Tags.{MatcherHolds};
 ghost use Rattle.m3_model.specs.declared.point.Matcher.{Matcher};
 
-use m3_model::point::Matcher;
-use m3_model::seq::Seq;
-use m3_model::text::Text;
+use m3_model::{Matcher, Seq, Text};
 
 // Whether the tag has this name and this value.
 fn is_tag(tag: &(Text, Text), name: &Text, value: &Text) -> bool

@@ -3,8 +3,7 @@ ghost use Rattle.m3_model.specs.Ascends.{Ascends};
 ghost use Rattle.m3_model.specs.Members.{IsIn};
 ghost use Rattle.tag_query.specs.Lists.{is_first, not_below, sifted};
 
-use m3_model::memory::Memory;
-use m3_model::seq::Seq;
+use m3_model::{Memory, Seq};
 use std::alloc::Global;
 
 // The list from the first element on that isn't below `low`.

@@ -4,11 +4,9 @@ ghost use Rattle.m3_outside.specs.Slots.{Out};
 ghost use Rattle.m3_outside.specs.declared.slot.Slot.{Slot as Place};
 ghost use Rattle.mem_disk.specs.Slots.{held_of};
 
-use m3_model::memory::Memory;
-use m3_outside::disk::Disk;
-use m3_outside::slot::Slot;
-use mem_disk::disk::MemDisk;
-use mem_disk::disks::MemDisks;
+use m3_model::Memory;
+use m3_outside::{Disk, Slot};
+use mem_disk::{MemDisk, MemDisks};
 use std::alloc::Global;
 
 /// Puts a disk into a slot.

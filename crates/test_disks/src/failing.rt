@@ -5,11 +5,10 @@ ghost use Rattle.m3_outside.specs.declared.slot.Slot.{Slot as Place};
 ghost use Rattle.mem_disk.specs.Slots.{held_of};
 
 use crate::disks::put;
-use cluster_words::scripts::Dice;
-use m3_model::memory::Memory;
-use m3_outside::slot::Slot;
-use mem_disk::disk::MemDisk;
-use mem_disk::disks::MemDisks;
+use cluster_words::Dice;
+use m3_model::Memory;
+use m3_outside::Slot;
+use mem_disk::{MemDisk, MemDisks};
 use std::alloc::Global;
 
 /// A disk of which some calls fail, and maybe all after so many, until it is restarted.

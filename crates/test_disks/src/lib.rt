@@ -3,3 +3,6 @@
 
 pub mod disks;
 pub mod failing;
+
+pub use disks::{disks_with, put, spell_disks};
+pub use failing::{failing_disk, failing_disks};

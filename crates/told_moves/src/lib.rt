@@ -3,3 +3,5 @@
 #![tactic(auto)]
 
 pub mod moves;
+
+pub use moves::{not_owned_is_said, stale_is_said};

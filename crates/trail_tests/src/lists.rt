@@ -3,26 +3,23 @@
 ghost use Rattle.std.specs.Prelude.{◌<◌, ◌≤◌, IfSome};
 ghost use Rattle.member_runs.specs.Ready.{IsReadyCluster};
 
-use cluster_core::event::{Event, StepCall, StepReply};
-use cluster_members::members::Members;
-use cluster_words::acts::act_of;
-use cluster_words::scripts::{Dice, script};
-use doubled_turns::turns::{keep, open};
-use legal_events::legal::any_legal;
-use m3_model::memory::Memory;
-use m3_model::reason::Reason;
-use m3_model::seq::Seq;
-use m3_outside::disk::Disk;
-use mem_disk::disk::MemDisk;
-use member_runs::members::{first, tell_word};
-use replica_calls::replicas::Replicas;
-use replica_doubles::doubles::{Double, NODES};
-use replica_exchange::call_id::CallId;
-use replica_machine::machine::Machine;
+use cluster_core::{Event, StepCall, StepReply};
+use cluster_members::Members;
+use cluster_words::{Dice, act_of, script};
+use doubled_turns::{keep, open};
+use legal_events::any_legal;
+use m3_model::{Memory, Reason, Seq};
+use m3_outside::Disk;
+use mem_disk::MemDisk;
+use member_runs::{first, tell_word};
+use replica_calls::Replicas;
+use replica_doubles::{Double, NODES};
+use replica_exchange::CallId;
+use replica_machine::Machine;
 use std::alloc::Global;
 use std::mem::replace;
 use std::test::Fail;
-use test_disks::failing::{failing_disk, failing_disks};
+use test_disks::{failing_disk, failing_disks};
 
 // A disk like that of the cluster: for shard 0 it fails now and then.
 fn disk_for(alloc: Global, dice: &mut Dice, shard: u32) -> Result<MemDisk, Memory> {

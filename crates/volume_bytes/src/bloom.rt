@@ -3,9 +3,7 @@ ghost use Rattle.wire_bytes.specs.Volumes.{bits_from, bloom_bytes};
 ghost use Rattle.volume_bytes.specs.Bits.{AreBitsOf};
 
 use crate::bits::{byte_at, set_bits};
-use m3_model::memory::Memory;
-use m3_model::point::Series;
-use m3_model::seq::Seq;
+use m3_model::{Memory, Seq, Series};
 use std::alloc::Global;
 use wire_bytes::put_number;
 

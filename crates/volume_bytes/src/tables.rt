@@ -6,9 +6,7 @@ ghost use Rattle.volume_bytes.specs.Heads.{FitsFields, AllFit};
 ghost use Rattle.volume_bytes.specs.Tables.{AreTables};
 
 use crate::rows::{push_id, push_row};
-use m3_model::memory::Memory;
-use m3_model::point::Series;
-use m3_model::seq::Seq;
+use m3_model::{Memory, Seq, Series};
 use std::alloc::Global;
 use wire_bytes::put_number;
 

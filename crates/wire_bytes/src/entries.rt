@@ -5,8 +5,7 @@ ghost use Rattle.wire_bytes.specs.Entries.{AllBounded, ArePoints, points_bytes, 
 
 use crate::numbers::put_number;
 use crate::points::put_point;
-use m3_model::memory::Memory;
-use m3_model::point::Point;
+use m3_model::{Memory, Point};
 
 // The first bytes of entries.
 pub(crate) const POINTS: u64 = 1;

@@ -6,7 +6,7 @@ ghost use Rattle.wire_bytes.specs.declared.wire_err.WireErr.{WireErr as Fault};
 
 use crate::wire_err::WireErr;
 use byteorder::{BigEndian, ByteOrder};
-use m3_model::memory::Memory;
+use m3_model::Memory;
 
 /// Appends the number in `width` bytes, the highest first.
 ///

@@ -7,8 +7,8 @@ ghost use Rattle.wire_bytes.specs.declared.points.PointAt.{PointAt as Found};
 use crate::numbers::{get_between, get_number, put_number};
 use crate::texts::find_text;
 use crate::wire_err::WireErr;
+use m3_model::Memory;
 use m3_model::limits::{MOST_ID_BYTES, MOST_NAMESPACES, TIME_END};
-use m3_model::memory::Memory;
 
 /// A point that stands in some bytes: its identifier is the bytes from `id_from` to `id_to`, and `next` is the place
 /// behind the point.
