@@ -1,0 +1,148 @@
+-- Pieces of an index and of data, and the rows whose entries and records they are.
+use Rattle.std.proofs.Common.{◌≡◌, ◌⊎◌, inl, inr, ℕ, ◌+◌, ◌-◌, ◌≤◌, List, [], ◌∷◌, ◌++◌, length, take, drop, Option, Some, None, refl, sym, ap, subst, ◌∙◌, arith, append_assoc, length-append}
+use Rattle.std.specs.Option.{unwrap_or}
+use Rattle.std.proofs.lemmas.List.{take_at, drop_at}
+use Rattle.std.proofs.lemmas.List.Concat.{flat_map-append}
+use Rattle.m3_model.specs.Members.{IsIn}
+use Rattle.m3_model.specs.declared.point.Series.{Series}
+use Rattle.m3_model.proofs.MemberLemmas.{IsIn-append_right, IsIn-append_cases}
+use Rattle.wire_bytes.specs.Volumes.{row_bytes, data_bytes, index_bytes, index_entry, index_from}
+use Rattle.fileset_lookup.specs.Runs.{AreAbove, IsPiece, place_of}
+use Rattle.fileset_lookup.specs.Spots.{FindsSpot}
+use Rattle.fileset_lookup.specs.declared.entries.Spot.{Spot}
+use Rattle.fileset_lookup.specs.declared.summaries.Piece.{Piece}
+use Rattle.fileset_lookup.proofs.OrderLemmas.{not_below_itself}
+use Rattle.fileset_lookup.proofs.SizeLemmas.{size, size_append, length_from}
+use Rattle.fileset_read.specs.Rows.{IsSpelled, AreSpelled}
+use Rattle.volume_rows.specs.Stretches.{HaveNot, HasEntries, HasRecord, FindsRecord}
+use Rattle.volume_rows.specs.declared.entries.Stretch.{Stretch}
+
+-- ---- pieces of an index
+
+pub above_have_not : (id : List ℕ) (rows : List Series) → AreAbove id rows → HaveNot id rows
+above_have_not id rows above s m = not_below_itself id s.id (above s m)
+
+index_size : (format : ℕ) (xs : List Series) → length (index_bytes format xs) ≡ size format xs
+index_size format xs = length_from format 0 xs
+
+-- where a piece ends
+end_of : (later : List Series) (place len : ℕ) → (later ≡ [] → len ≡ place) → unwrap_or (place_of later place) len ≡ place
+end_of [] place len is = is refl
+end_of (s ∷ later) place len is = refl
+
+-- the piece that is found by summaries, up to its end
+pub record IsPieceTo (format : ℕ) (id : List ℕ) (rows : List Series) (from to : ℕ) : Type 0 where
+  pub order : from ≤ to
+  pub has : (place : Stretch) → place.at ≡ from → place.len ≡ to - from → HasEntries format id rows place
+
+pub piece_to : (format : ℕ) (id : List ℕ) (rows : List Series) (piece : Piece) (index_len to : ℕ) → IsPiece format id rows piece → index_len ≡ length (index_bytes format rows) → to ≡ unwrap_or piece.to index_len → IsPieceTo format id rows piece.from to
+piece_to format id rows piece index_len to is whole ends =
+    let r = is.run in
+    let run : List Series = r.first ∷ r.others in
+    let place = length (index_bytes format (r.before ++ run)) in
+    let all_rows : size format rows ≡ size format r.before + size format (run ++ r.later) = ap (size format) r.split ∙ size_append format r.before (run ++ r.later) in
+    let tail = size_append format run r.later in
+    let front = size_append format r.before run in
+    let a = index_size format r.before in
+    let b = index_size format run in
+    let d = index_size format (r.before ++ run) in
+    let e = index_size format rows in
+    let last : r.later ≡ [] → index_len ≡ place = λ none.
+    let nothing : size format r.later ≡ 0 = ap (size format) none in
+    omega (arith, all_rows, tail, front, d, e, whole, nothing) in
+    let end : to ≡ place = ends ∙ ap (λ (o : Option ℕ). unwrap_or o index_len) is.to ∙ end_of r.later place index_len last in
+    let from = is.from in
+    record {
+      order = omega (arith, end, from, front, a, d);
+      has = λ p at len. record {
+        before = r.before;
+        run = run;
+        later = r.later;
+        split = r.split;
+        at = at ∙ from;
+        len = omega (arith, len, end, from, front, a, b, d);
+        all = λ s m named. by (IsIn-append_cases r.before (run ++ r.later) s (subst (λ (l : List Series). IsIn l s) r.split m)) named;
+      };
+    }
+  where
+    inner : (s : Series) → IsIn (is.run.first ∷ is.run.others) s ⊎ IsIn is.run.later s → s.id ≡ id → IsIn (is.run.first ∷ is.run.others) s
+    inner s (inl m) named = m
+    inner s (inr m) named = absurd (not_below_itself id s.id (is.run.above s m) named)
+
+    by : {s : Series} → IsIn is.run.before s ⊎ IsIn ((is.run.first ∷ is.run.others) ++ is.run.later) s → s.id ≡ id → IsIn (is.run.first ∷ is.run.others) s
+    by {s} (inl m) named = absurd (not_below_itself s.id id (is.run.below s m) (sym named))
+    by {s} (inr m) named = inner s (IsIn-append_cases (is.run.first ∷ is.run.others) is.run.later s m) named
+
+index_append : (format at : ℕ) (xs ys : List Series) → index_from format at (xs ++ ys) ≡ index_from format at xs ++ index_from format (at + length (data_bytes xs)) ys
+index_append format at [] ys = let e : at ≡ at + 0 = omega arith in ap (λ (n : ℕ). index_from format n ys) e
+index_append format at (x ∷ xs) ys =
+    let next = at + length (row_bytes x) in
+    let sum = length-append (row_bytes x) (data_bytes xs) in
+    let e : next + length (data_bytes xs) ≡ at + length (data_bytes (x ∷ xs)) = omega (arith, sum) in
+    ap (λ (l : List ℕ). index_entry format at x ++ l) (index_append format next xs ys)
+    ∙ ap (λ (n : ℕ). index_entry format at x ++ (index_from format next xs ++ index_from format n ys)) e
+    ∙ sym (append_assoc (index_entry format at x) (index_from format next xs) (index_from format (at + length (data_bytes (x ∷ xs))) ys))
+
+-- what comes between two parts
+between : (a b c all : List ℕ) (at len : ℕ) → all ≡ a ++ (b ++ c) → at ≡ length a → len ≡ length b → (at + len ≤ length all) × (take len (drop at all) ≡ b)
+between a b c all at len is from long =
+    let x = length-append a (b ++ c) in
+    let y = length-append b c in
+    let z : length all ≡ length (a ++ (b ++ c)) = ap length is in (
+      omega (arith, x, y, z, from, long),
+      ap (λ (l : List ℕ). take len (drop at l)) is ∙ ap (take len) (drop_at a (b ++ c) at (sym from)) ∙ take_at b c len (sym long),
+    )
+
+-- the entries stand there, and they alone
+pub entries_stand : (format : ℕ) (id : List ℕ) (rows : List Series) (place : Stretch) → (h : HasEntries format id rows place)
+    → (place.at + place.len ≤ length (index_bytes format rows)) × (take place.len (drop place.at (index_bytes format rows)) ≡ index_from format (length (data_bytes h.before)) h.run)
+entries_stand format id rows place h =
+    let at = 0 + length (data_bytes h.before) in
+    let here : at ≡ length (data_bytes h.before) = omega arith in
+    let long : length (index_from format at h.run) ≡ length (index_bytes format h.run) = length_from format at h.run ∙ sym (index_size format h.run) in
+    let split : index_bytes format rows ≡ index_bytes format h.before ++ (index_from format at h.run ++ index_from format (at + length (data_bytes h.run)) h.later) =
+    ap (index_bytes format) h.split ∙ index_append format 0 h.before (h.run ++ h.later) ∙ ap (λ (l : List ℕ). index_bytes format h.before ++ l) (index_append format at h.run h.later) in
+    let r = between (index_bytes format h.before) (index_from format at h.run) (index_from format (at + length (data_bytes h.run)) h.later) (index_bytes format rows) place.at place.len split h.at (h.len ∙ sym long) in
+    (r.0, r.1 ∙ ap (λ (n : ℕ). index_from format n h.run) here)
+
+-- ---- records
+
+-- the spot among the run is one among all rows
+pub record_found : (format : ℕ) (id : List ℕ) (rows : List Series) (place : Stretch) → (h : HasEntries format id rows place) → (found : Option Spot) → FindsSpot id h.before h.run found → FindsRecord id rows found
+record_found format id rows place h None none = λ s m named. none s (h.all s m named) named
+record_found format id rows place h (Some spot) is = record {
+  before = h.before ++ is.front;
+  one = is.one;
+  later = is.back ++ h.later;
+  split = h.split
+      ∙ ap (λ (l : List Series). h.before ++ (l ++ h.later)) is.split
+      ∙ ap (λ (l : List Series). h.before ++ l) (append_assoc is.front (is.one ∷ is.back) h.later)
+      ∙ sym (append_assoc h.before is.front (is.one ∷ (is.back ++ h.later)));
+  named = is.named;
+  at = is.at;
+  len = is.len;
+}
+
+pub record_stands : (id : List ℕ) (rows : List Series) (spot : Spot) → (h : HasRecord id rows spot) → (spot.at + spot.len ≤ length (data_bytes rows)) × (take spot.len (drop spot.at (data_bytes rows)) ≡ row_bytes h.one)
+record_stands id rows spot h =
+    let split : data_bytes rows ≡ data_bytes h.before ++ (row_bytes h.one ++ data_bytes h.later) = ap data_bytes h.split ∙ flat_map-append row_bytes h.before (h.one ∷ h.later) in
+    between (data_bytes h.before) (row_bytes h.one) (data_bytes h.later) (data_bytes rows) spot.at spot.len split h.at h.len
+
+pub record_in : (id : List ℕ) (rows : List Series) (spot : Spot) → (h : HasRecord id rows spot) → IsIn rows h.one
+record_in id rows spot h = subst (λ (l : List Series). IsIn l h.one) (sym h.split) (IsIn-append_right h.before (h.one ∷ h.later) h.one (inl refl))
+
+-- ---- lists of one element
+
+pub one_spelled : (s : Series) → IsSpelled s → AreSpelled (s ∷ [])
+one_spelled s spelled r (inl same) = subst IsSpelled same spelled
+one_spelled s spelled r (inr m) = absurd m
+
+-- from its end
+pub last_of_one : (rest : List Series) (x s : Series) → rest ++ x ∷ [] ≡ s ∷ [] → (rest ≡ []) × (x ≡ s)
+last_of_one [] x s e = (refl, cc)
+last_of_one (y ∷ rest) x s e = absurd (
+    let long : length (y ∷ (rest ++ x ∷ [])) ≡ 1 = ap length e in
+    let one : List Series = x ∷ [] in
+    let sum = length-append rest one in
+    omega (arith, long, sum)
+    )

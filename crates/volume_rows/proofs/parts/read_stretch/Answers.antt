@@ -1,0 +1,5 @@
+use Rattle.commit_log.proofs.Leaves.{leaves_memory}
+use Rattle.volume_rows.proofs.parts.read_stretch.Goals as goal
+
+pub returns-in_err-bytes-clause-leaves : goal.returns-in_err-bytes-clause-leaves
+returns-in_err-bytes-clause-leaves g c = leaves_memory c.from_residual.result (g.D.Disk.state c.args.disk.now) c.from_residual.ensures.1

@@ -1,0 +1,2 @@
+pub mod Seekers
+pub mod Stretches

@@ -1,0 +1,20 @@
+-- What a look-up begins with.
+use Rattle.std.specs.Prelude.{◌≡◌, List, length, Some, option_map}
+use Rattle.std.specs.FinMap.{get}
+use Rattle.m3_model.specs.declared.point.Series.{Series}
+use Rattle.m3_outside.specs.Files.{Files}
+use Rattle.wire_bytes.specs.Volumes.{VolumeHead, Bloom, Index, Summaries, bloom_bytes, index_bytes, summaries_bytes}
+use Rattle.shard_files.specs.Parts.{part_of}
+use Rattle.volume_rows.specs.declared.seeker.Seeker.{Seeker}
+
+-- the seeker has the bloom filter and the summaries of the volume, as its files have them, and the size of its index
+pub record IsSeekerOf (v : VolumeHead) (k : Seeker) (files : Files) : Type 0 where
+  pub bloom : get files (part_of Bloom v) ≡ Some k.bloom
+  pub summaries : get files (part_of Summaries v) ≡ Some k.summaries
+  pub index : option_map length (get files (part_of Index v)) ≡ Some k.index_len
+
+-- the same of the volume's rows
+pub record Seeks (v : VolumeHead) (rows : List Series) (k : Seeker) : Type 0 where
+  pub bloom : k.bloom ≡ bloom_bytes rows
+  pub summaries : k.summaries ≡ summaries_bytes v.format rows
+  pub index : k.index_len ≡ length (index_bytes v.format rows)

@@ -1,0 +1,44 @@
+-- Where a look-up reads: a piece of the index, and then a piece of the data.
+use Rattle.std.specs.Prelude.{◌≡◌, ℕ, List, ◌∷◌, ◌++◌, length, Option, Some, None}
+use Rattle.m3_model.specs.Members.{IsIn}
+use Rattle.m3_model.specs.declared.point.Series.{Series}
+use Rattle.m3_outside.specs.Files.{Files}
+use Rattle.wire_bytes.specs.Volumes.{VolumeHead, row_bytes, data_bytes, index_bytes}
+use Rattle.shard_files.specs.Parts.{VolumeHolds}
+use Rattle.fileset_lookup.specs.declared.entries.Spot.{Spot}
+use Rattle.volume_rows.specs.declared.entries.Stretch.{Stretch}
+
+-- so it is with the rows of the volume that is there
+abbrev pub OfVolume : VolumeHead → (List Series → Type 0) → Files → Type 0
+OfVolume v P files = (rows : List Series) → VolumeHolds v rows files → P rows
+
+abbrev pub HaveNot : List ℕ → List Series → Type 0
+HaveNot id rows = (s : Series) → IsIn rows s → ¬ (s.id ≡ id)
+
+-- the entries of some of the rows stand there in the index, and of no others may one be that of the identifier
+pub record HasEntries (format : ℕ) (id : List ℕ) (rows : List Series) (place : Stretch) : Type 0 where
+  pub before : List Series
+  pub run : List Series
+  pub later : List Series
+  pub split : rows ≡ before ++ (run ++ later)
+  pub at : place.at ≡ length (index_bytes format before)
+  pub len : place.len ≡ length (index_bytes format run)
+  pub all : (s : Series) → IsIn rows s → s.id ≡ id → IsIn run s
+
+abbrev pub FindsEntries : ℕ → List ℕ → List Series → Option Stretch → Type 0
+FindsEntries format id rows (Some place) = HasEntries format id rows place
+FindsEntries format id rows None = HaveNot id rows
+
+-- the record of the identifier's series stands there in the data
+pub record HasRecord (id : List ℕ) (rows : List Series) (spot : Spot) : Type 0 where
+  pub before : List Series
+  pub one : Series
+  pub later : List Series
+  pub split : rows ≡ before ++ one ∷ later
+  pub named : one.id ≡ id
+  pub at : spot.at ≡ length (data_bytes before)
+  pub len : spot.len ≡ length (row_bytes one)
+
+abbrev pub FindsRecord : List ℕ → List Series → Option Spot → Type 0
+FindsRecord id rows (Some spot) = HasRecord id rows spot
+FindsRecord id rows None = HaveNot id rows
