@@ -8,7 +8,7 @@ use Rattle.m3_outside.specs.declared.file_name.FileName.{FileName}
 use Rattle.m3_outside.specs.Files.{name_cmp, patched}
 use Rattle.m3_outside.proofs.Names.{eq_itself, eq_true, eq_false}
 use Rattle.m3_outside.proofs.Patches.{length-patched, patched_inside, patched_before, patched_behind}
-use Rattle.disk_content.specs.declared.pending.PendingWrite.{PendingWrite}
+use Rattle.disk_content.specs.Writes.{PendingWrite}
 use Rattle.disk_content.specs.Writes.{is_other, to_others}
 use Rattle.disk_content.specs.Images.{in_range, covered, Left, MayLeave}
 

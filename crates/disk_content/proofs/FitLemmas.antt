@@ -7,7 +7,7 @@ use Rattle.m3_outside.specs.declared.file_name.FileName.{FileName}
 use Rattle.m3_outside.specs.Files.{Files, IsInside, patched}
 use Rattle.m3_outside.proofs.Names.{name_is, get_here, get_apart}
 use Rattle.m3_outside.proofs.Patches.{length-patched}
-use Rattle.disk_content.specs.declared.pending.PendingWrite.{PendingWrite}
+use Rattle.disk_content.specs.Writes.{PendingWrite}
 use Rattle.disk_content.specs.Tables.{with_bytes}
 use Rattle.disk_content.specs.Picks.{picked_bytes}
 use Rattle.disk_content.specs.Contents.{FitsFile, AllFit}

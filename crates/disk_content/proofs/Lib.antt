@@ -5,6 +5,7 @@ pub mod PickLemmas
 pub mod CoverLemmas
 pub mod WriteLemmas
 pub mod SyncLemmas
-pub mod SettleLemmas
+pub mod UndoLemmas
 pub mod NameLemmas
+pub mod HeldLemmas
 pub mod RestartLemmas

@@ -6,8 +6,8 @@ use Rattle.m3_outside.specs.declared.file_name.FileName.{FileName}
 use Rattle.m3_outside.specs.Files.{Files, files_with_zeros, files_without}
 use Rattle.m3_outside.specs.DiskState.{StepOf}
 use Rattle.m3_outside.proofs.Names.{name_is, get_here, get_apart, get_gone, get_stays, eq_false, is_insert, is_remove}
-use Rattle.disk_content.specs.declared.content.Content.{Content}
-use Rattle.disk_content.specs.declared.pending.PendingWrite.{PendingWrite}
+use Rattle.disk_content.specs.Contents.{Content}
+use Rattle.disk_content.specs.Writes.{PendingWrite}
 use Rattle.disk_content.specs.Contents.{FitsFile, AllFit, content_after_create, content_after_remove}
 use Rattle.disk_content.specs.Images.{in_range, covered, MayLeave, ImagesOf, IsSound}
 use Rattle.disk_content.proofs.CoverLemmas.{without_is, others_of, may_over}
@@ -29,7 +29,7 @@ none_pending (w ∷ ws) files name i all none =
     let apart : name ≡ w.name → ⊥ = λ same. subst (FitsFile w) (ap (get files) (sym same) ∙ none) all.0 in
     ap (λ b. (b && in_range w i) || covered ws name i) (eq_false name w.name apart) ∙ none_pending ws files name i all.1 none
 
-fit_added : (ws : List PendingWrite) (files : Files) (name : FileName) (v : List ℕ) → get files name ≡ None → AllFit ws files → AllFit ws (insert files name v)
+pub fit_added : (ws : List PendingWrite) (files : Files) (name : FileName) (v : List ℕ) → get files name ≡ None → AllFit ws files → AllFit ws (insert files name v)
 fit_added [] files name v none all = tt
 fit_added (w ∷ ws) files name v none all =
     let apart : w.name ≡ name → ⊥ = λ same. subst (FitsFile w) (ap (get files) same ∙ none) all.0 in

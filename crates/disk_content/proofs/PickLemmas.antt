@@ -1,7 +1,7 @@
 -- Pending writes, done one by one as a pick says.
 use Rattle.std.proofs.Common.{◌≡◌, ℕ, ◌/◌, ◌%◌, List, ◌∷◌, length, sym, ap, subst, ◌∙◌, arith}
 use Rattle.m3_outside.specs.Files.{Files, IsInside}
-use Rattle.disk_content.specs.declared.pending.PendingWrite.{PendingWrite}
+use Rattle.disk_content.specs.Writes.{PendingWrite}
 use Rattle.disk_content.specs.Tables.{with_bytes}
 use Rattle.disk_content.specs.Picks.{picked_bytes, picked_files}
 use Rattle.disk_content.specs.Contents.{AllFit}

@@ -5,8 +5,8 @@ use Rattle.std.specs.FinMap.{get, insert}
 use Rattle.m3_outside.specs.declared.file_name.FileName.{FileName}
 use Rattle.m3_outside.specs.Files.{Files, IsInside, patched}
 use Rattle.m3_outside.proofs.Names.{name_is, get_here, get_apart, same_files}
-use Rattle.disk_content.specs.declared.content.Content.{Content}
-use Rattle.disk_content.specs.declared.pending.PendingWrite.{PendingWrite}
+use Rattle.disk_content.specs.Contents.{Content}
+use Rattle.disk_content.specs.Writes.{PendingWrite}
 use Rattle.disk_content.specs.Tables.{with_bytes}
 use Rattle.disk_content.specs.Picks.{picked_bytes, picked_files}
 use Rattle.disk_content.specs.Contents.{FitsFile, AllFit, content_after_restart}

@@ -7,8 +7,8 @@ use Rattle.m3_outside.specs.declared.file_name.FileName.{FileName}
 use Rattle.m3_outside.specs.Files.{Files, Stays, IsPresent, name_cmp}
 use Rattle.m3_outside.specs.DiskState.{StepOf}
 use Rattle.m3_outside.proofs.Names.{name_is, get_here, get_apart, eq_itself}
-use Rattle.disk_content.specs.declared.content.Content.{Content}
-use Rattle.disk_content.specs.declared.pending.PendingWrite.{PendingWrite}
+use Rattle.disk_content.specs.Contents.{Content}
+use Rattle.disk_content.specs.Writes.{PendingWrite}
 use Rattle.disk_content.specs.Tables.{with_file}
 use Rattle.disk_content.specs.Contents.{FitsFile, AllFit, IsInBoth, content_after_sync}
 use Rattle.disk_content.specs.Images.{covered, MayLeave, ImagesOf, IsSound}

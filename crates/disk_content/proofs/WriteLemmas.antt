@@ -8,15 +8,15 @@ use Rattle.m3_outside.specs.Files.{Files, Torn, Wrote, IsInside, patched}
 use Rattle.m3_outside.specs.DiskState.{StepOf}
 use Rattle.m3_outside.proofs.Names.{name_is, get_here, get_apart, is_insert}
 use Rattle.m3_outside.proofs.Patches.{length-patched, patched_inside, patched_before, patched_behind}
-use Rattle.disk_content.specs.declared.content.Content.{Content}
-use Rattle.disk_content.specs.declared.pending.PendingWrite.{PendingWrite}
+use Rattle.disk_content.specs.Contents.{Content}
+use Rattle.disk_content.specs.Writes.{PendingWrite}
 use Rattle.disk_content.specs.Tables.{with_bytes}
 use Rattle.disk_content.specs.Contents.{FitsFile, AllFit, content_after_failed_write, content_after_write}
 use Rattle.disk_content.specs.Images.{MayLeave, ImagesOf, IsSound}
 use Rattle.disk_content.proofs.CoverLemmas.{left_written, left_before, may_more, may_less}
 use Rattle.disk_content.proofs.TableLemmas.{with_bytes_found, same_found}
 
-undone : (now : List ℕ) (at : ℕ) (other : List ℕ) → at + length other ≤ length now → patched (patched now at other) at (take (length other) (drop at now)) ≡ now
+pub undone : (now : List ℕ) (at : ℕ) (other : List ℕ) → at + length other ≤ length now → patched (patched now at other) at (take (length other) (drop at now)) ≡ now
 undone now at other within = same_lists _ _ lengths (λ k d below. each k d below)
   where
     n : length (take (length other) (drop at now)) ≡ length other

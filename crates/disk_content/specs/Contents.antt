@@ -1,13 +1,21 @@
 -- What a disk in memory holds, and what each call makes of it.
-use Rattle.std.specs.Prelude.{◌≡◌, ⊤, ℕ, ◌+◌, ◌≤◌, List, [], ◌∷◌, length, Option, Some, None}
+use Rattle.std.specs.Prelude.{◌≡◌, ⊤, ℕ, ◌+◌, ◌≤◌, List, [], ◌∷◌, length, Option, Some, None, refl}
+use Rattle.std.specs.Coded.{Coded, code_by, coded×}
 use Rattle.std.specs.FinMap.{get}
 use Rattle.m3_outside.specs.declared.file_name.FileName.{FileName}
 use Rattle.m3_outside.specs.Files.{Files, files_with_zeros, files_without}
-use Rattle.disk_content.specs.declared.content.Content.{Content}
-use Rattle.disk_content.specs.declared.pending.PendingWrite.{PendingWrite}
-use Rattle.disk_content.specs.Tables.{with_file, with_bytes}
-use Rattle.disk_content.specs.Writes.{pending_after_write, pending_without}
+use Rattle.disk_content.specs.Tables.{files_code, with_file, with_bytes}
+use Rattle.disk_content.specs.Writes.{Pending, PendingWrite, pending_code, pending_after_write, pending_without}
 use Rattle.disk_content.specs.Picks.{picked_files}
+
+-- the files as reads give them, as they stand synced, and the writes between
+pub record Content : Type 0 where
+  pub seen : Files
+  pub synced : Files
+  pub pending : Pending
+
+abbrev pub content_code : Coded Content
+content_code = code_by (Files × (Files × Pending)) (coded× files_code (coded× files_code pending_code)) (λ c. (c.seen, (c.synced, c.pending))) (λ p. record { seen = p.0; synced = p.1.0; pending = p.1.1 }) (λ _. refl)
 
 -- a write is pending where it failed, and reads stay
 abbrev pub content_after_failed_write : FileName → ℕ → List ℕ → Content → Content

@@ -10,9 +10,8 @@ use Rattle.std.specs.declared.snapshot.Snapshot.{Snapshot}
 use Rattle.m3_outside.specs.declared.file_name.FileName.{FileName}
 use Rattle.m3_outside.specs.Files.{Files, name_cmp}
 use Rattle.m3_outside.specs.DiskState.{DiskState, IsLawful}
-use Rattle.disk_content.specs.declared.content.Content.{Content}
-use Rattle.disk_content.specs.declared.pending.PendingWrite.{PendingWrite}
-use Rattle.disk_content.specs.Contents.{FitsFile, AllFit}
+use Rattle.disk_content.specs.Writes.{PendingWrite}
+use Rattle.disk_content.specs.Contents.{Content, FitsFile, AllFit}
 
 -- whether the write covers this byte of its file
 abbrev pub in_range : PendingWrite → ℕ → Bool

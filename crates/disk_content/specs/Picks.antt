@@ -1,7 +1,7 @@
 -- Which image of a disk in memory a pick gives.
 use Rattle.std.specs.Prelude.{ℕ, ◌-◌, ◌/◌, ◌%◌, nat_eq, if◌then◌else◌, List, [], ◌∷◌, length, map, take}
 use Rattle.m3_outside.specs.Files.{Files}
-use Rattle.disk_content.specs.declared.pending.PendingWrite.{PendingWrite}
+use Rattle.disk_content.specs.Writes.{PendingWrite}
 use Rattle.disk_content.specs.Tables.{with_bytes}
 
 -- what a digit leaves of a pending write: nothing, the whole, its first half, or each byte of it subtracted from 255

@@ -1,5 +1,5 @@
 -- Tables of files: their code, and how one file of a table is changed.
-use Rattle.std.specs.Prelude.{ℕ, List, Option, Some, None, refl}
+use Rattle.std.specs.Prelude.{ℕ, List, [], take, drop, Option, Some, None, refl}
 use Rattle.std.specs.Coded.{Coded, code_by, coded×, coded_ℕ, coded_list}
 use Rattle.std.specs.FinMap.{get, insert, code}
 use Rattle.m3_outside.specs.declared.file_name.FileName.{FileName}
@@ -24,3 +24,8 @@ patched_file at bytes (Some file) = Some (patched file at bytes)
 -- the files with these bytes at this place of one of them
 abbrev pub with_bytes : FileName → ℕ → List ℕ → Files → Files
 with_bytes name at bytes files = with_file name (patched_file at bytes (get files name)) files
+
+-- so many bytes of a file from this place on
+abbrev pub range_in : ℕ → ℕ → Option (List ℕ) → List ℕ
+range_in at n None = []
+range_in at n (Some file) = take n (drop at file)

@@ -1,11 +1,11 @@
 -- The writes of a disk in memory that no sync of their file has followed.
-use Rattle.std.specs.Prelude.{◌≡◌, ⊤, ℕ, ◌-◌, ◌≤◌, Bool, not, List, [], ◌∷◌, ◌++◌, vec_len, vec_capacity, refl}
+use Rattle.std.specs.Prelude.{◌≡◌, ℕ, ◌-◌, Bool, not, List, [], ◌∷◌, ◌++◌, refl}
+use Rattle.std.specs.Coded.{Coded, code_by, coded×, coded_ℕ, coded_list}
 use Rattle.std.specs.List.{filter}
 use Rattle.std.specs.Ordering.{eq_by_cmp}
-use Rattle.std.specs.declared.vec.Vec.{Vec}
 use Rattle.m3_outside.specs.declared.file_name.FileName.{FileName}
 use Rattle.m3_outside.specs.Files.{name_cmp}
-use Rattle.disk_content.specs.declared.pending.PendingWrite.{PendingWrite}
+use Rattle.disk_content.specs.Tables.{name_code}
 
 -- the names are two
 unfoldable pub is_other : FileName → FileName → Bool
@@ -15,11 +15,23 @@ pub is_other_is : (name other : FileName) → is_other name other ≡ not (eq_by
 unfolding is_other
 is_other_is name other = refl
 
+-- a write that no sync of its file has followed
+pub record PendingWrite : Type 0 where
+  pub name : FileName
+  pub at : ℕ
+  pub bytes : List ℕ
+
 -- The pending writes in their order. There is room for so many more calls that change files, each of which writes at most `widest` bytes.
 pub record Pending : Type 0 where
   pub writes : List PendingWrite
   pub room : ℕ
   pub widest : ℕ
+
+abbrev pub write_code : Coded PendingWrite
+write_code = code_by (FileName × (ℕ × List ℕ)) (coded× name_code (coded× coded_ℕ (coded_list coded_ℕ))) (λ w. (w.name, (w.at, w.bytes))) (λ p. record { name = p.0; at = p.1.0; bytes = p.1.1 }) (λ _. refl)
+
+abbrev pub pending_code : Coded Pending
+pending_code = code_by (List PendingWrite × (ℕ × ℕ)) (coded× (coded_list write_code) (coded× coded_ℕ coded_ℕ)) (λ p. (p.writes, (p.room, p.widest))) (λ p. record { writes = p.0; room = p.1.0; widest = p.1.1 }) (λ _. refl)
 
 -- those to other files
 abbrev pub to_others : FileName → List PendingWrite → List PendingWrite
@@ -32,13 +44,3 @@ pending_after_write name at bytes p = record p { writes = p.writes ++ (record { 
 -- without the writes to a file
 abbrev pub pending_without : FileName → Pending → Pending
 pending_without name p = record p { writes = to_others name p.writes; room = p.room - 1 }
-
--- a vector without items that has room for so many bytes
-pub record IsBuffer {A : Type 0} (widest : ℕ) (b : Vec ℕ A) : Type 0 where
-  pub none : b.items ≡ []
-  pub empty : vec_len b ≡ 0
-  pub wide : widest ≤ vec_capacity b
-
-abbrev pub AreBuffers : {A : Type 0} → ℕ → List (Vec ℕ A) → Type 0
-AreBuffers widest [] = ⊤
-AreBuffers widest (b ∷ bs) = IsBuffer widest b × AreBuffers widest bs

@@ -1,8 +1,9 @@
-ghost use Rattle.std.specs.Prelude.{◌≡◌, ◌≤◌, ◌+◌, [], IfOk, length, replicate, take, drop};
+ghost use Rattle.std.specs.Prelude.{◌≡◌, ◌≤◌, ◌+◌, ◌-◌, [], Some, IfOk, length, replicate, map, take, drop, vec_len, vec_capacity};
 ghost use Rattle.m3_outside.specs.Files.{patched};
+ghost use Rattle.disk_content.specs.Tables.{range_in};
 
 use m3_model::Memory;
-use std::alloc::{AllocError, Global};
+use std::alloc::Global;
 use std::marker::Model;
 use std::mem;
 
@@ -18,6 +19,20 @@ impl Model for FileBytes {
     ghost Value = { List ℕ };
 
     ghost view = { λ f. f.bytes.items };
+}
+
+// The bytes, in a vector that has the room for them.
+pub fn filled(buffer: Vec<u8>, bytes: &[u8]) -> FileBytes
+    requires none { buffer.items ≡ [] }
+    requires empty { vec_len buffer ≡ 0 }
+    requires room { length bytes.now ≤ vec_capacity buffer }
+    ensures { result ≡ bytes.now }
+{
+    let mut buffer = buffer;
+    match buffer.extend_from_slice(bytes) {
+        Ok(()) => FileBytes::from_vec(buffer),
+        Err(_) => unreachable!(),
+    }
 }
 
 impl FileBytes {
@@ -68,22 +83,44 @@ impl FileBytes {
         self.bytes[at..at + bytes.len()].copy_from_slice(bytes);
     }
 
+    // Writes over a part, and gives what it replaced, in a vector that has the room for it.
+    pub fn replace(&mut self, at: usize, bytes: &[u8], buffer: Vec<u8>) -> FileBytes
+        requires inside { at + length bytes.now ≤ length self.old }
+        requires none { buffer.items ≡ [] }
+        requires empty { vec_len buffer ≡ 0 }
+        requires room { length bytes.now ≤ vec_capacity buffer }
+        ensures value { result ≡ range_in at (length bytes.now) (Some self.old) }
+        ensures after { self.new ≡ patched self.old at bytes.now }
+    {
+        let replaced = filled(buffer, &self.bytes[at..at + bytes.len()]);
+        self.write(at, bytes);
+        replaced
+    }
+
+    // Exchanges a part for these bytes.
+    pub fn exchange(&mut self, at: usize, other: &mut FileBytes)
+        requires { at + length other.old ≤ length self.old }
+        ensures other { other.new ≡ range_in at (length other.old) (Some self.old) }
+        ensures after { self.new ≡ patched self.old at other.old }
+    {
+        let count = other.bytes.len();
+        self.bytes[at..at + count].swap_with_slice(&mut other.bytes);
+    }
+
+    // Subtracts each byte from 255.
+    pub fn flip(&mut self)
+        ensures { self.new ≡ map (λ b. 255 - b) self.old }
+    {
+        for byte in self.bytes.iter_mut() {
+            *byte = 255 - *byte;
+        }
+    }
+
     pub fn read(&self, at: usize, buf: &mut [u8])
         requires { at + length buf.old ≤ length self.now }
         ensures { buf.new ≡ take (length buf.new) (drop at self.now) }
     {
         let bytes = self.bytes.as_slice();
         buf.copy_from_slice(&bytes[at..at + buf.len()]);
-    }
-}
-
-impl Clone for FileBytes {
-    ghost use Rattle.std.specs.Prelude.{◌≡◌};
-
-    ghost is_clone = { λ f g. g ≡ f };
-
-    fn clone(&self) -> Result<FileBytes, AllocError> {
-        let bytes = self.bytes.clone()?;
-        Ok(FileBytes { bytes })
     }
 }

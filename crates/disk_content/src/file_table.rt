@@ -1,8 +1,8 @@
-ghost use Rattle.std.specs.Prelude.{◌≡◌, IfOk, OnOk, OnErr, length, replicate};
+ghost use Rattle.std.specs.Prelude.{◌≡◌, ◌≤◌, [], IfOk, OnOk, OnErr, length, replicate, vec_len, vec_capacity};
 ghost use Rattle.std.specs.Option.{option_copied};
 ghost use Rattle.std.specs.FinMap as finite;
 ghost use Rattle.m3_outside.specs.Files.{IsInside};
-ghost use Rattle.disk_content.specs.Tables.{with_bytes};
+ghost use Rattle.disk_content.specs.Tables.{with_bytes, range_in};
 
 use crate::file_bytes::FileBytes;
 use indexmap::IndexMap;
@@ -78,6 +78,33 @@ impl FileTable {
         }
     }
 
+    // Writes over a part of a file, and gives what it replaced, in a vector that has the room for it.
+    pub fn replace(&mut self, name: FileName, at: usize, bytes: &[u8], buffer: Vec<u8>) -> FileBytes
+        requires inside { IsInside name at (length bytes.now) self.old }
+        requires none { buffer.items ≡ [] }
+        requires empty { vec_len buffer ≡ 0 }
+        requires room { length bytes.now ≤ vec_capacity buffer }
+        ensures value { result ≡ range_in at (length bytes.now) (finite.get self.old name) }
+        ensures after { self.new ≡ with_bytes name at bytes.now self.old }
+    {
+        match self.map.get_mut(&name) {
+            Some(file) => file.replace(at, bytes, buffer),
+            None => unreachable!(),
+        }
+    }
+
+    // Exchanges a part of a file for these bytes.
+    pub fn exchange(&mut self, name: FileName, at: usize, other: &mut FileBytes)
+        requires { IsInside name at (length other.old) self.old }
+        ensures other { other.new ≡ range_in at (length other.old) (finite.get self.old name) }
+        ensures after { self.new ≡ with_bytes name at other.old self.old }
+    {
+        match self.map.get_mut(&name) {
+            Some(file) => file.exchange(at, other),
+            None => unreachable!(),
+        }
+    }
+
     // All names, ascending. The map doesn't keep them in order, so they are sorted here.
     pub fn names(&self, alloc: Global) -> Result<Vec<FileName>, Memory>
         ensures { IfOk result (λ names. names.items ≡ finite.keys self.now) }
@@ -85,13 +112,5 @@ impl FileTable {
         let mut names: Vec<FileName> = self.map.keys().copied().collect(alloc)?;
         names.sort_unstable();
         Ok(names)
-    }
-
-    // Another table of the same files.
-    pub fn copy(&self) -> Result<FileTable, Memory>
-        ensures { IfOk result (λ table. table ≡ self.now) }
-    {
-        let map = self.map.clone()?;
-        Ok(FileTable { map })
     }
 }

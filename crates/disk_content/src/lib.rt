@@ -4,11 +4,10 @@
 pub mod content;
 pub mod file_bytes;
 pub mod file_table;
-pub mod pending;
 mod picks;
-mod settle;
+mod undo_log;
+mod unwind;
 
 pub use content::Content;
-pub use file_bytes::FileBytes;
+pub use file_bytes::{FileBytes, filled};
 pub use file_table::FileTable;
-pub use pending::{PendingWrite, PendingWrites, is_other};

@@ -1,40 +1,36 @@
-ghost use Rattle.std.specs.Prelude.{◌≡◌, IfOk, OnOk};
+ghost use Rattle.std.specs.Prelude.{◌≡◌, ◌≤◌, length, map};
 ghost use Rattle.disk_content.specs.Contents.{AllFit};
+ghost use Rattle.disk_content.specs.Undo.{as_write};
 ghost use Rattle.disk_content.specs.Picks.{picked_bytes, picked_files};
 
+use crate::file_bytes::FileBytes;
 use crate::file_table::FileTable;
-use crate::pending::PendingWrite;
-use m3_model::Memory;
-use std::alloc::Global;
+use crate::undo_log::UndoEntry;
 
-// What a digit leaves of a write.
-fn picked_bytes(alloc: Global, digit: u64, bytes: &[u8]) -> Result<Vec<u8>, Memory>
-    ensures { IfOk result (λ left. left.items ≡ picked_bytes digit bytes.now) }
+// What a digit leaves of a write, whose bytes may be changed for it.
+fn picked_bytes<'a>(digit: u64, bytes: &'a mut FileBytes) -> &'a [u8]
+    ensures { result.now ≡ picked_bytes digit bytes.old }
 {
-    let left = match digit {
-        0 => Vec::new(alloc),
-        1 => Vec::from_slice(alloc, bytes)?,
-        2 => Vec::from_slice(alloc, &bytes[..bytes.len() / 2])?,
-        _ => bytes.iter().map(|byte| 255 - *byte).collect(alloc)?,
-    };
-    Ok(left)
+    if digit > 2 {
+        bytes.flip();
+    }
+    let bytes = bytes.as_slice();
+    match digit {
+        0 => &[],
+        2 => &bytes[..bytes.len() / 2],
+        _ => bytes,
+    }
 }
 
-// Does the writes in their order, as the digits of the pick say.
-pub fn apply(
-    alloc: Global,
-    files: &mut FileTable,
-    writes: &[PendingWrite],
-    pick: u64,
-) -> Result<(), Memory>
-    requires { AllFit writes.now files.old }
-    ensures { OnOk result (files.new ≡ picked_files pick writes.now files.old) }
+// Does the writes in their order, as the digits of the pick say, where each entry has what was written.
+pub fn apply(files: &mut FileTable, entries: &mut [UndoEntry], pick: u64)
+    requires { AllFit (map as_write entries.old) files.old }
+    ensures { files.new ≡ picked_files pick (map as_write entries.old) files.old }
 {
     let mut digits = pick;
-    for write in writes {
-        let left = picked_bytes(alloc, digits % 4, write.bytes.as_slice())?;
-        files.write(write.name, write.at, &left);
+    for entry in entries.iter_mut() {
+        let left = picked_bytes(digits % 4, &mut entry.bytes);
+        files.write(entry.name, entry.at, left);
         digits /= 4;
     }
-    Ok(())
 }

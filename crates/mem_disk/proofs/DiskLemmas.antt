@@ -11,10 +11,9 @@ use Rattle.m3_outside.specs.Causes.{CountsFaults}
 use Rattle.m3_outside.specs.Files.{name_cmp, Files, Stays, DoneOrNot, IsPresent, IsInside, files_with_zeros}
 use Rattle.m3_outside.specs.DiskState.{IsEmpty, StepOf, Becomes}
 use Rattle.m3_outside.specs.DiskCalls.{ChangesFiles, Creates, Writes, Syncs, Removes, Restarts}
-use Rattle.disk_content.specs.declared.content.Content.{Content}
-use Rattle.disk_content.specs.declared.pending.PendingWrite.{PendingWrite}
+use Rattle.disk_content.specs.Writes.{PendingWrite}
 use Rattle.disk_content.specs.Picks.{picked_files}
-use Rattle.disk_content.specs.Contents.{AllFit, IsInBoth, content_after_create, content_after_write, content_after_failed_write, content_after_sync, content_after_remove, content_after_restart}
+use Rattle.disk_content.specs.Contents.{Content, AllFit, IsInBoth, content_after_create, content_after_write, content_after_failed_write, content_after_sync, content_after_remove, content_after_restart}
 use Rattle.disk_content.specs.Images.{MayLeave, ImagesOf, IsSound, disk_state}
 use Rattle.mem_disk.proofs.PastLemmas.{SameImages, same_itself, same_back, image_as, elapses_push, elapses_same, counts_as}
 use Rattle.disk_content.proofs.WriteLemmas.{torn_image, fits_synced, wrote_seen, torn_not}

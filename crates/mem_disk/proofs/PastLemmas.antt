@@ -6,8 +6,8 @@ use Rattle.m3_outside.specs.Causes.{CountsFaults}
 use Rattle.m3_outside.specs.Files.{Files, Stays}
 use Rattle.m3_outside.specs.DiskState.{StepOf, Elapses}
 use Rattle.m3_outside.specs.DiskCalls.{LeavesFiles}
-use Rattle.disk_content.specs.declared.content.Content.{Content}
-use Rattle.disk_content.specs.declared.pending.PendingWrite.{PendingWrite}
+use Rattle.disk_content.specs.Contents.{Content}
+use Rattle.disk_content.specs.Writes.{PendingWrite}
 use Rattle.disk_content.specs.Images.{MayLeave, ImagesOf, HadBeen, SinceOf, disk_state}
 
 -- what a stop may leave of them is the same

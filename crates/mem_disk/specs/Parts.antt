@@ -1,7 +1,7 @@
 -- What contracts see of a disk in memory.
 use Rattle.std.specs.Prelude.{◌≡◌}
 use Rattle.m3_outside.specs.DiskState.{DiskState}
-use Rattle.disk_content.specs.declared.content.Content.{Content}
+use Rattle.disk_content.specs.Contents.{Content}
 use Rattle.mem_disk.specs.declared.disk.MemDisk.{MemDisk}
 use Rattle.mem_disk.specs.Calls.{Calls}
 use Rattle.disk_content.specs.Images.{disk_state}

@@ -12,8 +12,9 @@ use std::snapshot::Snapshot;
 /// A disk in memory, which tells what it holds. What it held at past moments exists for proofs alone.
 ///
 /// A file is found in constant expected time. A write costs in proportion to its bytes, a sync in proportion to the number
-/// of pending writes and the bytes of those to its file, a removal in proportion to that number and to the file, a
-/// restart in proportion to the disk, and a list of the names the time to sort them.
+/// of pending writes, a removal in proportion to that number and to the file, a restart in proportion to the pending writes
+/// and their bytes, and a list of the names the time to sort them. A file takes the memory of its bytes, and a pending write
+/// that of the largest file.
 #[derive(Drop)]
 pub struct MemDisk {
     alloc: Global,
@@ -93,11 +94,11 @@ impl Disk for MemDisk {
             return Err(DiskErr::Failed);
         }
         let calls = calls as usize;
-        if calls <= self.now.pending.room() {
+        if calls <= self.now.room() {
             return Ok(());
         }
         self.past.reserve(calls)?;
-        self.now.pending.make_room(calls, 0)?;
+        self.now.make_room(calls, 0)?;
         Ok(())
     }
 
@@ -114,8 +115,8 @@ impl Disk for MemDisk {
         if self.schedule.next_fails() {
             return Err(DiskErr::Failed);
         }
-        make_room_for_moment(&mut self.past, self.now.pending.room())?;
-        self.now.pending.make_room(0, size as usize)?;
+        make_room_for_moment(&mut self.past, self.now.room())?;
+        self.now.make_room(0, size as usize)?;
         let before = Snapshot::of(&self.now);
         self.now.create(self.alloc, name, size as usize)?;
         self.past.push_reserved(before);
@@ -135,11 +136,11 @@ impl Disk for MemDisk {
     {
         let fails = self.schedule.next_fails();
         self.past.push_reserved(Snapshot::of(&self.now));
-        self.now.pending.push(name, at as usize, bytes);
         if fails {
+            self.now.fail_write(name, at as usize, bytes);
             return Err(Failed);
         }
-        self.now.seen.write(name, at as usize, bytes);
+        self.now.write(name, at as usize, bytes);
         Ok(())
     }
 
@@ -175,7 +176,7 @@ impl Disk for MemDisk {
         if self.schedule.next_fails() {
             return Err(Failed);
         }
-        if let Some(file) = self.now.seen.get(name) {
+        if let Some(file) = self.now.get(name) {
             file.read(at as usize, buf);
         }
         Ok(())
@@ -192,7 +193,7 @@ impl Disk for MemDisk {
         if self.schedule.next_fails() {
             return Err(Failed);
         }
-        match self.now.seen.get(name) {
+        match self.now.get(name) {
             Some(file) => Ok(Some(file.len())),
             None => Ok(None),
         }
@@ -228,7 +229,7 @@ impl Disk for MemDisk {
         if self.schedule.next_fails() {
             return Err(DiskErr::Failed);
         }
-        let names = self.now.seen.names(self.alloc)?;
+        let names = self.now.names(self.alloc)?;
         Ok(NameList::from_vec(names))
     }
 
@@ -243,9 +244,9 @@ impl Disk for MemDisk {
         if self.schedule.next_restart_fails() {
             return Err(DiskErr::Failed);
         }
-        make_room_for_moment(&mut self.past, self.now.pending.room())?;
+        make_room_for_moment(&mut self.past, self.now.room())?;
         let before = Snapshot::of(&self.now);
-        self.now.restart(self.alloc, pick)?;
+        self.now.restart(pick);
         self.past.push_reserved(before);
         self.schedule.take_fuse_out();
         Ok(())

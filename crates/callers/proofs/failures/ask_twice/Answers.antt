@@ -2,7 +2,7 @@ use Rattle.std.proofs.Common.{◌≡◌, ℕ, Bool, true, refl, ap, ◌∙◌}
 use Rattle.std.specs.Prelude.{Option, None, option_map, length}
 use Rattle.std.specs.FinMap.{get, get-empty}
 use Rattle.m3_outside.specs.Files.{name_cmp}
-use Rattle.disk_content.specs.declared.content.Content.{Content}
+use Rattle.disk_content.specs.Contents.{Content}
 use Rattle.mem_disk.specs.Calls.{fails_next}
 use Rattle.callers.proofs.failures.ask_twice.Goals as goal
 

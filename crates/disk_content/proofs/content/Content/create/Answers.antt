@@ -1,10 +1,16 @@
-use Rattle.std.proofs.Common.{ap, ◌∙◌, ◌≡◌}
+use Rattle.std.proofs.Common.{◌≡◌, ap, ◌∙◌}
+use Rattle.std.specs.Prelude.{None}
 use Rattle.std.specs.FinMap as finite
-use Rattle.m3_outside.specs.Files.{Files}
-use Rattle.disk_content.proofs.TableLemmas.{remove_insert}
+use Rattle.disk_content.specs.Contents.{Content}
+use Rattle.disk_content.proofs.HeldLemmas.{held_created, lies_created}
 use Rattle.disk_content.proofs.content.Content.create.Goals as goal
 
-pub returns-in-Err-clause-err : goal.returns-in-Err-clause-err
-returns-in-Err-clause-err c =
-    let back : c.remove.new.self ≡ c.args.self.now.seen = c.remove.ensures ∙ ap (λ (m : Files). finite.remove m c.args.name) c.in_ok-insert_zeros.ensures.ok ∙ remove_insert c.args.self.now.seen c.args.name _ c.requires in
-    λ i. record { seen = back i; synced = c.in-Err.ensures.err i; pending = c.args.self.now.pending }
+pub invariant_of-self-2 : goal.invariant_of-self-2
+invariant_of-self-2 c =
+    let none : finite.get c.self.inside.seen c.args.name ≡ None = ap (λ (h : Content). finite.get h.seen c.args.name) c.self.view_is ∙ c.requires in
+    rw c.in_ok-insert_zeros.ensures.ok (lies_created c.self.inside.undo.entries c.self.inside.seen c.args.name c.args.size none c.self.invariant)
+
+pub returns-clause-ok : goal.returns-clause-ok
+returns-clause-ok c =
+    let none : finite.get c.self.inside.seen c.args.name ≡ None = ap (λ (h : Content). finite.get h.seen c.args.name) c.self.view_is ∙ c.requires in
+    rw (c.in_ok-insert_zeros.ensures.ok, ← c.self.view_is) (held_created c.self.inside.seen c.self.inside.undo c.args.name c.args.size none c.self.invariant)

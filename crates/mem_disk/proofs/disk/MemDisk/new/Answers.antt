@@ -1,6 +1,6 @@
 use Rattle.std.proofs.Common.{sym, subst}
 use Rattle.m3_outside.specs.DiskState.{IsEmpty}
-use Rattle.disk_content.specs.declared.content.Content.{Content}
+use Rattle.disk_content.specs.Contents.{Content}
 use Rattle.disk_content.specs.Images.{IsSound, disk_state}
 use Rattle.mem_disk.proofs.DiskLemmas.{sound_new, empty_new}
 use Rattle.mem_disk.proofs.disk.MemDisk.new.Goals as goal

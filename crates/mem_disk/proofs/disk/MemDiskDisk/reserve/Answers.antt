@@ -1,5 +1,5 @@
 use Rattle.std.proofs.Common.{refl, arith, ap}
-use Rattle.disk_content.specs.Writes.{Pending}
+use Rattle.disk_content.specs.Contents.{Content}
 use Rattle.mem_disk.proofs.DiskLemmas.{is_memory}
 use Rattle.mem_disk.proofs.PastLemmas.{leaves_files, same_itself, counts_as}
 use Rattle.mem_disk.proofs.disk.MemDiskDisk.reserve.Goals as goal
@@ -36,8 +36,8 @@ returns-in_err-make_room-clause-disk c =
     let d = c.args.self.now in
     let same = c.in_err-make_room.ensures.err in
     rw (is_memory _ c.from_residual-in_err-make_room.ensures.1) (record {
-      leaves = leaves_files d.now (record d.now { pending = c.make_room.new.self }) d.past.items c.reserve.new.self.items d.schedule.faults c.next_fails.new.self.faults refl
-          (record { synced = refl; writes = ap (λ (p : Pending). p.writes) same }) c.reserve.ensures.items (omega (arith, ap (λ (p : Pending). p.room) same)) (counts_as (λ h. cc) c.next_fails.ensures.cause);
+      leaves = leaves_files d.now c.make_room.new.self d.past.items c.reserve.new.self.items d.schedule.faults c.next_fails.new.self.faults (ap (λ (n : Content). n.seen) same)
+          (record { synced = ap (λ (n : Content). n.synced) same; writes = ap (λ (n : Content). n.pending.writes) same }) c.reserve.ensures.items (omega (arith, ap (λ (n : Content). n.pending.room) same)) (counts_as (λ h. cc) c.next_fails.ensures.cause);
       enough = tt;
       had = λ le wants. absurd (omega (arith, le, c.if-calls-room.false));
     })
@@ -47,8 +47,8 @@ returns-clause-disk c =
     let d = c.args.self.now in
     let wider = c.in_ok-make_room.ensures.ok in
     record {
-      leaves = leaves_files d.now (record d.now { pending = c.make_room.new.self }) d.past.items c.reserve.new.self.items d.schedule.faults c.next_fails.new.self.faults refl
-          (record { synced = refl; writes = ap (λ (p : Pending). p.writes) wider }) c.reserve.ensures.items (omega (arith, ap (λ (p : Pending). p.room) wider)) (counts_as (λ h. cc) c.next_fails.ensures.cause);
-      enough = omega (arith, ap (λ (p : Pending). p.room) wider);
+      leaves = leaves_files d.now c.make_room.new.self d.past.items c.reserve.new.self.items d.schedule.faults c.next_fails.new.self.faults (ap (λ (n : Content). n.seen) wider)
+          (record { synced = ap (λ (n : Content). n.synced) wider; writes = ap (λ (n : Content). n.pending.writes) wider }) c.reserve.ensures.items (omega (arith, ap (λ (n : Content). n.pending.room) wider)) (counts_as (λ h. cc) c.next_fails.ensures.cause);
+      enough = omega (arith, ap (λ (n : Content). n.pending.room) wider);
       had = λ le wants. absurd (cc);
     }

@@ -8,9 +8,6 @@ use Rattle.mem_disk.proofs.disk.MemDiskDisk.sync.Goals as goal
 pub returns-then-next_fails-clause-disk : goal.returns-then-next_fails-clause-disk
 returns-then-next_fails-clause-disk c = not_synced _ c.args.self.now.now c.args.self.now.past.items _ _ c.args.name (counts_as (λ h. c.if-next_fails.true) c.next_fails.ensures.cause)
 
-pub sync-requires-clause-both : goal.sync-requires-clause-both
-sync-requires-clause-both c = in_both c.args.self.now.now c.args.name c.args.self.now.sound (c.requires.present refl)
-
 pub invariant_of-self-2-clause-sound : goal.invariant_of-self-2-clause-sound
 invariant_of-self-2-clause-sound c = subst IsSound (sym c.sync.ensures) (sound_sync c.args.self.now.now c.args.name c.args.self.now.sound (in_both c.args.self.now.now c.args.name c.args.self.now.sound (c.requires.present refl)))
 
