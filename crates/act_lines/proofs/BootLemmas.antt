@@ -9,6 +9,7 @@ use Rattle.m3_model.specs.Members.{IsIn}
 use Rattle.m3_model.specs.declared.placement.Assignment.{Assignment}
 use Rattle.m3_model.specs.declared.placement.Placement.{Placement}
 use Rattle.m3_model.specs.declared.reason.Damage.{Damage}
+use Rattle.m3_model.specs.declared.reason.Damage.TheVariants as wrong
 use Rattle.m3_model.specs.declared.reason.Reason.{Reason}
 use Rattle.m3_model.specs.declared.reason.Reason.TheVariants as reason
 use Rattle.m3_model.proofs.MemberLemmas.{IsIn-append_cases, IsIn-append_left, IsIn-append_right, map-IsIn}
@@ -23,7 +24,7 @@ use Rattle.cluster_core.specs.declared.event.StepCall.TheVariants as call
 use Rattle.cluster_core.specs.declared.event.StepReply.{StepReply}
 use Rattle.cluster_core.specs.declared.event.StepReply.TheVariants as reply
 use Rattle.cluster_core.proofs.ListLemmas.{at_in, some_same}
-use Rattle.replica_machine.specs.Damages.{IsFormDamage}
+use Rattle.replica_machine.specs.Damages.{IsFileDamage}
 use Rattle.replica_exchange.specs.Exchanges.{ask_of}
 use Rattle.replica_calls.specs.Calls.{Tracked}
 use Rattle.replica_calls.specs.Slots.{MemberMap}
@@ -186,6 +187,7 @@ module _ {D : Type 0} (state : D → DiskState) (members : MemberMap D) (node : 
       by _ h = absurd h
   passed_begun past (x ∷ begun) h b (inr later) = passed_begun (past ++ begin_at node x) begun h.1 b later
 
--- damage of a form carries no digests
-pub form_shown : (damage : Damage) → IsFormDamage damage → IsShown damage
-form_shown damage form = subst IsShown (sym form.2) tt
+-- digests that are told differ
+pub form_shown : (damage : Damage) → IsFileDamage damage → IsShown damage
+form_shown (wrong.Digest file kept found) form = form.1
+form_shown (wrong.Form file at) form = tt

@@ -8,7 +8,7 @@ use Rattle.m3_model.specs.declared.rules.MetaState.{MetaState}
 use Rattle.m3_outside.specs.Depots.{TellAll}
 use Rattle.m3_outside.specs.DiskState.{DiskState, EachImage, IsLawful}
 use Rattle.m3_outside.specs.Files.{Files}
-use Rattle.shard_files.specs.Held.{Held}
+use Rattle.shard_files.specs.FilesHold.{FilesHold}
 use Rattle.cluster_core.specs.Earlier.{last_place}
 use Rattle.cluster_core.specs.Replicas.{replica}
 use Rattle.cluster_core.specs.declared.event.Event.{Event}
@@ -27,7 +27,7 @@ pub record IsLow (start : Option MetaState) (tenure : ℕ) (files : Files) : Typ
   pub points : List Point
   pub held_tenure : ℕ
   pub fence : ℕ
-  pub held : Held points held_tenure fence files
+  pub held : FilesHold points held_tenure fence files
   pub not_higher : held_tenure ≤ tenure
   pub fenced : (fence ≤ tenure) ⊎ IsLeftFence start fence
 

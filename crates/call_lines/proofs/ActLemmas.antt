@@ -25,6 +25,7 @@ use Rattle.m3_model.specs.declared.placement.Placement.{Placement}
 use Rattle.m3_model.specs.declared.point.Pick.{Pick}
 use Rattle.m3_model.specs.declared.point.Pick.TheVariants as pick
 use Rattle.m3_model.specs.declared.reason.Damage.{Damage}
+use Rattle.m3_model.specs.declared.reason.Damage.TheVariants as wrong
 use Rattle.m3_model.specs.declared.reason.Reason.{Reason}
 use Rattle.m3_model.specs.declared.reason.Reason.TheVariants as reason
 use Rattle.m3_model.specs.declared.rules.MetaState.{MetaState}
@@ -41,7 +42,7 @@ use Rattle.cluster_core.specs.declared.replica_state.ReplicaState.{ReplicaState}
 use Rattle.cluster_core.proofs.ListLemmas.{some_same}
 use Rattle.placement_core.specs.NodeNames.{IsNamedBelow}
 use Rattle.session_net.specs.Reads.{asked_shards, count_from}
-use Rattle.replica_machine.specs.Damages.{IsFormDamage}
+use Rattle.replica_machine.specs.Damages.{IsFileDamage}
 use Rattle.told_by.specs.Clocks.{sets_rules}
 use Rattle.told_by.specs.Openings.{sets_seed}
 use Rattle.told_by.specs.Writes.{IsUnmetWrite}
@@ -179,10 +180,15 @@ start_from x y e = cc
 pub start_to : (x y : ℕ) {v v' s s' : ℕ} {rules rules' : Rules} {p q : Pick} {f f' : ℕ} → event.FetchStart v s rules p f x ≡ event.FetchStart v' s' rules' q f' y → x ≡ y
 start_to x y e = cc
 
+-- digests that are told differ
+damage_shown : (damage : Damage) → IsFileDamage damage → IsShown damage
+damage_shown (wrong.Digest file kept found) is = is.1
+damage_shown (wrong.Form file at) is = tt
+
 -- a read's refusal is no message that was cut off
-pub read_says : (tells : Bool) (past : List Event) (s : ℕ) (r : ReplicaState) (c : StepCall) (why : Reason) → ((damage : Damage) → why ≡ reason.Corrupt damage → IsFormDamage damage) → MayRefuse tells past s r c why → MaySay why
+pub read_says : (tells : Bool) (past : List Event) (s : ℕ) (r : ReplicaState) (c : StepCall) (why : Reason) → ((damage : Damage) → why ≡ reason.Corrupt damage → IsFileDamage damage) → MayRefuse tells past s r c why → MaySay why
 read_says tells past s r c reason.Cut form h = absurd h
-read_says tells past s r c (reason.Corrupt damage) form h = let is = form damage refl in subst IsShown (sym is.2) tt
+read_says tells past s r c (reason.Corrupt damage) form h = damage_shown damage (form damage refl)
 read_says tells past s r c _ form h = tt
 
 -- ---- different nodes

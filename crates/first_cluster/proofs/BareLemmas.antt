@@ -10,9 +10,9 @@ use Rattle.m3_outside.specs.Files.{Files}
 use Rattle.m3_outside.specs.Slots.{Held, Unused, Here, Out, MayGive}
 use Rattle.m3_outside.specs.declared.disk.Disk.{Ghosts}
 use Rattle.placement_core.proofs.ListLemmas.{each-from_All, IsIn-from_Any}
-use Rattle.shard_files.specs.Held.{Held as FilesHold}
+use Rattle.shard_files.specs.FilesHold.{FilesHold}
 use Rattle.shard_files.specs.Once.{IsEachOnce}
-use Rattle.shard_files.proofs.HeldLemmas.{held_is_one, no_files_hold_nothing}
+use Rattle.shard_files.proofs.FilesHoldLemmas.{files_hold_one, no_files_hold_nothing}
 use Rattle.cluster_core.specs.Replicas.{after, fresh}
 use Rattle.cluster_core.specs.declared.event.StepCall.TheVariants as call
 use Rattle.cluster_core.specs.declared.event.StepReply.{StepReply}
@@ -57,7 +57,7 @@ no_elements (x ∷ xs) none = absurd (none x (inl refl))
 -- files without points hold no others
 pub found_none : (files : Files) (all : List Point) (tenure fence : ℕ) → HasNoPoints files → FilesHold all tenure fence files → (all ≡ []) × (tenure ≤ 1) × (fence ≤ 1)
 found_none files all tenure fence none held =
-    let one = held_is_one all [] tenure none.tenure fence none.fence files held none.held in
+    let one = files_hold_one all [] tenure none.tenure fence none.fence files held none.held in
     let order = none.order in
     let first = none.first in
     (one.0, (let same = one.1 in omega (arith, same, order, first)), (let same = one.2 in omega (arith, same, first)))
@@ -113,7 +113,7 @@ first_begins_bare {D} {G} state lawful m rf shards seed nodes old new tell bare 
 -- ---- what it leaves
 
 -- files that came from such ones, with the first tenure at most
-came_bare : (base : Files → Type 0) (tried : List ℕ) (c : Files) → ((f : Files) → base f → HasNoPoints f) → ((t : ℕ) → IsIn tried t → t ≤ 1) → CameFrom FilesHold base tried c → HasNoPoints c
+came_bare : (base : Files → Type 0) (tried : List ℕ) (c : Files) → ((f : Files) → base f → HasNoPoints f) → ((t : ℕ) → IsIn tried t → t ≤ 1) → CameFrom base tried c → HasNoPoints c
 came_bare base tried c none few came =
     let was = none came.before came.was in
     let now = came.stepped [] was.tenure was.fence was.held in
@@ -132,7 +132,7 @@ low_none : (t : ℕ) → IsIn [] t → t ≤ 1
 low_none t none = absurd none
 
 -- the replica, begun with nothing
-held_begun : (c : Files) (fence : ℕ) (points : List Point) → points ≡ [] → fence ≤ 1 → IsHeldBy FilesHold (after fresh (call.Begin 1) (reply.Began fence points)) c → HasNoPoints c
+held_begun : (c : Files) (fence : ℕ) (points : List Point) → points ≡ [] → fence ≤ 1 → IsHeldBy (after fresh (call.Begin 1) (reply.Began fence points)) c → HasNoPoints c
 held_begun c fence points none low h =
     let r = after fresh (call.Begin 1) (reply.Began fence points) in
     let no_points : h.points ≡ [] = no_elements h.points (λ p i.
@@ -145,7 +145,7 @@ held_begun c fence points none low h =
     record { tenure = h.tenure; fence = h.fence; held = subst (λ ps. FilesHold ps h.tenure h.fence c) no_points h.held; order = fence_low.0; first = fence_low.1 }
 
 module _ {D : Type 0} (state : D → DiskState) (disk : D) (bare : (c : Files) → (state disk).images c → HasNoPoints c) (tells : (state disk).tells ≡ true) (m : MachineState D) where
-  unbegun : (tried : List ℕ) → ((t : ℕ) → IsIn tried t → t ≤ 1) → EachImage (state m.disk) (CameFrom FilesHold (state disk).images tried) → EachImage (state m.disk) HasNoPoints
+  unbegun : (tried : List ℕ) → ((t : ℕ) → IsIn tried t → t ≤ 1) → EachImage (state m.disk) (CameFrom (state disk).images tried) → EachImage (state m.disk) HasNoPoints
   unbegun tried few came told c image = came_bare (state disk).images tried c bare few (came told c image)
 
   -- by what it answered

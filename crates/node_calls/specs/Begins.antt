@@ -14,7 +14,7 @@ use Rattle.cluster_core.specs.declared.event.StepCall.TheVariants as call
 use Rattle.cluster_core.specs.declared.event.StepReply.{StepReply}
 use Rattle.cluster_core.specs.declared.event.StepReply.TheVariants as reply
 use Rattle.replica_machine.specs.Boots.{MayBeUnowned}
-use Rattle.replica_machine.specs.Damages.{IsFormDamage}
+use Rattle.replica_machine.specs.Damages.{IsFileDamage}
 use Rattle.replica_exchange.specs.MachineCalls.{IsMemberOf}
 use Rattle.replica_exchange.specs.declared.member.Member.{Member}
 use Rattle.replica_exchange.specs.declared.slot.Slot.{Slot}
@@ -107,5 +107,5 @@ pub record IsUnbegun {D : Type 0} (state : D → DiskState) (node : ℕ) (asked 
   pub tenure : ℕ
   pub assigned : assigned_at node asked place shard ≡ record { shard = shard; tenure = tenure } ∷ []
   pub ends : EndsBoots why
-  pub form : (damage : Damage) → why ≡ reason.Corrupt damage → IsFormDamage damage
+  pub form : (damage : Damage) → why ≡ reason.Corrupt damage → IsFileDamage damage
   pub are : events ≡ before ++ exchange node shard (call.Begin tenure) (reply.Refused why)

@@ -11,7 +11,7 @@ use Rattle.cluster_core.specs.declared.event.Event.{Event}
 use Rattle.cluster_core.specs.declared.event.StepCall.TheVariants as call
 use Rattle.cluster_core.specs.declared.event.StepReply.{StepReply}
 use Rattle.cluster_core.specs.declared.event.StepReply.TheVariants as reply
-use Rattle.replica_machine.specs.Damages.{IsFormDamage}
+use Rattle.replica_machine.specs.Damages.{IsFileDamage}
 use Rattle.replica_exchange.specs.declared.slot.Slot.{Slot}
 use Rattle.replica_calls.specs.Calls.{Tracked}
 use Rattle.session_net.specs.Messages.{exchange}
@@ -45,7 +45,7 @@ pub record EndsRestarts {D : Type 0} (state : D → DiskState) (slots : List Slo
 
 -- damage is that of a form
 abbrev pub IsOfForm : Reason → Type 0
-IsOfForm why = (damage : Damage) → why ≡ reason.Corrupt damage → IsFormDamage damage
+IsOfForm why = (damage : Damage) → why ≡ reason.Corrupt damage → IsFileDamage damage
 
 -- the replica of the slot began the tenure, or is passed over; or it was refused so that the bootstrap ends
 abbrev pub IsBeginTried : {D : Type 0} → (D → DiskState) → Slot → ℕ → Tracked D → Tracked D → Result Unit Refused → Type 0

@@ -16,11 +16,11 @@ use Rattle.m3_model.specs.declared.rules.Rules.{Rules}
 use Rattle.m3_outside.specs.DiskCalls.{LeavesFiles}
 use Rattle.m3_outside.specs.DiskState.{DiskState, Told, Becomes}
 use Rattle.shard_files.specs.Gains.{a_point, a_fence, a_tenure}
-use Rattle.shard_files.specs.Held.{IsSound}
+use Rattle.shard_files.specs.FilesHold.{IsSound}
 use Rattle.cluster_core.specs.Rows.{open_fence}
 use Rattle.cluster_core.specs.declared.event.StepCall.{StepCall}
 use Rattle.replica_machine.specs.Boots.{BeganFrom, BeganAgain, MayBeUnowned, IsRefused, IsBootReason}
-use Rattle.replica_machine.specs.Damages.{IsDamageOf, IsFormDamage}
+use Rattle.replica_machine.specs.Damages.{IsDamageOf, IsFileDamage}
 use Rattle.replica_machine.specs.Machines.{MachineState, shut_machine, refusal, IsOwn, IsRefusedFor, IsLiveAnswer}
 use Rattle.replica_machine.specs.Steps.{BringsTo, RestartsTo}
 use Rattle.replica_machine.specs.declared.machine.Began.{Began}
@@ -35,7 +35,7 @@ module _ {D : Type 0} (state : D → DiskState) where
     pub unowned_always : old.standing ≢ standing.Down → tenure < old.begun → IsErrOf said reason.NotOwned
     pub sound : (damage : Damage) → IsErrOf said (reason.Corrupt damage) → Told (state old.disk) (λ files. ¬ IsSound files)
     pub damage : (damage : Damage) → IsErrOf said (reason.Corrupt damage) → Told (state old.disk) (IsDamageOf damage)
-    pub form : (damage : Damage) → IsErrOf said (reason.Corrupt damage) → IsFormDamage damage
+    pub form : (damage : Damage) → IsErrOf said (reason.Corrupt damage) → IsFileDamage damage
     pub reasons : IfErr said IsBootReason
     pub err : IfErr said (IsRefused old new)
     pub disk : BringsTo (a_tenure tenure) said (state old.disk) (state new.disk)
@@ -64,7 +64,7 @@ module _ {D : Type 0} (state : D → DiskState) where
     pub stays : OnOk said (new ≡ record old { disk = new.disk })
     pub err : IfErr said (IsRefused old new)
     pub refused : MayRefuseRead (refusal old c) old said
-    pub form : (damage : Damage) → IsErrOf said (reason.Corrupt damage) → IsFormDamage damage
+    pub form : (damage : Damage) → IsErrOf said (reason.Corrupt damage) → IsFileDamage damage
     pub disk : LeavesFiles (IsErrOf said reason.Disk) (state old.disk) (state new.disk)
 
   -- it raises its fence, or keeps all that it had, unless a fault closed it

@@ -5,7 +5,7 @@ use Rattle.m3_model.specs.Members.{IsIn}
 use Rattle.m3_model.specs.declared.point.Point.{Point}
 use Rattle.m3_model.proofs.MemberLemmas.{IsIn-append_left, IsIn-push}
 use Rattle.m3_outside.specs.Files.{Files}
-use Rattle.shard_files.specs.Held.{Held}
+use Rattle.shard_files.specs.FilesHold.{FilesHold}
 use Rattle.shard_files.specs.Once.{HaveSamePoints}
 use Rattle.shard_files.specs.Gains.{nothing, a_tenure, Grows, Gains, MayGain}
 use Rattle.replica_machine.specs.Bases.{HoldsTried, MayHaveTried, CameFrom}
@@ -33,10 +33,10 @@ greater_of tried m n one other =
 greater_one : (tried : List ℕ) (t n : ℕ) → IsTried tried n → IsTried (tried ++ t ∷ []) (max n t)
 greater_one tried t n one = greater_of (tried ++ t ∷ []) n t (one_more tried t n one) (inr (IsIn-push tried t))
 
-pub held_at : (points : List Point) (t u f g : ℕ) (files : Files) → t ≡ u → f ≡ g → Held points t f files → Held points u g files
-held_at points t u f g files same_t same_f held = subst (λ (n : ℕ). Held points n g files) same_t (subst (λ (n : ℕ). Held points t n files) same_f held)
+pub held_at : (points : List Point) (t u f g : ℕ) (files : Files) → t ≡ u → f ≡ g → FilesHold points t f files → FilesHold points u g files
+held_at points t u f g files same_t same_f held = subst (λ (n : ℕ). FilesHold points n g files) same_t (subst (λ (n : ℕ). FilesHold points t n files) same_f held)
 
-pub came_itself : (base : Files → Type 0) (tried : List ℕ) (c : Files) → base c → CameFrom Held base tried c
+pub came_itself : (base : Files → Type 0) (tried : List ℕ) (c : Files) → base c → CameFrom base tried c
 came_itself base tried c is = record {
   before = c;
   was = is;
@@ -44,13 +44,13 @@ came_itself base tried c is = record {
 }
 
 module _ (base : Files → Type 0) (tried : List ℕ) where
-  pub came_nothing : (x y : Files) → Gains nothing x y → CameFrom Held base tried x → CameFrom Held base tried y
+  pub came_nothing : (x y : Files) → Gains nothing x y → CameFrom base tried x → CameFrom base tried y
   came_nothing x y gains came = record {
     before = came.before;
     was = came.was;
     stepped = λ before tenure fence held.
         let has = came.stepped before tenure fence held in
-        let all = gains has.points (max tenure has.raised_to) (max fence has.raised_to) has.held in
+        let all = gains.held has.points (max tenure has.raised_to) (max fence has.raised_to) has.held in
         record {
           points = all.points;
           raised_to = has.raised_to;
@@ -60,15 +60,15 @@ module _ (base : Files → Type 0) (tried : List ℕ) where
         };
   }
 
-  pub came_tried : (t : ℕ) (x y : Files) → MayGain (a_tenure t) x y → CameFrom Held base tried x → CameFrom Held base (tried ++ t ∷ []) y
+  pub came_tried : (t : ℕ) (x y : Files) → MayGain (a_tenure t) x y → CameFrom base tried x → CameFrom base (tried ++ t ∷ []) y
   came_tried t x y may came = record { before = came.before; was = came.was; stepped = part }
     where
-      part : MayHaveTried Held (tried ++ t ∷ []) came.before y
+      part : MayHaveTried (tried ++ t ∷ []) came.before y
       part before tenure fence held =
           let has = came.stepped before tenure fence held in
-          let now = may has.points (max tenure has.raised_to) (max fence has.raised_to) has.held in
+          let now = may.held has.points (max tenure has.raised_to) (max fence has.raised_to) has.held in
           let same : HaveSamePoints now.points before = same_grown has.points now.points before has.same (record { nothing_else = now.grows.nothing_else; stays = now.grows.stays }) in
-          let is : HoldsTried Held before tenure fence (tried ++ t ∷ []) y =
+          let is : HoldsTried before tenure fence (tried ++ t ∷ []) y =
           ⊎_elim (λ (same_numbers : (now.tenure_now ≡ max tenure has.raised_to) × (now.fence_now ≡ max fence has.raised_to)). record {
             points = now.points;
             raised_to = has.raised_to;

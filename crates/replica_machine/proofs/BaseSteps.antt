@@ -5,7 +5,6 @@ use Rattle.m3_model.specs.declared.reason.Reason.TheVariants as reason
 use Rattle.m3_model.proofs.MemberLemmas.{IsIn-append_left}
 use Rattle.m3_outside.specs.Files.{Files}
 use Rattle.m3_outside.specs.DiskState.{DiskState}
-use Rattle.shard_files.specs.Held.{Held}
 use Rattle.cluster_core.specs.Replicas.{after}
 use Rattle.cluster_core.specs.declared.event.StepCall.{StepCall}
 use Rattle.cluster_core.specs.declared.event.StepCall.TheVariants as call
@@ -48,7 +47,7 @@ unbegun_before r c a none =
     ]
 
 -- what came from files that came from these
-came_through : (base between : Files → Type 0) (tried more : List ℕ) → ((n : ℕ) → IsIn tried n → IsIn more n) → ((c : Files) → between c → CameFrom Held base tried c) → (c : Files) → CameFrom Held between more c → CameFrom Held base more c
+came_through : (base between : Files → Type 0) (tried more : List ℕ) → ((n : ℕ) → IsIn tried n → IsIn more n) → ((c : Files) → between c → CameFrom base tried c) → (c : Files) → CameFrom between more c → CameFrom base more c
 came_through base between tried more grows each c came =
     let was = each came.before came.was in
     record {
@@ -70,7 +69,7 @@ came_through base between tried more grows each c came =
 module _ {D : Type 0} (state : D → DiskState) (base : Files → Type 0) (r : ReplicaState) (old : MachineState D) (h : IsMachineOf state base r old) where
   -- whatever it was made over, it may be taken as made over its own disk
   pub own : IsMachineOf state (state old.disk).images r old
-  own = record { stands = h.stands; begun = h.begun; below = h.below; empty = h.empty; open_ = h.open_; files = h.files; unbegun = λ none tells c image. came_itself (state old.disk).images r.tried c image }
+  own = record { stands = h.stands; begun = h.begun; below = h.below; empty = h.empty; open_ = h.open_; files = h.files; unbegun = λ none tells c image. came_itself (state old.disk).images r.tried c image; snapshots = λ sound tells c image. sound c image }
 
   -- over more files
   pub wider : (more : Files → Type 0) → ((c : Files) → base c → more c) → IsMachineOf state more r old
@@ -82,6 +81,7 @@ module _ {D : Type 0} (state : D → DiskState) (base : Files → Type 0) (r : R
     open_ = h.open_;
     files = h.files;
     unbegun = λ none tells c image. let came = h.unbegun none tells c image in record { before = came.before; was = into came.before came.was; stepped = came.stepped };
+    snapshots = λ sound. h.snapshots (λ c is. sound c (into c is));
   }
 
   module _ (c : StepCall) (a : StepReply) (new : MachineState D) (step : IsStep state old c a new) where
@@ -97,12 +97,13 @@ module _ {D : Type 0} (state : D → DiskState) (base : Files → Type 0) (r : R
           files = next.files;
           unbegun = λ none tells files image.
               came_through base (state old.disk).images r.tried (after r c a).tried (tried_stays r c a) (h.unbegun (unbegun_before r c a none) (sym step.tells ∙ tells)) files (next.unbegun none tells files image);
+          snapshots = λ sound tells. next.snapshots (h.snapshots sound (sym step.tells ∙ tells)) tells;
         }
 
-    pub opens_from : (state old.disk).tells ≡ true → r.begun ≡ [] → HasOpening Held base r.tried c a
+    pub opens_from : (state old.disk).tells ≡ true → r.begun ≡ [] → HasOpening base r.tried c a
     opens_from tells none = by c a (step.opens old.disk r own tells none)
       where
-        by : (c : StepCall) (a : StepReply) → HasOpening Held (state old.disk).images r.tried c a → HasOpening Held base r.tried c a
+        by : (c : StepCall) (a : StepReply) → HasOpening (state old.disk).images r.tried c a → HasOpening base r.tried c a
         by (call.Begin tenure) (reply.Began fence points) opens = record {
           files = opens.files;
           came = came_through base (state old.disk).images r.tried r.tried (λ n m. m) (h.unbegun none tells) opens.files opens.came;

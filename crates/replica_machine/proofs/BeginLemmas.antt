@@ -10,20 +10,21 @@ use Rattle.m3_outside.specs.Causes.{CountsFaults}
 use Rattle.m3_outside.specs.Files.{Files, Stays}
 use Rattle.m3_outside.specs.DiskState.{DiskState, Told, StepOf, Elapses}
 use Rattle.m3_outside.proofs.Moments.{step_as}
-use Rattle.shard_files.specs.Held.{IsSound}
+use Rattle.shard_files.specs.FilesHold.{IsSound}
 use Rattle.shard_files.specs.Once.{HeldOnce}
-use Rattle.shard_files.specs.Loading.{MayBeUnsound}
+use Rattle.shard_files.specs.Damage.{OfForm, OfDigest}
 use Rattle.shard_files.specs.Gains.{nothing, a_tenure, Gains, MayGain}
 use Rattle.shard_files.specs.declared.load_err.LoadErr.{LoadErr}
 use Rattle.shard_files.specs.declared.load_err.LoadErr.TheVariants as failures
-use Rattle.shard_files.proofs.DamageLemmas.{damaged_is_unsound}
+use Rattle.shard_open.specs.Told.{MayBeUnsound}
+use Rattle.shard_open.proofs.ToldLemmas.{told_are_unsound}
 use Rattle.shard_files.proofs.GainLemmas.{nothing_is_part}
 use Rattle.cluster_core.specs.Refusals.{closed}
 use Rattle.cluster_core.specs.declared.event.StepCall.TheVariants as call
 use Rattle.cluster_core.specs.declared.event.StepReply.TheVariants as reply
 use Rattle.replica_machine.specs.Machines.{MachineState, IsOwn, shut_machine}
 use Rattle.replica_machine.specs.Steps.{IsStep, BringsTo, reply_by}
-use Rattle.replica_machine.specs.Damages.{damage_of, IsDamageOf}
+use Rattle.replica_machine.specs.Damages.{told_of, IsDamageOf}
 use Rattle.replica_machine.specs.Boots.{BeganFrom, BeganAgain, HoldsHigher, MayBeUnowned, MayNotLoad, IsRefused}
 use Rattle.replica_machine.specs.declared.machine.Began.{Began}
 use Rattle.replica_machine.proofs.DiskLemmas.{brings_none_to, stays_nothing, brings_stays, after_stays}
@@ -94,7 +95,7 @@ module _ {D : Type 0} (state : D → DiskState) (old : MachineState D) (t : ℕ)
       damage = λ other e. subst (λ (x : Damage). Told (state old.disk) (IsDamageOf x)) (same_damage damage other (err_same (reason.Corrupt damage) (reason.Corrupt other) e)) told;
       err = refl;
       disk = brings_stays (a_tenure t) (reason.Corrupt damage) (state old.disk) (state d) stays same faults (λ e. absurd (cc));
-      step = begin_damage state old t d same F faults up high steps damage (λ tells sound. let named = told tells in damaged_is_unsound named.number named.at (state old.disk).files named.damaged sound);
+      step = begin_damage state old t d same F faults up high steps damage (λ tells sound. let named = told tells in told_are_unsound (state old.disk).files named.damage named.damaged sound);
     }
 
     as_shut : (answer other : Reason) (new : MachineState D) → answer ≡ other → new ≡ shut_machine standing.Down old new.disk → new.disk ≡ d → BeginDone state old t (Err other) (shut_machine standing.Down old d) → BeginDone state old t (Err answer) new
@@ -118,7 +119,8 @@ module _ {D : Type 0} (state : D → DiskState) (old : MachineState D) (t : ℕ)
         let at : new ≡ shut_machine standing.Down old new.disk = subst (IsRefused (record old { disk = d }) new) is left in
         as_shut answer reason.Disk new is at disk (read_fault (fault refl))
     not_loaded_by failures.Memory fault told answer new is left disk = as_kept answer new is left disk
-    not_loaded_by (failures.Form number at) fault told answer new is left disk = as_damaged answer (damage_of number at) new (λ tells. record { number = number; at = at; is = refl; damaged = told tells }) is left disk
+    not_loaded_by (failures.Digest name kept found) fault told answer new is left disk = as_damaged answer (told_of (OfDigest name kept found)) new (λ tells. record { damage = OfDigest name kept found; is = refl; damaged = told tells }) is left disk
+    not_loaded_by (failures.Form name at) fault told answer new is left disk = as_damaged answer (told_of (OfForm name at)) new (λ tells. record { damage = OfForm name at; is = refl; damaged = told tells }) is left disk
 
   pub not_loaded_done : {X : Type 0} (why : LoadErr) (answer : Reason) (mid new : MachineState D) → (let r : Result X LoadErr = Err why in CountsFaults (IsErrOf r failures.Disk) (state old.disk).faults (state d).faults) → Told (state old.disk) (λ files. MayBeUnsound files why) → MayNotLoad why answer → mid ≡ record old { disk = d } → IsRefused mid new answer
       → new.disk ≡ mid.disk → BeginDone state old t (Err answer) new
@@ -238,7 +240,7 @@ module _ {D : Type 0} (state : D → DiskState) (old : MachineState D) (t : ℕ)
     down = (λ f. absurd (done.not_down f), λ e. let clash : standing.Boot ≡ standing.Down = sym boot ∙ e in absurd (cc));
     unowned = λ f. inr (done.unowned f);
     unowned_always = λ not lt. absurd (omega (arith, high, lt));
-    sound = λ damage e told sound. let named = done.damage damage e told in damaged_is_unsound named.number named.at (state old.disk).files named.damaged sound;
+    sound = λ damage e told sound. let named = done.damage damage e told in told_are_unsound (state old.disk).files named.damage named.damaged sound;
     damage = done.damage;
     err = done.err;
     disk = done.disk;

@@ -18,12 +18,12 @@ use Rattle.m3_outside.specs.DiskState.{DiskState, Told, EachImage, StepOf}
 use Rattle.m3_outside.specs.declared.disk_err.DiskErr.{DiskErr}
 use Rattle.m3_outside.specs.declared.disk_err.DiskErr.TheVariants as refused
 use Rattle.placement_core.proofs.ListLemmas.{All-from_each, each-from_All, Any-from_IsIn}
-use Rattle.shard_files.specs.Held.{Held, IsSound}
+use Rattle.shard_files.specs.FilesHold.{IsSound}
 use Rattle.shard_files.specs.Once.{HeldOnce}
 use Rattle.shard_files.specs.Gains.{nothing, a_tenure, Gains, MayGain, Brings}
 use Rattle.shard_store.specs.Stores.{StoreState, closed_over}
 use Rattle.shard_files.proofs.GainLemmas.{covers_itself}
-use Rattle.shard_files.proofs.HeldLemmas.{held_is_one}
+use Rattle.shard_files.proofs.FilesHoldLemmas.{files_hold_one}
 use Rattle.shard_store.proofs.LogStepLemmas.{counts_same}
 use Rattle.shard_open.proofs.Counts.{counts_both, counts_for}
 use Rattle.shard_files.proofs.ContentLemmas.{content_holds, content_source}
@@ -40,7 +40,7 @@ use Rattle.replica_machine.specs.Machines.{MachineState, IsMachineOf, IsHeldBy, 
 use Rattle.replica_machine.specs.Steps.{IsStep, BringsTo}
 use Rattle.replica_machine.specs.Boots.{HoldsHigher, IsRefused, BeganFrom, BeganAgain}
 use Rattle.replica_machine.specs.declared.machine.Began.{Began}
-use Rattle.replica_machine.proofs.DiskLemmas.{each_step, brings_ok, brings_err}
+use Rattle.replica_machine.proofs.DiskLemmas.{each_step, brings_ok, brings_err, each_whole}
 use Rattle.replica_machine.proofs.BaseLemmas.{came_nothing, came_tried}
 use Rattle.replica_machine.proofs.HeldByLemmas.{held_nothing, greater_is_max}
 use Rattle.replica_machine.proofs.ReasonLemmas.{own_reason}
@@ -95,8 +95,9 @@ module _ {D : Type 0} (state : D → DiskState) (old : MachineState D) (t : ℕ)
       lawful = λ made r h past n s given. record { uses = refl; taken = (not_closed r h up, OnTrue_from (state old.disk).tells (NoneHigher r t) (λ e. none_higher r h high)); clock = tt; there = tt };
       follows = λ made r h.
           let q : ReplicaState = record r { standing = standing.Down; doubt_fences = r.doubt_fences ++ t ∷ []; tried = r.tried ++ t ∷ [] } in
-          shut_follows state (state made).images r q old standing.Down d (λ e. cc) refl refl refl refl h (λ b. each_step (state old.disk) (state d) (IsHeldBy Held r) (IsHeldBy Held q) same steps (λ x y may held. held_tried r t x y may held) (h.files b))
-          (λ none. each_step (state old.disk) (state d) (CameFrom Held (state made).images r.tried) (CameFrom Held (state made).images (r.tried ++ t ∷ [])) same steps (λ x y may came. came_tried (state made).images r.tried t x y may came) (h.unbegun none));
+          shut_follows state (state made).images r q old standing.Down d (λ e. cc) refl refl refl refl h (λ b. each_step (state old.disk) (state d) (IsHeldBy r) (IsHeldBy q) same steps (λ x y may held. held_tried r t x y may held) (h.files b))
+          (λ none. each_step (state old.disk) (state d) (CameFrom (state made).images r.tried) (CameFrom (state made).images (r.tried ++ t ∷ [])) same steps (λ x y may came. came_tried (state made).images r.tried t x y may came) (h.unbegun none))
+          (each_whole (state old.disk) (state d) (state made).images same steps (λ x y may. may.snapshots) h.snapshots);
       opens = λ made r h told none. tt;
       sound = λ damage e. absurd (cc);
       tells = same;
@@ -109,8 +110,9 @@ module _ {D : Type 0} (state : D → DiskState) (old : MachineState D) (t : ℕ)
       lawful = λ made r h past n s given. record { reads = refl; taken = (not_closed r h up, OnTrue_from (state old.disk).tells (NoneHigher r t) (λ e. none_higher r h high)); clock = tt };
       follows = λ made r h.
           let q : ReplicaState = record r { standing = standing.Down } in
-          shut_follows state (state made).images r q old standing.Down d (λ e. cc) refl refl refl refl h (λ b. each_step (state old.disk) (state d) (IsHeldBy Held r) (IsHeldBy Held q) same steps (λ x y gains held. held_nothing r q (stands_at r standing.Down) x y gains held) (h.files b))
-          (λ none. each_step (state old.disk) (state d) (CameFrom Held (state made).images r.tried) (CameFrom Held (state made).images r.tried) same steps (λ x y gains came. came_nothing (state made).images r.tried x y gains came) (h.unbegun none));
+          shut_follows state (state made).images r q old standing.Down d (λ e. cc) refl refl refl refl h (λ b. each_step (state old.disk) (state d) (IsHeldBy r) (IsHeldBy q) same steps (λ x y gains held. held_nothing r q (stands_at r standing.Down) x y gains held) (h.files b))
+          (λ none. each_step (state old.disk) (state d) (CameFrom (state made).images r.tried) (CameFrom (state made).images r.tried) same steps (λ x y gains came. came_nothing (state made).images r.tried x y gains came) (h.unbegun none))
+          (each_whole (state old.disk) (state d) (state made).images same steps (λ x y gains. gains.snapshots) h.snapshots);
       opens = λ made r h told none. tt;
       sound = λ other e. unsound;
       tells = same;
@@ -127,7 +129,7 @@ module _ {D : Type 0} (state : D → DiskState) (old : MachineState D) (t : ℕ)
             (λ (some : r.begun ≢ []).
             let was = h.files some told (state old.disk).files (image told) in
             let now = higher told in
-            let one = held_is_one was.points now.points was.tenure now.held_tenure was.fence now.fence (state old.disk).files was.held now.held in
+            let one = files_hold_one was.points now.points was.tenure now.held_tenure was.fence now.fence (state old.disk).files was.held now.held in
             let one_t = one.1 in
             let above = now.higher in
             let lt : t < was.tenure = omega (arith, one_t, above) in
@@ -184,6 +186,7 @@ module _ {D : Type 0} (state : D → DiskState) (old : MachineState D) (t : ℕ)
                 held_began r t fence points tenure_found fence_found (state old.disk).files c (held told) low fence_is (low_begun r h high) (covered r h told)
                 (subst (λ (x : Files). Gains (a_tenure t) x c) (only told step.before step.was) step.stepped);
             unbegun = λ none. absurd (some_there r.begun t none);
+            snapshots = each_whole (state old.disk) (state d) (state made).images same steps (λ x y gains. gains.snapshots) h.snapshots;
           };
           opens = λ made r h told none.
               let files = (state old.disk).files in
@@ -230,8 +233,9 @@ module _ {D : Type 0} (state : D → DiskState) (old : MachineState D) (t : ℕ)
                       all = λ p m stays. shown.all p (⊎_elim (λ (was : IsIn r.sure p). was) (λ (none : ⊥). absurd none) (IsIn-append_cases r.sure [] p m)) stays;
                     };
               };
-              files = λ b. each_step (state old.disk) (state d) (IsHeldBy Held r) (IsHeldBy Held q) same steps (λ x y gains was. held_again r t fence all.sure all.sure_fences up (low_begun r h high) x y gains was) (h.files all.begun);
+              files = λ b. each_step (state old.disk) (state d) (IsHeldBy r) (IsHeldBy q) same steps (λ x y gains was. held_again r t fence all.sure all.sure_fences up (low_begun r h high) x y gains was) (h.files all.begun);
               unbegun = λ none. absurd (some_there r.begun t none);
+              snapshots = each_whole (state old.disk) (state d) (state made).images same steps (λ x y gains. gains.snapshots) h.snapshots;
             };
         opens = λ made r h told none. absurd ((h.open_ is_open).begun none);
         sound = λ damage e. absurd (cc);

@@ -1,6 +1,7 @@
 -- What calls do to a disk, one after another, as a machine answers them.
-use Rattle.std.proofs.Common.{◌≡◌, ◌≢◌, ⊎_elim, ℕ, max, true, refl, sym, ap, subst, ◌∙◌, arith, Result, Ok, Err}
+use Rattle.std.proofs.Common.{◌≡◌, ◌≢◌, ⊎_elim, ℕ, List, max, true, refl, sym, ap, subst, ◌∙◌, arith, Result, Ok, Err}
 use Rattle.std.specs.Prelude.{⊤, IfErr, IsErrOf}
+use Rattle.m3_model.specs.declared.point.Point.{Point}
 use Rattle.m3_model.specs.declared.reason.Reason.{Reason}
 use Rattle.m3_model.specs.declared.reason.Reason.TheVariants as reason
 use Rattle.m3_outside.specs.Causes.{CountsFaults}
@@ -9,8 +10,9 @@ use Rattle.m3_outside.specs.DiskState.{DiskState, EachImage, StepOf, Elapses}
 use Rattle.m3_outside.specs.declared.disk_err.DiskErr.{DiskErr}
 use Rattle.m3_outside.specs.declared.disk_err.DiskErr.TheVariants as refused
 use Rattle.m3_outside.proofs.Moments.{step_as, elapses_as, elapses_then}
-use Rattle.shard_files.specs.Held.{Held}
-use Rattle.shard_files.specs.Gains.{Gain, nothing, Gains, MayGain, Brings}
+use Rattle.shard_files.specs.Parts.{AreWhole}
+use Rattle.shard_files.specs.FilesHold.{FilesHold}
+use Rattle.shard_files.specs.Gains.{Gain, nothing, HoldsAll, Gains, MayGain, Brings}
 use Rattle.shard_files.proofs.GainLemmas.{gains_nothing, nothing_is_part}
 use Rattle.cluster_core.specs.declared.event.StepReply.{StepReply}
 use Rattle.cluster_core.specs.declared.event.StepReply.TheVariants as reply
@@ -27,22 +29,30 @@ each_step old new P Q same steps to each tells c image =
     let s = steps told c image in
     to s.before c s.stepped (each told s.before s.was)
 
+-- snapshots stay whole
+pub each_whole : {step : Files → Files → Type 0} (old new : DiskState) (base : Files → Type 0) → new.tells ≡ old.tells → (old.tells ≡ true → (c : Files) → new.images c → StepOf step old.images c) → ((x y : Files) → step x y → AreWhole x → AreWhole y)
+    → (((c : Files) → base c → AreWhole c) → EachImage old AreWhole) → ((c : Files) → base c → AreWhole c) → EachImage new AreWhole
+each_whole old new base same steps stays each sound = each_step old new AreWhole AreWhole same steps stays (each sound)
+
 -- part of nothing is nothing
-pub part_of_nothing : (x y : Files) → MayGain nothing x y → Gains nothing x y
-part_of_nothing x y may before tenure fence held =
-    let part = may before tenure fence held in
+all_of_nothing : (x y : Files) → MayGain nothing x y → (before : List Point) (tenure fence : ℕ) → FilesHold before tenure fence x → HoldsAll before tenure fence nothing y
+all_of_nothing x y may before tenure fence held =
+    let part = may.held before tenure fence held in
     let numbers : (part.tenure_now ≡ max tenure 0) × (part.fence_now ≡ max fence 0) =
     ⊎_elim (λ (same : (part.tenure_now ≡ tenure) × (part.fence_now ≡ fence)). let t = same.0 in let f = same.1 in (t ∙ zero_more tenure, f ∙ zero_more fence))
     (λ (more : (part.tenure_now ≡ max tenure 0) × (part.fence_now ≡ max fence 0)). more) part.numbers in
     record {
       points = part.points;
-      held = subst (λ (n : ℕ). Held part.points n (max fence 0) y) (numbers.0) (subst (λ (n : ℕ). Held part.points part.tenure_now n y) (numbers.1) part.held);
+      held = subst (λ (n : ℕ). FilesHold part.points n (max fence 0) y) (numbers.0) (subst (λ (n : ℕ). FilesHold part.points part.tenure_now n y) (numbers.1) part.held);
       grows = part.grows;
       comes = λ p m. absurd m;
     }
   where
     zero_more : (n : ℕ) → n ≡ max n 0
     zero_more n = omega arith
+
+pub part_of_nothing : (x y : Files) → MayGain nothing x y → Gains nothing x y
+part_of_nothing x y may = record { held = all_of_nothing x y may; snapshots = may.snapshots }
 
 -- a call that brought nothing, and then one that brought something
 pub brings_then : (gain : Gain) (u : ⊤) (said : Result ⊤ DiskErr) (a b c : DiskState) → Brings nothing (Ok u) a b → Brings gain said b c → Brings gain said a c

@@ -16,7 +16,6 @@ use Rattle.m3_outside.specs.Files.{Files}
 use Rattle.m3_outside.specs.DiskState.{DiskState, Becomes}
 use Rattle.m3_outside.specs.declared.disk_err.DiskErr.{DiskErr}
 use Rattle.m3_outside.specs.declared.disk_err.DiskErr.TheVariants as refused
-use Rattle.shard_files.specs.Held.{Held}
 use Rattle.shard_files.specs.Gains.{a_fence, Brings}
 use Rattle.shard_store.specs.Stores.{StoreState}
 use Rattle.shard_store.proofs.LogStepLemmas.{counts_same}
@@ -29,7 +28,7 @@ use Rattle.cluster_core.specs.declared.replica_state.ReplicaState.{ReplicaState}
 use Rattle.replica_machine.specs.Machines.{MachineState, IsMachineOf, IsHeldBy, IsRefusedFor, refusal, shut_machine, settled, settled_answer}
 use Rattle.replica_machine.specs.Steps.{reply_by, IsStep, BringsTo}
 use Rattle.replica_machine.proofs.ReasonLemmas.{IsPlain, plain_lawful, plain_no_damage, plain_no_fault, fence_plain, shut_alike, refused_none, refused_some}
-use Rattle.replica_machine.proofs.DiskLemmas.{each_step, reply_counts, brings_settled, brings_none_to}
+use Rattle.replica_machine.proofs.DiskLemmas.{each_step, reply_counts, brings_settled, brings_none_to, each_whole}
 use Rattle.replica_machine.proofs.HeldByLemmas.{held_fence_doubt}
 use Rattle.replica_machine.proofs.StepLemmas.{machine_of, middle, kept_machine, shut_follows, fence_follows}
 
@@ -144,9 +143,10 @@ module _ {D : Type 0} (state : D → DiskState) (old : MachineState D) (version 
           let all = h.open_ (owning old.standing old.tenure version first).open_ in
           subst (λ (m : MachineState D). IsMachineOf state (state made).images q m) (ap (λ (m : MachineState D). shut_machine standing.Down m mid.disk) (sym by.err))
           (shut_follows state (state made).images r q old standing.Down mid.disk (λ e. cc) refl refl refl refl h
-          (λ b. each_step (state old.disk) (state mid.disk) (IsHeldBy Held r) (IsHeldBy Held q) by.disk.tells (λ t. (by.disk.any_moment t).images)
+          (λ b. each_step (state old.disk) (state mid.disk) (IsHeldBy r) (IsHeldBy q) by.disk.tells (λ t. (by.disk.any_moment t).images)
           (λ x y may held. held_fence_doubt r version all.sure_fences q refl refl refl (record { kept = λ o m. m; gained = λ o m. absurd m; gone = λ o stays. stays }) (λ t a. a) (λ t a. ⊎_elim (λ (m : IsIn r.begun t). inl m) (λ (m : IsIn r.tried t × IsIn r.doubt_fences t). inr (m.0, IsIn-append_left r.doubt_fences (version ∷ []) t m.1)) a) x y may held) (h.files b))
-          (λ none. absurd (all.begun none)));
+          (λ none. absurd (all.begun none))
+          (each_whole (state old.disk) (state mid.disk) (state made).images by.disk.tells (λ t. (by.disk.any_moment t).images) (λ x y may. may.snapshots) h.snapshots));
       opens = λ made r h told none. tt;
       sound = λ damage e. absurd (cc);
       tells = by.disk.tells;

@@ -9,7 +9,7 @@ use Rattle.m3_model.specs.declared.point.Point.{Point}
 use Rattle.m3_model.proofs.MemberLemmas.{IsIn-append_left, IsIn-append_cases, IsIn-push}
 use Rattle.m3_outside.specs.Files.{Files}
 use Rattle.placement_core.proofs.ListLemmas.{All-from_each, each-from_All, Any-from_IsIn, IsIn-from_Any}
-use Rattle.shard_files.specs.Held.{Held}
+use Rattle.shard_files.specs.FilesHold.{FilesHold}
 use Rattle.shard_files.specs.Gains.{Gain, nothing, a_point, a_fence, Grows, Gains, MayGain}
 use Rattle.shard_files.proofs.GainLemmas.{covers_itself, covers_then}
 use Rattle.cluster_core.specs.Replicas.{greater, IsGone}
@@ -33,9 +33,9 @@ pub record MovesOn (r q : ReplicaState) (gain : Gain) : Type 0 where
   pub gained : (p : Point) → IsIn gain.points p → IsIn q.sure p ⊎ IsIn q.doubt p
   pub gone : (p : Point) → ¬ IsGone q p → ¬ IsGone r p
 
-module _ (r q : ReplicaState) (gain : Gain) (moves : MovesOn r q gain) (x y : Files) (h : IsHeldBy Held r x) where
-  pub held_after : (points : List Point) (tenure fence : ℕ) → Held points tenure fence y → Grows h.points gain points → ((p : Point) → IsIn q.sure p → IsIn r.sure p ⊎ Covers points p)
-      → All (λ begun. begun ≤ tenure) q.begun → MayHaveTenure q tenure → MayHaveFence q tenure fence → IsHeldBy Held q y
+module _ (r q : ReplicaState) (gain : Gain) (moves : MovesOn r q gain) (x y : Files) (h : IsHeldBy r x) where
+  pub held_after : (points : List Point) (tenure fence : ℕ) → FilesHold points tenure fence y → Grows h.points gain points → ((p : Point) → IsIn q.sure p → IsIn r.sure p ⊎ Covers points p)
+      → All (λ begun. begun ≤ tenure) q.begun → MayHaveTenure q tenure → MayHaveFence q tenure fence → IsHeldBy q y
   held_after points tenure fence held grows there none_higher known fence_is = record {
     points = points;
     tenure = tenure;
@@ -57,21 +57,21 @@ pub record HasNumbersOf (r q : ReplicaState) : Type 0 where
   pub fence : (t f : ℕ) → MayHaveFence r t f → MayHaveFence q t f
 
 -- files of which tenure and fence stay
-module _ (r q : ReplicaState) (gain : Gain) (moves : MovesOn r q gain) (numbers : HasNumbersOf r q) (x y : Files) (h : IsHeldBy Held r x) where
-  held_points : (points : List Point) (tenure fence : ℕ) → Held points tenure fence y → tenure ≡ h.tenure → fence ≡ h.fence → Grows h.points gain points → ((p : Point) → IsIn q.sure p → IsIn r.sure p ⊎ Covers points p) → IsHeldBy Held q y
+module _ (r q : ReplicaState) (gain : Gain) (moves : MovesOn r q gain) (numbers : HasNumbersOf r q) (x y : Files) (h : IsHeldBy r x) where
+  held_points : (points : List Point) (tenure fence : ℕ) → FilesHold points tenure fence y → tenure ≡ h.tenure → fence ≡ h.fence → Grows h.points gain points → ((p : Point) → IsIn q.sure p → IsIn r.sure p ⊎ Covers points p) → IsHeldBy q y
   held_points points tenure fence held t f grows there =
-      held_after r q gain moves x y h points h.tenure h.fence (subst (λ (n : ℕ). Held points n h.fence y) t (subst (λ (n : ℕ). Held points tenure n y) f held)) grows there
+      held_after r q gain moves x y h points h.tenure h.fence (subst (λ (n : ℕ). FilesHold points n h.fence y) t (subst (λ (n : ℕ). FilesHold points tenure n y) f held)) grows there
       (numbers.begun h.tenure h.none_higher) (numbers.known h.tenure h.known) (numbers.fence h.tenure h.fence h.fence_is)
 
-  pub held_all : gain.tenure ≡ 0 → gain.fence ≡ 0 → ((p : Point) → IsIn q.sure p → IsIn r.sure p ⊎ IsIn gain.points p) → Gains gain x y → IsHeldBy Held q y
+  pub held_all : gain.tenure ≡ 0 → gain.fence ≡ 0 → ((p : Point) → IsIn q.sure p → IsIn r.sure p ⊎ IsIn gain.points p) → Gains gain x y → IsHeldBy q y
   held_all no_tenure no_fence there gains =
-      let all = gains h.points h.tenure h.fence h.held in
+      let all = gains.held h.points h.tenure h.fence h.held in
       held_points all.points (max h.tenure gain.tenure) (max h.fence gain.fence) all.held (omega (arith, no_tenure)) (omega (arith, no_fence)) all.grows
       (λ p m. ⊎_elim (λ (old : IsIn r.sure p). inl old) (λ (new : IsIn gain.points p). inr (all.comes p new)) (there p m))
 
-  pub held_part : gain.tenure ≡ 0 → gain.fence ≡ 0 → ((p : Point) → IsIn q.sure p → IsIn r.sure p) → MayGain gain x y → IsHeldBy Held q y
+  pub held_part : gain.tenure ≡ 0 → gain.fence ≡ 0 → ((p : Point) → IsIn q.sure p → IsIn r.sure p) → MayGain gain x y → IsHeldBy q y
   held_part no_tenure no_fence there may =
-      let part = may h.points h.tenure h.fence h.held in
+      let part = may.held h.points h.tenure h.fence h.held in
       let same : (part.tenure_now ≡ h.tenure) × (part.fence_now ≡ h.fence) =
       ⊎_elim (λ (same : (part.tenure_now ≡ h.tenure) × (part.fence_now ≡ h.fence)). same)
       (λ (more : (part.tenure_now ≡ max h.tenure gain.tenure) × (part.fence_now ≡ max h.fence gain.fence)). let t = more.0 in let f = more.1 in (omega (arith, t, no_tenure), omega (arith, f, no_fence))) part.numbers in
@@ -85,10 +85,10 @@ pub record StandsElse (r q : ReplicaState) : Type 0 where
   pub moves : MovesOn r q nothing
   pub numbers : HasNumbersOf r q
 
-pub held_nothing : (r q : ReplicaState) → StandsElse r q → (x y : Files) → Gains nothing x y → IsHeldBy Held r x → IsHeldBy Held q y
+pub held_nothing : (r q : ReplicaState) → StandsElse r q → (x y : Files) → Gains nothing x y → IsHeldBy r x → IsHeldBy q y
 held_nothing r q else x y gains h = held_all r q nothing else.moves else.numbers x y h refl refl (λ p m. inl (subst (λ (l : List Point). IsIn l p) else.sure m)) gains
 
-pub held_point : (r : ReplicaState) (p : Point) (x y : Files) → Gains (a_point p) x y → IsHeldBy Held r x → IsHeldBy Held (record r { sure = r.sure ++ p ∷ [] }) y
+pub held_point : (r : ReplicaState) (p : Point) (x y : Files) → Gains (a_point p) x y → IsHeldBy r x → IsHeldBy (record r { sure = r.sure ++ p ∷ [] }) y
 held_point r p x y gains h =
     let q : ReplicaState = record r { sure = r.sure ++ p ∷ [] } in
     held_all r q (a_point p)
@@ -100,7 +100,7 @@ held_point r p x y gains h =
     (record { begun = λ t all. all; known = λ t is. is; fence = λ t f is. is }) x y h refl refl (λ o m. IsIn-append_cases r.sure (p ∷ []) o m) gains
 
 -- a point in doubt
-pub held_doubt : (r q : ReplicaState) (p : Point) → q.sure ≡ r.sure → q.doubt ≡ r.doubt ++ p ∷ [] → q.ticks ≡ r.ticks → HasNumbersOf r q → (x y : Files) → MayGain (a_point p) x y → IsHeldBy Held r x → IsHeldBy Held q y
+pub held_doubt : (r q : ReplicaState) (p : Point) → q.sure ≡ r.sure → q.doubt ≡ r.doubt ++ p ∷ [] → q.ticks ≡ r.ticks → HasNumbersOf r q → (x y : Files) → MayGain (a_point p) x y → IsHeldBy r x → IsHeldBy q y
 held_doubt r q p sure doubt ticks numbers x y may h =
     held_part r q (a_point p)
     (record {
@@ -117,22 +117,22 @@ pub only_fence : (r : ReplicaState) (tenure fence : ℕ) → r.doubt_fences ≡ 
 only_fence r tenure fence none (inl is) = is
 only_fence r tenure fence none (inr any) = absurd ((IsIn-from_Any (λ doubtful. fence ≡ max doubtful (max tenure r.fence)) [] (subst (λ l. Any (λ doubtful. fence ≡ max doubtful (max tenure r.fence)) l) none any)).1)
 
-pub held_fence : (r : ReplicaState) (version : ℕ) → r.doubt_fences ≡ [] → (x y : Files) → Gains (a_fence version) x y → IsHeldBy Held r x → IsHeldBy Held (record r { fence = greater r.fence version }) y
+pub held_fence : (r : ReplicaState) (version : ℕ) → r.doubt_fences ≡ [] → (x y : Files) → Gains (a_fence version) x y → IsHeldBy r x → IsHeldBy (record r { fence = greater r.fence version }) y
 held_fence r version none x y gains h =
     let q : ReplicaState = record r { fence = greater r.fence version } in
-    let all = gains h.points h.tenure h.fence h.held in
+    let all = gains.held h.points h.tenure h.fence h.held in
     let was = only_fence r h.tenure h.fence none h.fence_is in
     let same : max h.tenure 0 ≡ h.tenure = omega arith in
     let up = greater_is_max r.fence version in
     let is : max h.fence version ≡ max h.tenure (greater r.fence version) = omega (arith, was, up) in
-    held_after r q (a_fence version) (record { kept = λ o m. m; gained = λ o m. absurd m; gone = λ o stays. stays }) x y h all.points h.tenure (max h.fence version) (subst (λ (n : ℕ). Held all.points n (max h.fence version) y) same all.held) all.grows
+    held_after r q (a_fence version) (record { kept = λ o m. m; gained = λ o m. absurd m; gone = λ o stays. stays }) x y h all.points h.tenure (max h.fence version) (subst (λ (n : ℕ). FilesHold all.points n (max h.fence version) y) same all.held) all.grows
     (λ o m. inl m) h.none_higher h.known (inl is)
 
 pub held_fence_doubt : (r : ReplicaState) (version : ℕ) → r.doubt_fences ≡ [] → (q : ReplicaState) → q.sure ≡ r.sure → q.fence ≡ r.fence → q.doubt_fences ≡ r.doubt_fences ++ version ∷ [] → MovesOn r q nothing
     → ((t : ℕ) → All (λ begun. begun ≤ t) r.begun → All (λ begun. begun ≤ t) q.begun) → ((t : ℕ) → MayHaveTenure r t → MayHaveTenure q t)
-    → (x y : Files) → MayGain (a_fence version) x y → IsHeldBy Held r x → IsHeldBy Held q y
+    → (x y : Files) → MayGain (a_fence version) x y → IsHeldBy r x → IsHeldBy q y
 held_fence_doubt r version none q sure fence doubts moves begun known x y may h =
-    let part = may h.points h.tenure h.fence h.held in
+    let part = may.held h.points h.tenure h.fence h.held in
     let was = only_fence r h.tenure h.fence none h.fence_is in
     let there : MovesOn r q (a_fence version) = record { kept = moves.kept; gained = λ o m. absurd m; gone = moves.gone } in
     let more : (part.tenure_now ≡ h.tenure) × ((part.fence_now ≡ max h.tenure q.fence) ⊎ (part.fence_now ≡ max version (max h.tenure q.fence))) =
@@ -144,7 +144,7 @@ held_fence_doubt r version none q sure fence doubts moves begun known x y may h 
     let is : part.fence_now ≡ max version (max h.tenure q.fence) = omega (arith, f, was, fence) in
     (t_is, inr is))
     part.numbers in
-    held_after r q (a_fence version) there x y h part.points h.tenure part.fence_now (subst (λ (n : ℕ). Held part.points n part.fence_now y) more.0 part.held) part.grows (λ o m. inl (subst (λ (l : List Point). IsIn l o) sure m))
+    held_after r q (a_fence version) there x y h part.points h.tenure part.fence_now (subst (λ (n : ℕ). FilesHold part.points n part.fence_now y) more.0 part.held) part.grows (λ o m. inl (subst (λ (l : List Point). IsIn l o) sure m))
     (begun h.tenure h.none_higher) (known h.tenure h.known)
     (⊎_elim (λ (is : part.fence_now ≡ max h.tenure q.fence). inl is)
     (λ (is : part.fence_now ≡ max version (max h.tenure q.fence)).

@@ -7,13 +7,12 @@ use Rattle.m3_model.proofs.MemberLemmas.{IsIn-append_left, IsIn-append_right, Is
 use Rattle.m3_outside.specs.Files.{Files}
 use Rattle.m3_outside.specs.DiskState.{DiskState}
 use Rattle.placement_core.proofs.ListLemmas.{Any-from_IsIn, IsIn-from_Any}
-use Rattle.shard_files.specs.Held.{Held}
 use Rattle.shard_files.specs.Once.{HaveSamePoints}
-use Rattle.shard_files.proofs.HeldLemmas.{held_is_one}
+use Rattle.shard_files.proofs.FilesHoldLemmas.{files_hold_one}
 use Rattle.cluster_core.specs.declared.replica_state.ReplicaState.{ReplicaState}
 use Rattle.replica_machine.specs.Bases.{CameFrom}
 use Rattle.replica_machine.specs.Machines.{MayHaveTenure}
-use Rattle.replica_machine.specs.Openings.{AllSound, IsUpTo, HoldAsMade, StaysAsMade, FirstBeginIsAsMade, HasTenureUpTo, TenuresAreKnown}
+use Rattle.replica_machine.specs.Openings.{AllSound, IsUpTo, HoldAsMade, StaysAsMade, FirstBeginIsAsMade, HasTenureUpTo, StaysSound, TenuresAreKnown}
 
 -- a number raised to none, or to one of these
 up_to : (base n : ℕ) (tried : List ℕ) → (n ≡ 0) ⊎ IsIn tried n → IsUpTo base tried (max base n)
@@ -37,7 +36,7 @@ up_max base tried t n up =
     le_or n t = grind arith
 
 -- what came from sound files holds as they did
-pub came_as_made : (base : Files → Type 0) (tried : List ℕ) (c : Files) → AllSound base → CameFrom Held base tried c → HoldAsMade base tried c
+pub came_as_made : (base : Files → Type 0) (tried : List ℕ) (c : Files) → AllSound base → CameFrom base tried c → HoldAsMade base tried c
 came_as_made base tried c sound came =
     let s = sound came.before came.was in
     let has = came.stepped s.points s.tenure s.fence s.held in
@@ -67,7 +66,7 @@ module _ {D : Type 0} (state : D → DiskState) where
   first_begin_is_as_made first r tenure fence points old new sound tells is none step =
       let opens = step.opens first r is tells none in
       let h = came_as_made (state first).images r.tried opens.files sound opens.came in
-      let one = held_is_one h.points opens.all h.tenure opens.tenure_found h.fence opens.fence_found opens.files h.held opens.held in
+      let one = files_hold_one h.points opens.all h.tenure opens.tenure_found h.fence opens.fence_found opens.files h.held opens.held in
       let same = subst (λ (ps : List Point). HaveSamePoints ps h.points_before) one.0 h.same in
       let up : IsUpTo h.fence_before (r.tried ++ tenure ∷ []) (max opens.fence_found tenure) = up_max h.fence_before r.tried tenure opens.fence_found (subst (IsUpTo h.fence_before r.tried) one.2 h.fence_up) in
       record {
@@ -108,3 +107,8 @@ module _ {D : Type 0} (state : D → DiskState) where
       let up : HasTenureUpTo (state first).images (r.begun ++ r.tried) c = record { points = h.points; tenure = h.tenure; fence = h.fence; held = h.held; up = inl (Any-from_IsIn (λ t. h.tenure ≤ t) (r.begun ++ r.tried) h.tenure (among r h.tenure h.known) (omega arith)) } in
       up)
       (empty_or r.begun)
+
+  pub stays_sound : StaysSound state
+  stays_sound first r m sound is tells c image =
+      let known = tenures_are_known first r m (λ files base. let s = (sound files base) in record { points = s.points; tenure = s.tenure; fence = s.fence; held = s.whole.held }) is tells c image in
+      record { points = known.points; tenure = known.tenure; fence = known.fence; whole = record { held = known.held; snapshots = is.snapshots (λ files base. (sound files base).whole.snapshots) tells c image } }

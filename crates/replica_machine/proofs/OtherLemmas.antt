@@ -18,7 +18,7 @@ use Rattle.m3_outside.specs.DiskCalls.{Restarts}
 use Rattle.m3_outside.specs.declared.disk_err.DiskErr.{DiskErr}
 use Rattle.m3_outside.specs.declared.disk_err.DiskErr.TheVariants as refused
 use Rattle.m3_outside.proofs.Moments.{step_as}
-use Rattle.shard_files.specs.Held.{Held}
+use Rattle.shard_files.specs.Parts.{AreWhole}
 use Rattle.shard_files.specs.Gains.{nothing, Gains}
 use Rattle.shard_store.specs.Stores.{StoreState, closed_over}
 use Rattle.shard_files.proofs.GainLemmas.{gains_nothing}
@@ -33,7 +33,7 @@ use Rattle.replica_machine.specs.Bases.{CameFrom}
 use Rattle.replica_machine.specs.Machines.{MachineState, IsStoreOf, IsMachineOf, IsHeldBy, IsLiveAnswer, IsOwn, first_machine, shut_machine, unserved, reason_of, left_by, settled_answer}
 use Rattle.replica_machine.specs.Steps.{reply_by, IsStep, RestartsTo}
 use Rattle.replica_machine.proofs.LiveLemmas.{live_found}
-use Rattle.replica_machine.proofs.DiskLemmas.{stays_nothing, each_step}
+use Rattle.replica_machine.proofs.DiskLemmas.{stays_nothing, each_step, each_whole}
 use Rattle.replica_machine.proofs.BaseLemmas.{came_itself, came_nothing}
 use Rattle.replica_machine.proofs.HeldByLemmas.{held_nothing}
 use Rattle.replica_machine.proofs.StepLemmas.{machine_of, stands_at, kept_machine, shut_follows, serving, shown}
@@ -50,7 +50,7 @@ module _ {D : Type 0} (state : D → DiskState) (old : MachineState D) where
     lawful = λ made r h past n s given. tt;
     follows = λ made r h.
         let q : ReplicaState = record r { standing = standing.Down } in
-        shut_follows state (state made).images r q old standing.Down old.disk (λ e. cc) refl refl refl refl h (λ b tells c image. held_nothing r q (stands_at r standing.Down) c c (gains_nothing c) (h.files b tells c image)) h.unbegun;
+        shut_follows state (state made).images r q old standing.Down old.disk (λ e. cc) refl refl refl refl h (λ b tells c image. held_nothing r q (stands_at r standing.Down) c c (gains_nothing c) (h.files b tells c image)) h.unbegun h.snapshots;
     opens = λ made r h told none. tt;
     sound = λ damage e. absurd (cc);
     tells = refl;
@@ -95,6 +95,7 @@ first_follows state disk = record {
   open_ = λ e. cc;
   files = λ b. absurd (b refl);
   unbegun = λ none tells c image. came_itself (state disk).images [] c image;
+  snapshots = λ sound tells c image. sound c image;
 }
 
 -- ---- restarts
@@ -152,10 +153,13 @@ module _ {D : Type 0} (state : D → DiskState) (old : MachineState D) (d : D) w
           let told : (state old.disk).tells ≡ true = sym restarts.proceeds.tells ∙ tells in
           let files = (state d).files in
           let held = held_nothing r q (stands_at r standing.Boot) files files (gains_nothing files) (h.files b told files (restarts.image told)) in
-          subst (IsHeldBy Held q) (sym (restarts.only told c image)) held)
+          subst (IsHeldBy q) (sym (restarts.only told c image)) held)
           (λ none tells c image.
           let told : (state old.disk).tells ≡ true = sym restarts.proceeds.tells ∙ tells in
-          subst (CameFrom Held (state made).images r.tried) (sym (restarts.only told c image)) (h.unbegun none told (state d).files (restarts.image told)));
+          subst (CameFrom (state made).images r.tried) (sym (restarts.only told c image)) (h.unbegun none told (state d).files (restarts.image told)))
+          (λ sound tells c image.
+          let told : (state old.disk).tells ≡ true = sym restarts.proceeds.tells ∙ tells in
+          subst AreWhole (sym (restarts.only told c image)) (h.snapshots sound told (state d).files (restarts.image told)));
       opens = λ made r h told none. tt;
       sound = λ damage e. absurd (cc);
       tells = restarts.proceeds.tells;
@@ -184,8 +188,9 @@ module _ {D : Type 0} (state : D → DiskState) (old : MachineState D) (d : D) w
       follows = λ made r h.
           let q : ReplicaState = record r { standing = standing.Down } in
           shut_follows state (state made).images r q old standing.Down d (λ e. cc) refl refl refl refl h
-          (λ b. each_step (state old.disk) (state d) (IsHeldBy Held r) (IsHeldBy Held q) restarts.proceeds.tells (steps refused.Failed restarts) (λ x y gains held. held_nothing r q (stands_at r standing.Down) x y gains held) (h.files b))
-          (λ none. each_step (state old.disk) (state d) (CameFrom Held (state made).images r.tried) (CameFrom Held (state made).images r.tried) restarts.proceeds.tells (steps refused.Failed restarts) (λ x y gains came. came_nothing (state made).images r.tried x y gains came) (h.unbegun none));
+          (λ b. each_step (state old.disk) (state d) (IsHeldBy r) (IsHeldBy q) restarts.proceeds.tells (steps refused.Failed restarts) (λ x y gains held. held_nothing r q (stands_at r standing.Down) x y gains held) (h.files b))
+          (λ none. each_step (state old.disk) (state d) (CameFrom (state made).images r.tried) (CameFrom (state made).images r.tried) restarts.proceeds.tells (steps refused.Failed restarts) (λ x y gains came. came_nothing (state made).images r.tried x y gains came) (h.unbegun none))
+          (each_whole (state old.disk) (state d) (state made).images restarts.proceeds.tells (steps refused.Failed restarts) (λ x y gains. gains.snapshots) h.snapshots);
       opens = λ made r h told none. tt;
       sound = λ damage e. absurd (cc);
       tells = restarts.proceeds.tells;

@@ -9,10 +9,10 @@ use Rattle.m3_model.specs.declared.replica.Standing.TheVariants as standing
 use Rattle.m3_outside.specs.Causes.{CountsFaults}
 use Rattle.m3_outside.specs.Files.{Stays}
 use Rattle.m3_outside.specs.DiskState.{DiskState, Told, Elapses}
-use Rattle.shard_files.specs.Held.{Held}
+use Rattle.shard_files.specs.FilesHold.{FilesHold}
 use Rattle.shard_files.specs.Once.{HeldOnce}
 use Rattle.shard_files.specs.Gains.{a_tenure}
-use Rattle.shard_files.specs.Loading.{MayBeUnsound}
+use Rattle.shard_open.specs.Told.{MayBeUnsound}
 use Rattle.shard_store.specs.Stores.{StoreState, closed_over}
 use Rattle.shard_files.specs.declared.load_err.LoadErr.{LoadErr}
 use Rattle.shard_files.specs.declared.load_err.LoadErr.TheVariants as failures
@@ -57,7 +57,7 @@ module _ {D : Type 0} (state : D → DiskState) (s : Standing) (tenure : Option 
     higher_of points held_tenure fence held higher image =
         as_old (Err reason.NotOwned) (machine_of s tenure begun now)
         (higher_done state (machine_of s tenure begun before) t now.disk up low same stays faults (λ told.
-        let h = held (same ∙ told) in record { points = h.all; held_tenure = held_tenure; fence = fence; held = subst (Held h.all held_tenure fence) (files told) h.held; higher = higher }) image
+        let h = held (same ∙ told) in record { points = h.all; held_tenure = held_tenure; fence = fence; held = subst (FilesHold h.all held_tenure fence) (files told) h.held; higher = higher }) image
         (machine_of s tenure begun now) (ap (machine_of s tenure begun) moved))
 
     pub opened_of : (result : Result Began Reason) (new : MachineState D) → IfOk result (BeganFrom state t (machine_of s tenure begun now) new) → IfErr result (IsRefused (machine_of s tenure begun now) new) → IfErr result IsOwn → BringsTo (a_tenure t) result (state now.disk) (state new.disk)

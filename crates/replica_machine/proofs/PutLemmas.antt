@@ -17,7 +17,6 @@ use Rattle.m3_outside.specs.Files.{Files}
 use Rattle.m3_outside.specs.DiskState.{DiskState, Becomes}
 use Rattle.m3_outside.specs.declared.disk_err.DiskErr.{DiskErr}
 use Rattle.m3_outside.specs.declared.disk_err.DiskErr.TheVariants as refused
-use Rattle.shard_files.specs.Held.{Held}
 use Rattle.shard_files.specs.Gains.{a_point, Brings}
 use Rattle.shard_store.specs.Stores.{StoreState}
 use Rattle.shard_store.proofs.LogStepLemmas.{counts_same}
@@ -30,7 +29,7 @@ use Rattle.replica_machine.specs.Machines.{MachineState, IsMachineOf, IsHeldBy, 
 use Rattle.replica_machine.specs.Steps.{reply_by, IsStep, BringsTo}
 use Rattle.replica_machine.proofs.RefusalLemmas.{up}
 use Rattle.replica_machine.proofs.ReasonLemmas.{IsPlain, plain_lawful, plain_no_damage, plain_no_fault, put_plain, shut_alike, after_three, refused_none, refused_some}
-use Rattle.replica_machine.proofs.DiskLemmas.{each_step, reply_counts, brings_settled, brings_none_to}
+use Rattle.replica_machine.proofs.DiskLemmas.{each_step, reply_counts, brings_settled, brings_none_to, each_whole}
 use Rattle.replica_machine.proofs.HeldByLemmas.{held_doubt}
 use Rattle.replica_machine.proofs.StepLemmas.{machine_of, middle, kept_machine, shut_follows, put_follows, serving}
 
@@ -127,9 +126,10 @@ module _ {D : Type 0} (state : D → DiskState) (old : MachineState D) (version 
           let q : ReplicaState = record r { standing = standing.Down; doubt = r.doubt ++ p ∷ [] } in
           subst (λ (m : MachineState D). IsMachineOf state (state made).images q m) (ap (λ (m : MachineState D). shut_machine standing.Down m mid.disk) (sym by.fault))
           (shut_follows state (state made).images r q old standing.Down mid.disk (λ e. cc) refl refl refl refl h
-          (λ b. each_step (state old.disk) (state mid.disk) (IsHeldBy Held r) (IsHeldBy Held q) by.disk.tells (λ t. (by.disk.any_moment t).images)
+          (λ b. each_step (state old.disk) (state mid.disk) (IsHeldBy r) (IsHeldBy q) by.disk.tells (λ t. (by.disk.any_moment t).images)
           (λ x y may held. held_doubt r q p refl refl refl (record { begun = λ t all. all; known = λ t is. is; fence = λ t f is. is }) x y may held) (h.files b))
-          (λ none. absurd ((h.open_ (up old.standing old.tenure old.fence version served).open_).begun none)));
+          (λ none. absurd ((h.open_ (up old.standing old.tenure old.fence version served).open_).begun none))
+          (each_whole (state old.disk) (state mid.disk) (state made).images by.disk.tells (λ t. (by.disk.any_moment t).images) (λ x y may. may.snapshots) h.snapshots));
       opens = λ made r h told none. tt;
       sound = λ damage e. absurd (cc);
       tells = by.disk.tells;

@@ -1,5 +1,5 @@
 -- A replica over whose disk a call went that brings no point is still its machine's.
-use Rattle.std.proofs.Common.{◌≡◌, ◌≤◌, max, ℕ, true, List, [], ◌∷◌, ◌++◌, refl, sym, subst, ◌∙◌, All, Any}
+use Rattle.std.proofs.Common.{◌≡◌, ◌≤◌, ℕ, true, List, [], ◌∷◌, ◌++◌, refl, sym, subst, ◌∙◌, All, Any}
 use Rattle.std.specs.Prelude.{◌⊎◌, ◌≢◌}
 use Rattle.m3_model.specs.Contents.{Contents, Holds, point_at}
 use Rattle.m3_model.specs.Members.{IsIn}
@@ -14,18 +14,14 @@ use Rattle.m3_model.proofs.MemberLemmas.{IsIn-append_left, IsIn-push}
 use Rattle.m3_outside.specs.Files.{Files}
 use Rattle.m3_outside.specs.DiskState.{DiskState, EachImage}
 use Rattle.placement_core.proofs.ListLemmas.{All-from_each, each-from_All, Any-from_IsIn, IsIn-from_Any}
-use Rattle.shard_files.specs.FileLaws.{AreOfLog}
-use Rattle.shard_files.specs.FilesHold.{HoldWhole}
-use Rattle.shard_files.specs.Held.{Held}
+use Rattle.shard_files.specs.Parts.{AreWhole}
 use Rattle.shard_files.specs.Keeps.{Keeps}
-use Rattle.shard_files.proofs.AloneLemmas.{log_is_held}
 use Rattle.cluster_core.specs.Replicas.{Shows, IsGone, down}
 use Rattle.cluster_core.specs.declared.event.StepReply.TheVariants as reply
 use Rattle.cluster_core.specs.declared.replica_state.ReplicaState.{ReplicaState}
-use Rattle.replica_machine.specs.Bases.{CameFrom}
-use Rattle.replica_machine.specs.Machines.{MachineState, IsHeldBy, IsMachineBy, IsGreatest, shut_machine}
-use Rattle.replica_machine.specs.Rearranged.{IsTickedTo, KeptReplica, TickedReplica, KeepsImages, KeptMachine, TickedMachine, MachineOverLog}
-use Rattle.replica_machine.proofs.DiskLemmas.{each_step}
+use Rattle.replica_machine.specs.Machines.{MachineState, IsHeldBy, IsMachineOf, IsGreatest, shut_machine}
+use Rattle.replica_machine.specs.Rearranged.{IsTickedTo, KeptReplica, TickedReplica, KeepsImages, KeptMachine, TickedMachine}
+use Rattle.replica_machine.proofs.DiskLemmas.{each_step, each_whole}
 
 -- where the content has a value at the key, its point covers this one
 covers_by : (content : Contents) (points : List Point) (p : Point) (h : Holds content p) → IsIn points (record p { v = h.value }) → Covers points p
@@ -33,16 +29,16 @@ covers_by content points p h there = record { value = h.value; at_least = h.at_l
 
 -- The replica, however it stands and whatever ticks it had. Files that it may begin with are such files of this one too where a content is kept that has its
 -- sure points which aren't gone.
-kept_by : (r : ReplicaState) (s : Standing) (ticks : List Rules) (kept : Contents) (x y : Files) → (let q = record r { standing = s; ticks = ticks } in (p : Point) → IsIn r.sure p → ¬ IsGone q p → Holds kept p) → Keeps kept x y → IsHeldBy HoldWhole r x
-    → IsHeldBy HoldWhole (record r { standing = s; ticks = ticks }) y
+kept_by : (r : ReplicaState) (s : Standing) (ticks : List Rules) (kept : Contents) (x y : Files) → (let q = record r { standing = s; ticks = ticks } in (p : Point) → IsIn r.sure p → ¬ IsGone q p → Holds kept p) → Keeps kept x y → IsHeldBy r x
+    → IsHeldBy (record r { standing = s; ticks = ticks }) y
 kept_by r s ticks kept x y there keeps h =
-    let k = keeps h.points h.tenure h.fence h.held in
+    let k = keeps.held h.points h.tenure h.fence h.held in
     let q : ReplicaState = record r { standing = s; ticks = ticks } in
     record {
       points = k.points;
       tenure = h.tenure;
       fence = h.fence;
-      held = k.whole;
+      held = k.held;
       source = All-from_each (λ p. IsIn r.sure p ⊎ IsIn r.doubt p) k.points (λ p m. each-from_All (λ p. IsIn r.sure p ⊎ IsIn r.doubt p) h.points h.source p (k.sheds.nothing_else p m));
       all_there = All-from_each (λ p. ¬ IsGone q p → Covers k.points p) r.sure (λ p m stays. let has = there p m stays in covers_by kept k.points p has (k.sheds.whole (record p { v = has.value }) has.stands));
       none_higher = h.none_higher;
@@ -80,7 +76,7 @@ module _ (r : ReplicaState) (s : Standing) (rules : Rules) (content kept : Conte
   ticked_shows : Shows (ticked r s rules) kept
   ticked_shows = record { sure = λ k v e. shows.sure k v (to.nothing_else (point_at k v) e); all = still_there }
 
-  ticked_held : (x y : Files) → Keeps kept x y → IsHeldBy HoldWhole r x → IsHeldBy HoldWhole (ticked r s rules) y
+  ticked_held : (x y : Files) → Keeps kept x y → IsHeldBy r x → IsHeldBy (ticked r s rules) y
   ticked_held x y keeps h = kept_by r s (r.ticks ++ rules ∷ []) kept x y still_there keeps h
 
 pub ticked_replica : TickedReplica
@@ -91,14 +87,14 @@ ticked_replica r rules _ content kept x y is shows to keeps h = absurd is
 
 -- ---- machines
 
-module _ {D : Type 0} (state : D → DiskState) (base : Files → Type 0) (r : ReplicaState) (m : MachineState D) (d : D) (is_open : m.standing ≡ standing.Open) (h : IsMachineBy HoldWhole state base r m) where
+module _ {D : Type 0} (state : D → DiskState) (base : Files → Type 0) (r : ReplicaState) (m : MachineState D) (d : D) (is_open : m.standing ≡ standing.Open) (h : IsMachineOf state base r m) where
   -- of an open machine the replica began, and the disk tells a content that shows it
   began : r.begun ≢ []
   began = (h.open_ is_open).begun
 
   -- a closed machine over images that the replica, or what is left of it, may begin with
-  closed_by : (q : ReplicaState) → q.standing ≡ standing.Down → q.begun ≡ r.begun → q.fence ≡ r.fence → q.sure ≡ r.sure → EachImage (state d) (IsHeldBy HoldWhole q) → IsMachineBy HoldWhole state base q (shut_machine standing.Down m d)
-  closed_by q down begun fence sure files = record {
+  closed_by : (q : ReplicaState) → q.standing ≡ standing.Down → q.begun ≡ r.begun → q.fence ≡ r.fence → q.sure ≡ r.sure → EachImage (state d) (IsHeldBy q) → (((c : Files) → base c → AreWhole c) → EachImage (state d) AreWhole) → IsMachineOf state base q (shut_machine standing.Down m d)
+  closed_by q down begun fence sure files snapshots = record {
     stands = sym down;
     begun = subst (λ l. IsGreatest m.begun l) (sym begun) h.begun;
     below = subst (λ (l : List ℕ). All (λ b. b ≤ q.fence) l) (sym begun) (subst (λ (f : ℕ). All (λ b. b ≤ f) r.begun) (sym fence) h.below);
@@ -106,12 +102,13 @@ module _ {D : Type 0} (state : D → DiskState) (base : Files → Type 0) (r : R
     open_ = λ o. cc;
     files = λ b. files;
     unbegun = λ none. absurd (began (sym begun ∙ none));
+    snapshots = snapshots;
   }
 
   -- an open one, with a content that shows what is left of the replica
   open_by : (q : ReplicaState) (content : Contents) → q.standing ≡ r.standing → q.begun ≡ r.begun → q.fence ≡ r.fence → q.sure ≡ r.sure → q.tenure ≡ r.tenure → q.doubt ≡ r.doubt → q.doubt_fences ≡ r.doubt_fences → ((state d).tells ≡ true → Shows q content)
-      → EachImage (state d) (IsHeldBy HoldWhole q) → IsMachineBy HoldWhole state base q (record m { content = content; disk = d })
-  open_by q content stands begun fence sure tenure doubt fences shows files =
+      → EachImage (state d) (IsHeldBy q) → (((c : Files) → base c → AreWhole c) → EachImage (state d) AreWhole) → IsMachineOf state base q (record m { content = content; disk = d })
+  open_by q content stands begun fence sure tenure doubt fences shows files snapshots =
       let a = h.open_ is_open in
       record {
         stands = h.stands ∙ sym stands;
@@ -121,6 +118,7 @@ module _ {D : Type 0} (state : D → DiskState) (base : Files → Type 0) (r : R
         open_ = λ o. record { begun = λ e. a.begun (sym begun ∙ e); tenure = a.tenure ∙ sym tenure; fence = a.fence ∙ sym fence; sure = doubt ∙ a.sure; sure_fences = fences ∙ a.sure_fences; shows = shows };
         files = λ b. files;
         unbegun = λ none. absurd (began (sym begun ∙ none));
+        snapshots = snapshots;
       }
 
 module _ {D : Type 0} (state : D → DiskState) where
@@ -128,25 +126,31 @@ module _ {D : Type 0} (state : D → DiskState) where
   images : (kept : Contents) (old new : DiskState) (P Q : Files → Type 0) → KeepsImages kept old new → (old.tells ≡ true → (x y : Files) → Keeps kept x y → P x → Q y) → EachImage old P → EachImage new Q
   images kept old new P Q keeps to each tells = let told = sym keeps.tells ∙ tells in each_step old new P Q keeps.tells keeps.images (to told) each tells
 
+  whole : (kept : Contents) (old new : DiskState) (base : Files → Type 0) → KeepsImages kept old new → (((c : Files) → base c → AreWhole c) → EachImage old AreWhole) → ((c : Files) → base c → AreWhole c) → EachImage new AreWhole
+  whole kept old new base keeps each = each_whole old new base keeps.tells keeps.images (λ x y one. one.snapshots) each
+
   pub kept_machine : KeptMachine state
   kept_machine = record {
     open_ = λ first r m d is_open keeps h.
         let a = h.open_ is_open in
         open_by state (state first).images r m d is_open h r m.content refl refl refl refl refl refl refl (λ tells. a.shows (sym keeps.tells ∙ tells))
-        (images m.content (state m.disk) (state d) (IsHeldBy HoldWhole r) (IsHeldBy HoldWhole r) keeps (λ told x y kept held. kept_replica r r.standing m.content x y (a.shows told) kept held) (h.files a.begun));
+        (images m.content (state m.disk) (state d) (IsHeldBy r) (IsHeldBy r) keeps (λ told x y kept held. kept_replica r r.standing m.content x y (a.shows told) kept held) (h.files a.begun))
+        (whole m.content (state m.disk) (state d) (state first).images keeps h.snapshots);
     closed = λ first r m d is_open keeps h.
         let a = h.open_ is_open in
         closed_by state (state first).images r m d is_open h (down r) refl refl refl refl
-        (images m.content (state m.disk) (state d) (IsHeldBy HoldWhole r) (IsHeldBy HoldWhole (down r)) keeps (λ told x y kept held. kept_replica r standing.Down m.content x y (a.shows told) kept held) (h.files a.begun));
+        (images m.content (state m.disk) (state d) (IsHeldBy r) (IsHeldBy (down r)) keeps (λ told x y kept held. kept_replica r standing.Down m.content x y (a.shows told) kept held) (h.files a.begun))
+        (whole m.content (state m.disk) (state d) (state first).images keeps h.snapshots);
   }
 
-  closed_tick : (first : D) (r : ReplicaState) (m : MachineState D) (d : D) (rules : Rules) (kept : Contents) → m.standing ≡ standing.Open → IsTickedTo rules m.content kept → KeepsImages kept (state m.disk) (state d) → IsMachineBy HoldWhole state (state first).images r m
-      → IsMachineBy HoldWhole state (state first).images (ticked r standing.Down rules) (shut_machine standing.Down m d)
+  closed_tick : (first : D) (r : ReplicaState) (m : MachineState D) (d : D) (rules : Rules) (kept : Contents) → m.standing ≡ standing.Open → IsTickedTo rules m.content kept → KeepsImages kept (state m.disk) (state d) → IsMachineOf state (state first).images r m
+      → IsMachineOf state (state first).images (ticked r standing.Down rules) (shut_machine standing.Down m d)
   closed_tick first r m d rules kept is_open to keeps h =
       let a = h.open_ is_open in
       let q = ticked r standing.Down rules in
       closed_by state (state first).images r m d is_open h q refl refl refl refl
-      (images kept (state m.disk) (state d) (IsHeldBy HoldWhole r) (IsHeldBy HoldWhole q) keeps (λ told x y one held. ticked_held r standing.Down rules m.content kept (a.shows told) to x y one held) (h.files a.begun))
+      (images kept (state m.disk) (state d) (IsHeldBy r) (IsHeldBy q) keeps (λ told x y one held. ticked_held r standing.Down rules m.content kept (a.shows told) to x y one held) (h.files a.begun))
+      (whole kept (state m.disk) (state d) (state first).images keeps h.snapshots)
 
   pub ticked_machine : TickedMachine state
   ticked_machine = record {
@@ -154,48 +158,8 @@ module _ {D : Type 0} (state : D → DiskState) where
         let a = h.open_ is_open in
         let q = ticked r r.standing rules in
         open_by state (state first).images r m d is_open h q kept refl refl refl refl refl refl refl (λ tells. ticked_shows r r.standing rules m.content kept (a.shows (sym keeps.tells ∙ tells)) to)
-        (images kept (state m.disk) (state d) (IsHeldBy HoldWhole r) (IsHeldBy HoldWhole q) keeps (λ told x y one held. ticked_held r r.standing rules m.content kept (a.shows told) to x y one held) (h.files a.begun));
+        (images kept (state m.disk) (state d) (IsHeldBy r) (IsHeldBy q) keeps (λ told x y one held. ticked_held r r.standing rules m.content kept (a.shows told) to x y one held) (h.files a.begun))
+        (whole kept (state m.disk) (state d) (state first).images keeps h.snapshots);
     failed = λ first r m d rules kept is_open to keeps h. closed_tick first r m d rules kept is_open to keeps h;
     damaged = λ first r m d rules damage kept is_open to keeps h. closed_tick first r m d rules kept is_open to keeps h;
   }
-
--- ---- over a log alone
-
-held_whole : (r : ReplicaState) (c : Files) → AreOfLog c → IsHeldBy Held r c → IsHeldBy HoldWhole r c
-held_whole r c alone h = record {
-  points = h.points;
-  tenure = h.tenure;
-  fence = h.fence;
-  held = (log_is_held h.points h.tenure h.fence c alone).0 h.held;
-  source = h.source;
-  all_there = h.all_there;
-  none_higher = h.none_higher;
-  known = h.known;
-  fence_is = h.fence_is;
-}
-
-came_whole : (base : Files → Type 0) (tried : List ℕ) (c : Files) → ((x : Files) → base x → AreOfLog x) → AreOfLog c → CameFrom Held base tried c → CameFrom HoldWhole base tried c
-came_whole base tried c alone own came = record {
-  before = came.before;
-  was = came.was;
-  stepped = λ before tenure fence held.
-      let one = came.stepped before tenure fence ((log_is_held before tenure fence came.before (alone came.before came.was)).1 held) in
-      record {
-        points = one.points;
-        raised_to = one.raised_to;
-        one_of = one.one_of;
-        held = (log_is_held one.points (max tenure one.raised_to) (max fence one.raised_to) c own).0 one.held;
-        same = one.same;
-      };
-}
-
-pub machine_over_log : {D : Type 0} (state : D → DiskState) → MachineOverLog state
-machine_over_log state first r m alone own h = record {
-  stands = h.stands;
-  begun = h.begun;
-  below = h.below;
-  empty = h.empty;
-  open_ = h.open_;
-  files = λ begun tells c image. held_whole r c (own tells c image) (h.files begun tells c image);
-  unbegun = λ none tells c image. came_whole (state first).images r.tried c alone (own tells c image) (h.unbegun none tells c image);
-}

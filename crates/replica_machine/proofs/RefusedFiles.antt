@@ -8,7 +8,8 @@ use Rattle.m3_outside.specs.DiskState.{DiskState, Elapses, Becomes}
 use Rattle.shard_files.specs.declared.load_err.LoadErr.{LoadErr}
 use Rattle.shard_files.specs.declared.load_err.LoadErr.TheVariants as failures
 use Rattle.replica_machine.specs.Boots.{MayNotLoad}
-use Rattle.replica_machine.specs.Damages.{damage_of}
+use Rattle.shard_files.specs.Damage.{OfForm, OfDigest}
+use Rattle.replica_machine.specs.Damages.{told_of}
 use Rattle.replica_machine.specs.Machines.{IsOwn}
 
 -- what was only synced and read
@@ -36,5 +37,7 @@ owned (Err why) own refused = ⊎_elim (λ (memory : why ≡ reason.Memory). own
 pub unread_owned : {X : Type 0} (e : LoadErr) (why : Reason) → MayNotLoad e why → (let r : Result X Reason = Err why in ¬ (IsErrOf r reason.NotOwned))
 unread_owned failures.Disk why told refused = owned_by why reason.Disk told not_disk refused
 unread_owned failures.Memory why told refused = owned_by why reason.Memory told not_memory refused
-unread_owned (failures.Form number at) why either refused =
-    ⊎_elim (λ (memory : why ≡ reason.Memory). owned_by why reason.Memory memory not_memory refused) (λ (damage : why ≡ reason.Corrupt (damage_of number at)). owned_by why (reason.Corrupt (damage_of number at)) damage (λ e. cc) refused) either
+unread_owned (failures.Digest name kept found) why either refused =
+    ⊎_elim (λ (memory : why ≡ reason.Memory). owned_by why reason.Memory memory not_memory refused) (λ (damage : why ≡ reason.Corrupt (told_of (OfDigest name kept found))). owned_by why (reason.Corrupt (told_of (OfDigest name kept found))) damage (λ e. cc) refused) either
+unread_owned (failures.Form name at) why either refused =
+    ⊎_elim (λ (memory : why ≡ reason.Memory). owned_by why reason.Memory memory not_memory refused) (λ (damage : why ≡ reason.Corrupt (told_of (OfForm name at))). owned_by why (reason.Corrupt (told_of (OfForm name at))) damage (λ e. cc) refused) either

@@ -11,7 +11,7 @@ use Rattle.m3_model.proofs.MemberLemmas.{IsIn-append_left, IsIn-append_cases, Is
 use Rattle.m3_outside.specs.Files.{Files}
 use Rattle.m3_outside.specs.DiskState.{DiskState, EachImage, StepOf}
 use Rattle.placement_core.proofs.ListLemmas.{All-from_each, each-from_All}
-use Rattle.shard_files.specs.Held.{Held}
+use Rattle.shard_files.specs.Parts.{AreWhole}
 use Rattle.shard_files.specs.Gains.{nothing, a_point, a_fence, Gains}
 use Rattle.cluster_core.specs.Replicas.{Shows, greater}
 use Rattle.cluster_core.specs.Rows.{IsServing}
@@ -21,7 +21,7 @@ use Rattle.m3_outside.specs.declared.disk_err.DiskErr.TheVariants as refused
 use Rattle.shard_store.specs.Stores.{StoreState, closed_over}
 use Rattle.replica_machine.specs.Bases.{CameFrom}
 use Rattle.replica_machine.specs.Machines.{MachineState, IsStoreOf, IsMachineOf, IsHeldBy, IsGreatest, shut_machine, settled, unserved}
-use Rattle.replica_machine.proofs.DiskLemmas.{each_step}
+use Rattle.replica_machine.proofs.DiskLemmas.{each_step, each_whole}
 use Rattle.replica_machine.proofs.BaseLemmas.{came_nothing}
 use Rattle.replica_machine.proofs.HeldByLemmas.{StandsElse, held_nothing, held_point, held_fence, greater_is_max}
 use Rattle.replica_machine.proofs.RefusalLemmas.{IsUp, up}
@@ -57,14 +57,15 @@ module _ {D : Type 0} (state : D → DiskState) (base : Files → Type 0) where
     below = h.below;
     empty = h.empty;
     open_ = λ o. let a = h.open_ o in record { begun = a.begun; tenure = a.tenure; fence = a.fence; sure = a.sure; sure_fences = a.sure_fences; shows = λ t. a.shows (sym same ∙ t) };
-    files = λ b. each_step (state old.disk) (state d) (IsHeldBy Held r) (IsHeldBy Held r) same steps (λ x y gains held. held_nothing r r (stands_same r) x y gains held) (h.files b);
-    unbegun = λ none. each_step (state old.disk) (state d) (CameFrom Held base r.tried) (CameFrom Held base r.tried) same steps (λ x y gains came. came_nothing base r.tried x y gains came) (h.unbegun none);
+    files = λ b. each_step (state old.disk) (state d) (IsHeldBy r) (IsHeldBy r) same steps (λ x y gains held. held_nothing r r (stands_same r) x y gains held) (h.files b);
+    unbegun = λ none. each_step (state old.disk) (state d) (CameFrom base r.tried) (CameFrom base r.tried) same steps (λ x y gains came. came_nothing base r.tried x y gains came) (h.unbegun none);
+    snapshots = each_whole (state old.disk) (state d) base same steps (λ x y gains. gains.snapshots) h.snapshots;
   }
 
   -- a machine that isn't open any more
-  pub shut_follows : (r q : ReplicaState) (old : MachineState D) (s : Standing) (d : D) → s ≢ standing.Open → q.standing ≡ s → q.begun ≡ r.begun → q.fence ≡ r.fence → q.sure ≡ r.sure → IsMachineOf state base r old → (r.begun ≢ [] → EachImage (state d) (IsHeldBy Held q))
-      → (r.begun ≡ [] → EachImage (state d) (CameFrom Held base q.tried)) → IsMachineOf state base q (shut_machine s old d)
-  shut_follows r q old s d not stands begun fence sure h files unbegun = record {
+  pub shut_follows : (r q : ReplicaState) (old : MachineState D) (s : Standing) (d : D) → s ≢ standing.Open → q.standing ≡ s → q.begun ≡ r.begun → q.fence ≡ r.fence → q.sure ≡ r.sure → IsMachineOf state base r old → (r.begun ≢ [] → EachImage (state d) (IsHeldBy q))
+      → (r.begun ≡ [] → EachImage (state d) (CameFrom base q.tried)) → (((c : Files) → base c → AreWhole c) → EachImage (state d) AreWhole) → IsMachineOf state base q (shut_machine s old d)
+  shut_follows r q old s d not stands begun fence sure h files unbegun snapshots = record {
     stands = sym stands;
     begun = subst (IsGreatest old.begun) (sym begun) h.begun;
     below = subst (λ (l : List ℕ). All (λ b. b ≤ q.fence) l) (sym begun) (subst (λ (f : ℕ). All (λ b. b ≤ f) r.begun) (sym fence) h.below);
@@ -72,6 +73,7 @@ module _ {D : Type 0} (state : D → DiskState) (base : Files → Type 0) where
     open_ = λ o. absurd (not o);
     files = λ b. files (λ e. b (begun ∙ e));
     unbegun = λ none. unbegun (sym begun ∙ none);
+    snapshots = snapshots;
   }
 
   -- with a point that is in the log
@@ -86,8 +88,9 @@ module _ {D : Type 0} (state : D → DiskState) (base : Files → Type 0) where
         below = h.below;
         empty = λ e. absurd (a.begun e);
         open_ = λ o. record { begun = a.begun; tenure = a.tenure; fence = a.fence; sure = a.sure; sure_fences = a.sure_fences; shows = λ t. shows_raised r old.content p (a.shows (sym same ∙ t)) };
-        files = λ b. each_step (state old.disk) (state d) (IsHeldBy Held r) (IsHeldBy Held (record r { sure = r.sure ++ p ∷ [] })) same steps (λ x y gains held. held_point r p x y gains held) (h.files b);
+        files = λ b. each_step (state old.disk) (state d) (IsHeldBy r) (IsHeldBy (record r { sure = r.sure ++ p ∷ [] })) same steps (λ x y gains held. held_point r p x y gains held) (h.files b);
         unbegun = λ none. absurd (a.begun none);
+        snapshots = each_whole (state old.disk) (state d) base same steps (λ x y gains. gains.snapshots) h.snapshots;
       }
 
   -- with a fence that is in the log
@@ -109,8 +112,9 @@ module _ {D : Type 0} (state : D → DiskState) (base : Files → Type 0) where
           sure_fences = a.sure_fences;
           shows = λ t. let shown = a.shows (sym same ∙ t) in record { sure = shown.sure; all = shown.all };
         };
-        files = λ b. each_step (state old.disk) (state d) (IsHeldBy Held r) (IsHeldBy Held (record r { fence = greater r.fence version })) same steps (λ x y gains held. held_fence r version a.sure_fences x y gains held) (h.files b);
+        files = λ b. each_step (state old.disk) (state d) (IsHeldBy r) (IsHeldBy (record r { fence = greater r.fence version })) same steps (λ x y gains held. held_fence r version a.sure_fences x y gains held) (h.files b);
         unbegun = λ none. absurd (a.begun none);
+        snapshots = each_whole (state old.disk) (state d) base same steps (λ x y gains. gains.snapshots) h.snapshots;
       }
 
   -- where nothing stands against a version the replica serves it

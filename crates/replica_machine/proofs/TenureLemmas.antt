@@ -9,11 +9,11 @@ use Rattle.m3_model.specs.declared.replica.Standing.TheVariants as standing
 use Rattle.m3_model.proofs.MemberLemmas.{IsIn-append_left, IsIn-append_right, IsIn-append_cases, IsIn-push}
 use Rattle.m3_outside.specs.Files.{Files}
 use Rattle.placement_core.proofs.ListLemmas.{All-from_each, each-from_All, Any-from_IsIn, IsIn-from_Any}
-use Rattle.shard_files.specs.Held.{Held}
+use Rattle.shard_files.specs.FilesHold.{FilesHold}
 use Rattle.shard_files.specs.Once.{HaveSamePoints, HeldOnce}
 use Rattle.shard_files.specs.Gains.{a_tenure, Gains, MayGain}
 use Rattle.shard_files.proofs.GainLemmas.{covers_itself, covers_then}
-use Rattle.shard_files.proofs.HeldLemmas.{held_is_one}
+use Rattle.shard_files.proofs.FilesHoldLemmas.{files_hold_one}
 use Rattle.cluster_core.specs.Replicas.{greater, IsGone}
 use Rattle.cluster_core.specs.Rows.{IsLoaded}
 use Rattle.cluster_core.specs.declared.replica_state.ReplicaState.{ReplicaState}
@@ -51,16 +51,16 @@ up_fenced r t u f (inr any) =
 up_higher : (begun : List ℕ) (t u : ℕ) → All (λ b. b ≤ u) begun → All (λ b. b ≤ max u t) begun
 up_higher begun t u all = All-from_each (λ b. b ≤ max u t) begun (λ b m. let le = each-from_All (λ b. b ≤ u) begun all b m in omega (arith, le))
 
-pub held_tried : (r : ReplicaState) (t : ℕ) (x y : Files) → MayGain (a_tenure t) x y → IsHeldBy Held r x → IsHeldBy Held (record r { standing = standing.Down; doubt_fences = r.doubt_fences ++ t ∷ []; tried = r.tried ++ t ∷ [] }) y
+pub held_tried : (r : ReplicaState) (t : ℕ) (x y : Files) → MayGain (a_tenure t) x y → IsHeldBy r x → IsHeldBy (record r { standing = standing.Down; doubt_fences = r.doubt_fences ++ t ∷ []; tried = r.tried ++ t ∷ [] }) y
 held_tried r t x y may h =
     let q = tried r t in
-    let part = may h.points h.tenure h.fence h.held in
+    let part = may.held h.points h.tenure h.fence h.held in
     let moves : MovesOn r q (a_tenure t) = record { kept = λ o m. m; gained = λ o m. absurd m; gone = λ o stays. stays } in
     ⊎_elim (λ (same : (part.tenure_now ≡ h.tenure) × (part.fence_now ≡ h.fence)).
-    held_after r q (a_tenure t) moves x y h part.points h.tenure h.fence (subst (λ (n : ℕ). Held part.points n h.fence y) same.0 (subst (λ (n : ℕ). Held part.points part.tenure_now n y) same.1 part.held)) part.grows (λ o m. inl m)
+    held_after r q (a_tenure t) moves x y h part.points h.tenure h.fence (subst (λ (n : ℕ). FilesHold part.points n h.fence y) same.0 (subst (λ (n : ℕ). FilesHold part.points part.tenure_now n y) same.1 part.held)) part.grows (λ o m. inl m)
     h.none_higher (still_known r t h.tenure h.known) (still_fenced r t h.tenure h.fence h.fence_is))
     (λ (more : (part.tenure_now ≡ max h.tenure t) × (part.fence_now ≡ max h.fence t)).
-    held_after r q (a_tenure t) moves x y h part.points (max h.tenure t) (max h.fence t) (subst (λ (n : ℕ). Held part.points n (max h.fence t) y) more.0 (subst (λ (n : ℕ). Held part.points part.tenure_now n y) more.1 part.held)) part.grows (λ o m. inl m)
+    held_after r q (a_tenure t) moves x y h part.points (max h.tenure t) (max h.fence t) (subst (λ (n : ℕ). FilesHold part.points n (max h.fence t) y) more.0 (subst (λ (n : ℕ). FilesHold part.points part.tenure_now n y) more.1 part.held)) part.grows (λ o m. inl m)
     (up_higher r.begun t h.tenure h.none_higher) (up_known r t h.tenure h.known) (still_fenced r t (max h.tenure t) (max h.fence t) (up_fenced r t h.tenure h.fence h.fence_is)))
     part.numbers
 
@@ -69,9 +69,9 @@ held_tried r t x y may h =
 -- from files of which all is loaded
 pub held_began : (r : ReplicaState) (t fence : ℕ) (points : List Point) (tenure_found fence_found : ℕ) (x y : Files) → HeldOnce points tenure_found fence_found x → tenure_found ≤ t → fence ≡ max fence_found t → ((b : ℕ) → IsIn r.begun b → b ≤ t)
     → ((p : Point) → IsIn r.sure p → ¬ IsGone r p → Covers points p) → Gains (a_tenure t) x y
-    → IsHeldBy Held (record r { standing = standing.Open; tenure = Some t; fence = fence; sure = r.sure ++ points; doubt = []; doubt_fences = []; begun = r.begun ++ t ∷ [] }) y
+    → IsHeldBy (record r { standing = standing.Open; tenure = Some t; fence = fence; sure = r.sure ++ points; doubt = []; doubt_fences = []; begun = r.begun ++ t ∷ [] }) y
 held_began r t fence points tenure_found fence_found x y loaded low fence_is none_higher there gains =
-    let all = gains loaded.all tenure_found fence_found loaded.held in
+    let all = gains.held loaded.all tenure_found fence_found loaded.held in
     let tenure_is : t ≡ max tenure_found t = omega (arith, low) in
     record {
       points = all.points;
@@ -88,11 +88,11 @@ held_began r t fence points tenure_found fence_found x y loaded low fence_is non
     }
 
 -- of an open replica, of which no fence is in doubt
-pub held_again : (r : ReplicaState) (t fence : ℕ) → r.doubt ≡ [] → r.doubt_fences ≡ [] → fence ≡ max r.fence t → ((b : ℕ) → IsIn r.begun b → b ≤ t) → (x y : Files) → Gains (a_tenure t) x y → IsHeldBy Held r x
-    → IsHeldBy Held (record r { standing = standing.Open; tenure = Some t; fence = fence; sure = r.sure ++ []; doubt = []; doubt_fences = []; begun = r.begun ++ t ∷ [] }) y
+pub held_again : (r : ReplicaState) (t fence : ℕ) → r.doubt ≡ [] → r.doubt_fences ≡ [] → fence ≡ max r.fence t → ((b : ℕ) → IsIn r.begun b → b ≤ t) → (x y : Files) → Gains (a_tenure t) x y → IsHeldBy r x
+    → IsHeldBy (record r { standing = standing.Open; tenure = Some t; fence = fence; sure = r.sure ++ []; doubt = []; doubt_fences = []; begun = r.begun ++ t ∷ [] }) y
 held_again r t fence no_doubt none fence_is none_higher x y gains h =
     let q : ReplicaState = record r { standing = standing.Open; tenure = Some t; fence = fence; sure = r.sure ++ []; doubt = []; doubt_fences = []; begun = r.begun ++ t ∷ [] } in
-    let all = gains h.points h.tenure h.fence h.held in
+    let all = gains.held h.points h.tenure h.fence h.held in
     let was = only_fence r h.tenure h.fence none h.fence_is in
     let is : max h.fence t ≡ max (max h.tenure t) fence = omega (arith, was, fence_is) in
     let moves : MovesOn r q (a_tenure t) = record {
@@ -112,11 +112,11 @@ held_again r t fence no_doubt none fence_is none_higher x y gains h =
 -- ---- what the core says of a Began
 
 -- the points of files that the replica may begin with
-module _ (r : ReplicaState) (points : List Point) (tenure_found fence_found : ℕ) (files : Files) (held : HeldOnce points tenure_found fence_found files) (h : IsHeldBy Held r files) where
+module _ (r : ReplicaState) (points : List Point) (tenure_found fence_found : ℕ) (files : Files) (held : HeldOnce points tenure_found fence_found files) (h : IsHeldBy r files) where
   -- what the replica may begin with is what was loaded
   same_points : HaveSamePoints points h.points
   same_points p =
-      let same = (held_is_one h.points held.all h.tenure tenure_found h.fence fence_found files h.held held.held).0 in
+      let same = (files_hold_one h.points held.all h.tenure tenure_found h.fence fence_found files h.held held.held).0 in
       (λ m. subst (λ (l : List Point). IsIn l p) (sym same) ((held.once.same p).0 m), λ m. (held.once.same p).1 (subst (λ (l : List Point). IsIn l p) same m))
 
   pub loaded_covers : (p : Point) → IsIn r.sure p → ¬ IsGone r p → Covers points p
@@ -126,7 +126,7 @@ module _ (r : ReplicaState) (points : List Point) (tenure_found fence_found : �
 
   pub loaded : (t fence : ℕ) → tenure_found ≤ t → fence ≡ max fence_found t → IsLoaded r t fence points
   loaded t fence low fence_is =
-      let same = held_is_one h.points held.all h.tenure tenure_found h.fence fence_found files h.held held.held in
+      let same = files_hold_one h.points held.all h.tenure tenure_found h.fence fence_found files h.held held.held in
       let same_t = same.1 in
       let same_f = same.2 in
       record {

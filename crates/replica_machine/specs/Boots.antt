@@ -7,11 +7,12 @@ use Rattle.m3_model.specs.declared.reason.Reason.TheVariants as reason
 use Rattle.m3_model.specs.declared.replica.Standing.TheVariants as standing
 use Rattle.m3_outside.specs.Files.{Files}
 use Rattle.m3_outside.specs.DiskState.{DiskState, Told}
-use Rattle.shard_files.specs.Held.{Held}
+use Rattle.shard_files.specs.FilesHold.{FilesHold}
 use Rattle.shard_files.specs.Once.{HeldOnce}
+use Rattle.shard_files.specs.Damage.{OfForm, OfDigest}
 use Rattle.shard_files.specs.declared.load_err.LoadErr.{LoadErr}
 use Rattle.shard_files.specs.declared.load_err.LoadErr.TheVariants as failures
-use Rattle.replica_machine.specs.Damages.{damage_of}
+use Rattle.replica_machine.specs.Damages.{told_of}
 use Rattle.replica_machine.specs.Machines.{MachineState, shut_machine}
 use Rattle.replica_machine.specs.declared.machine.Began.{Began}
 
@@ -35,7 +36,7 @@ pub record HoldsHigher (tenure : ℕ) (files : Files) : Type 0 where
   pub points : List Point
   pub held_tenure : ℕ
   pub fence : ℕ
-  pub held : Held points held_tenure fence files
+  pub held : FilesHold points held_tenure fence files
   pub higher : tenure < held_tenure
 
 -- a higher tenure was begun, or the files hold one
@@ -46,7 +47,8 @@ MayBeUnowned state tenure m = (tenure < m.begun) ⊎ Told (state m.disk) (HoldsH
 abbrev pub MayNotLoad : LoadErr → Reason → Type 0
 MayNotLoad failures.Disk why = why ≡ reason.Disk
 MayNotLoad failures.Memory why = why ≡ reason.Memory
-MayNotLoad (failures.Form number at) why = (why ≡ reason.Memory) ⊎ (why ≡ reason.Corrupt (damage_of number at))
+MayNotLoad (failures.Digest name kept found) why = (why ≡ reason.Memory) ⊎ (why ≡ reason.Corrupt (told_of (OfDigest name kept found)))
+MayNotLoad (failures.Form name at) why = (why ≡ reason.Memory) ⊎ (why ≡ reason.Corrupt (told_of (OfForm name at)))
 
 -- a fault or damage closes the machine, and each other refusal leaves it
 abbrev pub IsRefused : {D : Type 0} → MachineState D → MachineState D → Reason → Type 0

@@ -1,25 +1,48 @@
 -- What is said of a file that is damaged.
-use Rattle.std.specs.Prelude.{◌≡◌, ℕ, List, ◌++◌, codes, decimal}
+use Rattle.std.specs.Prelude.{◌≡◌, ◌≢◌, ℕ, List, ◌++◌, ◌==◌, if◌then◌else◌, codes, decimal}
 use Rattle.m3_model.specs.declared.reason.Damage.{Damage}
 use Rattle.m3_model.specs.declared.reason.Damage.TheVariants as damage
 use Rattle.m3_outside.specs.Files.{Files}
-use Rattle.shard_files.specs.Loading.{IsDamagedAt}
+use Rattle.m3_outside.specs.declared.file_name.FileName.{FileName}
+use Rattle.shard_files.specs.Damage.{Damage as FileDamage, OfForm, OfDigest}
+use Rattle.shard_open.specs.Told.{FilesTell}
 
--- the name of the log's segment of this number
+-- ---- the names of a replica's files, as they are printed
+
+-- a segment of the log
 abbrev pub segment_text : ℕ → List ℕ
 segment_text number = codes "log-" ++ (decimal number ++ codes ".db")
 
--- no segment of a log goes on as this one does at this place
-abbrev pub damage_of : ℕ → ℕ → Damage
-damage_of number at = damage.Form (segment_text number) at
+-- which part of a volume or of a snapshot it is, by its kind
+abbrev pub part_text : ℕ → List ℕ
+part_text kind =
+    if kind == 1 then codes "info" else if kind == 2 then codes "summaries" else if kind == 3 then codes "index" else if kind == 4 then codes "data" else if kind == 5 then codes "bloom" else if kind == 6 then codes "digests" else if kind == 8 then codes "data" else codes "checkpoint"
 
--- the damage is that of a segment's form, not of a digest
-abbrev pub IsFormDamage : Damage → Type 0
-IsFormDamage told = (number at : ℕ) × (told ≡ damage_of number at)
+-- a file of a snapshot
+abbrev pub snapshot_text : ℕ → ℕ → List ℕ
+snapshot_text kind number = codes "snapshot-" ++ (decimal number ++ (codes "-" ++ (part_text kind ++ codes ".db")))
 
--- the damage names a segment of the files, and the first place in it at which they hold nothing
+-- a file of a volume
+abbrev pub volume_text : FileName → List ℕ
+volume_text name = codes "fileset-" ++ (decimal name.ns ++ (codes "-" ++ (decimal name.block ++ (codes "-" ++ (decimal name.number ++ (codes "-" ++ (part_text name.kind ++ codes ".db")))))))
+
+-- a file by its name; no kind is above 9
+abbrev pub file_text : FileName → List ℕ
+file_text name = if name.kind == 0 then segment_text name.number else if name.kind == 8 then snapshot_text 8 name.number else if name.kind == 9 then snapshot_text 9 name.number else volume_text name
+
+-- ---- what is told
+
+abbrev pub told_of : FileDamage → Damage
+told_of (OfForm name at) = damage.Form (file_text name) at
+told_of (OfDigest name kept found) = damage.Digest (file_text name) kept found
+
+-- it names a file, and two digests that are told differ
+abbrev pub IsFileDamage : Damage → Type 0
+IsFileDamage (damage.Digest file kept found) = ((name : FileName) × (file ≡ file_text name)) × (kept ≢ found)
+IsFileDamage (damage.Form file at) = (name : FileName) × (file ≡ file_text name)
+
+-- it is what is told of these files, which hold nothing
 pub record IsDamageOf (told : Damage) (files : Files) : Type 0 where
-  pub number : ℕ
-  pub at : ℕ
-  pub is : told ≡ damage_of number at
-  pub damaged : IsDamagedAt number at files
+  pub damage : FileDamage
+  pub is : told ≡ told_of damage
+  pub damaged : FilesTell files damage

@@ -5,7 +5,7 @@ use Rattle.m3_model.specs.Members.{IsIn}
 use Rattle.m3_model.specs.declared.point.Point.{Point}
 use Rattle.m3_outside.specs.Files.{Files}
 use Rattle.m3_outside.specs.DiskState.{DiskState, EachImage}
-use Rattle.shard_files.specs.Held.{Held}
+use Rattle.shard_files.specs.FilesHold.{FilesHold}
 use Rattle.cluster_core.specs.declared.replica_state.ReplicaState.{ReplicaState}
 use Rattle.replica_machine.specs.Machines.{MachineState, MayHaveTenure, IsMachineOf}
 
@@ -19,7 +19,7 @@ pub record HasKnownNumbers (r : ReplicaState) (files : Files) : Type 0 where
   pub points : List Point
   pub tenure : ℕ
   pub fence : ℕ
-  pub held : Held points tenure fence files
+  pub held : FilesHold points tenure fence files
   pub tenure_known : MayHaveTenure r tenure
   pub none_higher : All (λ begun. begun ≤ tenure) r.begun
   pub fence_known : MayHaveOwnFence r fence

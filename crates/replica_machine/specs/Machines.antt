@@ -21,8 +21,8 @@ use Rattle.m3_outside.specs.Files.{Files}
 use Rattle.m3_outside.specs.DiskState.{DiskState, EachImage}
 use Rattle.m3_outside.specs.declared.disk_err.DiskErr.{DiskErr}
 use Rattle.m3_outside.specs.declared.disk_err.DiskErr.TheVariants as refused
-use Rattle.shard_files.specs.Gains.{Holding}
-use Rattle.shard_files.specs.Held.{Held}
+use Rattle.shard_files.specs.Parts.{AreWhole}
+use Rattle.shard_files.specs.FilesHold.{FilesHold}
 use Rattle.shard_store.specs.Stores.{StoreState, closed_over}
 use Rattle.cluster_core.specs.Refusals.{shut, unowned, outdated, first_refusal}
 use Rattle.cluster_core.specs.Replicas.{Shows, IsGone, fresh}
@@ -136,11 +136,11 @@ MayHaveTenure r tenure = IsIn r.begun tenure ⊎ (IsIn r.tried tenure × IsIn r.
 -- Files that the replica may begin with. Their points are sure or in doubt, and cover the sure ones that aren't gone. Their tenure is one with which
 -- it began, or one in doubt with which it was to begin, and none with which it began is above it. Their fence is the replica's or one in doubt, and not
 -- below their tenure.
-pub record IsHeldBy (Holds : Holding) (r : ReplicaState) (files : Files) : Type 0 where
+pub record IsHeldBy (r : ReplicaState) (files : Files) : Type 0 where
   pub points : List Point
   pub tenure : ℕ
   pub fence : ℕ
-  pub held : Holds points tenure fence files
+  pub held : FilesHold points tenure fence files
   pub source : All (λ p. IsIn r.sure p ⊎ IsIn r.doubt p) points
   pub all_there : All (λ p. ¬ IsGone r p → Covers points p) r.sure
   pub none_higher : All (λ begun. begun ≤ tenure) r.begun
@@ -164,16 +164,14 @@ pub record IsGreatest (begun : ℕ) (all : List ℕ) : Type 0 where
 
 -- The machine is the replica's, and was made over one of these files: it stands as the replica does, has all that the replica has where it is open, and each
 -- stop leaves files that the replica may begin with, once it began. Until then each stop leaves files that came from one of those over which the machine
--- was made. No tenure with which the replica began is above its fence.
-pub record IsMachineBy {D : Type 0} (Holds : Holding) (state : D → DiskState) (base : Files → Type 0) (r : ReplicaState) (m : MachineState D) : Type 0 where
+-- was made. No tenure with which the replica began is above its fence. Where in each of those over which it was made each snapshot that counts was whole,
+-- each stop leaves such files.
+pub record IsMachineOf {D : Type 0} (state : D → DiskState) (base : Files → Type 0) (r : ReplicaState) (m : MachineState D) : Type 0 where
   pub stands : m.standing ≡ r.standing
   pub begun : IsGreatest m.begun r.begun
   pub below : All (λ begun. begun ≤ r.fence) r.begun
   pub empty : r.begun ≡ [] → r.sure ≡ []
   pub open_ : m.standing ≡ standing.Open → HasAllOf state r m
-  pub files : r.begun ≢ [] → EachImage (state m.disk) (IsHeldBy Holds r)
-  pub unbegun : r.begun ≡ [] → EachImage (state m.disk) (CameFrom Holds base r.tried)
-
--- by the log
-abbrev pub IsMachineOf : {D : Type 0} → (D → DiskState) → (Files → Type 0) → ReplicaState → MachineState D → Type 0
-IsMachineOf state base r m = IsMachineBy Held state base r m
+  pub files : r.begun ≢ [] → EachImage (state m.disk) (IsHeldBy r)
+  pub unbegun : r.begun ≡ [] → EachImage (state m.disk) (CameFrom base r.tried)
+  pub snapshots : ((c : Files) → base c → AreWhole c) → EachImage (state m.disk) AreWhole

@@ -5,7 +5,7 @@ use Rattle.m3_model.specs.Members.{IsIn}
 use Rattle.m3_model.specs.declared.point.Point.{Point}
 use Rattle.m3_outside.specs.Files.{Files}
 use Rattle.m3_outside.specs.DiskState.{DiskState, EachImage}
-use Rattle.shard_files.specs.Held.{Held, IsSound}
+use Rattle.shard_files.specs.FilesHold.{FilesHold, IsSound, AreSound}
 use Rattle.shard_files.specs.Once.{HaveSamePoints, IsEachOnce}
 use Rattle.cluster_core.specs.Replicas.{after}
 use Rattle.cluster_core.specs.Rows.{LawfulStep}
@@ -35,11 +35,11 @@ pub record HoldAsMade (base : Files → Type 0) (tried : List ℕ) (files : File
   pub points_before : List Point
   pub tenure_before : ℕ
   pub fence_before : ℕ
-  pub held_before : Held points_before tenure_before fence_before before
+  pub held_before : FilesHold points_before tenure_before fence_before before
   pub points : List Point
   pub tenure : ℕ
   pub fence : ℕ
-  pub held : Held points tenure fence files
+  pub held : FilesHold points tenure fence files
   pub same : HaveSamePoints points points_before
   pub tenure_low : tenure_before ≤ tenure
   pub tenure_up : IsUpTo tenure_before tried tenure
@@ -58,7 +58,7 @@ pub record BeginsAsMade (base : Files → Type 0) (tried : List ℕ) (fence : �
   pub points_before : List Point
   pub tenure_before : ℕ
   pub fence_before : ℕ
-  pub held_before : Held points_before tenure_before fence_before before
+  pub held_before : FilesHold points_before tenure_before fence_before before
   pub once : IsEachOnce points_before points
   pub fence_up : IsUpTo fence_before tried fence
 
@@ -73,8 +73,8 @@ pub record HasTenureUpTo (base : Files → Type 0) (tenures : List ℕ) (files :
   pub points : List Point
   pub tenure : ℕ
   pub fence : ℕ
-  pub held : Held points tenure fence files
-  pub up : Any (λ t. tenure ≤ t) tenures ⊎ ((before : Files) × (points_before : List Point) × (tenure_before : ℕ) × (fence_before : ℕ) × base before × Held points_before tenure_before fence_before before × (tenure ≤ tenure_before))
+  pub held : FilesHold points tenure fence files
+  pub up : Any (λ t. tenure ≤ t) tenures ⊎ ((before : Files) × (points_before : List Point) × (tenure_before : ℕ) × (fence_before : ℕ) × base before × FilesHold points_before tenure_before fence_before before × (tenure ≤ tenure_before))
 
 -- each stop leaves files with a tenure that isn't above that of an image of the disk over which the machine was made and those with which its replica began
 -- or was to begin
@@ -82,8 +82,12 @@ abbrev pub TenuresAreKnown : {D : Type 0} → (D → DiskState) → Type 0
 TenuresAreKnown {D} state =
     (first : D) (r : ReplicaState) (m : MachineState D) → AllSound (state first).images → IsMachineOf state (state first).images r m → EachImage (state m.disk) (HasTenureUpTo (state first).images (r.begun ++ r.tried))
 
+-- where each file that counts was in its grammar when the machine was made, also in an older snapshot, it is so in what each stop leaves
+abbrev pub StaysSound : {D : Type 0} → (D → DiskState) → Type 0
+StaysSound {D} state = (first : D) (r : ReplicaState) (m : MachineState D) → ((c : Files) → (state first).images c → AreSound c) → IsMachineOf state (state first).images r m → EachImage (state m.disk) AreSound
+
 -- What a step says of a machine by the disk over which it was made holds by whatever files these are: here by a list of them.
 pub record StepsOverFiles {D : Type 0} (state : D → DiskState) : Type 0 where
   pub lawful : (all : List Files) (r : ReplicaState) (old new : MachineState D) (c : StepCall) (a : StepReply) → IsStep state old c a new → IsMachineOf state (IsIn all) r old → (past : List Event) (n s : ℕ) → IsGiven past n s c → LawfulStep (state old.disk).tells past n s r c a
   pub follows : (all : List Files) (r : ReplicaState) (old new : MachineState D) (c : StepCall) (a : StepReply) → IsStep state old c a new → IsMachineOf state (IsIn all) r old → IsMachineOf state (IsIn all) (after r c a) new
-  pub opens : (all : List Files) (r : ReplicaState) (old new : MachineState D) (c : StepCall) (a : StepReply) → IsStep state old c a new → IsMachineOf state (IsIn all) r old → (state old.disk).tells ≡ true → r.begun ≡ [] → HasOpening Held (IsIn all) r.tried c a
+  pub opens : (all : List Files) (r : ReplicaState) (old new : MachineState D) (c : StepCall) (a : StepReply) → IsStep state old c a new → IsMachineOf state (IsIn all) r old → (state old.disk).tells ≡ true → r.begun ≡ [] → HasOpening (IsIn all) r.tried c a

@@ -10,16 +10,14 @@ use Rattle.m3_model.specs.declared.replica.Standing.{Standing}
 use Rattle.m3_model.specs.declared.replica.Standing.TheVariants as standing
 use Rattle.m3_model.specs.declared.rules.Rules.{Rules}
 use Rattle.m3_outside.specs.Files.{Files}
-use Rattle.m3_outside.specs.DiskState.{DiskState, StepOf, EachImage}
-use Rattle.shard_files.specs.FileLaws.{AreOfLog}
-use Rattle.shard_files.specs.FilesHold.{HoldWhole}
+use Rattle.m3_outside.specs.DiskState.{DiskState, StepOf}
 use Rattle.shard_files.specs.Keeps.{Keeps}
 use Rattle.cluster_core.specs.Replicas.{Shows, after, down}
 use Rattle.cluster_core.specs.declared.event.StepCall.TheVariants as call
 use Rattle.cluster_core.specs.declared.event.StepReply.{StepReply}
 use Rattle.cluster_core.specs.declared.event.StepReply.TheVariants as reply
 use Rattle.cluster_core.specs.declared.replica_state.ReplicaState.{ReplicaState}
-use Rattle.replica_machine.specs.Machines.{MachineState, IsHeldBy, IsMachineBy, IsMachineOf, shut_machine}
+use Rattle.replica_machine.specs.Machines.{MachineState, IsHeldBy, IsMachineOf, shut_machine}
 
 -- what a tick leaves of a content: points of it, and of these all that haven't expired by the rules
 pub record IsTickedTo (rules : Rules) (content kept : Contents) : Type 0 where
@@ -37,11 +35,11 @@ IsTick _ = ⊥
 
 -- files that the replica may begin with are still such where a content that shows it is kept, however it stands then
 abbrev pub KeptReplica : Type 0
-KeptReplica = (r : ReplicaState) (s : Standing) (content : Contents) (x y : Files) → Shows r content → Keeps content x y → IsHeldBy HoldWhole r x → IsHeldBy HoldWhole (record r { standing = s }) y
+KeptReplica = (r : ReplicaState) (s : Standing) (content : Contents) (x y : Files) → Shows r content → Keeps content x y → IsHeldBy r x → IsHeldBy (record r { standing = s }) y
 
 -- so they are where a tick by these rules keeps of it what hasn't expired, for what the tick leaves of the replica
 abbrev pub TickedReplica : Type 0
-TickedReplica = (r : ReplicaState) (rules : Rules) (a : StepReply) (content kept : Contents) (x y : Files) → IsTick a → Shows r content → IsTickedTo rules content kept → Keeps kept x y → IsHeldBy HoldWhole r x → IsHeldBy HoldWhole (after r (call.Tick rules) a) y
+TickedReplica = (r : ReplicaState) (rules : Rules) (a : StepReply) (content kept : Contents) (x y : Files) → IsTick a → Shows r content → IsTickedTo rules content kept → Keeps kept x y → IsHeldBy r x → IsHeldBy (after r (call.Tick rules) a) y
 
 -- ---- machines
 
@@ -52,22 +50,17 @@ pub record KeepsImages (kept : Contents) (old new : DiskState) : Type 0 where
 
 -- an open machine, whose content is kept on its disk, is still its replica's, as it was or closed
 pub record KeptMachine {D : Type 0} (state : D → DiskState) : Type 0 where
-  pub open_ : (first : D) (r : ReplicaState) (m : MachineState D) (d : D) → m.standing ≡ standing.Open → KeepsImages m.content (state m.disk) (state d) → IsMachineBy HoldWhole state (state first).images r m
-      → IsMachineBy HoldWhole state (state first).images r (record m { disk = d })
-  pub closed : (first : D) (r : ReplicaState) (m : MachineState D) (d : D) → m.standing ≡ standing.Open → KeepsImages m.content (state m.disk) (state d) → IsMachineBy HoldWhole state (state first).images r m
-      → IsMachineBy HoldWhole state (state first).images (down r) (shut_machine standing.Down m d)
+  pub open_ : (first : D) (r : ReplicaState) (m : MachineState D) (d : D) → m.standing ≡ standing.Open → KeepsImages m.content (state m.disk) (state d) → IsMachineOf state (state first).images r m
+      → IsMachineOf state (state first).images r (record m { disk = d })
+  pub closed : (first : D) (r : ReplicaState) (m : MachineState D) (d : D) → m.standing ≡ standing.Open → KeepsImages m.content (state m.disk) (state d) → IsMachineOf state (state first).images r m
+      → IsMachineOf state (state first).images (down r) (shut_machine standing.Down m d)
 
 -- so is one of which a tick keeps what hasn't expired, for what the tick leaves of the replica: with that content where it was done, and closed where it
 -- wasn't
 pub record TickedMachine {D : Type 0} (state : D → DiskState) : Type 0 where
   pub done : (first : D) (r : ReplicaState) (m : MachineState D) (d : D) (rules : Rules) (n : ℕ) (kept : Contents) → m.standing ≡ standing.Open → IsTickedTo rules m.content kept → KeepsImages kept (state m.disk) (state d)
-      → IsMachineBy HoldWhole state (state first).images r m → IsMachineBy HoldWhole state (state first).images (after r (call.Tick rules) (reply.Count n)) (record m { content = kept; disk = d })
+      → IsMachineOf state (state first).images r m → IsMachineOf state (state first).images (after r (call.Tick rules) (reply.Count n)) (record m { content = kept; disk = d })
   pub failed : (first : D) (r : ReplicaState) (m : MachineState D) (d : D) (rules : Rules) (kept : Contents) → m.standing ≡ standing.Open → IsTickedTo rules m.content kept → KeepsImages kept (state m.disk) (state d)
-      → IsMachineBy HoldWhole state (state first).images r m → IsMachineBy HoldWhole state (state first).images (after r (call.Tick rules) (reply.Refused reason.Disk)) (shut_machine standing.Down m d)
+      → IsMachineOf state (state first).images r m → IsMachineOf state (state first).images (after r (call.Tick rules) (reply.Refused reason.Disk)) (shut_machine standing.Down m d)
   pub damaged : (first : D) (r : ReplicaState) (m : MachineState D) (d : D) (rules : Rules) (damage : Damage) (kept : Contents) → m.standing ≡ standing.Open → IsTickedTo rules m.content kept → KeepsImages kept (state m.disk) (state d)
-      → IsMachineBy HoldWhole state (state first).images r m → IsMachineBy HoldWhole state (state first).images (after r (call.Tick rules) (reply.Refused (reason.Corrupt damage))) (shut_machine standing.Down m d)
-
--- a machine by the log is one by volumes, snapshots and log where the files over which it was made are of a log alone, and each stop leaves such files
-abbrev pub MachineOverLog : {D : Type 0} → (D → DiskState) → Type 0
-MachineOverLog {D} state =
-    (first : D) (r : ReplicaState) (m : MachineState D) → ((c : Files) → (state first).images c → AreOfLog c) → EachImage (state m.disk) AreOfLog → IsMachineOf state (state first).images r m → IsMachineBy HoldWhole state (state first).images r m
+      → IsMachineOf state (state first).images r m → IsMachineOf state (state first).images (after r (call.Tick rules) (reply.Refused (reason.Corrupt damage))) (shut_machine standing.Down m d)

@@ -6,7 +6,7 @@ use Rattle.m3_model.specs.declared.reason.Reason.TheVariants as reason
 use Rattle.m3_outside.specs.Causes.{CountsFaults}
 use Rattle.m3_outside.specs.Files.{Files, Stays}
 use Rattle.m3_outside.specs.DiskState.{DiskState, StepOf, Elapses, Proceeds, Told}
-use Rattle.shard_files.specs.Held.{Held, IsSound}
+use Rattle.shard_files.specs.FilesHold.{IsSound}
 use Rattle.shard_files.specs.Gains.{Gain, nothing, Gains, MayGain}
 use Rattle.cluster_core.specs.Earlier.{HasClock, HasSend, HasTenure, HasPage}
 use Rattle.cluster_core.specs.Replicas.{after}
@@ -43,7 +43,7 @@ IsGiven past n s _ = ⊤
 pub record IsStep {D : Type 0} (state : D → DiskState) (old : MachineState D) (c : StepCall) (a : StepReply) (new : MachineState D) : Type 0 where
   pub lawful : (first : D) (r : ReplicaState) → IsMachineOf state (state first).images r old → (past : List Event) (n s : ℕ) → IsGiven past n s c → LawfulStep (state old.disk).tells past n s r c a
   pub follows : (first : D) (r : ReplicaState) → IsMachineOf state (state first).images r old → IsMachineOf state (state first).images (after r c a) new
-  pub opens : (first : D) (r : ReplicaState) → IsMachineOf state (state first).images r old → (state old.disk).tells ≡ true → r.begun ≡ [] → HasOpening Held (state first).images r.tried c a
+  pub opens : (first : D) (r : ReplicaState) → IsMachineOf state (state first).images r old → (state old.disk).tells ≡ true → r.begun ≡ [] → HasOpening (state first).images r.tried c a
   pub sound : (damage : Damage) → a ≡ reply.Refused (reason.Corrupt damage) → Told (state old.disk) (λ files. ¬ IsSound files)
   pub tells : (state new.disk).tells ≡ (state old.disk).tells
   pub faults : CountsFaults (a ≡ reply.Refused reason.Disk) (state old.disk).faults (state new.disk).faults

@@ -1,24 +1,24 @@
-ghost use Rattle.std.specs.Prelude.{◌≡◌, ◌≢◌, ◌⊎◌, ◌<◌, ◌≤◌, ◌↔◌, ℕ, [], max, true, Some, OnOk, IfOk, IfErr, IsErrOf};
+ghost use Rattle.std.specs.Prelude.{◌≡◌, ◌≢◌, ◌⊎◌, ◌<◌, ◌≤◌, ◌↔◌, ℕ, [], max, true, Some, OnOk, OnErr, IfOk, IfErr, IsErrOf};
 ghost use Rattle.m3_model.specs.Contents.{content_of};
 ghost use Rattle.m3_model.specs.declared.reason.Reason.TheVariants as reason;
 ghost use Rattle.m3_model.specs.declared.replica.Standing.TheVariants.{Down as IsDown, Boot as IsBoot, Open as IsOpen};
 ghost use Rattle.m3_outside.specs.DiskState.{DiskState, Told, EachImage, Becomes};
 ghost use Rattle.commit_log.specs.LogEnd.{NoneFrom};
-ghost use Rattle.m3_model.specs.declared.reason.Damage.{Damage};
-ghost use Rattle.shard_files.specs.Held.{IsSound};
+ghost use Rattle.m3_model.specs.declared.reason.Damage.{Damage as Wrong};
+ghost use Rattle.shard_files.specs.FilesHold.{IsSound};
 ghost use Rattle.shard_files.specs.Gains.{a_tenure};
 ghost use Rattle.shard_files.specs.Once.{HeldOnce};
 ghost use Rattle.cluster_core.specs.declared.event.StepCall.TheVariants as call;
 ghost use Rattle.cluster_core.specs.declared.event.StepReply.TheVariants as reply;
 ghost use Rattle.replica_machine.specs.Machines.{IsOwn};
-ghost use Rattle.replica_machine.specs.Damages.{damage_of, IsDamageOf, IsFormDamage};
+ghost use Rattle.replica_machine.specs.Damages.{IsDamageOf, IsFileDamage};
 ghost use Rattle.replica_machine.specs.Boots.{BeganFrom, BeganAgain, HoldsHigher, MayBeUnowned, MayNotLoad, IsRefused, IsBootReason};
 ghost use Rattle.replica_machine.specs.Steps.{reply_by, IsStep, BringsTo};
 
-use crate::damage::damaged_segment;
+use crate::damage::{damaged_digest, damaged_form};
 use crate::machine::{Began, Machine, fall};
 use crate::opening::open_store;
-use m3_model::{Reason, Seq, Standing};
+use m3_model::{Damage, Memory, Reason, Seq, Standing};
 use m3_outside::{Disk, DiskErr};
 use shard_files::LoadErr;
 use shard_open::Loaded;
@@ -32,8 +32,8 @@ impl<D: Disk> Machine<D> {
     ///
     /// `Down`. `NotOwned`, exactly where a higher tenure was begun, or the files were read and hold one: no segment is begun
     /// then. Want of memory, after which a segment may have been begun. Each of these leaves the machine as it was, and where
-    /// the files weren't read its disk too. `Disk`, by a fault, and `Corrupt`, where a file is damaged: it names the file and
-    /// the first place in it at which no log goes on. Then the machine is closed.
+    /// the files weren't read its disk too. `Disk`, by a fault, and `Corrupt`, where a volume that counts, the newest snapshot that
+    /// counts or a segment is damaged: it names the first such file, as `load` tells it. Then the machine is closed.
     pub fn boot(&mut self, tenure: u64) -> Result<Began, Reason>
         ensures began { self.old.standing ≡ IsBoot → IfOk result (BeganFrom D.state tenure self.old self.new) }
         ensures again { self.old.standing ≡ IsOpen → IfOk result (BeganAgain tenure self.old self.new) }
@@ -42,9 +42,9 @@ impl<D: Disk> Machine<D> {
         ensures unowned_always { self.old.standing ≢ IsDown → tenure < self.old.begun → IsErrOf result reason.NotOwned }
         ensures unowned_files { (D.state self.old.disk).tells ≡ true → IsErrOf result reason.NotOwned → Becomes (λ files. files) (D.state self.old.disk) (D.state self.new.disk) }
         ensures plain { (self.old.standing ≡ IsDown) ⊎ (tenure < self.old.begun) → self.new ≡ self.old }
-        ensures sound { (damage : Damage) → IsErrOf result (reason.Corrupt damage) → Told (D.state self.old.disk) (λ files. ¬ IsSound files) }
-        ensures damage { (damage : Damage) → IsErrOf result (reason.Corrupt damage) → Told (D.state self.old.disk) (IsDamageOf damage) }
-        ensures form { (damage : Damage) → IsErrOf result (reason.Corrupt damage) → IsFormDamage damage }
+        ensures sound { (damage : Wrong) → IsErrOf result (reason.Corrupt damage) → Told (D.state self.old.disk) (λ files. ¬ IsSound files) }
+        ensures damage { (damage : Wrong) → IsErrOf result (reason.Corrupt damage) → Told (D.state self.old.disk) (IsDamageOf damage) }
+        ensures form { (damage : Wrong) → IsErrOf result (reason.Corrupt damage) → IsFileDamage damage }
         ensures reasons { IfErr result IsBootReason }
         ensures err { IfErr result (IsRefused self.old self.new) }
         ensures disk { BringsTo (a_tenure tenure) result (D.state self.old.disk) (D.state self.new.disk) }
@@ -70,8 +70,8 @@ impl<D: Disk> Machine<D> {
         ensures not_down { ¬ (IsErrOf result reason.Down) }
         ensures unowned { IsErrOf result reason.NotOwned → Told (D.state self.old.disk) (HoldsHigher tenure) }
         ensures unowned_files { (D.state self.old.disk).tells ≡ true → IsErrOf result reason.NotOwned → Becomes (λ files. files) (D.state self.old.disk) (D.state self.new.disk) }
-        ensures damage { (damage : Damage) → IsErrOf result (reason.Corrupt damage) → Told (D.state self.old.disk) (IsDamageOf damage) }
-        ensures form { (damage : Damage) → IsErrOf result (reason.Corrupt damage) → IsFormDamage damage }
+        ensures damage { (damage : Wrong) → IsErrOf result (reason.Corrupt damage) → Told (D.state self.old.disk) (IsDamageOf damage) }
+        ensures form { (damage : Wrong) → IsErrOf result (reason.Corrupt damage) → IsFileDamage damage }
         ensures reasons { IfErr result IsBootReason }
         ensures err { IfErr result (IsRefused self.old self.new) }
         ensures disk { BringsTo (a_tenure tenure) result (D.state self.old.disk) (D.state self.new.disk) }
@@ -145,16 +145,21 @@ impl<D: Disk> Machine<D> {
         match why {
             LoadErr::Disk => self.refused(DiskErr::Failed),
             LoadErr::Memory => self.refused(DiskErr::Memory),
-            LoadErr::Form { number, at } => self.damaged(number, at),
+            LoadErr::Digest { file, kept, found } => {
+                self.damaged(damaged_digest(self.alloc, file, kept, found))
+            }
+            LoadErr::Form { file, at } => self.damaged(damaged_form(self.alloc, file, at)),
         }
     }
 
-    fn damaged(&mut self, number: u64, at: u64) -> Reason
-        ensures why { (result ≡ reason.Memory) ⊎ (result ≡ reason.Corrupt (damage_of number at)) }
+    // The same of damage, which closes the machine where there was memory to tell of it.
+    fn damaged(&mut self, told: Result<Damage, Memory>) -> Reason
+        ensures told { IfOk told (λ damage. result ≡ reason.Corrupt damage) }
+        ensures memory { OnErr told (result ≡ reason.Memory) }
         ensures left { IsRefused self.old self.new result }
         ensures disk { self.new.disk ≡ self.old.disk }
     {
-        match damaged_segment(self.alloc, number, at) {
+        match told {
             Ok(damage) => {
                 self.stop();
                 Reason::Corrupt(damage)

@@ -1,7 +1,7 @@
 //! Laws over the definitions of machines.
 ghost use Rattle.replica_machine.specs.MachineLaws.{NumbersAreKnown};
-ghost use Rattle.replica_machine.specs.Openings.{StaysAsMade, FirstBeginIsAsMade, TenuresAreKnown, StepsOverFiles};
-ghost use Rattle.replica_machine.specs.Rearranged.{KeptReplica, TickedReplica, KeptMachine, TickedMachine, MachineOverLog};
+ghost use Rattle.replica_machine.specs.Openings.{StaysAsMade, FirstBeginIsAsMade, StaysSound, TenuresAreKnown, StepsOverFiles};
+ghost use Rattle.replica_machine.specs.Rearranged.{KeptReplica, TickedReplica, KeptMachine, TickedMachine};
 
 use m3_outside::Disk;
 
@@ -30,6 +30,12 @@ pub fn tenures_are_known<D: Disk>()
     ensures { TenuresAreKnown D.state }
 {}
 
+/// Each stop leaves files of which each that counts is in its grammar, also an older snapshot, where it was so of each image of the
+/// disk over which the machine was made.
+pub fn machine_stays_sound<D: Disk>()
+    ensures { StaysSound D.state }
+{}
+
 /// What a step says of a machine by the disk over which it was made, it says by any list of files.
 pub fn steps_over_files<D: Disk>()
     ensures { StepsOverFiles D.state }
@@ -53,10 +59,4 @@ pub fn kept_machine<D: Disk>()
 /// So is one of which a tick keeps what hasn't expired.
 pub fn ticked_machine<D: Disk>()
     ensures { TickedMachine D.state }
-{}
-
-/// A machine that is its replica's by the log is so by volumes, snapshots and log, where no stop leaves a file of a volume or of a
-/// snapshot and none was there when it was made.
-pub fn machine_over_log<D: Disk>()
-    ensures { MachineOverLog D.state }
 {}

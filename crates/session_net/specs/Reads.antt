@@ -29,7 +29,7 @@ use Rattle.net_plan.specs.Fates.{FateMap}
 use Rattle.replica_exchange.specs.MachineCalls.{HasRoom}
 use Rattle.replica_exchange.specs.declared.call_id.CallId.{CallId}
 use Rattle.replica_calls.specs.Calls.{Tracked}
-use Rattle.replica_machine.specs.Damages.{IsFormDamage}
+use Rattle.replica_machine.specs.Damages.{IsFileDamage}
 use Rattle.session_net.specs.Messages.{Heard, AreHeard}
 use Rattle.session_net.specs.Outcomes.{Told, told_of, answering, AreCounted, IsTooFew}
 use Rattle.session_net.specs.Runs.{Ran}
@@ -78,7 +78,7 @@ answers_in r = filter_map (λ x. result_ok x.1) r.heard
 
 -- each damage that a node was heard to find is of its files' form
 abbrev pub AreForms : List (Heard (List Series)) → Type 0
-AreForms heard = (x : Heard (List Series)) → IsIn heard x → (damage : Damage) → IsErrOf x.1 (reason.Corrupt damage) → IsFormDamage damage
+AreForms heard = (x : Heard (List Series)) → IsIn heard x → (damage : Damage) → IsErrOf x.1 (reason.Corrupt damage) → IsFileDamage damage
 
 -- all nodes that count for the shard were asked, one after the other
 pub record IsAsked (state : MetaState) (fates : FateMap) (id : CallId) (w : Wish) (shard : ℕ) (r : ShardRead) : Type 0 where

@@ -14,7 +14,7 @@ use Rattle.m3_model.specs.declared.point.Series.{Series}
 use Rattle.m3_model.specs.declared.reason.Damage.{Damage}
 use Rattle.m3_model.specs.declared.reason.Reason.{Reason}
 use Rattle.m3_model.specs.declared.reason.Reason.TheVariants as reason
-use Rattle.replica_machine.specs.Damages.{IsFormDamage}
+use Rattle.replica_machine.specs.Damages.{IsFileDamage}
 use Rattle.session_net.specs.Reads.{AreForms}
 use Rattle.m3_model.proofs.MemberLemmas.{IsIn-append_left, IsIn-append_right, IsIn-append_cases, IsIn-filter_map, filter_map-IsIn}
 use Rattle.m3_outside.specs.DiskState.{DiskState}
@@ -117,8 +117,8 @@ ordered_more old new (Ok answer) was merge = merge.ordered
 ordered_more old new (Err why) was same = subst IsOrdered (sym same) was
 
 -- each damage is of a form
-pub forms_more : (n : ℕ) (heard : List (Heard (List Series))) (said : Result (List Series) Reason) → AreForms heard → ((damage : Damage) → IsErrOf said (reason.Corrupt damage) → IsFormDamage damage) → AreForms (heard ++ (n, said) ∷ [])
-forms_more n heard said was last x m damage is = elim (IsIn-append_cases heard ((n, said) ∷ []) x m) as (λ _. IsFormDamage damage) [
+pub forms_more : (n : ℕ) (heard : List (Heard (List Series))) (said : Result (List Series) Reason) → AreForms heard → ((damage : Damage) → IsErrOf said (reason.Corrupt damage) → IsFileDamage damage) → AreForms (heard ++ (n, said) ∷ [])
+forms_more n heard said was last x m damage is = elim (IsIn-append_cases heard ((n, said) ∷ []) x m) as (λ _. IsFileDamage damage) [
   | inl before ↦ was x before damage is
   | inr (inl e) ↦ last damage (subst (λ (y : Heard (List Series)). IsErrOf y.1 (reason.Corrupt damage)) (sym e) is)
   | inr (inr none) ↦ absurd none

@@ -8,7 +8,7 @@ ghost use Rattle.m3_model.specs.Contents.{content_of};
 ghost use Rattle.m3_model.specs.Reads.{IsOrdered, points_in, space_picked};
 ghost use Rattle.m3_model.specs.declared.reason.Damage.{Damage};
 ghost use Rattle.m3_model.specs.declared.reason.Reason.TheVariants as reason;
-ghost use Rattle.replica_machine.specs.Damages.{IsFormDamage};
+ghost use Rattle.replica_machine.specs.Damages.{IsFileDamage};
 ghost use Rattle.m3_model.specs.declared.point.Series.{Series as Found};
 ghost use Rattle.cluster_core.specs.Earlier.{HasClock};
 ghost use Rattle.cluster_core.specs.declared.event.StepReply.TheVariants as reply;
@@ -80,7 +80,7 @@ fn read_once<D: Disk>(
     requires known { space_picked pick.now < length state.now.rules.spaces }
     ensures delivered { Delivered D.state reply.Found slot.node slot.shard (read_of asking.now.id state.entry.now.rules state.entry.now.place.version (wish_of pick.now asking.now)) result replicas.old replicas.new }
     ensures ordered { IfOk result IsOrdered }
-    ensures form { (damage : Damage) → IsErrOf result (reason.Corrupt damage) → IsFormDamage damage }
+    ensures form { (damage : Damage) → IsErrOf result (reason.Corrupt damage) → IsFileDamage damage }
 {
     match replicas.read(
         slot,
@@ -113,7 +113,7 @@ fn read_by_fate<D: Disk>(
     requires known { space_picked pick.now < length state.now.rules.spaces }
     ensures brought { Brought D.state reply.Found fate slot.node slot.shard (read_of asking.now.id state.entry.now.rules state.entry.now.place.version (wish_of pick.now asking.now)) result replicas.old replicas.new }
     ensures ordered { IfOk result IsOrdered }
-    ensures form { (damage : Damage) → IsErrOf result (reason.Corrupt damage) → IsFormDamage damage }
+    ensures form { (damage : Damage) → IsErrOf result (reason.Corrupt damage) → IsFileDamage damage }
 {
     match fate {
         Fate::Lose | Fate::Late => Err(Reason::Cut),

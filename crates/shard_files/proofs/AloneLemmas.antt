@@ -12,7 +12,7 @@ use Rattle.commit_log.proofs.Numbers.{in_there}
 use Rattle.wire_bytes.specs.Snapshots.{Snapshot}
 use Rattle.wire_bytes.specs.Volumes.{VolumeHead, Checkpoint, points_of_rows}
 use Rattle.shard_files.specs.FilesHold.{HoldWhole, volume_points, points_in_newest, tenure_in_newest, fence_in_newest}
-use Rattle.shard_files.specs.Held.{HoldsEntries, Held, points_of, tenure_of, fence_of}
+use Rattle.shard_files.specs.HeldEntries.{HoldsEntries, LogAmountsTo, points_of, tenure_of, fence_of}
 use Rattle.shard_files.specs.Parts.{is_open, counted, part_of, KnownVolume, AreKnown, is_volume_checkpoint, counted_volumes, snapshot_data, snapshot_checkpoint, is_snapshot_checkpoint, counted_snapshots, IsNewest, NewestIs}
 use Rattle.shard_files.specs.Steps.{IsPartOf}
 use Rattle.shard_files.specs.FileLaws.{VolumeIsHeld, SnapshotIsHeld, AreOfLog, LogIsHeld}
@@ -112,7 +112,7 @@ module _ (files : Files) (alone : AreOfLog files) where
   no_newest None h = refl
   no_newest (Some s) h = absurd (no_last h.older (snapshot_checkpoint s.number) (sym no_snapshots ∙ h.last))
 
-  whole : (points : List Point) (tenure fence : ℕ) → Held points tenure fence files → HoldWhole points tenure fence files
+  whole : (points : List Point) (tenure fence : ℕ) → LogAmountsTo points tenure fence files → HoldWhole points tenure fence files
   whole points tenure fence h = record {
     held = record {
       parts = record { volumes = []; newest = None; entries = h.entries };
@@ -124,7 +124,7 @@ module _ (files : Files) (alone : AreOfLog files) where
     snapshots = λ q m. absurd (subst (λ l. IsIn l q) no_snapshots m);
   }
 
-  by_log : (points : List Point) (tenure fence : ℕ) → HoldWhole points tenure fence files → Held points tenure fence files
+  by_log : (points : List Point) (tenure fence : ℕ) → HoldWhole points tenure fence files → LogAmountsTo points tenure fence files
   by_log points tenure fence w =
       let entries = w.held.parts.entries in
       let volumes = none_known files w.held.parts.volumes (subst (λ l. AreKnown files l w.held.parts.volumes) no_volumes w.held.holds.volumes) in

@@ -2,7 +2,7 @@
 use Rattle.std.proofs.Common.{◌≡◌, ℕ, ◌≤◌, List, [], ◌∷◌, ◌++◌, max, sym, ap, ◌∙◌, arith}
 use Rattle.m3_model.specs.declared.point.Point.{Point}
 use Rattle.shard_files.specs.declared.entries.LogEntry.{LogEntry}
-use Rattle.shard_files.specs.Held.{AmountTo, points_in, tenure_in, fence_in}
+use Rattle.shard_files.specs.HeldEntries.{AmountTo, points_in, tenure_in, fence_in}
 use Rattle.shard_files.proofs.HeldLemmas.{one_more, tenures_are_fences}
 
 pub amount_more : (ps qs : List Point) (t f u g : ℕ) (es : List LogEntry) (e : LogEntry) → AmountTo es ps t f → qs ≡ ps ++ points_in e → u ≡ max t (tenure_in e) → g ≡ max f (fence_in e) → AmountTo (es ++ e ∷ []) qs u g

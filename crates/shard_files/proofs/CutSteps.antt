@@ -1,6 +1,7 @@
 -- A log that is cut: what files hold then.
 use Rattle.std.proofs.Common.{◌≡◌, ⊎_elim, ℕ, ◌≤◌, List, [], ◌∷◌, ◌++◌, map, refl, sym, ap, subst, ◌∙◌, arith, append_assoc}
 use Rattle.std.specs.FinMap.{get}
+use Rattle.m3_model.specs.Contents.{Contents}
 use Rattle.m3_model.specs.Members.{IsIn}
 use Rattle.m3_model.specs.declared.point.Point.{Point}
 use Rattle.m3_model.proofs.MemberLemmas.{IsIn-append_left, IsIn-append_right, IsIn-append_cases, IsIn-map}
@@ -16,10 +17,11 @@ use Rattle.commit_log.proofs.Parts.{parts_split}
 use Rattle.commit_log.proofs.CutLaws.{halves, cut_end}
 use Rattle.shard_files.specs.declared.entries.LogEntry.{LogEntry}
 use Rattle.shard_files.specs.Entries.{spelled, AreWithin}
-use Rattle.shard_files.specs.Held.{HoldsEntries, points_in, points_of, tenure_of, fence_of}
-use Rattle.shard_files.specs.FilesHold.{volume_points, points_in_newest}
+use Rattle.shard_files.specs.HeldEntries.{HoldsEntries, points_in, points_of, tenure_of, fence_of}
+use Rattle.shard_files.specs.FilesHold.{volume_points, points_in_newest, FilesHold}
+use Rattle.shard_files.specs.Keeps.{HoldsKept}
 use Rattle.shard_files.specs.FileLaws.{SameKinds}
-use Rattle.shard_files.specs.StepLaws.{CutKeeps}
+use Rattle.shard_files.specs.StepLaws.{MayBeCut, CutKeeps}
 use Rattle.shard_files.proofs.PartLemmas.{volumes_as, newest_as, whole_as}
 
 -- entries whose chunks are two parts
@@ -82,10 +84,10 @@ module _ (number : ℕ) (x y : Files) (takes : MayTakeAway (segments_below numbe
         holds = record { parts = subst (PartsHold (numbers y) y) s.back_is end.log.parts; within = later_within s.cut s.left (subst AreWithin s.split log.within) };
       }
 
-pub cut_keeps : CutKeeps
-cut_keeps kept number x y may takes before tenure fence whole =
-    let parts = whole.held.parts in
-    let last = last_entries number x y takes parts.entries whole.held.holds.log in
+holds_cut : (kept : Contents) (number : ℕ) (x y : Files) → MayBeCut kept x → MayTakeAway (segments_below number x) x y → (before : List Point) (tenure fence : ℕ) → FilesHold before tenure fence x → HoldsKept kept before tenure fence y
+holds_cut kept number x y may takes before tenure fence held =
+    let parts = held.parts in
+    let last = last_entries number x y takes parts.entries held.holds.log in
     let volumes : SameKinds 1 7 x y = λ q low high. others number x y takes q low in
     let snapshots : SameKinds 8 9 x y = λ q low high. others number x y takes q (omega (arith, low)) in
     let vs = volume_points parts.volumes in
@@ -93,28 +95,31 @@ cut_keeps kept number x y may takes before tenure fence whole =
     let old_points : (p : Point) → IsIn (points_of last.left) p → IsIn (points_of parts.entries) p = λ p m. subst (λ (l : List LogEntry). IsIn (points_of l) p) (sym last.split) (later_points last.cut last.left p m) in
     let t_low = later_tenure last.cut last.left in
     let f_low = later_fence last.cut last.left in
-    let t_all = may.tenure parts whole.held.holds in
-    let f_all = may.fence parts whole.held.holds in
+    let t_all = may.tenure parts held.holds in
+    let f_all = may.fence parts held.holds in
     let t_same = ap tenure_of last.split in
     let f_same = ap fence_of last.split in
     record {
       points = vs ++ (ns ++ points_of last.left);
-      whole = record {
-        held = record {
-          parts = record { volumes = parts.volumes; newest = parts.newest; entries = last.left };
-          holds = record { volumes = volumes_as x y volumes parts.volumes whole.held.holds.volumes; newest = newest_as x y snapshots parts.newest whole.held.holds.newest; log = last.holds };
-          points_are = refl;
-          tenure_is = omega (arith, whole.held.tenure_is, t_low, t_all, t_same);
-          fence_is = omega (arith, whole.held.fence_is, f_low, f_all, f_same);
-        };
-        snapshots = whole_as x y snapshots whole.snapshots;
+      held = record {
+        parts = record { volumes = parts.volumes; newest = parts.newest; entries = last.left };
+        holds = record { volumes = volumes_as x y volumes parts.volumes held.holds.volumes; newest = newest_as x y snapshots parts.newest held.holds.newest; log = last.holds };
+        points_are = refl;
+        tenure_is = omega (arith, held.tenure_is, t_low, t_all, t_same);
+        fence_is = omega (arith, held.fence_is, f_low, f_all, f_same);
       };
       sheds = record {
-        nothing_else = λ p m. subst (λ l. IsIn l p) (sym whole.held.points_are)
+        nothing_else = λ p m. subst (λ l. IsIn l p) (sym held.points_are)
             (⊎_elim (λ (vol : IsIn vs p). IsIn-append_left vs (ns ++ points_of parts.entries) p vol)
             (λ (rest : IsIn (ns ++ points_of last.left) p).
             IsIn-append_right vs (ns ++ points_of parts.entries) p (⊎_elim (λ (new : IsIn ns p). IsIn-append_left ns (points_of parts.entries) p new) (λ (log : IsIn (points_of last.left) p). IsIn-append_right ns (points_of parts.entries) p (old_points p log)) (IsIn-append_cases ns (points_of last.left) p rest)))
             (IsIn-append_cases vs (ns ++ points_of last.left) p m));
-        whole = λ p has. ⊎_elim (λ (vol : IsIn vs p). IsIn-append_left vs (ns ++ points_of last.left) p vol) (λ (new : IsIn ns p). IsIn-append_right vs (ns ++ points_of last.left) p (IsIn-append_left ns (points_of last.left) p new)) (IsIn-append_cases vs ns p (may.points parts whole.held.holds p has));
+        whole = λ p has. ⊎_elim (λ (vol : IsIn vs p). IsIn-append_left vs (ns ++ points_of last.left) p vol) (λ (new : IsIn ns p). IsIn-append_right vs (ns ++ points_of last.left) p (IsIn-append_left ns (points_of last.left) p new)) (IsIn-append_cases vs ns p (may.points parts held.holds p has));
       };
     }
+
+pub cut_keeps : CutKeeps
+cut_keeps kept number x y may takes = record {
+  held = holds_cut kept number x y may takes;
+  snapshots = whole_as x y (λ q low high. others number x y takes q (omega (arith, low)));
+}

@@ -5,24 +5,24 @@ use Rattle.m3_model.specs.Members.{IsIn}
 use Rattle.m3_model.proofs.MemberLemmas.{IsIn-append_right}
 use Rattle.m3_outside.specs.Files.{Files}
 use Rattle.commit_log.specs.Contents.{numbers, PartsHold, segment_bytes}
-use Rattle.commit_log.specs.Segment.{segment}
 use Rattle.commit_log.proofs.FileFronts.{has_chunks}
 use Rattle.commit_log.proofs.Parts.{parts_more}
 use Rattle.commit_log.proofs.ReadLemmas.{one_more, split_at}
 use Rattle.shard_files.specs.declared.entries.LogEntry.{LogEntry}
 use Rattle.shard_files.specs.Entries.{spelled}
-use Rattle.shard_files.specs.Held.{HoldsEntries, IsSound}
-use Rattle.shard_files.specs.Damage.{OfForm, FirstStop}
+use Rattle.shard_files.specs.HeldEntries.{HoldsEntries}
+use Rattle.shard_files.specs.FilesHold.{IsSound}
+use Rattle.shard_files.specs.Damage.{Damage, OfForm, OfDigest, BreaksSegment}
 use Rattle.shard_files.specs.declared.load_err.LoadErr.{LoadErr}
 use Rattle.shard_files.specs.declared.load_err.LoadErr.TheVariants as failures
-use Rattle.shard_files.specs.Loading.{ReadsEntries, FindsEntries, MayBeBroken, IsDamagedAt, MayBeUnsound}
+use Rattle.shard_files.specs.Loading.{ReadsEntries, FindsEntries, Tells, LogTells}
 use Rattle.shard_files.proofs.FirstDamageLemmas.{segment_unbroken}
 use Rattle.shard_files.proofs.SpellingLemmas.{within_both}
 
-pub damaged_is_unsound : (number at : ℕ) (files : Files) → IsDamagedAt number at files → IsSound files → ⊥
-damaged_is_unsound number at files first sound =
-    segment_unbroken (numbers files) files sound.held.entries sound.held.holds.within sound.held.holds.parts first.one
-    (subst (λ (l : List ℕ). IsIn l first.one) (sym first.split) (IsIn-append_right first.before (first.one ∷ first.after) first.one (inl refl))) (OfForm (segment number) at) first.found
+pub damaged_is_unsound : (damage : Damage) (files : Files) → LogTells files damage → IsSound files → ⊥
+damaged_is_unsound damage files first sound =
+    segment_unbroken (numbers files) files sound.held.parts.entries sound.held.holds.log.within sound.held.holds.log.parts first.one
+    (subst (λ (l : List ℕ). IsIn l first.one) (sym first.split) (IsIn-append_right first.before (first.one ∷ first.after) first.one (inl refl))) damage first.found
 
 -- ---- segments that are read one after another
 
@@ -39,20 +39,21 @@ found_next ns i n files a b c lt is all more = record {
       (parts_more (take i ns) n files (map spelled all.entries) (map spelled more.entries) all.has (has_chunks n files (map spelled more.entries) more.long more.reads)));
 }
 
-pub found_damage : (ns : List ℕ) (i n : ℕ) (files : Files) (a b : List LogEntry) (at : ℕ) → ns ≡ numbers files → i < length ns → n ≡ get_or ns i 0 → FindsEntries (take i ns) files a b → FirstStop (segment_bytes n files) at → IsDamagedAt n at files
-found_damage ns i n files a b at all lt is found stop = record {
+pub found_damage : (ns : List ℕ) (i n : ℕ) (files : Files) (a b : List LogEntry) (damage : Damage) → ns ≡ numbers files → i < length ns → n ≡ get_or ns i 0 → FindsEntries (take i ns) files a b → BreaksSegment files n damage → LogTells files damage
+found_damage ns i n files a b damage all lt is found breaks = record {
   before = take i ns;
   one = n;
   after = drop (i + 1) ns;
   split = sym all ∙ split_at ns i n lt is;
-  none = λ k m d breaks. segment_unbroken (take i ns) files found.entries found.within found.has k m d breaks;
-  found = record { at = at; stops = stop; is = refl };
+  none = λ k m d broken. segment_unbroken (take i ns) files found.entries found.within found.has k m d broken;
+  found = breaks;
 }
 
-pub found_broken : (ns : List ℕ) (i n : ℕ) (files : Files) (a b : List LogEntry) → ns ≡ numbers files → i < length ns → n ≡ get_or ns i 0 → FindsEntries (take i ns) files a b → (e : LoadErr) → MayBeBroken n files e → MayBeUnsound files e
+pub found_broken : (ns : List ℕ) (i n : ℕ) (files : Files) (a b : List LogEntry) → ns ≡ numbers files → i < length ns → n ≡ get_or ns i 0 → FindsEntries (take i ns) files a b → (e : LoadErr) → Tells (BreaksSegment files n) e → Tells (LogTells files) e
 found_broken ns i n files a b all lt is found failures.Disk d = tt
 found_broken ns i n files a b all lt is found failures.Memory d = tt
-found_broken ns i n files a b all lt is found (failures.Form k at) d = subst (λ m. IsDamagedAt m at files) (sym d.0) (found_damage ns i n files a b at all lt is found d.1)
+found_broken ns i n files a b all lt is found (failures.Digest name kept other) d = found_damage ns i n files a b (OfDigest name kept other) all lt is found d
+found_broken ns i n files a b all lt is found (failures.Form name at) d = found_damage ns i n files a b (OfForm name at) all lt is found d
 
 -- entries that all segments have
 pub all_entries : (files : Files) (old new : List LogEntry) → old ≡ [] → FindsEntries (numbers files) files old new → HoldsEntries new files

@@ -11,14 +11,14 @@ use Rattle.m3_outside.proofs.Names.{get_apart}
 use Rattle.commit_log.specs.Segment.{segment, MayAdd, Adds, OthersStay}
 use Rattle.commit_log.specs.LogEnd.{NoneFrom, MayBegin}
 use Rattle.shard_files.specs.declared.entries.LogEntry.{LogEntry}
-use Rattle.shard_files.specs.Held.{HoldsEntries, points_in, tenure_in, fence_in, points_of}
-use Rattle.shard_files.specs.Gains.{nothing, HoldsAllBy, HoldsPartBy}
+use Rattle.shard_files.specs.HeldEntries.{HoldsEntries, points_in, tenure_in, fence_in, points_of}
+use Rattle.shard_files.specs.Gains.{nothing, HoldsAll, HoldsPart}
 use Rattle.shard_files.specs.LogSteps.{gain_in}
 use Rattle.shard_files.specs.Parts.{counts, counted, is_volume_checkpoint, is_snapshot_checkpoint, AreKnown}
-use Rattle.shard_files.specs.FilesHold.{Counted, file_points, file_tenure, file_fence, volume_points, points_in_newest, tenure_in_newest, fence_in_newest, HoldWhole}
+use Rattle.shard_files.specs.FilesHold.{Counted, file_points, file_tenure, file_fence, volume_points, points_in_newest, tenure_in_newest, fence_in_newest, FilesHold, HoldWhole}
 use Rattle.shard_files.specs.FileLaws.{FilesHoldOne, FilesHoldOrdered, SameKinds, AppendKeepsOthers, AppendBrings}
 use Rattle.shard_files.proofs.HeldLemmas.{entries_are_one, one_more, tenures_are_fences, no_files_no_entries, adds_entry, may_add_entry, begun_entries}
-use Rattle.shard_files.proofs.GainLemmas.{covers_itself}
+use Rattle.shard_files.proofs.GainLemmas.{covers_itself, gains_nothing}
 use Rattle.shard_files.proofs.EntryLemmas.{first_segment}
 use Rattle.shard_files.proofs.PartLemmas.{volumes_as, newest_as, whole_as, one_volumes, one_newest}
 
@@ -54,21 +54,21 @@ no_counted is_asked =
     let none : entries (empty {X = List ℕ} {R = name_cmp}) ≡ [] = none_of_length _ (sym (len-entries _) ∙ len-empty name_cmp (List ℕ)) in
     ap (λ (es : List (FileName × List ℕ)). map (λ (f : FileName × List ℕ). f.0) (filter (counts is_asked) es)) none
 
-pub no_files_hold_whole_nothing : HoldWhole [] 0 0 empty
-no_files_hold_whole_nothing = record {
-  held = record {
-    parts = record { volumes = []; newest = None; entries = [] };
-    holds = record {
-      volumes = subst (λ l. AreKnown empty l []) (sym (no_counted is_volume_checkpoint)) tt;
-      newest = no_counted is_snapshot_checkpoint;
-      log = no_files_no_entries;
-    };
-    points_are = refl;
-    tenure_is = refl;
-    fence_is = refl;
+pub no_files_hold_nothing : FilesHold [] 0 0 empty
+no_files_hold_nothing = record {
+  parts = record { volumes = []; newest = None; entries = [] };
+  holds = record {
+    volumes = subst (λ l. AreKnown empty l []) (sym (no_counted is_volume_checkpoint)) tt;
+    newest = no_counted is_snapshot_checkpoint;
+    log = no_files_no_entries;
   };
-  snapshots = λ n m. absurd (subst (λ l. IsIn l n) (no_counted is_snapshot_checkpoint) m);
+  points_are = refl;
+  tenure_is = refl;
+  fence_is = refl;
 }
+
+pub no_files_hold_whole_nothing : HoldWhole [] 0 0 empty
+no_files_hold_whole_nothing = record { held = no_files_hold_nothing; snapshots = λ n m. absurd (subst (λ l. IsIn l n) (no_counted is_snapshot_checkpoint) m) }
 
 -- ---- files of which only the log is another
 
@@ -92,62 +92,51 @@ append_keeps_others = record {
 }
 
 -- the same volumes and snapshots with these entries
-module _ (x y : Files) (same : OthersSame x y) (before : List Point) (tenure fence : ℕ) (whole : HoldWhole before tenure fence x) where
+module _ (x y : Files) (same : OthersSame x y) (before : List Point) (tenure fence : ℕ) (held : FilesHold before tenure fence x) where
   abbrev parts_now : List LogEntry → Counted
-  parts_now es = record { volumes = whole.held.parts.volumes; newest = whole.held.parts.newest; entries = es }
+  parts_now es = record { volumes = held.parts.volumes; newest = held.parts.newest; entries = es }
 
-  whole_now : (es : List LogEntry) (points : List Point) (t f : ℕ) → HoldsEntries es y → points ≡ file_points (parts_now es) → t ≡ file_tenure (parts_now es) → f ≡ file_fence (parts_now es) → HoldWhole points t f y
-  whole_now es points t f log points_are tenure_is fence_is = record {
-    held = record {
-      parts = parts_now es;
-      holds = record { volumes = volumes_as x y (of_volumes x y same) whole.held.parts.volumes whole.held.holds.volumes; newest = newest_as x y (of_snapshots x y same) whole.held.parts.newest whole.held.holds.newest; log = log };
-      points_are = points_are;
-      tenure_is = tenure_is;
-      fence_is = fence_is;
-    };
-    snapshots = whole_as x y (of_snapshots x y same) whole.snapshots;
+  held_now : (es : List LogEntry) (points : List Point) (t f : ℕ) → HoldsEntries es y → points ≡ file_points (parts_now es) → t ≡ file_tenure (parts_now es) → f ≡ file_fence (parts_now es) → FilesHold points t f y
+  held_now es points t f log points_are tenure_is fence_is = record {
+    parts = parts_now es;
+    holds = record { volumes = volumes_as x y (of_volumes x y same) held.parts.volumes held.holds.volumes; newest = newest_as x y (of_snapshots x y same) held.parts.newest held.holds.newest; log = log };
+    points_are = points_are;
+    tenure_is = tenure_is;
+    fence_is = fence_is;
   }
 
-  pub same_log : HoldsEntries whole.held.parts.entries y → HoldWhole before tenure fence y
-  same_log log = whole_now whole.held.parts.entries before tenure fence log whole.held.points_are whole.held.tenure_is whole.held.fence_is
+  pub same_log : HoldsEntries held.parts.entries y → FilesHold before tenure fence y
+  same_log log = held_now held.parts.entries before tenure fence log held.points_are held.tenure_is held.fence_is
 
   -- one more entry behind the others
-  points_more : (e : LogEntry) → before ++ points_in e ≡ file_points (parts_now (whole.held.parts.entries ++ e ∷ []))
+  points_more : (e : LogEntry) → before ++ points_in e ≡ file_points (parts_now (held.parts.entries ++ e ∷ []))
   points_more e =
-      let vs = volume_points whole.held.parts.volumes in
-      let ns = points_in_newest whole.held.parts.newest in
-      let es = whole.held.parts.entries in
-      ap (λ (l : List Point). l ++ points_in e) whole.held.points_are ∙ append_assoc vs (ns ++ points_of es) (points_in e)
+      let vs = volume_points held.parts.volumes in
+      let ns = points_in_newest held.parts.newest in
+      let es = held.parts.entries in
+      ap (λ (l : List Point). l ++ points_in e) held.points_are ∙ append_assoc vs (ns ++ points_of es) (points_in e)
       ∙ ap (λ (l : List Point). vs ++ l) (append_assoc ns (points_of es) (points_in e) ∙ ap (λ (l : List Point). ns ++ l) (sym (one_more es e).points))
 
-  pub more_log : (e : LogEntry) → HoldsEntries (whole.held.parts.entries ++ e ∷ []) y → HoldsAllBy HoldWhole before tenure fence (gain_in e) y
+  pub more_log : (e : LogEntry) → HoldsEntries (held.parts.entries ++ e ∷ []) y → HoldsAll before tenure fence (gain_in e) y
   more_log e log =
-      let one = one_more whole.held.parts.entries e in
+      let one = one_more held.parts.entries e in
       let t = one.tenure in
       let f = one.fence in
       record {
         points = before ++ points_in e;
-        held = whole_now (whole.held.parts.entries ++ e ∷ []) (before ++ points_in e) (max tenure (tenure_in e)) (max fence (fence_in e)) log (points_more e) (omega (arith, whole.held.tenure_is, t)) (omega (arith, whole.held.fence_is, f));
+        held = held_now (held.parts.entries ++ e ∷ []) (before ++ points_in e) (max tenure (tenure_in e)) (max fence (fence_in e)) log (points_more e) (omega (arith, held.tenure_is, t)) (omega (arith, held.fence_is, f));
         grows = record { nothing_else = λ p m. IsIn-append_cases before (points_in e) p m; stays = λ p m. IsIn-append_left before (points_in e) p m };
         comes = λ p m. covers_itself (before ++ points_in e) p (IsIn-append_right before (points_in e) p m);
       }
 
-  pub part_log : (e : LogEntry) → HoldsEntries whole.held.parts.entries y ⊎ HoldsEntries (whole.held.parts.entries ++ e ∷ []) y → HoldsPartBy HoldWhole before tenure fence (gain_in e) y
+  pub part_log : (e : LogEntry) → HoldsEntries held.parts.entries y ⊎ HoldsEntries (held.parts.entries ++ e ∷ []) y → HoldsPart before tenure fence (gain_in e) y
   part_log e (inl log) = record { points = before; tenure_now = tenure; fence_now = fence; held = same_log log; grows = record { nothing_else = λ p m. inl m; stays = λ p m. m }; numbers = inl (refl, refl) }
   part_log e (inr log) =
       let all = more_log e log in
       record { points = all.points; tenure_now = max tenure (tenure_in e); fence_now = max fence (fence_in e); held = all.held; grows = all.grows; numbers = inr (refl, refl) }
 
-  pub nothing_log : HoldsEntries whole.held.parts.entries y → HoldsAllBy HoldWhole before tenure fence nothing y
-  nothing_log log =
-      let t : tenure ≡ max tenure 0 = omega arith in
-      let f : fence ≡ max fence 0 = omega arith in
-      record {
-        points = before;
-        held = subst (λ (n : ℕ). HoldWhole before n (max fence 0) y) t (subst (λ (n : ℕ). HoldWhole before tenure n y) f (same_log log));
-        grows = record { nothing_else = λ p m. inl m; stays = λ p m. m };
-        comes = λ p m. absurd m;
-      }
+  pub nothing_log : HoldsEntries held.parts.entries y → HoldsAll before tenure fence nothing y
+  nothing_log log = (gains_nothing y).held before tenure fence (same_log log)
 
 -- ---- a segment that begins
 
@@ -163,9 +152,22 @@ begun_log (suc last) x y es none may log =
 
 pub append_brings : AppendBrings
 append_brings = record {
-  all = λ e bytes number x y is above adds before tenure fence whole.
-      more_log x y (others_same number x y adds.others) before tenure fence whole e (adds_entry whole.held.parts.entries e number x y is.within whole.held.holds.log above (subst (λ (b : List ℕ). Adds (segment number) b x y) is.is adds));
-  part = λ e bytes number x y is above may before tenure fence whole.
-      part_log x y (others_same number x y may.others) before tenure fence whole e (may_add_entry whole.held.parts.entries e number x y is.within whole.held.holds.log above (subst (λ (b : List ℕ). MayAdd (segment number) b x y) is.is may));
-  begins = λ number x y none may before tenure fence whole. nothing_log x y (begun_same number x y may) before tenure fence whole (begun_log number x y whole.held.parts.entries none may whole.held.holds.log);
+  all = λ e bytes number x y is above adds.
+      let same = others_same number x y adds.others in
+      record {
+        held = λ before tenure fence held. more_log x y same before tenure fence held e (adds_entry held.parts.entries e number x y is.within held.holds.log above (subst (λ (b : List ℕ). Adds (segment number) b x y) is.is adds));
+        snapshots = whole_as x y (of_snapshots x y same);
+      };
+  part = λ e bytes number x y is above may.
+      let same = others_same number x y may.others in
+      record {
+        held = λ before tenure fence held. part_log x y same before tenure fence held e (may_add_entry held.parts.entries e number x y is.within held.holds.log above (subst (λ (b : List ℕ). MayAdd (segment number) b x y) is.is may));
+        snapshots = whole_as x y (of_snapshots x y same);
+      };
+  begins = λ number x y none may.
+      let same = begun_same number x y may in
+      record {
+        held = λ before tenure fence held. nothing_log x y same before tenure fence held (begun_log number x y held.parts.entries none may held.holds.log);
+        snapshots = whole_as x y (of_snapshots x y same);
+      };
 }

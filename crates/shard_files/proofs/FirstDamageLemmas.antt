@@ -294,7 +294,7 @@ damaged_hold_nothing files damage first points tenure fence held =
     (subst (λ l. IsIn l first.one) (sym first.split) (in_split first.before first.one first.after)) damage first.found
 
 pub log_damage_is_first : LogDamageIsFirst
-log_damage_is_first known newest number at files are is h =
+log_damage_is_first known newest damage files are is h =
     let vs = map InVolume (counted_volumes files) in
     let ss = map InSnapshot (last_of (counted_snapshots files)) in
     let bs = map InSegment h.before in
@@ -310,7 +310,7 @@ log_damage_is_first known newest number at files are is h =
 
 -- ---- digests that are told
 
-told_differ : (keep : List ℕ) (files : Files) (q name : FileName) (kept found : List ℕ) → BreaksDigest keep files q (OfDigest name kept found) → DigestsDiffer files name kept found
+pub told_differ : (keep : List ℕ) (files : Files) (q name : FileName) (kept found : List ℕ) → BreaksDigest keep files q (OfDigest name kept found) → DigestsDiffer files name kept found
 told_differ keep files q name kept found (IsGone gone told) = absurd (cc)
 told_differ keep files q name kept found (Differs bytes there differ told) =
     let same_name : name ≡ q = cc in
@@ -321,12 +321,12 @@ told_differ keep files q name kept found (Differs bytes there differ told) =
 no_form : (Form : List ℕ → Type 0) (files : Files) (q name : FileName) (kept found : List ℕ) → BreaksForm Form files q (OfDigest name kept found) → ⊥
 no_form Form files q name kept found b = let told = b.is in cc
 
-told_look : (ns start number : ℕ) (files : Files) (look : Look) (name : FileName) (kept found : List ℕ) → LookFinds ns start number files look (OfDigest name kept found) → DigestsDiffer files name kept found
+pub told_look : (ns start number : ℕ) (files : Files) (look : Look) (name : FileName) (kept found : List ℕ) → LookFinds ns start number files look (OfDigest name kept found) → DigestsDiffer files name kept found
 told_look ns start number files (AtForm part) name kept found f = absurd (no_form (FormOf part ns start number files) files (part_name part ns start number) name kept found f)
 told_look ns start number files AtHead name kept found f = absurd (no_form (IsSomeInfo ns start number) files (part_name Info ns start number) name kept found f)
 told_look ns start number files (AtDigest part) name kept found f = told_differ f.kept files (part_name part ns start number) name kept found f.breaks
 
-told_snapshot : (number : ℕ) (files : Files) (look : SnapshotLook) (name : FileName) (kept found : List ℕ) → SnapshotFinds number files look (OfDigest name kept found) → DigestsDiffer files name kept found
+pub told_snapshot : (number : ℕ) (files : Files) (look : SnapshotLook) (name : FileName) (kept found : List ℕ) → SnapshotFinds number files look (OfDigest name kept found) → DigestsDiffer files name kept found
 told_snapshot number files AtGate name kept found f = absurd (no_form IsGate files (snapshot_checkpoint number) name kept found f)
 told_snapshot number files AtKept name kept found f = told_differ (drop 1 (bytes_at files (snapshot_checkpoint number))) files (snapshot_data number) name kept found f
 told_snapshot number files AtBody name kept found f = absurd (no_form (IsBody number) files (snapshot_data number) name kept found f)

@@ -1,8 +1,7 @@
--- What files hold, and one more entry.
+-- What a log holds, and one more entry.
 use Rattle.std.proofs.Common.{◌≡◌, ◌⊎◌, inl, inr, ⊎_elim, ℕ, ◌+◌, ◌≤◌, List, [], ◌∷◌, ◌++◌, length, map, max, refl, sym, ap, subst, ◌∙◌, arith, append_assoc, append-nil}
 use Rattle.std.proofs.lemmas.List.{map_push}
 use Rattle.std.specs.FinMap.{empty, entries, len-entries, len-empty}
-use Rattle.m3_model.specs.declared.point.Point.{Point}
 use Rattle.m3_outside.specs.Files.{Files, name_cmp}
 use Rattle.m3_outside.specs.declared.file_name.FileName.{FileName}
 use Rattle.commit_log.specs.Contents.{numbers, numbers_of, PartsHold}
@@ -14,8 +13,8 @@ use Rattle.commit_log.proofs.LogLemmas.{may_add_log, adds_log, begun_log}
 use Rattle.shard_files.specs.declared.entries.LogEntry.{LogEntry}
 use Rattle.shard_files.specs.declared.entries.LogEntry.TheVariants as entry
 use Rattle.shard_files.specs.Entries.{spelled, IsWithin, AreWithin}
-use Rattle.shard_files.specs.Held.{HoldsEntries, Held, points_in, tenure_in, fence_in, points_of, tenure_of, fence_of}
-use Rattle.shard_files.specs.HeldLaws.{OneSpelling, EntriesAreOne, HeldIsOne, OneMore}
+use Rattle.shard_files.specs.HeldEntries.{HoldsEntries, points_in, tenure_in, fence_in, points_of, tenure_of, fence_of}
+use Rattle.shard_files.specs.HeldLaws.{OneSpelling, EntriesAreOne, OneMore}
 use Rattle.shard_files.proofs.SpellingLemmas.{same_entry, same_entries, within_more}
 
 pub one_spelling : OneSpelling
@@ -23,14 +22,6 @@ one_spelling d e a b same = same_entry d e a b same
 
 pub entries_are_one : EntriesAreOne
 entries_are_one ds es files a b = same_entries ds es a.within b.within (parts_one (numbers files) files (map spelled ds) (map spelled es) a.parts b.parts)
-
-pub held_is_one : HeldIsOne
-held_is_one ps qs t u f g files a b =
-    let same = entries_are_one a.entries b.entries files a.holds b.holds in (
-      a.amount.points_are ∙ ap points_of same ∙ sym b.amount.points_are,
-      a.amount.tenure_is ∙ ap tenure_of same ∙ sym b.amount.tenure_is,
-      a.amount.fence_is ∙ ap fence_of same ∙ sym b.amount.fence_is,
-    )
 
 points_more : (es : List LogEntry) (e : LogEntry) → points_of (es ++ e ∷ []) ≡ points_of es ++ points_in e
 points_more [] e = append-nil (points_in e)
@@ -56,9 +47,6 @@ pub tenures_are_fences : (es : List LogEntry) → tenure_of es ≤ fence_of es
 tenures_are_fences [] = omega arith
 tenures_are_fences (e ∷ es) = let one = tenure_is_fence e in let later = tenures_are_fences es in omega (arith, one, later)
 
-pub held_is_ordered : (points : List Point) (tenure fence : ℕ) (files : Files) → Held points tenure fence files → tenure ≤ fence
-held_is_ordered points tenure fence files held = let up = tenures_are_fences held.entries in omega (arith, up, held.amount.tenure_is, held.amount.fence_is)
-
 none_of_length : {X : Type 0} (xs : List X) → length xs ≡ 0 → xs ≡ []
 none_of_length [] e = refl
 none_of_length (x ∷ xs) e = absurd (omega (arith, e))
@@ -70,9 +58,6 @@ no_numbers =
 
 pub no_files_no_entries : HoldsEntries [] empty
 no_files_no_entries = record { parts = subst (λ (ns : List ℕ). PartsHold ns empty []) (sym no_numbers) refl; within = tt }
-
-pub no_files_hold_nothing : Held [] 0 0 empty
-no_files_hold_nothing = record { entries = []; holds = no_files_no_entries; amount = record { points_are = refl; tenure_is = refl; fence_is = refl } }
 
 -- the entries as a log that ends in this segment
 as_log : (es : List LogEntry) (number : ℕ) (files : Files) → HoldsEntries es files → NoneAbove number files → IsLog (map spelled es) number files

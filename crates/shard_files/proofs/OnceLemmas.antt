@@ -12,7 +12,7 @@ use Rattle.commit_log.proofs.Numbers.{ascending_is_one}
 use Rattle.shard_files.specs.Once.{point_cmp, IsBefore, OnceIsOne, OnceHasContent, HeldOnceIsOne}
 use Rattle.shard_files.proofs.ContentLemmas.{same_content}
 use Rattle.shard_files.proofs.GainLemmas.{covers_itself}
-use Rattle.shard_files.proofs.HeldLemmas.{held_is_one}
+use Rattle.shard_files.proofs.FilesHoldLemmas.{files_hold_one}
 
 point_cmp_total : IsTotalOrder point_cmp
 point_cmp_total = then_total (on_total key_of key_cmp_total) (on_total (λ p. p.v) int_cmp_total)
@@ -30,5 +30,5 @@ once_has_content all points once = same_content points all (λ p m. covers_itsel
 
 pub held_once_is_one : HeldOnceIsOne
 held_once_is_one ps qs t u f g files a b =
-    let one = held_is_one a.all b.all t u f g files a.held b.held in
+    let one = files_hold_one a.all b.all t u f g files a.held b.held in
     (once_is_one a.all b.all ps qs (λ p. (λ m. subst (λ (l : List Point). IsIn l p) one.0 m, λ m. subst (λ (l : List Point). IsIn l p) (sym one.0) m)) a.once b.once, one.1, one.2)

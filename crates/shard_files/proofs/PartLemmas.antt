@@ -16,7 +16,7 @@ use Rattle.wire_bytes.specs.Snapshots.{Snapshot, snapshot_bytes}
 use Rattle.wire_bytes.proofs.VolumeLemmas.{volumes_are_one, snapshots_are_one}
 use Rattle.shard_files.specs.declared.entries.LogEntry.{LogEntry}
 use Rattle.shard_files.specs.Entries.{spelled}
-use Rattle.shard_files.specs.Held.{HoldsEntries}
+use Rattle.shard_files.specs.HeldEntries.{HoldsEntries}
 use Rattle.shard_files.specs.Parts.{kind_of, part_of, VolumeHolds, KnownVolume, IsKnown, AreKnown, VolumesAre, is_volume_checkpoint, counted_volumes, snapshot_data, snapshot_checkpoint, SnapshotHolds, is_snapshot_checkpoint, counted_snapshots, NewestIs, AreWhole}
 use Rattle.shard_files.specs.FileLaws.{SameKinds, CountedByCheckpoints, EachByItsFiles}
 use Rattle.shard_files.proofs.CountedLemmas.{both, counted_same}

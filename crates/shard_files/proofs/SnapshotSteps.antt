@@ -17,9 +17,9 @@ use Rattle.m3_outside.specs.Removal.{MayTakeAway}
 use Rattle.m3_outside.proofs.Names.{name_is}
 use Rattle.m3_outside.proofs.Removal.{gone_none, left_same}
 use Rattle.wire_bytes.specs.Snapshots.{Snapshot}
-use Rattle.shard_files.specs.Held.{points_of}
+use Rattle.shard_files.specs.HeldEntries.{points_of}
 use Rattle.shard_files.specs.Parts.{is_open, snapshot_data, snapshot_checkpoint, SnapshotHolds, is_snapshot_checkpoint, counted_snapshots, IsNewest, NewestIs, IsWhole, AreWhole}
-use Rattle.shard_files.specs.FilesHold.{volume_points, points_in_newest, HoldWhole}
+use Rattle.shard_files.specs.FilesHold.{volume_points, points_in_newest, FilesHold}
 use Rattle.shard_files.specs.Keeps.{HoldsKept, Keeps}
 use Rattle.shard_files.specs.Steps.{IsOfSnapshot, MaySave, is_snapshot_file, is_older, snapshots_below}
 use Rattle.shard_files.specs.FileLaws.{SameKinds}
@@ -85,38 +85,44 @@ module _ (kept : Contents) (s : Snapshot) (x y : Files) (may : MayBeSaved kept s
   old_whole : AreWhole x → (n : FileName) → IsIn (counted_snapshots x) n → IsWhole y n
   old_whole all n m = let w = all n m in record { snapshot = w.snapshot; named = w.named; holds = other_snapshot w.snapshot w.holds }
 
-  module _ (before : List Point) (tenure fence : ℕ) (whole : HoldWhole before tenure fence x) where
+  -- it is none of those that count where it doesn't
+  not_closed : is_open (get y (snapshot_checkpoint s.number)) ≡ false → (n : FileName) → IsIn (counted_snapshots y) n → n ≡ snapshot_checkpoint s.number → ⊥
+  not_closed closed n m e =
+      let open_ = counted_open is_snapshot_checkpoint y n m in
+      let never : false ≡ true = sym closed ∙ ap (λ q. is_open (get y q)) (sym e) ∙ open_ in
+      cc
+
+  each_whole : (is_open (get y (snapshot_checkpoint s.number)) ≡ false) ⊎ SnapshotHolds s y → AreWhole x → AreWhole y
+  each_whole (inl closed) all n m = old_whole all n (was n m (not_closed closed n m))
+  each_whole (inr holds) all n m =
+      ⊎_elim (λ (e : n ≡ snapshot_checkpoint s.number). let w : IsWhole y n = record { snapshot = s; named = e; holds = holds } in w)
+      (λ (apart : n ≡ snapshot_checkpoint s.number → ⊥). old_whole all n (was n m apart)) (name_is n (snapshot_checkpoint s.number))
+
+  module _ (before : List Point) (tenure fence : ℕ) (held : FilesHold before tenure fence x) where
     abbrev vs : List Point
-    vs = volume_points whole.held.parts.volumes
+    vs = volume_points held.parts.volumes
 
     abbrev es : List Point
-    es = points_of whole.held.parts.entries
+    es = points_of held.parts.entries
 
     -- it doesn't count
     closed_keeps : is_open (get y (snapshot_checkpoint s.number)) ≡ false → HoldsKept kept before tenure fence y
     closed_keeps closed =
-        let apart : (n : FileName) → IsIn (counted_snapshots y) n → n ≡ snapshot_checkpoint s.number → ⊥ = λ n m e.
-        let open_ = counted_open is_snapshot_checkpoint y n m in
-        let never : false ≡ true = sym closed ∙ ap (λ q. is_open (get y q)) (sym e) ∙ open_ in
-        cc in
-        let names : counted_snapshots y ≡ counted_snapshots x = same_names (counted_snapshots y) (counted_snapshots x) (counted_ascend is_snapshot_checkpoint y) (counted_ascend is_snapshot_checkpoint x) (λ n m. was n m (apart n m)) still in
+        let names : counted_snapshots y ≡ counted_snapshots x = same_names (counted_snapshots y) (counted_snapshots x) (counted_ascend is_snapshot_checkpoint y) (counted_ascend is_snapshot_checkpoint x) (λ n m. was n m (not_closed closed n m)) still in
         record {
           points = before;
-          whole = record {
-            held = record {
-              parts = whole.held.parts;
-              holds = record {
-                volumes = volumes_as x y same_volumes whole.held.parts.volumes whole.held.holds.volumes;
-                newest = newest_closed names whole.held.parts.newest whole.held.holds.newest;
-                log = log_as x y same_log whole.held.parts.entries whole.held.holds.log;
-              };
-              points_are = whole.held.points_are;
-              tenure_is = whole.held.tenure_is;
-              fence_is = whole.held.fence_is;
+          held = record {
+            parts = held.parts;
+            holds = record {
+              volumes = volumes_as x y same_volumes held.parts.volumes held.holds.volumes;
+              newest = newest_closed names held.parts.newest held.holds.newest;
+              log = log_as x y same_log held.parts.entries held.holds.log;
             };
-            snapshots = λ n m. old_whole whole.snapshots n (was n m (apart n m));
+            points_are = held.points_are;
+            tenure_is = held.tenure_is;
+            fence_is = held.fence_is;
           };
-          sheds = record { nothing_else = λ p m. m; whole = λ p has. may.whole p has before tenure fence whole.held };
+          sheds = record { nothing_else = λ p m. m; whole = λ p has. may.whole p has before tenure fence held };
         }
       where
         newest_closed : counted_snapshots y ≡ counted_snapshots x → (o : Option Snapshot) → NewestIs o x → NewestIs o y
@@ -137,39 +143,38 @@ module _ (kept : Contents) (s : Snapshot) (x y : Files) (may : MayBeSaved kept s
         (λ n m.
         ⊎_elim (λ (old : IsIn (counted_snapshots x) n). still n old) (λ (new : (own ≡ n) ⊎ ⊥). ⊎_elim (λ (e : own ≡ n). subst (IsIn (counted_snapshots y)) e own_counted) (λ (none : ⊥). absurd none) new)
         (IsIn-append_cases (counted_snapshots x) (own ∷ []) n m)) in
-        let same = may.numbers before tenure fence whole.held in
+        let same = may.numbers before tenure fence held in
         let t_is = same.0 in
         let f_is = same.1 in
-        let order = files_hold_ordered before tenure fence x whole.held in
+        let order = files_hold_ordered before tenure fence x held in
         let newest : IsNewest s y = record { older = counted_snapshots x; last = names; holds = holds } in
         record {
           points = vs ++ (s.points ++ es);
-          whole = record {
-            held = record {
-              parts = record { volumes = whole.held.parts.volumes; newest = Some s; entries = whole.held.parts.entries };
-              holds = record { volumes = volumes_as x y same_volumes whole.held.parts.volumes whole.held.holds.volumes; newest = newest; log = log_as x y same_log whole.held.parts.entries whole.held.holds.log };
-              points_are = refl;
-              tenure_is = omega (arith, whole.held.tenure_is, t_is);
-              fence_is = omega (arith, whole.held.fence_is, t_is, f_is, order);
-            };
-            snapshots = λ n m. ⊎_elim (λ (e : n ≡ own). let w : IsWhole y n = record { snapshot = s; named = e; holds = holds } in w) (λ (apart : n ≡ own → ⊥). old_whole whole.snapshots n (was n m apart)) (name_is n own);
+          held = record {
+            parts = record { volumes = held.parts.volumes; newest = Some s; entries = held.parts.entries };
+            holds = record { volumes = volumes_as x y same_volumes held.parts.volumes held.holds.volumes; newest = newest; log = log_as x y same_log held.parts.entries held.holds.log };
+            points_are = refl;
+            tenure_is = omega (arith, held.tenure_is, t_is);
+            fence_is = omega (arith, held.fence_is, t_is, f_is, order);
           };
           sheds = record {
-            nothing_else = λ p m. ⊎_elim (λ (vol : IsIn vs p). back p (IsIn-append_left vs (points_in_newest whole.held.parts.newest ++ es) p vol))
+            nothing_else = λ p m. ⊎_elim (λ (vol : IsIn vs p). back p (IsIn-append_left vs (points_in_newest held.parts.newest ++ es) p vol))
                 (λ (rest : IsIn (s.points ++ es) p).
-                ⊎_elim (λ (new : IsIn s.points p). may.points p new before tenure fence whole.held)
-                (λ (log : IsIn es p). back p (IsIn-append_right vs (points_in_newest whole.held.parts.newest ++ es) p (IsIn-append_right (points_in_newest whole.held.parts.newest) es p log))) (IsIn-append_cases s.points es p rest))
+                ⊎_elim (λ (new : IsIn s.points p). may.points p new before tenure fence held)
+                (λ (log : IsIn es p). back p (IsIn-append_right vs (points_in_newest held.parts.newest ++ es) p (IsIn-append_right (points_in_newest held.parts.newest) es p log))) (IsIn-append_cases s.points es p rest))
                 (IsIn-append_cases vs (s.points ++ es) p m);
-            whole = λ p has. may.without_older whole.held.parts whole.held.holds p has;
+            whole = λ p has. may.without_older held.parts held.holds p has;
           };
         }
       where
-        back : (p : Point) → IsIn (vs ++ (points_in_newest whole.held.parts.newest ++ es)) p → IsIn before p
-        back p m = subst (λ l. IsIn l p) (sym whole.held.points_are) m
+        back : (p : Point) → IsIn (vs ++ (points_in_newest held.parts.newest ++ es)) p → IsIn before p
+        back p m = subst (λ l. IsIn l p) (sym held.points_are) m
 
 pub save_keeps : SaveKeeps
-save_keeps kept s x y may saved before tenure fence whole =
-    ⊎_elim (closed_keeps kept s x y may saved before tenure fence whole) (open_keeps kept s x y may saved before tenure fence whole) saved.either
+save_keeps kept s x y may saved = record {
+  held = λ before tenure fence held. ⊎_elim (closed_keeps kept s x y may saved before tenure fence held) (open_keeps kept s x y may saved before tenure fence held) saved.either;
+  snapshots = each_whole kept s x y may saved saved.either;
+}
 
 -- ---- older snapshots that are taken away
 
@@ -270,25 +275,25 @@ module _ (kept : Contents) (number : ℕ) (x y : Files) (may : MayBeCleared kept
           (λ n m. is_counted is_snapshot_checkpoint y n (counted_asked is_snapshot_checkpoint x n (IsIn-filter (λ n. is_open (get y n)) (counted_snapshots x) n m)) (chosen (λ n. is_open (get y n)) (counted_snapshots x) n m))
 
   pub keeps_cleared : Keeps kept x y
-  keeps_cleared before tenure fence whole = record {
-    points = before;
-    whole = record {
+  keeps_cleared = record {
+    held = λ before tenure fence was. record {
+      points = before;
       held = record {
-        parts = whole.held.parts;
+        parts = was.parts;
         holds = record {
-          volumes = volumes_as x y (λ q low high. small_stays q high) whole.held.parts.volumes whole.held.holds.volumes;
-          newest = subst (λ o. NewestIs o y) (one_newest x (Some may.snapshot) whole.held.parts.newest may.newest whole.held.holds.newest) newest_stays;
-          log = log_as x y (λ q low high. small_stays q (omega (arith, high))) whole.held.parts.entries whole.held.holds.log;
+          volumes = volumes_as x y (λ q low high. small_stays q high) was.parts.volumes was.holds.volumes;
+          newest = subst (λ o. NewestIs o y) (one_newest x (Some may.snapshot) was.parts.newest may.newest was.holds.newest) newest_stays;
+          log = log_as x y (λ q low high. small_stays q (omega (arith, high))) was.parts.entries was.holds.log;
         };
-        points_are = whole.held.points_are;
-        tenure_is = whole.held.tenure_is;
-        fence_is = whole.held.fence_is;
+        points_are = was.points_are;
+        tenure_is = was.tenure_is;
+        fence_is = was.fence_is;
       };
-      snapshots = λ n m.
-          let w = whole.snapshots n (was_there n m) in
-          record { snapshot = w.snapshot; named = w.named; holds = snapshot_stays w.snapshot w.holds (ap (λ q. is_open (get y q)) (sym w.named) ∙ counted_open is_snapshot_checkpoint y n m) };
+      sheds = record { nothing_else = λ p m. m; whole = λ p has. may.whole p has before tenure fence was };
     };
-    sheds = record { nothing_else = λ p m. m; whole = λ p has. may.whole p has before tenure fence whole.held };
+    snapshots = λ all n m.
+        let w = all n (was_there n m) in
+        record { snapshot = w.snapshot; named = w.named; holds = snapshot_stays w.snapshot w.holds (ap (λ q. is_open (get y q)) (sym w.named) ∙ counted_open is_snapshot_checkpoint y n m) };
   }
 
 pub clear_keeps : ClearKeeps

@@ -14,9 +14,9 @@ use Rattle.m3_outside.specs.Removal.{without_files, MayTakeAway}
 use Rattle.m3_outside.proofs.Names.{name_is}
 use Rattle.m3_outside.proofs.Removal.{none_stays, gone_none, left_same}
 use Rattle.wire_bytes.specs.Volumes.{VolumeHead, Part, Info, Summaries, Index, Data, Bloom, Digests, Checkpoint}
-use Rattle.shard_files.specs.Held.{points_of}
+use Rattle.shard_files.specs.HeldEntries.{points_of}
 use Rattle.shard_files.specs.Parts.{is_open, kind_of, part_name, part_of, VolumeHolds, KnownVolume, IsKnown, AreKnown, VolumesAre, is_volume_checkpoint, counted_volumes}
-use Rattle.shard_files.specs.FilesHold.{points_known, volume_points, points_in_newest, HoldWhole}
+use Rattle.shard_files.specs.FilesHold.{points_known, volume_points, points_in_newest, FilesHold}
 use Rattle.shard_files.specs.Keeps.{HoldsKept, Keeps}
 use Rattle.shard_files.specs.Steps.{MayWrite, files_of_volume, parts_there}
 use Rattle.shard_files.specs.FileLaws.{SameKinds}
@@ -67,31 +67,28 @@ known_of_points (j ∷ ks) k p (inr m) q = IsIn-append_right (points_known j) (v
 
 -- ---- other volumes, the same snapshots and the same log
 
-module _ (kept : Contents) (x y : Files) (log : SameKinds 0 0 x y) (snapshots : SameKinds 8 9 x y) (before : List Point) (tenure fence : ℕ) (whole : HoldWhole before tenure fence x) where
+module _ (kept : Contents) (x y : Files) (log : SameKinds 0 0 x y) (snapshots : SameKinds 8 9 x y) (before : List Point) (tenure fence : ℕ) (held : FilesHold before tenure fence x) where
   abbrev others : List Point
-  others = points_in_newest whole.held.parts.newest ++ points_of whole.held.parts.entries
+  others = points_in_newest held.parts.newest ++ points_of held.parts.entries
 
-  pub of_files : (p : Point) → IsIn (volume_points whole.held.parts.volumes ++ others) p → IsIn before p
-  of_files p m = subst (λ l. IsIn l p) (sym whole.held.points_are) m
+  pub of_files : (p : Point) → IsIn (volume_points held.parts.volumes ++ others) p → IsIn before p
+  of_files p m = subst (λ l. IsIn l p) (sym held.points_are) m
 
-  pub in_files : (p : Point) → IsIn before p → IsIn (volume_points whole.held.parts.volumes ++ others) p
-  in_files p m = subst (λ l. IsIn l p) whole.held.points_are m
+  pub in_files : (p : Point) → IsIn before p → IsIn (volume_points held.parts.volumes ++ others) p
+  in_files p m = subst (λ l. IsIn l p) held.points_are m
 
   pub with_volumes : (known : List KnownVolume) → VolumesAre known y → ((p : Point) → IsIn (volume_points known) p → IsIn before p) → ((p : Point) → HasPoint kept p → IsIn (volume_points known ++ others) p) → HoldsKept kept before tenure fence y
   with_volumes known are from all = record {
     points = volume_points known ++ others;
-    whole = record {
-      held = record {
-        parts = record { volumes = known; newest = whole.held.parts.newest; entries = whole.held.parts.entries };
-        holds = record { volumes = are; newest = newest_as x y snapshots whole.held.parts.newest whole.held.holds.newest; log = log_as x y log whole.held.parts.entries whole.held.holds.log };
-        points_are = refl;
-        tenure_is = whole.held.tenure_is;
-        fence_is = whole.held.fence_is;
-      };
-      snapshots = whole_as x y snapshots whole.snapshots;
+    held = record {
+      parts = record { volumes = known; newest = held.parts.newest; entries = held.parts.entries };
+      holds = record { volumes = are; newest = newest_as x y snapshots held.parts.newest held.holds.newest; log = log_as x y log held.parts.entries held.holds.log };
+      points_are = refl;
+      tenure_is = held.tenure_is;
+      fence_is = held.fence_is;
     };
     sheds = record {
-      nothing_else = λ p m. ⊎_elim (λ (vol : IsIn (volume_points known) p). from p vol) (λ (rest : IsIn others p). of_files p (IsIn-append_right (volume_points whole.held.parts.volumes) others p rest)) (IsIn-append_cases (volume_points known) others p m);
+      nothing_else = λ p m. ⊎_elim (λ (vol : IsIn (volume_points known) p). from p vol) (λ (rest : IsIn others p). of_files p (IsIn-append_right (volume_points held.parts.volumes) others p rest)) (IsIn-append_cases (volume_points known) others p m);
       whole = all;
     };
   }
@@ -188,26 +185,29 @@ module _ (kept : Contents) (v : VolumeHead) (rows : List Series) (x y : Files) (
           let k = of_name x (counted_volumes x) ks are n was in
           (k.0, other_stays v.ns v.start v.number x y stay n k.0 apart k.2, inl k.1)
 
-  pub keeps_written : Keeps kept x y
-  keeps_written before tenure fence whole =
-      let ks = whole.held.parts.volumes in
-      let are = whole.held.holds.volumes in
+  holds_written : (before : List Point) (tenure fence : ℕ) → FilesHold before tenure fence x → HoldsKept kept before tenure fence y
+  holds_written before tenure fence held =
+      let ks = held.parts.volumes in
+      let are = held.holds.volumes in
       let all = found_each y (Origin ks) (counted_volumes y) (find ks are) in
       let log = log_stays v.ns v.start v.number x y stay in
       let snapshots = snapshots_stay v.ns v.start v.number x y stay in
-      let rest = points_in_newest whole.held.parts.newest ++ points_of whole.held.parts.entries in
-      with_volumes kept x y log snapshots before tenure fence whole all.known all.are
+      let rest = points_in_newest held.parts.newest ++ points_of held.parts.entries in
+      with_volumes kept x y log snapshots before tenure fence held all.known all.are
       (λ p m.
       let k = points_of_known all.known p m in
-      ⊎_elim (λ (old : IsIn ks k.0). of_files kept x y log snapshots before tenure fence whole p (IsIn-append_left (volume_points ks) rest p (known_of_points ks k.0 p old k.2)))
-      (λ (new : k.0 ≡ record { head = v; rows = rows }). may.points p (subst (λ (q : KnownVolume). IsIn (points_known q) p) new k.2) before tenure fence whole.held) (all.each k.0 k.1))
+      ⊎_elim (λ (old : IsIn ks k.0). of_files kept x y log snapshots before tenure fence held p (IsIn-append_left (volume_points ks) rest p (known_of_points ks k.0 p old k.2)))
+      (λ (new : k.0 ≡ record { head = v; rows = rows }). may.points p (subst (λ (q : KnownVolume). IsIn (points_known q) p) new k.2) before tenure fence held) (all.each k.0 k.1))
       (λ p has.
       ⊎_elim (λ (vol : IsIn (volume_points ks) p).
       let k = points_of_known ks p vol in
       let n = of_known x (counted_volumes x) ks are k.0 k.1 in
       IsIn-append_left (volume_points all.known) rest p (point_stays v.ns v.start v.number x y stay ks all.known are all.are k.0 k.1 (λ e. not_own n.0 n.1 (n.2.named ∙ e)) p k.2))
       (λ (other : IsIn rest p). IsIn-append_right (volume_points all.known) rest p other)
-      (IsIn-append_cases (volume_points ks) rest p (in_files kept x y log snapshots before tenure fence whole p (may.whole p has before tenure fence whole.held))))
+      (IsIn-append_cases (volume_points ks) rest p (in_files kept x y log snapshots before tenure fence held p (may.whole p has before tenure fence held))))
+
+  pub keeps_written : Keeps kept x y
+  keeps_written = record { held = holds_written; snapshots = whole_as x y (snapshots_stay v.ns v.start v.number x y stay) }
 
 pub write_keeps : WriteKeeps
 write_keeps kept v rows x y may wrote = keeps_written kept v rows x y may wrote
@@ -222,10 +222,10 @@ module _ (kept : Contents) (ns start number : ℕ) (x y : Files) (may : MayBeTak
       let e = IsIn-map (λ part. part_name part ns start number) (Checkpoint ∷ Info ∷ Summaries ∷ Index ∷ Data ∷ Bloom ∷ Digests ∷ []) q (IsIn-filter (λ name. is_some (get x name)) (files_of_volume ns start number) q there) in
       apart e.0 (sym e.2))
 
-  gone_checkpoint : IsAbsent (part_name Checkpoint ns start number) y → Keeps kept x y
-  gone_checkpoint gone before tenure fence whole =
-      let ks = whole.held.parts.volumes in
-      let are = whole.held.holds.volumes in
+  gone_checkpoint : IsAbsent (part_name Checkpoint ns start number) y → (before : List Point) (tenure fence : ℕ) → FilesHold before tenure fence x → HoldsKept kept before tenure fence y
+  gone_checkpoint gone before tenure fence held =
+      let ks = held.parts.volumes in
+      let are = held.holds.volumes in
       let other : (n : FileName) → IsIn (counted_volumes y) n → n ≡ part_name Checkpoint ns start number → ⊥ = λ n m e.
       let open_ = counted_open is_volume_checkpoint y n m in
       let none : get y n ≡ None = ap (get y) e ∙ gone in
@@ -237,28 +237,28 @@ module _ (kept : Contents) (ns start number : ℕ) (x y : Files) (may : MayBeTak
       let all = found_each y (IsIn ks) (counted_volumes y) find in
       let log = log_stays ns start number x y untouched in
       let snapshots = snapshots_stay ns start number x y untouched in
-      let rest = points_in_newest whole.held.parts.newest ++ points_of whole.held.parts.entries in
-      with_volumes kept x y log snapshots before tenure fence whole all.known all.are
+      let rest = points_in_newest held.parts.newest ++ points_of held.parts.entries in
+      with_volumes kept x y log snapshots before tenure fence held all.known all.are
       (λ p m.
       let k = points_of_known all.known p m in
-      of_files kept x y log snapshots before tenure fence whole p (IsIn-append_left (volume_points ks) rest p (known_of_points ks k.0 p (all.each k.0 k.1) k.2)))
+      of_files kept x y log snapshots before tenure fence held p (IsIn-append_left (volume_points ks) rest p (known_of_points ks k.0 p (all.each k.0 k.1) k.2)))
       (λ p has.
       ⊎_elim (λ (f : (k : KnownVolume) × IsIn ks k × (¬ (part_of Checkpoint k.head ≡ part_name Checkpoint ns start number)) × IsIn (points_known k) p).
       IsIn-append_left (volume_points all.known) rest p (point_stays ns start number x y untouched ks all.known are all.are f.0 f.1 f.2 p f.3))
-      (λ (out : IsIn rest p). IsIn-append_right (volume_points all.known) rest p out) (may whole.held.parts whole.held.holds p has))
+      (λ (out : IsIn rest p). IsIn-append_right (volume_points all.known) rest p out) (may held.parts held.holds p has))
 
-  nothing_gone : y ≡ x → Keeps kept x y
-  nothing_gone same before tenure fence whole =
-      let ks = whole.held.parts.volumes in
-      let rest = points_in_newest whole.held.parts.newest ++ points_of whole.held.parts.entries in
+  nothing_gone : y ≡ x → (before : List Point) (tenure fence : ℕ) → FilesHold before tenure fence x → HoldsKept kept before tenure fence y
+  nothing_gone same before tenure fence held =
+      let ks = held.parts.volumes in
+      let rest = points_in_newest held.parts.newest ++ points_of held.parts.entries in
       record {
         points = before;
-        whole = subst (HoldWhole before tenure fence) (sym same) whole;
+        held = subst (FilesHold before tenure fence) (sym same) held;
         sheds = record {
           nothing_else = λ p m. m;
-          whole = λ p has. subst (λ l. IsIn l p) (sym whole.held.points_are) (⊎_elim (λ (f : (k : KnownVolume) × IsIn ks k × (¬ (part_of Checkpoint k.head ≡ part_name Checkpoint ns start number)) × IsIn (points_known k) p).
+          whole = λ p has. subst (λ l. IsIn l p) (sym held.points_are) (⊎_elim (λ (f : (k : KnownVolume) × IsIn ks k × (¬ (part_of Checkpoint k.head ≡ part_name Checkpoint ns start number)) × IsIn (points_known k) p).
               IsIn-append_left (volume_points ks) rest p (known_of_points ks f.0 p f.1 f.3))
-              (λ (out : IsIn rest p). IsIn-append_right (volume_points ks) rest p out) (may whole.held.parts whole.held.holds p has));
+              (λ (out : IsIn rest p). IsIn-append_right (volume_points ks) rest p out) (may held.parts held.holds p has));
         };
       }
 
@@ -279,4 +279,7 @@ module _ (kept : Contents) (ns start number : ℕ) (x y : Files) (may : MayBeTak
           heads a b c d e = cc
 
 pub take_keeps : TakeKeeps
-take_keeps kept ns start number x y may takes = ⊎_elim (nothing_gone kept ns start number x y may takes) (gone_checkpoint kept ns start number x y may takes) (either kept ns start number x y may takes)
+take_keeps kept ns start number x y may takes = record {
+  held = ⊎_elim (nothing_gone kept ns start number x y may takes) (gone_checkpoint kept ns start number x y may takes) (either kept ns start number x y may takes);
+  snapshots = whole_as x y (snapshots_stay ns start number x y (untouched kept ns start number x y may takes));
+}

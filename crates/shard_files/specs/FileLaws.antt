@@ -11,8 +11,8 @@ use Rattle.wire_bytes.specs.Snapshots.{Snapshot}
 use Rattle.wire_bytes.specs.Volumes.{VolumeHead, points_of_rows}
 use Rattle.shard_files.specs.declared.entries.LogEntry.{LogEntry}
 use Rattle.shard_files.specs.Entries.{IsEntry}
-use Rattle.shard_files.specs.Held.{HoldsEntries, Held}
-use Rattle.shard_files.specs.Gains.{nothing, GainsBy, MayGainBy}
+use Rattle.shard_files.specs.HeldEntries.{HoldsEntries, LogAmountsTo}
+use Rattle.shard_files.specs.Gains.{nothing, Gains, MayGain}
 use Rattle.shard_files.specs.LogSteps.{gain_in}
 use Rattle.shard_files.specs.Parts.{VolumeHolds, KnownVolume, VolumesAre, SnapshotHolds, NewestIs, AreWhole, counted_volumes, counted_snapshots, is_volume_checkpoint, is_snapshot_checkpoint}
 use Rattle.shard_files.specs.FilesHold.{FilesHold, HoldWhole}
@@ -50,9 +50,9 @@ pub record AppendKeepsOthers : Type 0 where
 
 -- An append of an entry to the last segment brings what is in the entry, and while it goes on part of that; a segment that begins brings nothing.
 pub record AppendBrings : Type 0 where
-  pub all : (e : LogEntry) (bytes : List ℕ) (number : ℕ) (x y : Files) → IsEntry bytes e → NoneAbove number x → Adds (segment number) bytes x y → GainsBy HoldWhole (gain_in e) x y
-  pub part : (e : LogEntry) (bytes : List ℕ) (number : ℕ) (x y : Files) → IsEntry bytes e → NoneAbove number x → MayAdd (segment number) bytes x y → MayGainBy HoldWhole (gain_in e) x y
-  pub begins : (number : ℕ) (x y : Files) → NoneFrom number x → MayBegin number x y → GainsBy HoldWhole nothing x y
+  pub all : (e : LogEntry) (bytes : List ℕ) (number : ℕ) (x y : Files) → IsEntry bytes e → NoneAbove number x → Adds (segment number) bytes x y → Gains (gain_in e) x y
+  pub part : (e : LogEntry) (bytes : List ℕ) (number : ℕ) (x y : Files) → IsEntry bytes e → NoneAbove number x → MayAdd (segment number) bytes x y → MayGain (gain_in e) x y
+  pub begins : (number : ℕ) (x y : Files) → NoneFrom number x → MayBegin number x y → Gains nothing x y
 
 -- files that are those of one volume alone hold its points
 abbrev pub VolumeIsHeld : Type 0
@@ -68,4 +68,4 @@ AreOfLog files = (name : FileName) → 1 ≤ name.kind → IsAbsent name files
 
 -- they hold whole just what the log holds
 abbrev pub LogIsHeld : Type 0
-LogIsHeld = (points : List Point) (tenure fence : ℕ) (files : Files) → AreOfLog files → Held points tenure fence files ↔ HoldWhole points tenure fence files
+LogIsHeld = (points : List Point) (tenure fence : ℕ) (files : Files) → AreOfLog files → LogAmountsTo points tenure fence files ↔ HoldWhole points tenure fence files

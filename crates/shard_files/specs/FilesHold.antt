@@ -5,7 +5,7 @@ use Rattle.m3_outside.specs.Files.{Files}
 use Rattle.wire_bytes.specs.Volumes.{points_of_rows}
 use Rattle.wire_bytes.specs.Snapshots.{Snapshot}
 use Rattle.shard_files.specs.declared.entries.LogEntry.{LogEntry}
-use Rattle.shard_files.specs.Held.{HoldsEntries, points_of, tenure_of, fence_of}
+use Rattle.shard_files.specs.HeldEntries.{HoldsEntries, points_of, tenure_of, fence_of}
 use Rattle.shard_files.specs.Parts.{KnownVolume, VolumesAre, NewestIs, AreWhole}
 
 -- what counts of the files
@@ -61,12 +61,19 @@ pub record FilesHold (points : List Point) (tenure fence : ℕ) (files : Files) 
   pub tenure_is : tenure ≡ file_tenure parts
   pub fence_is : fence ≡ file_fence parts
 
+-- the files hold something: the volumes that count, the newest snapshot that counts and the log are in their grammar, as a replica finds them that begins
+pub record IsSound (files : Files) : Type 0 where
+  pub points : List Point
+  pub tenure : ℕ
+  pub fence : ℕ
+  pub held : FilesHold points tenure fence files
+
 -- the files hold this, and each older snapshot that counts is whole too
 pub record HoldWhole (points : List Point) (tenure fence : ℕ) (files : Files) : Type 0 where
   pub held : FilesHold points tenure fence files
   pub snapshots : AreWhole files
 
--- the files are sound: each that counts is in its grammar
+-- each of the files that counts is in its grammar, also an older snapshot, which no replica reads
 pub record AreSound (files : Files) : Type 0 where
   pub points : List Point
   pub tenure : ℕ

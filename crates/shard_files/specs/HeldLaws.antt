@@ -1,4 +1,4 @@
--- What files hold is one thing, and what one more entry does to it.
+-- What a log holds is one thing, what one more entry does to it, and what a stop leaves of a call that brings something.
 use Rattle.std.specs.Prelude.{◌≡◌, ℕ, max, true, List, [], ◌∷◌, ◌++◌, fold}
 use Rattle.m3_model.specs.Contents.{raised, content_of}
 use Rattle.m3_model.specs.Members.{IsIn}
@@ -7,7 +7,8 @@ use Rattle.m3_outside.specs.Files.{Files}
 use Rattle.m3_outside.specs.DiskState.{DiskState, EachImage, Elapses}
 use Rattle.shard_files.specs.declared.entries.LogEntry.{LogEntry}
 use Rattle.shard_files.specs.Entries.{spelled, IsWithin}
-use Rattle.shard_files.specs.Held.{HoldsEntries, Held, IsSound, points_in, tenure_in, fence_in, points_of, tenure_of, fence_of}
+use Rattle.shard_files.specs.HeldEntries.{HoldsEntries, points_in, tenure_in, fence_in, points_of, tenure_of, fence_of}
+use Rattle.shard_files.specs.FilesHold.{FilesHold, IsSound}
 use Rattle.shard_files.specs.Gains.{Gain, Grows, HoldsPart, MayGain}
 
 -- no two entries have the same bytes
@@ -17,10 +18,6 @@ OneSpelling = (d e : LogEntry) → IsWithin d → IsWithin e → spelled d ≡ s
 -- files hold one list of entries
 abbrev pub EntriesAreOne : Type 0
 EntriesAreOne = (ds es : List LogEntry) (files : Files) → HoldsEntries ds files → HoldsEntries es files → ds ≡ es
-
--- files hold one list of points, one tenure and one fence
-abbrev pub HeldIsOne : Type 0
-HeldIsOne = (ps qs : List Point) (t u f g : ℕ) (files : Files) → Held ps t f files → Held qs u g files → (ps ≡ qs) × (t ≡ u) × (f ≡ g)
 
 -- one more entry brings its points, and its tenure and fence where they are greater
 pub record OneMore (es : List LogEntry) (e : LogEntry) : Type 0 where
@@ -46,7 +43,7 @@ pub record WasGrown (gain : Gain) (images : Files → Type 0) (files : Files) : 
   pub points : List Point
   pub tenure : ℕ
   pub fence : ℕ
-  pub held : Held points tenure fence before
+  pub held : FilesHold points tenure fence before
   pub left : HoldsPart points tenure fence gain files
 
 abbrev pub StopLeavesPart : {D : Type 0} → (D → DiskState) → Type 0

@@ -7,7 +7,8 @@ use Rattle.m3_model.specs.declared.point.Point.{Point}
 use Rattle.m3_outside.specs.Causes.{CountsFaults}
 use Rattle.m3_outside.specs.Files.{Files}
 use Rattle.m3_outside.specs.DiskState.{DiskState, EachImage, Elapses}
-use Rattle.shard_files.specs.FilesHold.{FilesHold, HoldWhole, AreSound}
+use Rattle.shard_files.specs.Parts.{AreWhole}
+use Rattle.shard_files.specs.FilesHold.{FilesHold, IsSound}
 
 -- No file point comes, and each point of the content that is to be kept is there.
 pub record Sheds (kept : Contents) (before points : List Point) : Type 0 where
@@ -17,13 +18,14 @@ pub record Sheds (kept : Contents) (before points : List Point) : Type 0 where
 -- the files hold some of these points, those of the content all, and this tenure and this fence
 pub record HoldsKept (kept : Contents) (before : List Point) (tenure fence : ℕ) (files : Files) : Type 0 where
   pub points : List Point
-  pub whole : HoldWhole points tenure fence files
+  pub held : FilesHold points tenure fence files
   pub sheds : Sheds kept before points
 
 -- From files that hold something to files that hold what is to be kept of it. A flush and a snapshot keep the content; a tick keeps what of it hasn't
--- expired.
-abbrev pub Keeps : Contents → Files → Files → Type 0
-Keeps kept old new = (before : List Point) (tenure fence : ℕ) → HoldWhole before tenure fence old → HoldsKept kept before tenure fence new
+-- expired. Where each snapshot that counts was whole, each is.
+pub record Keeps (kept : Contents) (old new : Files) : Type 0 where
+  pub held : (before : List Point) (tenure fence : ℕ) → FilesHold before tenure fence old → HoldsKept kept before tenure fence new
+  pub snapshots : AreWhole old → AreWhole new
 
 -- What such a call does to the disk. A stop at any moment since it began leaves what is to be kept, with the very tenure and the very fence; it failed only
 -- where the count of faults rose.
@@ -53,13 +55,13 @@ pub record WasKept (kept : Contents) (images : Files → Type 0) (files : Files)
   pub points : List Point
   pub tenure : ℕ
   pub fence : ℕ
-  pub whole : HoldWhole points tenure fence before
+  pub held : FilesHold points tenure fence before
   pub left : HoldsKept kept points tenure fence files
 
 -- Where each image is sound and has the points of the content, a call that rearranges leaves, wherever a stop falls since it began, files that hold what is to
 -- be kept of what one of the images held.
 abbrev pub StopKeeps : {D : Type 0} → (D → DiskState) → Type 0
 StopKeeps {D} state =
-    (old new : D) (kept : Contents) → (state old).tells ≡ true → EachImage (state old) AreSound
+    (old new : D) (kept : Contents) → (state old).tells ≡ true → EachImage (state old) IsSound
     → EachImage (state old) (HoldContent kept)
     → Elapses (Keeps kept) (state old) (state new) → (c : Files) → (state new).since (state old).moment c → WasKept kept (state old).images c

@@ -1,5 +1,5 @@
 pub mod Entries
-pub mod Held
+pub mod HeldEntries
 pub mod Once
 pub mod Gains
 pub mod LogSteps

@@ -4,7 +4,7 @@ use Rattle.m3_model.specs.declared.limits.TheConstants.{SEGMENT_BYTES}
 use Rattle.m3_outside.specs.Files.{Files}
 use Rattle.m3_outside.specs.declared.disk_err.DiskErr.{DiskErr}
 use Rattle.m3_outside.specs.declared.disk_err.DiskErr.TheVariants as disk
-use Rattle.commit_log.specs.Contents.{numbers, PartsHold, segment_bytes}
+use Rattle.commit_log.specs.Contents.{numbers, PartsHold}
 use Rattle.commit_log.specs.Segment.{segment, Reads}
 use Rattle.shard_files.specs.declared.entries.LogEntry.{LogEntry}
 use Rattle.shard_files.specs.declared.entries.EntryErr.{EntryErr}
@@ -12,7 +12,7 @@ use Rattle.shard_files.specs.declared.entries.EntryErr.TheVariants as refused
 use Rattle.shard_files.specs.Entries.{spelled, AreWithin}
 use Rattle.wire_bytes.specs.Snapshots.{Snapshot}
 use Rattle.shard_files.specs.Parts.{KnownVolume, VolumesAre, NewestIs}
-use Rattle.shard_files.specs.Damage.{OfForm, FirstFound, FirstStop, BreaksSegment, FirstDamage}
+use Rattle.shard_files.specs.Damage.{Damage, OfForm, OfDigest, FirstFound, FirstStop, BreaksSegment, FirstDamage}
 use Rattle.shard_files.specs.declared.load_err.LoadErr.{LoadErr}
 use Rattle.shard_files.specs.declared.load_err.LoadErr.TheVariants as failures
 
@@ -33,16 +33,17 @@ abbrev pub MayStop : List ℕ → EntryErr → Type 0
 MayStop bytes refused.Memory = ⊤
 MayStop bytes (refused.Form at) = FirstStop bytes at
 
--- this segment stops at the place; a fault has its own cause, and memory may always be wanted
-abbrev pub MayBeBroken : ℕ → Files → LoadErr → Type 0
-MayBeBroken number files failures.Disk = ⊤
-MayBeBroken number files failures.Memory = ⊤
-MayBeBroken number files (failures.Form n at) = (n ≡ number) × FirstStop (segment_bytes number files) at
+-- this damage is told; a fault has its own cause, and memory may always be wanted
+abbrev pub Tells : (Damage → Type 0) → LoadErr → Type 0
+Tells P failures.Disk = ⊤
+Tells P failures.Memory = ⊤
+Tells P (failures.Digest name kept found) = P (OfDigest name kept found)
+Tells P (failures.Form name at) = P (OfForm name at)
 
 -- the same, of the segment of this number
 abbrev pub in_segment : ℕ → EntryErr → LoadErr
 in_segment number refused.Memory = failures.Memory
-in_segment number (refused.Form at) = failures.Form number at
+in_segment number (refused.Form at) = failures.Form (segment number) at
 
 -- the entries of these segments came behind those before
 pub record FindsEntries (ns : List ℕ) (files : Files) (old new : List LogEntry) : Type 0 where
@@ -51,18 +52,12 @@ pub record FindsEntries (ns : List ℕ) (files : Files) (old new : List LogEntry
   pub within : AreWithin entries
   pub has : PartsHold ns files (map spelled entries)
 
--- the lowest damaged segment has this number, and the first place at which it stops to be a segment of entries is this one
-abbrev pub IsDamagedAt : ℕ → ℕ → Files → Type 0
-IsDamagedAt number at files = FirstFound (BreaksSegment files) (numbers files) (OfForm (segment number) at)
-
--- why these files hold no entries; a fault has its own cause, and memory may always be wanted
-abbrev pub MayBeUnsound : Files → LoadErr → Type 0
-MayBeUnsound files failures.Disk = ⊤
-MayBeUnsound files failures.Memory = ⊤
-MayBeUnsound files (failures.Form number at) = IsDamagedAt number at files
+-- the lowest damaged segment, and the first place at which it stops to be a segment of entries
+abbrev pub LogTells : Files → Damage → Type 0
+LogTells files damage = FirstFound (BreaksSegment files) (numbers files) damage
 
 -- ---- a law
 
 -- where the volumes that count and the newest snapshot are whole, the log's first damage is the first of all files
 abbrev pub LogDamageIsFirst : Type 0
-LogDamageIsFirst = (known : List KnownVolume) (newest : Option Snapshot) (number at : ℕ) (files : Files) → VolumesAre known files → NewestIs newest files → IsDamagedAt number at files → FirstDamage files (OfForm (segment number) at)
+LogDamageIsFirst = (known : List KnownVolume) (newest : Option Snapshot) (damage : Damage) (files : Files) → VolumesAre known files → NewestIs newest files → LogTells files damage → FirstDamage files damage

@@ -9,7 +9,7 @@ use Rattle.m3_model.specs.Keys.{key_cmp}
 use Rattle.m3_model.specs.Members.{IsIn}
 use Rattle.m3_model.specs.declared.point.Point.{Point}
 use Rattle.m3_outside.specs.Files.{Files}
-use Rattle.shard_files.specs.Held.{Held}
+use Rattle.shard_files.specs.FilesHold.{FilesHold}
 
 -- by key, and then by value
 abbrev pub point_cmp : Point → Point → Ordering
@@ -31,7 +31,7 @@ pub record IsEachOnce (all points : List Point) : Type 0 where
 -- the files hold these points, here each once and in order, this tenure and this fence
 pub record HeldOnce (points : List Point) (tenure fence : ℕ) (files : Files) : Type 0 where
   pub all : List Point
-  pub held : Held all tenure fence files
+  pub held : FilesHold all tenure fence files
   pub once : IsEachOnce all points
 
 -- ---- laws

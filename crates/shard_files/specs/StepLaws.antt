@@ -13,7 +13,7 @@ use Rattle.m3_outside.specs.declared.file_name.FileName.{FileName}
 use Rattle.commit_log.specs.Cutting.{segments_below}
 use Rattle.wire_bytes.specs.Volumes.{VolumeHead, Part, Checkpoint, points_of_rows}
 use Rattle.wire_bytes.specs.Snapshots.{Snapshot}
-use Rattle.shard_files.specs.Held.{points_of, tenure_of, fence_of}
+use Rattle.shard_files.specs.HeldEntries.{points_of, tenure_of, fence_of}
 use Rattle.shard_files.specs.Parts.{KnownVolume, part_name, part_of, is_open, counted_volumes, counted_snapshots, snapshot_data, snapshot_checkpoint, IsNewest}
 use Rattle.shard_files.specs.FilesHold.{Counted, HoldParts, FilesHold, AreSound, points_known, volume_points, points_in_newest, tenure_in_newest, fence_in_newest}
 use Rattle.shard_files.specs.Keeps.{IsFilePoint, HoldContent, Keeps}

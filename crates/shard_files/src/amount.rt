@@ -1,5 +1,5 @@
 ghost use Rattle.std.specs.Prelude.{◌≡◌, ◌≤◌, max, IfOk};
-ghost use Rattle.shard_files.specs.Held.{AmountTo, points_in, tenure_in, fence_in};
+ghost use Rattle.shard_files.specs.HeldEntries.{AmountTo, points_in, tenure_in, fence_in};
 
 use crate::entries::LogEntry;
 use m3_model::{Memory, Point, Seq};

@@ -1,12 +1,11 @@
 //! Laws over the definitions of what a replica's files hold.
-ghost use Rattle.std.specs.Prelude.{List, [], ℕ, ◌≤◌};
-ghost use Rattle.std.specs.FinMap.{empty};
-ghost use Rattle.m3_model.specs.declared.point.Point.{Point};
+ghost use Rattle.std.specs.Prelude.{List};
 ghost use Rattle.m3_outside.specs.Files.{Files};
 ghost use Rattle.shard_files.specs.declared.entries.LogEntry.{LogEntry};
-ghost use Rattle.shard_files.specs.Held.{Held, IsSound};
-ghost use Rattle.shard_files.specs.Loading.{IsDamagedAt};
-ghost use Rattle.shard_files.specs.HeldLaws.{OneSpelling, EntriesAreOne, HeldIsOne, OneMore, GrownIsJoined, StopLeavesPart};
+ghost use Rattle.shard_files.specs.FilesHold.{IsSound};
+ghost use Rattle.shard_files.specs.Damage.{Damage};
+ghost use Rattle.shard_files.specs.Loading.{LogTells};
+ghost use Rattle.shard_files.specs.HeldLaws.{OneSpelling, EntriesAreOne, OneMore, GrownIsJoined, StopLeavesPart};
 ghost use Rattle.shard_files.specs.Once.{OnceIsOne, OnceHasContent, HeldOnceIsOne};
 
 use m3_outside::Disk;
@@ -21,24 +20,9 @@ pub fn entries_are_one()
     ensures { EntriesAreOne }
 {}
 
-/// Files hold at most one list of points, with one tenure and one fence.
-pub fn held_is_one()
-    ensures { HeldIsOne }
-{}
-
-/// Where there are no files, nothing is held.
-pub fn no_files_hold_nothing()
-    ensures { Held [] 0 0 empty }
-{}
-
-/// What files hold has a tenure that isn't above its fence.
-pub fn held_is_ordered()
-    ensures { (points : List Point) (tenure fence : ℕ) (files : Files) → Held points tenure fence files → tenure ≤ fence }
-{}
-
-/// Damaged files hold nothing.
+/// Files of which the log is damaged hold nothing.
 pub fn damaged_is_unsound()
-    ensures { (number at : ℕ) (files : Files) → IsDamagedAt number at files → ¬ IsSound files }
+    ensures { (damage : Damage) (files : Files) → LogTells files damage → ¬ IsSound files }
 {}
 
 /// One more entry brings its points, and its tenure and its fence where they are greater.

@@ -1,15 +1,25 @@
 use m3_model::Memory;
-use m3_outside::DiskErr;
+use m3_outside::{DiskErr, FileName};
 
-/// Why a replica's log can't be read.
+/// Why a replica's files can't be read.
 #[derive(Clone, Copy, Debug, PartialEq, Eq)]
 pub enum LoadErr {
     /// The disk failed. Its count of faults rose in that call.
     Disk,
     /// Want of memory.
     Memory,
-    /// In the segment of this number no replica's log goes on with the byte at the place `at`, or for want of it.
-    Form { number: u64, at: u64 },
+    /// The SHA-256 of the file isn't the one that is kept of it.
+    Digest {
+        file: FileName,
+        kept: [u8; 32],
+        found: [u8; 32],
+    },
+    /// With the byte at the place `at`, or for want of it, no such file goes on. It is 0 where the file isn't there, and where it
+    /// keeps to its digest and is damaged all the same: no place in it is looked for then.
+    Form {
+        file: FileName,
+        at: u64,
+    },
 }
 
 impl From<DiskErr> for LoadErr {

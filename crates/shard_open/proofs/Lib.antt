@@ -1,3 +1,5 @@
 pub mod Counts
 pub mod SyncLemmas
 pub mod OnceLemmas
+pub mod ToldLemmas
+pub mod OpenLemmas

@@ -18,7 +18,7 @@ use Rattle.m3_outside.proofs.Names.{name_total, name_same, same_files}
 use Rattle.m3_outside.proofs.Moments.{elapses_then}
 use Rattle.shard_open.proofs.Counts.{counts_both, counts_for}
 
-take_more : {X : Type 0} (xs : List X) (i : ℕ) (d : X) → i < length xs → take (i + 1) xs ≡ take i xs ++ get_or xs i d ∷ []
+pub take_more : {X : Type 0} (xs : List X) (i : ℕ) (d : X) → i < length xs → take (i + 1) xs ≡ take i xs ++ get_or xs i d ∷ []
 take_more {X} xs i d lt = let up : i + 1 ≡ suc i = omega arith in ap (λ (k : ℕ). take k xs) up ∙ take-suc xs i d lt
 
 -- files stay, and the first i of them are as each stop leaves them

@@ -11,7 +11,7 @@ use Rattle.commit_log.specs.Segment.{segment, MayAdd, Adds}
 use Rattle.commit_log.specs.LogEnd.{LogEnd, NoneAbove, NoneFrom, Stands, MayBegin}
 use Rattle.shard_files.specs.declared.entries.LogEntry.{LogEntry}
 use Rattle.shard_files.specs.Entries.{IsEntry}
-use Rattle.shard_files.specs.Held.{Held}
+use Rattle.shard_files.specs.FilesHold.{FilesHold}
 use Rattle.shard_files.specs.Once.{HeldOnce}
 use Rattle.shard_files.proofs.OnceLemmas.{once_has_content}
 use Rattle.shard_files.specs.Gains.{Gain, nothing, Gains, MayGain, Brings}
@@ -27,10 +27,10 @@ use Rattle.wire_bytes.specs.Entries.{IsBounded, ArePoints}
 use Rattle.m3_model.specs.Members.{IsIn}
 use Rattle.m3_model.specs.declared.point.Point.{Point}
 use Rattle.shard_files.proofs.GainLemmas.{gains_nothing, all_is_part, nothing_is_part, nothing_then_all, nothing_then_part}
-use Rattle.shard_files.specs.Held.{tenure_in, fence_in}
+use Rattle.shard_files.specs.HeldEntries.{tenure_in, fence_in}
 use Rattle.shard_files.proofs.HeldLemmas.{tenure_is_fence}
 use Rattle.shard_store.proofs.KeptLemmas.{there_already, opened_by_all, opened_by_nothing}
-use Rattle.shard_files.proofs.EntryLemmas.{added, may_be_added, begun_gains, fresh_gains}
+use Rattle.shard_files.proofs.FilesHoldLemmas.{append_brings}
 
 -- no image has a segment above the log's end
 above_all : (log : LogEnd) (d : DiskState) → IsLawful d → Stands log d → d.tells ≡ true → (c : Files) → d.images c → NoneAbove log.number c
@@ -69,15 +69,16 @@ kept_by_entry (Err x) e log end memory tenure fence old new same stands steps ke
 -- a segment that may begin
 module _ (log : LogEnd) (old new : DiskState) (lawful : IsLawful old) (stands : Stands log old) where
   pub begin_elapses : old.tells ≡ true → Elapses (MayBegin (log.number + 1)) old new → Elapses (Gains nothing) old new
-  begin_elapses tells goes = elapses_as old new (λ x y image may. begun_gains log.number x y (above_all log old lawful stands tells x image) may) goes
+  begin_elapses tells goes = elapses_as old new (λ x y image may.
+      append_brings.begins (log.number + 1) x y (λ n le. above_all log old lawful stands tells x image n (omega (arith, le))) may) goes
 
 -- an entry that may be added
 module _ (log : LogEnd) (old new : DiskState) (lawful : IsLawful old) (stands : Stands log old) (bytes : List ℕ) (e : LogEntry) (is : IsEntry bytes e) where
   pub append_elapses : old.tells ≡ true → Elapses (MayAdd (segment log.number) bytes) old new → Elapses (MayGain (gain_in e)) old new
-  append_elapses tells goes = elapses_as old new (λ x y image may. may_be_added e bytes is log.number x y (above_all log old lawful stands tells x image) may) goes
+  append_elapses tells goes = elapses_as old new (λ x y image may. append_brings.part e bytes log.number x y is (above_all log old lawful stands tells x image) may) goes
 
   pub append_added : old.tells ≡ true → ((c : Files) → new.images c → StepOf (Adds (segment log.number) bytes) old.images c) → (c : Files) → new.images c → StepOf (Gains (gain_in e)) old.images c
-  append_added tells steps c image = step_as (λ x y was adds. added e bytes is log.number x y (above_all log old lawful stands tells x was) adds) c (steps c image)
+  append_added tells steps c image = step_as (λ x y was adds. append_brings.all e bytes log.number x y is (above_all log old lawful stands tells x was) adds) c (steps c image)
 
 -- first a call that brings nothing, and then one that brings something
 module _ (gain : Gain) (a b c : DiskState) (one : a.tells ≡ true → Elapses (Gains nothing) a b) (same : b.tells ≡ a.tells) where
@@ -165,7 +166,7 @@ one_bounded p bounded = record { some = omega arith; most = omega arith; bounded
 
 -- a fresh segment, where no image has one of its number or above
 pub fresh_elapses : (number : ℕ) (old new : DiskState) → IsLawful old → Told old (NoneFrom number) → old.tells ≡ true → Elapses (MayBegin number) old new → Elapses (Gains nothing) old new
-fresh_elapses number old new lawful none tells goes = elapses_as old new (λ x y image may. fresh_gains number x y (λ n le. (lawful.same_names tells x image (segment n)).0 (none tells n le)) may) goes
+fresh_elapses number old new lawful none tells goes = elapses_as old new (λ x y image may. append_brings.begins number x y (λ n le. (lawful.same_names tells x image (segment n)).0 (none tells n le)) may) goes
 
 pub begun_kept : (r : Result LogEnd DiskErr) (log : LogEnd) (memory : InMemory) (tenure fence : ℕ) (d : DiskState) → IfOk r (λ end. end ≡ log) → OnOk r (Stands log d)
     → EachImage d (HoldsOpened memory.points tenure fence) → memory.room ≡ None → tenure ≤ fence → IfOk r (λ end. IsKeptOn end memory tenure fence d)
@@ -179,7 +180,7 @@ brings_nothing_more u a c goes same faults = brings_all nothing u a c (λ tells.
 pub only_held : (points : List Point) (tenure fence : ℕ) (d : DiskState) → Told d (HeldOnce points tenure fence) → EachImage d (λ c. c ≡ d.files) → EachImage d (HoldsOpened (content_of points) tenure fence)
 only_held points tenure fence d held only tells c image =
     let h : HeldOnce points tenure fence d.files = held tells in
-    record { points = h.all; held = subst (Held h.all tenure fence) (sym (only tells c image)) h.held; make_up = sym (once_has_content h.all points h.once) }
+    record { points = h.all; held = subst (FilesHold h.all tenure fence) (sym (only tells c image)) h.held; make_up = sym (once_has_content h.all points h.once) }
 
 -- the same error, handed on
 pub err_to : {X Y E : Type 0} (r : Result X E) (q : Result Y E) (e d : E) → r ≡ Err e → q ≡ Err e → IsErrOf q d → IsErrOf r d

@@ -8,7 +8,8 @@ use Rattle.m3_outside.specs.Files.{Files}
 use Rattle.m3_outside.specs.DiskState.{DiskState, EachImage}
 use Rattle.block_buffer.specs.Held.{Held as InMemory}
 use Rattle.commit_log.specs.LogEnd.{LogEnd, Stands}
-use Rattle.shard_files.specs.Held.{Held, points_in}
+use Rattle.shard_files.specs.HeldEntries.{points_in}
+use Rattle.shard_files.specs.FilesHold.{FilesHold}
 use Rattle.shard_files.specs.declared.entries.LogEntry.{LogEntry}
 
 -- What a store is: its disk, whether its points are in memory, and then these, joined, with the greatest tenure and the greatest fence or tenure of
@@ -32,7 +33,7 @@ closed_over disk = record { disk = disk; open_ = false; content = finite.empty; 
 -- the files hold points that make up this content, this tenure and this fence
 pub record HoldsOpened (content : Contents) (tenure fence : ℕ) (files : Files) : Type 0 where
   pub points : List Point
-  pub held : Held points tenure fence files
+  pub held : FilesHold points tenure fence files
   pub make_up : content_of points ≡ content
 
 -- The log ends on the disk where it says. Each stop leaves files that hold just what is in memory. No put is under way, and a tenure is a fence too.

@@ -9,7 +9,7 @@ ghost use Rattle.block_buffer.specs.Held.{Held as InMemory};
 ghost use Rattle.commit_log.specs.LogEnd.{LogEnd, NoneFrom, Stands, IsReadyFor};
 ghost use Rattle.shard_files.specs.Entries.{IsEntry};
 ghost use Rattle.shard_files.specs.Gains.{Gains, MayGain, Brings, nothing};
-ghost use Rattle.shard_files.specs.Held.{tenure_in, fence_in};
+ghost use Rattle.shard_files.specs.HeldEntries.{tenure_in, fence_in};
 ghost use Rattle.shard_store.specs.Stores.{HoldsOpened, IsKeptOn, memory_with};
 ghost use Rattle.shard_files.specs.declared.entries.LogEntry.{LogEntry as Entry};
 ghost use Rattle.shard_files.specs.LogSteps.{gain_in};

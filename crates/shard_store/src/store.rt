@@ -1,4 +1,4 @@
-ghost use Rattle.std.specs.Prelude.{◌≡◌, ◌≤◌, true, false, None, max, IfOk, IfErr, OnOk, OnErr, IsErrOf};
+ghost use Rattle.std.specs.Prelude.{◌≡◌, ◌≤◌, true, false, None, max, length, IfOk, IfErr, OnOk, OnErr, IsErrOf};
 ghost use Rattle.std.specs.FinMap as finite;
 ghost use Rattle.m3_model.specs.Answers.{IsAnswer};
 ghost use Rattle.m3_model.specs.Contents.{raised, content_of};
@@ -8,10 +8,12 @@ ghost use Rattle.m3_outside.specs.DiskState.{DiskState, Told, EachImage, Elapses
 ghost use Rattle.m3_outside.specs.DiskCalls.{Restarts};
 ghost use Rattle.m3_outside.specs.Files.{Stays};
 ghost use Rattle.m3_outside.specs.declared.disk_err.DiskErr.TheVariants.{Failed as DiskFailed, Memory as WantOfMemory};
+ghost use Rattle.commit_log.specs.Contents.{numbers};
 ghost use Rattle.commit_log.specs.LogEnd.{NoneFrom};
 ghost use Rattle.wire_bytes.specs.Entries.{IsBounded};
 ghost use Rattle.shard_files.specs.Gains.{Brings, nothing, a_point, a_fence, a_tenure};
-ghost use Rattle.shard_files.specs.Loading.{MayBeUnsound};
+ghost use Rattle.shard_open.specs.Loads.{AreOpened, IsNewestNumber};
+ghost use Rattle.shard_open.specs.Told.{AreApart, MayBeUnsound};
 ghost use Rattle.shard_files.specs.Once.{HeldOnce};
 ghost use Rattle.shard_store.specs.Stores.{closed_over, HoldsOpened};
 ghost use Rattle.shard_files.specs.declared.load_err.LoadErr.TheVariants as failures;
@@ -27,8 +29,8 @@ use shard_open::load::load;
 use std::alloc::Global;
 use std::marker::Model;
 
-/// One replica's points of one shard, on its disk and, while it is open, in memory. Each put, fence and tenure is in the
-/// replica's commit log, synced, before it is acknowledged.
+/// One replica's points of one shard, on its disk and, while it is open, in memory: those of its volumes, of its newest snapshot
+/// and of its log. Each put, fence and tenure is in the replica's commit log, synced, before it is acknowledged.
 ///
 /// While it is open, each stop leaves just what is in memory: see `images_hold`. So a fault closes it, since what a stop
 /// then leaves isn't known.
@@ -84,10 +86,14 @@ impl<D: Disk> Store<D> {
         requires { self.old.open_ ≡ false }
         ensures closed { self.new ≡ record self.old { disk = self.new.disk } }
         ensures ok { IfOk result (λ l. Told (D.state self.new.disk) (HeldOnce l.points l.tenure l.fence)) }
+        ensures volumes { IfOk result (λ l. Told (D.state self.new.disk) (AreOpened l.volumes)) }
+        ensures snapshot { IfOk result (λ l. Told (D.state self.new.disk) (IsNewestNumber l.snapshot)) }
+        ensures segments { IfOk result (λ l. Told (D.state self.new.disk) (λ files. l.segments ≡ length (numbers files))) }
         ensures only { IfOk result (λ _. EachImage (D.state self.new.disk) (λ c. c ≡ (D.state self.new.disk).files)) }
         ensures fresh { IfOk result (λ l. Told (D.state self.new.disk) (NoneFrom l.next_segment)) }
         ensures order { IfOk result (λ l. l.tenure ≤ l.fence) }
         ensures err { IfErr result (λ e. Told (D.state self.old.disk) (λ files. MayBeUnsound files e)) }
+        ensures apart { IfErr result AreApart }
         ensures any_moment { (D.state self.old.disk).tells ≡ true → Elapses Stays (D.state self.old.disk) (D.state self.new.disk) }
         ensures files { (D.state self.old.disk).tells ≡ true → (D.state self.new.disk).files ≡ (D.state self.old.disk).files }
         ensures tells { (D.state self.new.disk).tells ≡ (D.state self.old.disk).tells }

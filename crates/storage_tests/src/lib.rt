@@ -4,4 +4,6 @@
 #[cfg(test)]
 mod machines;
 #[cfg(test)]
+mod openings;
+#[cfg(test)]
 mod points;

@@ -1,4 +1,4 @@
-use Rattle.shard_files.specs.Held.{AmountTo}
+use Rattle.shard_files.specs.HeldEntries.{AmountTo}
 use Rattle.shard_files.proofs.amount.join_entries.Given as goal
 
 abbrev pub invariant-loop-entry : goal.invariant-loop-entry

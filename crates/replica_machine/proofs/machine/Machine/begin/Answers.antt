@@ -2,7 +2,7 @@ use Rattle.std.proofs.Common.{◌≡◌, ap, ◌∙◌, Err, false, rules}
 use Rattle.replica_machine.proofs.OtherLemmas.{store_moved}
 use Rattle.replica_machine.proofs.BeginLemmas.{BeginDone}
 use Rattle.replica_machine.proofs.PartLemmas.{store_closed, not_loaded_of, higher_of, opened_of}
-use Rattle.replica_machine.proofs.BootReasons.{own_reasons, unread_reason}
+use Rattle.replica_machine.proofs.BootReasons.{own_damage, own_reasons, unread_damage, unread_reason}
 use Rattle.replica_machine.proofs.RefusedFiles.{read_only, owned, unread_owned}
 use Rattle.replica_machine.proofs.machine.Machine.begin.Given.{Over}
 use Rattle.replica_machine.proofs.machine.Machine.begin.Goals as goal
@@ -158,3 +158,9 @@ returns-clause-unowned_files g c tells refused = absurd (owned c.open.result c.o
 
 pub returns-then-tenure-loaded-clause-unowned_files : goal.returns-then-tenure-loaded-clause-unowned_files
 returns-then-tenure-loaded-clause-unowned_files g c = rw (← c.self.view_is) (λ tells refused. read_only _ _ (c.in-Ok.ensures.any_moment tells) (c.in-Ok.ensures.files tells))
+
+pub returns-in-Err-clause-form : goal.returns-in-Err-clause-form
+returns-in-Err-clause-form g c = unread_damage c.in-Err.why c.not_loaded.result c.in-Err.ensures.apart c.not_loaded.ensures.why
+
+pub returns-clause-form : goal.returns-clause-form
+returns-clause-form g c = own_damage c.open.result c.open.ensures.own

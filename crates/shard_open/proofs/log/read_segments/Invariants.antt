@@ -1,7 +1,7 @@
 use Rattle.std.proofs.Common.{◌≡◌, true, take}
 use Rattle.m3_outside.specs.DiskCalls.{LeavesFiles}
 use Rattle.shard_files.specs.Loading.{FindsEntries}
-use Rattle.shard_open.proofs.load.read_segments.Given as goal
+use Rattle.shard_open.proofs.log.read_segments.Given as goal
 
 abbrev pub invariant-loop-number : goal.invariant-loop-number
 invariant-loop-number g l = record {

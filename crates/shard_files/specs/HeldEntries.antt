@@ -1,4 +1,4 @@
--- What the files of a replica's disk hold: its points, its tenure and its fence.
+-- What the log of a replica holds: the points of its entries, their greatest tenure and their greatest fence.
 use Rattle.std.specs.Prelude.{◌≡◌, ℕ, max, List, [], ◌∷◌, ◌++◌, map}
 use Rattle.m3_model.specs.declared.point.Point.{Point}
 use Rattle.m3_outside.specs.Files.{Files}
@@ -50,15 +50,8 @@ pub record AmountTo (entries : List LogEntry) (points : List Point) (tenure fenc
   pub tenure_is : tenure ≡ tenure_of entries
   pub fence_is : fence ≡ fence_of entries
 
--- the files hold these points, also several of one key, this tenure and this fence
-pub record Held (points : List Point) (tenure fence : ℕ) (files : Files) : Type 0 where
+-- the log holds these points, also several of one key, this tenure and this fence
+pub record LogAmountsTo (points : List Point) (tenure fence : ℕ) (files : Files) : Type 0 where
   pub entries : List LogEntry
   pub holds : HoldsEntries entries files
   pub amount : AmountTo entries points tenure fence
-
--- the files hold something: each of their bytes that counts is in its grammar
-pub record IsSound (files : Files) : Type 0 where
-  pub points : List Point
-  pub tenure : ℕ
-  pub fence : ℕ
-  pub held : Held points tenure fence files

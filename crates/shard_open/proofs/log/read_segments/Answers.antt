@@ -3,11 +3,12 @@ use Rattle.m3_outside.specs.Files.{Files}
 use Rattle.commit_log.specs.Contents.{segment_bytes}
 use Rattle.commit_log.proofs.Leaves.{leaves_none, leaves_as, leaves_then}
 use Rattle.commit_log.proofs.ReadLemmas.{passed_err}
-use Rattle.shard_files.specs.Loading.{ReadsEntries, MayBeBroken, MayBeUnsound}
+use Rattle.shard_files.specs.Loading.{ReadsEntries, Tells, LogTells}
+use Rattle.shard_files.specs.Damage.{BreaksSegment}
 use Rattle.shard_files.specs.declared.load_err.LoadErr.TheVariants as failures
 use Rattle.shard_files.proofs.DamageLemmas.{found_none, found_next, found_broken}
 use Rattle.shard_files.proofs.SegmentStops.{passed_on}
-use Rattle.shard_open.proofs.load.read_segments.Goals as goal
+use Rattle.shard_open.proofs.log.read_segments.Goals as goal
 
 pub loop-number-init : goal.loop-number-init
 loop-number-init g c = record {
@@ -26,9 +27,9 @@ returns-in_err-read_one-clause-err g c = λ t.
     let same = c.loop-number.invariant.leaves.files t in
     let told = c.loop-number.invariant.leaves.proceeds.tells ∙ t in
     let number = get_or c.args.numbers.now c.loop-number.number-index 0 in
-    passed_on c.from_residual.result c.in_err-read_one.field-0.0 (MayBeUnsound (g.D.Disk.state c.args.disk.now).files) c.from_residual.ensures.1
+    passed_on c.from_residual.result c.in_err-read_one.field-0.0 (Tells (LogTells (g.D.Disk.state c.args.disk.now).files)) c.from_residual.ensures.1
     (found_broken c.args.numbers.now c.loop-number.number-index number (g.D.Disk.state c.args.disk.now).files c.args.entries.now.items c.loop-number.entries.items (c.requires t) (omega arith) refl (c.loop-number.invariant.found t) c.in_err-read_one.field-0.0
-    (subst (λ (m : Files). MayBeBroken number m c.in_err-read_one.field-0.0) same (c.in_err-read_one.ensures.err told)))
+    (subst (λ (m : Files). Tells (BreaksSegment m number) c.in_err-read_one.field-0.0) same (c.in_err-read_one.ensures.err told)))
 
 pub loop-number-preserved : goal.loop-number-preserved
 loop-number-preserved g c =

@@ -1,0 +1,123 @@
+//! The volumes that count, checked and read.
+ghost use Rattle.std.specs.Prelude.{◌≡◌, ◌++◌, [], ◌∷◌, true, map, IfOk, IfErr, OnOk, IsErrOf};
+ghost use Rattle.m3_model.specs.Members.{IsIn};
+ghost use Rattle.m3_outside.specs.DiskState.{DiskState, Told};
+ghost use Rattle.m3_outside.specs.DiskCalls.{LeavesFiles};
+ghost use Rattle.wire_bytes.specs.Volumes.{points_of_rows};
+ghost use Rattle.volume_bytes.specs.Heads.{head_of};
+ghost use Rattle.shard_files.specs.FilesHold.{volume_points};
+ghost use Rattle.shard_files.specs.Loading.{Tells};
+ghost use Rattle.shard_files.specs.declared.load_err.LoadErr.TheVariants as failures;
+ghost use Rattle.fileset_read.specs.Volumes.{IsThere};
+ghost use Rattle.fileset_check.specs.Told.{VolumesTell};
+ghost use Rattle.fileset_check.specs.declared.volume.Volume.{Volume as Listed};
+ghost use Rattle.shard_open.specs.Loads.{known_of, AreOpen, AreOpened, IsOpen};
+ghost use Rattle.shard_open.specs.Told.{AreApart, IsUnreadAs};
+
+use crate::rows::append_rows;
+use crate::told::told;
+use fileset_check::{Volume, volumes};
+use fileset_read::{FileErr, rows};
+use m3_model::{Memory, Point, Seq, Series};
+use m3_outside::Disk;
+use shard_files::LoadErr;
+use std::alloc::Global;
+use std::snapshot::Snapshot;
+
+/// A volume that counts.
+#[derive(Drop)]
+pub struct OpenVolume {
+    /// Which one it is, and how many series and points it has.
+    pub volume: Volume,
+    /// Its series, for proofs alone.
+    pub rows: Snapshot<Seq<Series>>,
+}
+
+// Why the volume wasn't read, of the replica's files.
+fn unread(why: FileErr) -> LoadErr
+    ensures same { IsUnreadAs why result }
+    ensures apart { AreApart result }
+{
+    match why {
+        FileErr::Disk => LoadErr::Disk,
+        FileErr::Memory => LoadErr::Memory,
+        FileErr::Form { file } => LoadErr::Form { file, at: 0 },
+    }
+}
+
+// Opens the volume, which is there whole, and appends its points.
+fn open_one<D: Disk>(
+    alloc: Global,
+    disk: &mut D,
+    volume: Volume,
+    points: &mut Vec<Point>,
+) -> Result<OpenVolume, LoadErr>
+    requires { Told (D.state disk.old) (IsThere (head_of volume.head)) }
+    ensures leaves { LeavesFiles (IsErrOf result failures.Disk) (D.state disk.old) (D.state disk.new) }
+    ensures ok { (D.state disk.old).tells ≡ true → IfOk result (IsOpen (D.state disk.old).files volume) }
+    ensures points { IfOk result (λ v. points.new.items ≡ points.old.items ++ points_of_rows v.volume.head.ns v.rows.value) }
+    ensures sound { (D.state disk.old).tells ≡ true → IfErr result (Tells (λ damage. ⊥)) }
+    ensures apart { IfErr result AreApart }
+{
+    let found = match rows(alloc, disk, &volume.head) {
+        Ok(found) => found,
+        Err(why) => return Err(unread(why)),
+    };
+    append_rows(alloc, volume.head.ns, found.as_slice(), points)?;
+    let rows = Snapshot::of(&found);
+    Ok(OpenVolume { volume, rows })
+}
+
+// Appends the volume.
+fn keep(found: &mut Vec<OpenVolume>, volume: OpenVolume) -> Result<(), Memory>
+    ensures { OnOk result (found.new.items ≡ found.old.items ++ volume ∷ []) }
+{
+    found.push(volume)?;
+    Ok(())
+}
+
+// Opens the volumes, which are there whole, and appends their points.
+fn open_each<D: Disk>(
+    alloc: Global,
+    disk: &mut D,
+    listed: &[Volume],
+    points: &mut Vec<Point>,
+) -> Result<Seq<OpenVolume>, LoadErr>
+    requires { Told (D.state disk.old) (λ files. (v : Listed) → IsIn listed.now v → IsThere (head_of v.head) files) }
+    ensures leaves { LeavesFiles (IsErrOf result failures.Disk) (D.state disk.old) (D.state disk.new) }
+    ensures ok { (D.state disk.old).tells ≡ true → IfOk result (AreOpen (D.state disk.old).files listed.now) }
+    ensures points { IfOk result (λ found. points.new.items ≡ points.old.items ++ volume_points (map known_of found)) }
+    ensures sound { (D.state disk.old).tells ≡ true → IfErr result (Tells (λ damage. ⊥)) }
+    ensures apart { IfErr result AreApart }
+{
+    let mut found = Vec::new(alloc);
+    for volume in listed {
+        let opened = open_one(alloc, disk, *volume, points)?;
+        keep(&mut found, opened)?;
+    }
+    Ok(Seq::from_vec(found))
+}
+
+/// The volumes that count, ascending by namespace, start and number, each checked whole, and their points behind those before.
+/// Each volume is read twice, and one after another.
+///
+/// # Errors
+///
+/// A fault. The first damage of the first volume that isn't whole. Want of memory.
+pub(crate) fn open_volumes<D: Disk>(
+    alloc: Global,
+    disk: &mut D,
+    points: &mut Vec<Point>,
+) -> Result<Seq<OpenVolume>, LoadErr>
+    ensures leaves { LeavesFiles (IsErrOf result failures.Disk) (D.state disk.old) (D.state disk.new) }
+    ensures ok { (D.state disk.old).tells ≡ true → IfOk result (λ found. AreOpened found (D.state disk.old).files) }
+    ensures points { IfOk result (λ found. points.new.items ≡ points.old.items ++ volume_points (map known_of found)) }
+    ensures err { (D.state disk.old).tells ≡ true → IfErr result (Tells (VolumesTell (D.state disk.old).files)) }
+    ensures apart { IfErr result AreApart }
+{
+    let listed = match volumes(alloc, disk) {
+        Ok(listed) => listed,
+        Err(why) => return Err(told(why)),
+    };
+    open_each(alloc, disk, listed.as_slice(), points)
+}
