@@ -6,6 +6,8 @@ mod acts;
 #[cfg(test)]
 mod damages;
 #[cfg(test)]
+mod joins;
+#[cfg(test)]
 mod stops;
 #[cfg(test)]
 mod stories;

@@ -183,3 +183,70 @@ fn numbers_go_on(rt: HostRuntime) -> Result<(), Fail> {
     assert_eq!(rt; wrong.as_str(), "");
     Ok(())
 }
+
+// Two volumes of one block, one of the next one, and one of another namespace.
+const VOLUMES: &str =
+    "w2.100.50:a,100=1,120=5;b,149=2 w2.100.50:a,110=3,120=4;c,130=1 w2.150.50:a,150=7 w1.100.50:a,100=99";
+
+// What a read of all volumes finds, also at the edges of a block.
+const FOUND: &str = "f2.0.1000:a => (a 100=1 110=3 120=5 150=7)|
+f2.100.150:a => (a 100=1 110=3 120=5)|
+f2.101.120:a => (a 110=3)|
+f2.149.150:b => (b 149=2)|
+f2.150.151:a => (a 150=7)|
+f2.151.200:a => |
+f2.0.100:a => |
+f2.0.101:a => (a 100=1)|
+f2.120.120:a => |
+f2.130.120:a => |
+f2.0.1000:d => |
+f1.0.1000:a => (a 100=99)|
+f3.0.1000:a => |
+a2.0.1000: => (a 100=1 110=3 120=5 150=7)(b 149=2)(c 130=1)|
+a2.120.131: => (a 120=5)(c 130=1)|
+a1.0.1000: => (a 100=99)|";
+
+#[test]
+fn points_of_volumes_are_found(rt: HostRuntime) -> Result<(), Fail> {
+    let wrong = first_wrong(rt.alloc(), VOLUMES, FOUND, "")?;
+    assert_eq!(rt; wrong.as_str(), "");
+    Ok(())
+}
+
+// Series with tags, and one without.
+const TAGGED: &str =
+    r#"w2.100.50:b,100=3;{dc="east"},100=1;{dc="west"},100=2 w2.100.50:{dc="east"},110=5;{zone="east"},100=4"#;
+
+const MATCHED: &str = r#"a2.0.1000:dc=east => ({dc="east"} 100=1 110=5)|
+a2.0.1000:dc!=east => (b 100=3)({dc="west"} 100=2)({zone="east"} 100=4)|
+a2.0.1000:dc!=east,dc!=west => (b 100=3)({zone="east"} 100=4)|
+a2.0.1000:dc=east,dc=west => |
+a2.105.1000:dc=east => ({dc="east"} 110=5)|
+a2.0.1000:zone=east => ({zone="east"} 100=4)|
+f2.0.1000:{dc="east"} => ({dc="east"} 100=1 110=5)|"#;
+
+#[test]
+fn points_of_volumes_are_matched(rt: HostRuntime) -> Result<(), Fail> {
+    let wrong = first_wrong(rt.alloc(), TAGGED, MATCHED, "")?;
+    assert_eq!(rt; wrong.as_str(), "");
+    Ok(())
+}
+
+// Points in memory above and below those of the volumes; and rows of a block of another size, which has no volume.
+const JOINED: &str =
+    "j2.100.50:a,100=9,120=0,140=2;d,100=1 => (a 100=9 110=3 120=5 140=2)(b 149=2)(c 130=1)(d 100=1)|
+j2.100.40:a,100=0 => (a 100=0)|
+j2.150.50:a,150=8 => (a 150=8)|
+j1.100.50:a,100=0;b,149=1 => (a 100=99)(b 149=1)|
+j2.100.50:a => no|
+j2.100.50:a,150=1 => no|
+o2.100.50:a,100=9,120=0,140=2;d,100=1 => (a 100=9 110=3 120=5 140=2)(b 149=2)(c 130=1)(d 100=1)|
+o2.120.50:a,120=0,150=8 => (a 120=5 150=8)(b 149=2)(c 130=1)|
+o3.100.50:a,100=9 => (a 100=9)|";
+
+#[test]
+fn points_of_volumes_are_joined(rt: HostRuntime) -> Result<(), Fail> {
+    let wrong = first_wrong(rt.alloc(), VOLUMES, JOINED, "")?;
+    assert_eq!(rt; wrong.as_str(), "");
+    Ok(())
+}

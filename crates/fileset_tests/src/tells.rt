@@ -6,6 +6,7 @@ ghost use Rattle.volume_bytes.specs.Heads.{head_of};
 ghost use Rattle.fileset_read.specs.Volumes.{IsThere};
 ghost use Rattle.fileset_check.specs.declared.volume.Volume.{Volume as Listed};
 
+use crate::joins::{tell_both, tell_matched, tell_rows_joined, tell_series_found};
 use crate::words::{file, number, part, text};
 use fileset_check::{CheckErr, Volume, volumes};
 use fileset_read::{FileErr, counted, read_file, row, rows};
@@ -14,8 +15,8 @@ use m3_outside::{Disk, DiskErr, FileName};
 use std::alloc::Global;
 use wire_bytes::digest;
 
-// A file, as ` 4.2.100.1`.
-fn tell_name(name: FileName, out: &mut String) -> Result<(), Memory> {
+/// A file, as ` 4.2.100.1`.
+pub fn tell_name(name: FileName, out: &mut String) -> Result<(), Memory> {
     let FileName {
         kind,
         ns,
@@ -36,14 +37,16 @@ fn tell_series(one: &Series, out: &mut String) -> Result<(), Memory> {
     Ok(())
 }
 
-fn tell_all(rows: &[Series], out: &mut String) -> Result<(), Memory> {
+/// Series, one behind the other.
+pub fn tell_all(rows: &[Series], out: &mut String) -> Result<(), Memory> {
     for one in rows {
         tell_series(one, out)?;
     }
     Ok(())
 }
 
-fn of_file(e: FileErr, out: &mut String) -> Result<(), DiskErr> {
+/// What is told in place of series.
+pub fn of_file(e: FileErr, out: &mut String) -> Result<(), DiskErr> {
     match e {
         FileErr::Disk => Err(DiskErr::Failed),
         FileErr::Memory => Err(DiskErr::Memory),
@@ -137,8 +140,8 @@ fn tell_volumes<D: Disk>(
     Ok(())
 }
 
-// What is told in place of volumes. `full` has the digests, too.
-fn of_damage(alloc: Global, e: CheckErr, full: bool, out: &mut String) -> Result<(), DiskErr> {
+/// What is told in place of volumes. `full` has the digests, too.
+pub fn of_damage(alloc: Global, e: CheckErr, full: bool, out: &mut String) -> Result<(), DiskErr> {
     match e {
         CheckErr::Disk => Err(DiskErr::Failed),
         CheckErr::Memory => Err(DiskErr::Memory),
@@ -295,6 +298,10 @@ pub fn tell<D: Disk>(
         [b'q', rest @ ..] => tell_kinds(disk, text(rest), out)?,
         [b'g', rest @ ..] => tell_file(alloc, disk, file(text(rest)), out)?,
         [b'h', rest @ ..] => tell_digests(alloc, disk, text(rest), out)?,
+        [b'f', rest @ ..] => return tell_series_found(alloc, disk, text(rest), out),
+        [b'a', rest @ ..] => return tell_matched(alloc, disk, text(rest), out),
+        [b'j', rest @ ..] => return tell_rows_joined(alloc, disk, text(rest), out),
+        [b'o', rest @ ..] => return tell_both(alloc, disk, text(rest), out),
         _ => return Ok(false),
     }
     Ok(true)

@@ -1,0 +1,5 @@
+pub mod Known
+pub mod Picked
+pub mod Candidates
+pub mod Blocks
+pub mod Laws

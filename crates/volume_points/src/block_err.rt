@@ -1,0 +1,42 @@
+use fileset_read::FileErr;
+use m3_model::Memory;
+use m3_outside::FileName;
+
+/// Why there are no rows for a new volume of a block.
+#[derive(Clone, Copy, Debug, PartialEq, Eq)]
+pub enum BlockErr {
+    /// The disk failed. Its count of faults rose in that call.
+    Disk,
+    /// Want of memory.
+    Memory,
+    /// The file isn't that of a volume.
+    Form { file: FileName },
+    /// The block has more series than a volume may have, or a series more points.
+    Large,
+}
+
+impl From<FileErr> for BlockErr {
+    ghost use Rattle.std.specs.Prelude.{◌≡◌};
+    ghost use Rattle.volume_points.specs.Blocks.{of_file};
+
+    ghost from_gives = { λ f e. e ≡ of_file f };
+
+    fn from(e: FileErr) -> BlockErr {
+        match e {
+            FileErr::Disk => BlockErr::Disk,
+            FileErr::Memory => BlockErr::Memory,
+            FileErr::Form { file } => BlockErr::Form { file },
+        }
+    }
+}
+
+impl From<Memory> for BlockErr {
+    ghost use Rattle.std.specs.Prelude.{◌≡◌};
+    ghost use Rattle.volume_points.specs.declared.block_err.BlockErr.TheVariants as errors;
+
+    ghost from_gives = { λ _ e. e ≡ errors.Memory };
+
+    fn from(_: Memory) -> BlockErr {
+        BlockErr::Memory
+    }
+}

@@ -1,0 +1,71 @@
+ghost use Rattle.std.specs.Prelude.{◌≡◌, ◌≤◌, ◌↔◌, true, List, length, IfOk, IfErr, IsErrOf, IsTrue};
+ghost use Rattle.m3_model.specs.declared.point.Series.{Series as Row};
+ghost use Rattle.m3_outside.specs.DiskState.{DiskState, Told};
+ghost use Rattle.m3_outside.specs.DiskCalls.{LeavesFiles};
+ghost use Rattle.shard_files.specs.Parts.{VolumeHolds};
+ghost use Rattle.volume_bytes.specs.Heads.{head_of};
+ghost use Rattle.fileset_read.specs.Volumes.{IsThere, IsUndamaged};
+ghost use Rattle.fileset_read.specs.declared.file_err.FileErr.TheVariants as failures;
+ghost use Rattle.volume_points.specs.Candidates.{AreCandidates, IsOneOf, MayStand, one_or_none};
+
+use fileset_check::is_volume;
+use fileset_read::{FileErr, row, rows};
+use m3_model::{Memory, Pick, Seq, Series};
+use m3_outside::Disk;
+use std::alloc::Global;
+use volume_bytes::Head;
+
+// The series as a list.
+fn one_or_none(alloc: Global, found: Option<Series>) -> Result<Seq<Series>, Memory>
+    ensures { IfOk result (λ series. series ≡ one_or_none found) }
+{
+    let mut series = Vec::new(alloc);
+    if let Some(found) = found {
+        series.push(found)?;
+    }
+    Ok(Seq::from_vec(series))
+}
+
+// The series of one identifier.
+fn row_of<D: Disk>(
+    alloc: Global,
+    disk: &mut D,
+    head: &Head,
+    id: &str,
+) -> Result<Seq<Series>, FileErr>
+    requires { Told (D.state disk.old) (IsThere (head_of head.now)) }
+    ensures leaves { LeavesFiles (IsErrOf result failures.Disk) (D.state disk.old) (D.state disk.new) }
+    ensures ok { (D.state disk.old).tells ≡ true → IfOk result (λ found. (rows : List Row) → VolumeHolds (head_of head.now) rows (D.state disk.old).files → IsOneOf id.now rows found) }
+    ensures sound { (D.state disk.old).tells ≡ true → IfErr result IsUndamaged }
+{
+    let found = row(alloc, disk, head, id)?;
+    match one_or_none(alloc, found) {
+        Ok(series) => Ok(series),
+        Err(_) => Err(FileErr::Memory),
+    }
+}
+
+// Of the volume's series the one with the identifier that the pick asks for, or all where it asks by matchers.
+pub(crate) fn candidates<D: Disk>(
+    alloc: Global,
+    disk: &mut D,
+    head: &Head,
+    pick: &Pick,
+) -> Result<Seq<Series>, FileErr>
+    requires { Told (D.state disk.old) (IsThere (head_of head.now)) }
+    ensures leaves { LeavesFiles (IsErrOf result failures.Disk) (D.state disk.old) (D.state disk.new) }
+    ensures ok { (D.state disk.old).tells ≡ true → IfOk result (λ found. (rows : List Row) → VolumeHolds (head_of head.now) rows (D.state disk.old).files → AreCandidates pick.now rows found) }
+    ensures sound { (D.state disk.old).tells ≡ true → IfErr result IsUndamaged }
+{
+    match pick {
+        Pick::One { id, .. } => row_of(alloc, disk, head, id.as_str()),
+        Pick::Match { .. } => rows(alloc, disk, head),
+    }
+}
+
+// Whether there may be a volume of this head with these series, or there are none. Takes no memory.
+pub(crate) fn may_stand(head: &Head, found: &[Series]) -> bool
+    ensures { IsTrue result ↔ MayStand (head_of head.now) found.now }
+{
+    found.is_empty() || is_volume(head, found)
+}

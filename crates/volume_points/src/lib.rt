@@ -1,0 +1,17 @@
+//! The points of volumes: read from a disk for what a read asks for, joined with points in memory, and joined to the rows of a
+//! new volume of their block. It holds no state.
+#![tactic(auto)]
+
+mod block;
+mod block_err;
+mod candidates;
+mod joining;
+pub mod laws;
+mod matching;
+mod ranges;
+mod reading;
+
+pub use block::block_rows;
+pub use block_err::BlockErr;
+pub use joining::join;
+pub use reading::read;
