@@ -5,6 +5,7 @@ mod body;
 mod bytes;
 mod check;
 mod clearing;
+mod lawful;
 pub mod laws;
 mod names;
 mod order;
@@ -13,6 +14,7 @@ mod saving;
 mod snap;
 
 pub use clearing::clear_before;
+pub use lawful::is_snapshot;
 pub use reading::newest;
 pub use saving::save;
 pub use snap::Snap;
