@@ -1,4 +1,5 @@
 pub mod WrittenLemmas
+pub mod GatherLemmas
 pub mod CauseLemmas
 pub mod LineLemmas
 pub mod FaultLemmas

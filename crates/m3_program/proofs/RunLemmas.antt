@@ -11,22 +11,26 @@ use Rattle.cluster_tracks.specs.Ends.{AreGivenBack}
 use Rattle.m3_program.specs.declared.status.Status.{Status}
 use Rattle.m3_program.specs.declared.status.Status.TheVariants as status
 use Rattle.m3_program.specs.Causes.{EndsStep}
+use Rattle.m3_program.specs.Exchanges.{Exchange, replies_text}
 use Rattle.m3_program.specs.Faults.{Counts, counts_of}
-use Rattle.m3_program.specs.Runs.{AreWholeLines, HasRun, lines_of}
-use Rattle.m3_program.specs.Streams.{Stage, IsFresh, StreamState, TakesOn, Cuts, Halted, Finished, HasServed}
+use Rattle.m3_program.specs.Runs.{AreWholeLines, Course, HasRun, IsCutOff, lines_of}
+use Rattle.m3_program.specs.Streams.{Stage, IsFresh, StreamState, TakesOn, Cuts, Finishes, Halted, HaltsLast, HasServed}
+use Rattle.m3_program.specs.Writing.{WritesUntil}
 use Rattle.m3_program.proofs.PromiseLemmas.{causes_closed, causes_nothing, kept_closed, kept_nothing, promised}
-use Rattle.m3_program.proofs.StreamLemmas.{halted_of, stream_begins, stream_course}
+use Rattle.m3_program.proofs.StreamLemmas.{both_made, halted_of, stream_begins, stream_course, takes_all}
 
--- these bytes were read, these are left, and these were written after what stood there
+-- these bytes were read, these are left, and the replies to these exchanges were written after what stood there
 pub record Heard {D : Type 0} {G : Ghosts D} (state : D → DiskState) (first : Depot D) (input before : List ℕ) (left written : Option (List ℕ)) (n : ℕ) (now : Stage D G) (line : List ℕ) : Type 0 where
   pub got : List ℕ
   pub rest : List ℕ
   pub told : List ℕ
+  pub exchanges : List Exchange
   pub parts : input ≡ got ++ rest
   pub left_is : left ≡ Some rest
   pub written_is : written ≡ Some (before ++ told)
+  pub told_is : told ≡ replies_text exchanges
   pub count : length got ≡ n
-  pub stream : StreamState state first got told now line
+  pub stream : StreamState state first exchanges got now line
 
 abbrev pub Known : {D : Type 0} {G : Ghosts D} → (D → DiskState) → Depot D → Option (List ℕ) → Option (List ℕ) → Option (List ℕ) → Option (List ℕ) → ℕ → Stage D G → List ℕ → Type 0
 Known state first left0 written0 left written n now line = (input before : List ℕ) → left0 ≡ Some input → written0 ≡ Some before → Heard state first input before left written n now line
@@ -35,10 +39,23 @@ Known state first left0 written0 left written n now line = (input before : List 
 abbrev pub Told : {D : Type 0} {G : Ghosts D} → (D → DiskState) → Depot D → Stage D G → Status → List ℕ → List ℕ → Option (List ℕ) → Option (List ℕ) → Type 0
 Told state first now s input before left written = (rest told : List ℕ) × (left ≡ Some rest) × (written ≡ Some (before ++ told)) × HasServed state first now s input rest told
 
--- a run that was cut short, before it is said by what
-abbrev pub Stopped : {D : Type 0} {G : Ghosts D} → (D → DiskState) → Depot D → Stage D G → List ℕ → List ℕ → Option (List ℕ) → Option (List ℕ) → Type 0
-Stopped state first now input before left written =
-    (rest told taken : List ℕ) × (left ≡ Some rest) × (written ≡ Some (before ++ told)) × (input ≡ taken ++ rest) × (length taken ≤ INPUT_END) × Halted state first now input taken told
+-- A run that ended within its last piece, when this was written before, and this text was made for the lines of the piece; not how it ended, and what of the text was written.
+pub record Stopped {D : Type 0} {G : Ghosts D} (state : D → DiskState) (first : Depot D) (now : Stage D G) (input before : List ℕ) (left written : Option (List ℕ)) (text : List ℕ) : Type 0 where
+  pub earlier : List ℕ
+  pub piece : List ℕ
+  pub rest : List ℕ
+  pub told : List ℕ
+  pub exchanges : List Exchange
+  pub more : List Exchange
+  pub left_is : left ≡ Some rest
+  pub parts : input ≡ (earlier ++ piece) ++ rest
+  pub few : length (earlier ++ piece) ≤ INPUT_END
+  pub short : length piece ≤ 65536
+  pub written_is : written ≡ Some (before ++ told)
+  pub told_is : told ≡ replies_text exchanges
+  pub made : text ≡ replies_text more
+  pub ended : AreWholeLines earlier exchanges
+  pub halted : Halted state first (exchanges ++ more) now input (earlier ++ piece)
 
 consumed : (rest : List ℕ) (a b : Option (List ℕ)) (piece : List ℕ) → a ≡ Some rest → Consumes a b piece → (after : List ℕ) × (b ≡ Some after) × (rest ≡ piece ++ after)
 consumed rest None b piece e h = cc
@@ -50,18 +67,28 @@ appended was None b text e h = cc
 appended was (Some xs) None text e h = absurd h
 appended was (Some xs) (Some ys) text e h = let same : xs ≡ was = cc in ap Some (h ∙ ap (λ l. l ++ text) same)
 
+-- more was written after what stood there first
+appended_on : (before told : List ℕ) (a b : Option (List ℕ)) (text : List ℕ) → a ≡ Some (before ++ told) → Appends a b text → b ≡ Some (before ++ (told ++ text))
+appended_on before told a b text e h = appended (before ++ told) a b text e h ∙ ap Some (append_assoc before told text)
+
 at_end : (a : Option (List ℕ)) (rest : List ℕ) → IsAtEnd a → a ≡ Some rest → rest ≡ []
 at_end None rest h e = cc
 at_end (Some xs) rest h e = let same : xs ≡ rest = cc in sym same ∙ h
+
+-- all whole lines of what was taken were answered
+whole_of : {D : Type 0} {G : Ghosts D} {state : D → DiskState} {first : Depot D} {xs : List Exchange} {taken : List ℕ} {now : Stage D G} {line : List ℕ} → StreamState state first xs taken now line → AreWholeLines taken xs
+whole_of {D} {G} {state} {first} {xs} {taken} {now} {line} t = record { open_line = line; are = t.read; no_end = t.no_end }
 
 pub known_begins : {D : Type 0} {G : Ghosts D} (state : D → DiskState) (left written : Option (List ℕ)) (now : Stage D G) (line : List ℕ) → IsFresh state now.cluster → line ≡ [] → Known state now.depot left written left written 0 now line
 known_begins state left written now line fresh empty = λ input before p q. record {
   got = [];
   rest = input;
   told = [];
+  exchanges = [];
   parts = refl;
   left_is = p;
   written_is = q ∙ ap Some (sym (append-nil before));
+  told_is = refl;
   count = refl;
   stream = subst (λ l. StreamState state now.depot [] [] now l) (sym empty) (stream_begins state now fresh);
 }
@@ -71,98 +98,116 @@ pub known_more : {D : Type 0} {G : Ghosts D} (state : D → DiskState) (first : 
 known_more state first left0 written0 l l2 w w2 n k m old new line line2 piece text known took size sum wrote takes = λ input before p q.
     let h = known input before p q in
     let after = consumed h.rest l l2 piece h.left_is took in
+    let next = takes first h.exchanges h.got h.stream in
     record {
       got = h.got ++ piece;
       rest = after.0;
       told = h.told ++ text;
+      exchanges = h.exchanges ++ next.0;
       parts = h.parts ∙ ap (λ r. h.got ++ r) after.2 ∙ sym (append_assoc h.got piece after.0);
       left_is = after.1;
-      written_is = appended (before ++ h.told) w w2 text h.written_is wrote ∙ ap Some (append_assoc before h.told text);
+      written_is = appended_on before h.told w w2 text h.written_is wrote;
+      told_is = both_made h.exchanges next.0 h.told text h.told_is next.1;
       count = length-append h.got piece ∙ let e = h.count in omega arith;
-      stream = takes first h.got h.told h.stream;
+      stream = next.2;
     }
 
 -- it stopped within a piece
-pub known_cuts : {D : Type 0} {G : Ghosts D} (state : D → DiskState) (first : Depot D) (left0 written0 l l2 w w2 : Option (List ℕ)) (n : ℕ) (old new : Stage D G) (line piece part : List ℕ)
-    → Known state first left0 written0 l w n old line → Consumes l l2 piece → n + length piece ≤ INPUT_END → Appends w w2 part → Cuts state old line piece part new
-    → (input before : List ℕ) → left0 ≡ Some input → written0 ≡ Some before → Stopped state first new input before l2 w2
-known_cuts state first left0 written0 l l2 w w2 n old new line piece part known took few wrote cuts input before p q =
+pub known_cuts : {D : Type 0} {G : Ghosts D} (state : D → DiskState) (first : Depot D) (left0 written0 l l2 w : Option (List ℕ)) (n : ℕ) (old new : Stage D G) (line piece text : List ℕ)
+    → Known state first left0 written0 l w n old line → Consumes l l2 piece → n + length piece ≤ INPUT_END → length piece ≤ 65536 → Cuts state old line piece text new
+    → (input before : List ℕ) → left0 ≡ Some input → written0 ≡ Some before → Stopped state first new input before l2 w text
+known_cuts state first left0 written0 l l2 w n old new line piece text known took few short cuts input before p q =
     let h = known input before p q in
     let after = consumed h.rest l l2 piece h.left_is took in
-    let all : input ≡ (h.got ++ piece) ++ after.0 = h.parts ∙ ap (λ r. h.got ++ r) after.2 ∙ sym (append_assoc h.got piece after.0) in (
-      after.0,
-      h.told ++ part,
-      h.got ++ piece,
-      after.1,
-      appended (before ++ h.told) w w2 part h.written_is wrote ∙ ap Some (append_assoc before h.told part),
-      all,
-      (let size = length-append h.got piece in let count = h.count in omega (arith, size, count, few)),
-      subst (λ i. Halted state first new i (h.got ++ piece) (h.told ++ part)) (sym all) (halted_of state first new (h.got ++ piece) (h.told ++ part) after.0 (cuts first h.got h.told h.stream)),
-    )
+    let all : input ≡ (h.got ++ piece) ++ after.0 = h.parts ∙ ap (λ r. h.got ++ r) after.2 ∙ sym (append_assoc h.got piece after.0) in
+    let cut = cuts first h.exchanges h.got h.stream in
+    record {
+      earlier = h.got;
+      piece = piece;
+      rest = after.0;
+      told = h.told;
+      exchanges = h.exchanges;
+      more = cut.0;
+      left_is = after.1;
+      parts = all;
+      few = let size = length-append h.got piece in let count = h.count in omega (arith, size, count, few);
+      short = short;
+      written_is = h.written_is;
+      told_is = h.told_is;
+      made = cut.1;
+      ended = whole_of h.stream;
+      halted = subst (λ i. Halted state first (h.exchanges ++ cut.0) new i (h.got ++ piece)) (sym all) (halted_of state first (h.exchanges ++ cut.0) new (h.got ++ piece) after.0 cut.2);
+    }
 
 -- all that was taken is the input
 heard_all : {D : Type 0} {G : Ghosts D} (state : D → DiskState) (first : Depot D) (input before : List ℕ) (l w : Option (List ℕ)) (n : ℕ) (now : Stage D G) (line : List ℕ) → (h : Heard state first input before l w n now line) → IsAtEnd l → input ≡ h.got
 heard_all state first input before l w n now line h ended = h.parts ∙ ap (λ r. h.got ++ r) (at_end l h.rest ended h.left_is) ∙ append-nil h.got
 
 -- it stopped within the last line
-pub known_stops : {D : Type 0} {G : Ghosts D} (state : D → DiskState) (first : Depot D) (left0 written0 l w w2 : Option (List ℕ)) (n : ℕ) (old new : Stage D G) (line part : List ℕ)
-    → Known state first left0 written0 l w n old line → n ≤ INPUT_END → IsAtEnd l → Appends w w2 part
-    → ((first : Depot D) (taken told : List ℕ) → StreamState state first taken told old line → Halted state first new taken taken (told ++ part))
-    → (input before : List ℕ) → left0 ≡ Some input → written0 ≡ Some before → Stopped state first new input before l w2
-known_stops state first left0 written0 l w w2 n old new line part known few ended wrote stops input before p q =
-    let h = known input before p q in (
-      h.rest,
-      h.told ++ part,
-      h.got,
-      h.left_is,
-      appended (before ++ h.told) w w2 part h.written_is wrote ∙ ap Some (append_assoc before h.told part),
-      h.parts,
-      (let count = h.count in omega (arith, count, few)),
-      subst (λ i. Halted state first new i h.got (h.told ++ part)) (sym (heard_all state first input before l w n old line h ended)) (stops first h.got h.told h.stream),
-    )
+pub known_stops : {D : Type 0} {G : Ghosts D} (state : D → DiskState) (first : Depot D) (left0 written0 l w : Option (List ℕ)) (n : ℕ) (old new : Stage D G) (line text : List ℕ)
+    → Known state first left0 written0 l w n old line → n ≤ INPUT_END → IsAtEnd l → HaltsLast state old line text new
+    → (input before : List ℕ) → left0 ≡ Some input → written0 ≡ Some before → Stopped state first new input before l w text
+known_stops state first left0 written0 l w n old new line text known few ended stops input before p q =
+    let h = known input before p q in
+    let none = append-nil h.got in
+    let end = stops first h.exchanges h.got h.stream in
+    record {
+      earlier = h.got;
+      piece = [];
+      rest = h.rest;
+      told = h.told;
+      exchanges = h.exchanges;
+      more = end.0;
+      left_is = h.left_is;
+      parts = h.parts ∙ ap (λ l. l ++ h.rest) (sym none);
+      few = let size = ap length none in let count = h.count in omega (arith, size, count, few);
+      short = omega arith;
+      written_is = h.written_is;
+      told_is = h.told_is;
+      made = end.1;
+      ended = whole_of h.stream;
+      halted = subst (λ i. Halted state first (h.exchanges ++ end.0) new i (h.got ++ [])) (sym (heard_all state first input before l w n old line h ended))
+          (subst (Halted state first (h.exchanges ++ end.0) new h.got) (sym none) end.2);
+    }
 
 -- it came to the end
 pub known_finishes : {D : Type 0} {G : Ghosts D} (state : D → DiskState) (first : Depot D) (left0 written0 l w w2 : Option (List ℕ)) (n : ℕ) (old new : Stage D G) (line text : List ℕ)
-    → Known state first left0 written0 l w n old line → n < INPUT_END → IsAtEnd l → Appends w w2 text
-    → ((first : Depot D) (taken told : List ℕ) → StreamState state first taken told old line → Finished state first new taken (told ++ text))
+    → Known state first left0 written0 l w n old line → n < INPUT_END → IsAtEnd l → Appends w w2 text → Finishes state old line text new
     → (input before : List ℕ) → left0 ≡ Some input → written0 ≡ Some before → Told state first new status.Done input before l w2
 known_finishes state first left0 written0 l w w2 n old new line text known below ended wrote finishes input before p q =
     let h = known input before p q in
     let none = at_end l h.rest ended h.left_is in
     let all : input ≡ h.got = heard_all state first input before l w n old line h ended in
-    let end = finishes first h.got h.told h.stream in (
+    let end = finishes first h.exchanges h.got h.stream in
+    let xs = h.exchanges ++ end.0 in (
       h.rest,
       h.told ++ text,
       h.left_is,
-      appended (before ++ h.told) w w2 text h.written_is wrote ∙ ap Some (append_assoc before h.told text),
+      appended_on before h.told w w2 text h.written_is wrote,
       record {
         ran = record {
           taken = h.got;
           parts = h.parts;
           few = let count = h.count in omega (arith, count, below);
-          course = record { exchanges = end.course.exchanges; unanswered = end.course.unanswered; each = end.course.each; of_input = record { later = end.course.of_input.later; lines_are = ap lines_of all ∙ end.course.of_input.lines_are; next = end.course.of_input.next }; of_taken = end.course.of_taken };
-          got_to = (end.all, end.written, none, let count = h.count in omega (arith, count, below));
+          course = record { exchanges = xs; unanswered = None; each = end.2.each; of_input = takes_all input xs (ap lines_of all ∙ end.2.lines_are); of_taken = takes_all h.got xs end.2.lines_are };
+          got_to = (refl, both_made h.exchanges end.0 h.told text h.told_is end.1, none, let count = h.count in omega (arith, count, below));
         };
-        promises = end.promises;
+        promises = end.2.promises;
       },
     )
-
--- all whole lines of what was taken were answered
-whole_of : {D : Type 0} {G : Ghosts D} {state : D → DiskState} {first : Depot D} {taken told : List ℕ} {now : Stage D G} {line : List ℕ} (t : StreamState state first taken told now line) → AreWholeLines taken t.exchanges
-whole_of {D} {G} {state} {first} {taken} {told} {now} {line} t = record { open_line = line; are = t.read; no_end = t.no_end }
 
 -- the source failed when so much was taken
 pub known_fault : {D : Type 0} {G : Ghosts D} (state : D → DiskState) (first : Depot D) (left0 written0 l w : Option (List ℕ)) (n : ℕ) (now : Stage D G) (line : List ℕ) → Known state first left0 written0 l w n now line → n ≤ INPUT_END
     → (input before : List ℕ) → left0 ≡ Some input → written0 ≡ Some before → Told state first now status.ReadFault input before l w
 known_fault state first left0 written0 l w n now line known few input before p q =
     let h = known input before p q in
-    let course = stream_course state first input h.got h.told h.rest now line h.stream h.parts in
-    let promises = promised state first now h.stream.exchanges None h.stream.progress in (
+    let course = stream_course state first h.exchanges input h.got h.rest now line h.stream h.parts in
+    let promises = promised state first now h.exchanges None h.stream.progress in (
       h.rest,
       h.told,
       h.left_is,
       h.written_is,
-      record { ran = record { taken = h.got; parts = h.parts; few = let count = h.count in omega (arith, count, few); course = course; got_to = (whole_of h.stream, h.stream.written) }; promises = promises },
+      record { ran = record { taken = h.got; parts = h.parts; few = let count = h.count in omega (arith, count, few); course = course; got_to = (whole_of h.stream, h.told_is) }; promises = promises },
     )
 
 -- it took as much as may be taken
@@ -170,13 +215,13 @@ pub known_limit : {D : Type 0} {G : Ghosts D} (state : D → DiskState) (first :
     → (input before : List ℕ) → left0 ≡ Some input → written0 ≡ Some before → Told state first now status.TooLong input before l w
 known_limit state first left0 written0 l w n now line known full input before p q =
     let h = known input before p q in
-    let course = stream_course state first input h.got h.told h.rest now line h.stream h.parts in
-    let promises = promised state first now h.stream.exchanges None h.stream.progress in (
+    let course = stream_course state first h.exchanges input h.got h.rest now line h.stream h.parts in
+    let promises = promised state first now h.exchanges None h.stream.progress in (
       h.rest,
       h.told,
       h.left_is,
       h.written_is,
-      record { ran = record { taken = h.got; parts = h.parts; few = let count = h.count in omega (arith, count, full); course = course; got_to = (whole_of h.stream, h.stream.written, h.count ∙ full) }; promises = promises },
+      record { ran = record { taken = h.got; parts = h.parts; few = let count = h.count in omega (arith, count, full); course = course; got_to = (whole_of h.stream, h.told_is, h.count ∙ full) }; promises = promises },
     )
 
 -- no line was read
@@ -206,14 +251,65 @@ told_of_usage state first left written input before p q = (
   },
 )
 
+-- the course of a run that stopped
+abbrev stopped_course : {D : Type 0} {G : Ghosts D} (state : D → DiskState) (first : Depot D) (now : Stage D G) (input before : List ℕ) (left written : Option (List ℕ)) (text : List ℕ) → (h : Stopped state first now input before left written text) → Course None input (h.earlier ++ h.piece)
+stopped_course state first now input before left written text h =
+    record { exchanges = h.exchanges ++ h.more; unanswered = h.halted.unanswered; each = h.halted.each; of_input = h.halted.of_input; of_taken = h.halted.of_taken }
+
+-- all replies were written
+all_written : (told : List ℕ) (xs : List Exchange) → told ≡ replies_text xs → IsCutOff told xs
+all_written told xs is = record { before = xs; last = []; parts = sym (append-nil xs); few = omega arith; part = []; rest = []; of_last = refl; are = is ∙ sym (append-nil (replies_text xs)) }
+
 pub step_told : {D : Type 0} {G : Ghosts D} (state : D → DiskState) (first : Depot D) (now : Stage D G) (s : Status) (a b x y u v : ℕ) → EndsStep s a b x y u v
-    → (input before : List ℕ) (left written : Option (List ℕ)) → (s ≡ status.ReadFault → Told state first now status.ReadFault input before left written) → Stopped state first now input before left written → Told state first now s input before left written
-step_told state first now status.ReadFault a b x y u v k input before left written fault h = fault refl
-step_told state first now status.WriteFault a b x y u v k input before left written fault (rest, told, taken, l, w, parts, few, cut) =
-    (rest, told, l, w, record { ran = record { taken = taken; parts = parts; few = few; course = cut.course; got_to = cut.written }; promises = cut.promises })
-step_told state first now status.Memory a b x y u v k input before left written fault (rest, told, taken, l, w, parts, few, cut) =
-    (rest, told, l, w, record { ran = record { taken = taken; parts = parts; few = few; course = cut.course; got_to = cut.written }; promises = cut.promises })
-step_told state first now _ a b x y u v k input before left written fault h = absurd k
+    → (input before : List ℕ) (left written written2 : Option (List ℕ)) (text : List ℕ) → (s ≡ status.ReadFault → Told state first now status.ReadFault input before left written2)
+    → Stopped state first now input before left written text → WritesUntil s written text written2 → Told state first now s input before left written2
+step_told state first now status.ReadFault a b x y u v k input before left written written2 text fault h wrote = fault refl
+step_told state first now status.WriteFault a b x y u v k input before left written written2 text fault h wrote = (
+  h.rest,
+  h.told ++ wrote.0,
+  h.left_is,
+  appended_on before h.told written written2 wrote.0 h.written_is wrote.2,
+  record {
+    ran = record {
+      taken = h.earlier ++ h.piece;
+      parts = h.parts;
+      few = h.few;
+      course = stopped_course state first now input before left written text h;
+      got_to = record {
+        earlier = h.earlier;
+        piece = h.piece;
+        of_taken = refl;
+        short = h.short;
+        before = h.exchanges;
+        last = h.more;
+        parts = refl;
+        ended = h.ended;
+        part = wrote.0;
+        rest = wrote.1;
+        of_last = sym h.made ∙ wrote.3;
+        are = ap (λ l. l ++ wrote.0) h.told_is;
+      };
+    };
+    promises = h.halted.promises;
+  },
+)
+step_told state first now status.Memory a b x y u v k input before left written written2 text fault h wrote = (
+  h.rest,
+  h.told ++ text,
+  h.left_is,
+  appended_on before h.told written written2 text h.written_is wrote,
+  record {
+    ran = record {
+      taken = h.earlier ++ h.piece;
+      parts = h.parts;
+      few = h.few;
+      course = stopped_course state first now input before left written text h;
+      got_to = all_written (h.told ++ text) (h.exchanges ++ h.more) (both_made h.exchanges h.more h.told text h.told_is h.made);
+    };
+    promises = h.halted.promises;
+  },
+)
+step_told state first now _ a b x y u v k input before left written written2 text fault h wrote = absurd k
 
 -- the disks are given back
 pub told_closes : {D : Type 0} {G : Ghosts D} (state : D → DiskState) → ((d : D) → IsLawful (state d)) → (first : Depot D) (mid : Stage D G) (last : Counts) (s : Status) → AreGivenBack state mid.depot mid.cluster.members last.all last.of_disk

@@ -1,6 +1,6 @@
 -- Bytes written one after the other.
 use Rattle.std.proofs.Common.{◌≡◌, ℕ, zero, suc, ◌+◌, ◌-◌, ◌≤◌, ◌<◌, false, length-drop, List, [], ◌∷◌, ◌++◌, take, drop, length, refl, sym, ap, ◌∙◌, subst, append_assoc, append-nil, arith}
-use Rattle.std.specs.Prelude.{Option, Some, None, Result, Ok, Err, OnOk, OnErr, nat_eq}
+use Rattle.std.specs.Prelude.{Option, Some, None, Result, Ok, Err, OnOk, OnErr, IfErr, nat_eq}
 use Rattle.std.proofs.lemmas.Bool.{eq-eqb}
 use Rattle.std.specs.Io.KnownBytes.{Appends, Keeps, Consumes}
 
@@ -55,6 +55,11 @@ on_err_map (Err e) f h = f h
 pub on_err_just : {T E P : Type 0} (r : Result T E) → P → OnErr r P
 on_err_just (Ok x) p = tt
 on_err_just (Err e) p = p
+
+-- what the error is, and what is so where there is one
+pub if_err_both : {T E X : Type 0} (r : Result T E) (Q P : E → Type 0) → ((e : E) → Q e → X → P e) → IfErr r Q → OnErr r X → IfErr r P
+if_err_both (Ok x) Q P f h k = tt
+if_err_both (Err e) Q P f h k = f e h k
 
 pub keeps_consumes : (a b : Option (List ℕ)) → Keeps a b → Consumes a b []
 keeps_consumes None b h = tt

@@ -5,4 +5,5 @@ pub mod Faults
 pub mod FaultLaws
 pub mod Runs
 pub mod Causes
+pub mod Writing
 pub mod Streams

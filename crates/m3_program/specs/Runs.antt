@@ -82,12 +82,28 @@ pub record IsCutOff (written : List ℕ) (xs : List Exchange) : Type 0 where
   pub of_last : replies_text last ≡ part ++ rest
   pub are : written ≡ replies_text before ++ part
 
+-- What was taken is what came earlier and a last piece of at most 65,536 bytes: each reply to the lines that ended earlier was written, and
+-- of the replies to the others a front.
+pub record IsCutInPiece (taken written : List ℕ) (xs : List Exchange) : Type 0 where
+  pub earlier : List ℕ
+  pub piece : List ℕ
+  pub of_taken : taken ≡ earlier ++ piece
+  pub short : length piece ≤ 65536
+  pub before : List Exchange
+  pub last : List Exchange
+  pub parts : xs ≡ before ++ last
+  pub ended : AreWholeLines earlier before
+  pub part : List ℕ
+  pub rest : List ℕ
+  pub of_last : replies_text last ≡ part ++ rest
+  pub are : written ≡ replies_text before ++ part
+
 -- how far a run got that ended so
 abbrev pub GotTo : Status → List ℕ → List ℕ → List ℕ → List Exchange → List (List ℕ) → Type 0
 GotTo status.Done taken left written xs later = (later ≡ []) × (written ≡ replies_text xs) × (left ≡ []) × (length taken < INPUT_END)
 GotTo status.TooLong taken left written xs later = AreWholeLines taken xs × (written ≡ replies_text xs) × (length taken ≡ INPUT_END)
 GotTo status.ReadFault taken left written xs later = AreWholeLines taken xs × (written ≡ replies_text xs)
-GotTo status.WriteFault taken left written xs later = IsCutOff written xs
+GotTo status.WriteFault taken left written xs later = IsCutInPiece taken written xs
 GotTo status.Memory taken left written xs later = IsCutOff written xs
 GotTo status.Usage taken left written xs later = (taken ≡ []) × (written ≡ [])
 GotTo _ taken left written xs later = ⊥

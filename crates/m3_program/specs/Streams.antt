@@ -1,5 +1,5 @@
 -- How far reading and writing have come, within a run.
-use Rattle.std.specs.Prelude.{◌≡◌, ◌≤◌, ℕ, length, List, [], ◌∷◌, ◌++◌, Bool, true, Option, None, Some, Ok, ◌⊎◌}
+use Rattle.std.specs.Prelude.{◌≡◌, ◌≤◌, ℕ, length, map, List, [], ◌∷◌, ◌++◌, Bool, true, Option, None, Some, Ok}
 use Rattle.m3_model.specs.Members.{IsIn}
 use Rattle.m3_model.specs.declared.turn.Request.{Request}
 use Rattle.m3_model.specs.declared.turn.Turn.{Turn}
@@ -13,7 +13,7 @@ use Rattle.served_cluster.specs.declared.cluster.Cluster.{Cluster}
 use Rattle.served_cluster.specs.Owned.{TracksTurns}
 use Rattle.m3_program.specs.Exchanges.{Exchange, Outcome, AreExchanges, turns_of, replies_text}
 use Rattle.m3_program.specs.Faults.{AreEmpty, one_for}
-use Rattle.m3_program.specs.Runs.{Course, IsCutOff, Ran, TakesLines, lines_text}
+use Rattle.m3_program.specs.Runs.{Ran, TakesLines, lines_of, lines_text}
 use Rattle.m3_program.specs.declared.status.Status.{Status}
 
 -- ---- how a run stands
@@ -66,56 +66,64 @@ pub record IsUnanswered {D : Type 0} {G : Ghosts D} (state : D → DiskState) (f
 abbrev pub Drops : {D : Type 0} {G : Ghosts D} → (D → DiskState) → Stage D G → List ℕ → Stage D G → Type 0
 Drops {D} state old line new = (first : Depot D) (xs : List Exchange) → Progress state first xs old → IsUnanswered state first xs line new
 
--- a line was answered, and a front of its text is written; or memory was wanted, and nothing is written for it
-abbrev pub Halts : {D : Type 0} {G : Ghosts D} → (D → DiskState) → Stage D G → List ℕ → List ℕ → Stage D G → Type 0
-Halts state old line part new = ((part ≡ []) × Drops state old line new) ⊎ ((rest : List ℕ) × Advances state old line (part ++ rest) new)
-
 -- ---- pieces of the input
 
 abbrev pub NoNewline : List ℕ → Type 0
 NoNewline line = IsIn line 10 → ⊥
 
--- These bytes were read and these written; the last line has no end yet.
-pub record StreamState {D : Type 0} {G : Ghosts D} (state : D → DiskState) (first : Depot D) (taken told : List ℕ) (now : Stage D G) (line : List ℕ) : Type 0 where
-  pub exchanges : List Exchange
-  pub progress : Progress state first exchanges now
-  pub read : taken ≡ lines_text exchanges ++ line
-  pub whole : (x : Exchange) → IsIn exchanges x → NoNewline x.line
+-- These bytes were read, and these exchanges came of their whole lines; the last line has no end yet.
+pub record StreamState {D : Type 0} {G : Ghosts D} (state : D → DiskState) (first : Depot D) (xs : List Exchange) (taken : List ℕ) (now : Stage D G) (line : List ℕ) : Type 0 where
+  pub progress : Progress state first xs now
+  pub read : taken ≡ lines_text xs ++ line
+  pub whole : (x : Exchange) → IsIn xs x → NoNewline x.line
   pub no_end : NoNewline line
-  pub written : told ≡ replies_text exchanges
 
--- The run is cut short, whatever is left of its input: what is written is each reply but the last, and of that one a front.
-pub record CutShort {D : Type 0} {G : Ghosts D} (state : D → DiskState) (first : Depot D) (now : Stage D G) (taken told : List ℕ) : Type 0 where
-  pub exchanges : List Exchange
+-- The run is cut short after these exchanges, whatever is left of its input.
+pub record CutShort {D : Type 0} {G : Ghosts D} (state : D → DiskState) (first : Depot D) (xs : List Exchange) (now : Stage D G) (taken : List ℕ) : Type 0 where
   pub unanswered : Option Request
-  pub each : AreExchanges None exchanges
-  pub reads : (left : List ℕ) → TakesLines (taken ++ left) exchanges unanswered
-  pub promises : PromisesSo state first now exchanges unanswered
-  pub written : IsCutOff told exchanges
+  pub each : AreExchanges None xs
+  pub reads : (left : List ℕ) → TakesLines (taken ++ left) xs unanswered
+  pub promises : PromisesSo state first now xs unanswered
 
--- The run ended before all replies were written.
-pub record Halted {D : Type 0} {G : Ghosts D} (state : D → DiskState) (first : Depot D) (now : Stage D G) (input taken told : List ℕ) : Type 0 where
-  pub course : Course None input taken
-  pub promises : PromisesSo state first now course.exchanges course.unanswered
-  pub written : IsCutOff told course.exchanges
+-- The run ended after these exchanges, with or without the end of its input.
+pub record Halted {D : Type 0} {G : Ghosts D} (state : D → DiskState) (first : Depot D) (xs : List Exchange) (now : Stage D G) (input taken : List ℕ) : Type 0 where
+  pub unanswered : Option Request
+  pub each : AreExchanges None xs
+  pub of_input : TakesLines input xs unanswered
+  pub of_taken : TakesLines taken xs unanswered
+  pub promises : PromisesSo state first now xs unanswered
 
--- The run came to the end of its input: all replies are written.
-pub record Finished {D : Type 0} {G : Ghosts D} (state : D → DiskState) (first : Depot D) (now : Stage D G) (input told : List ℕ) : Type 0 where
-  pub course : Course None input input
-  pub promises : PromisesSo state first now course.exchanges course.unanswered
-  pub all : course.of_input.later ≡ []
-  pub written : told ≡ replies_text course.exchanges
+-- The run came to the end of its input: these exchanges came of all its lines.
+pub record Finished {D : Type 0} {G : Ghosts D} (state : D → DiskState) (first : Depot D) (xs : List Exchange) (now : Stage D G) (input : List ℕ) : Type 0 where
+  pub each : AreExchanges None xs
+  pub lines_are : lines_of input ≡ map (λ x. x.line) xs
+  pub promises : PromisesSo state first now xs None
 
 -- What a run did over disks that were so when it began and are so now, before they are given back.
 pub record HasServed {D : Type 0} {G : Ghosts D} (state : D → DiskState) (first : Depot D) (now : Stage D G) (ended : Status) (input left written : List ℕ) : Type 0 where
   pub ran : Ran None ended input left written
   pub promises : PromisesSo state first now ran.course.exchanges ran.course.unanswered
 
--- reading goes on by a piece
+-- reading goes on by a piece, and its lines get this text
 abbrev pub TakesOn : {D : Type 0} {G : Ghosts D} → (D → DiskState) → Stage D G → List ℕ → List ℕ → List ℕ → Stage D G → List ℕ → Type 0
 TakesOn {D} state old line piece text new line2 =
-    (first : Depot D) (taken told : List ℕ) → StreamState state first taken told old line → StreamState state first (taken ++ piece) (told ++ text) new line2
+    (first : Depot D) (xs : List Exchange) (taken : List ℕ) → StreamState state first xs taken old line
+    → (more : List Exchange) × (text ≡ replies_text more) × StreamState state first (xs ++ more) (taken ++ piece) new line2
 
--- it is cut short within a piece
+-- it is cut short within a piece, whose lines got this text
 abbrev pub Cuts : {D : Type 0} {G : Ghosts D} → (D → DiskState) → Stage D G → List ℕ → List ℕ → List ℕ → Stage D G → Type 0
-Cuts {D} state old line piece part new = (first : Depot D) (taken told : List ℕ) → StreamState state first taken told old line → CutShort state first new (taken ++ piece) (told ++ part)
+Cuts {D} state old line piece text new =
+    (first : Depot D) (xs : List Exchange) (taken : List ℕ) → StreamState state first xs taken old line
+    → (more : List Exchange) × (text ≡ replies_text more) × CutShort state first (xs ++ more) new (taken ++ piece)
+
+-- the input ended, and its last line, if there is one, gets this text
+abbrev pub Finishes : {D : Type 0} {G : Ghosts D} → (D → DiskState) → Stage D G → List ℕ → List ℕ → Stage D G → Type 0
+Finishes {D} state old line text new =
+    (first : Depot D) (xs : List Exchange) (taken : List ℕ) → StreamState state first xs taken old line
+    → (more : List Exchange) × (text ≡ replies_text more) × Finished state first (xs ++ more) new taken
+
+-- the input ended, and the run with its last line, which got this text
+abbrev pub HaltsLast : {D : Type 0} {G : Ghosts D} → (D → DiskState) → Stage D G → List ℕ → List ℕ → Stage D G → Type 0
+HaltsLast {D} state old line text new =
+    (first : Depot D) (xs : List Exchange) (taken : List ℕ) → StreamState state first xs taken old line
+    → (more : List Exchange) × (text ≡ replies_text more) × Halted state first (xs ++ more) new taken taken

@@ -1,4 +1,4 @@
-ghost use Rattle.std.specs.Prelude.{◌≡◌, Option, IfOk, OnErr};
+ghost use Rattle.std.specs.Prelude.{◌≡◌, ℕ, List, ◌++◌, Option, OnOk, OnErr};
 ghost use Rattle.std.specs.Option.{option_copied};
 ghost use Rattle.served_cluster.specs.Owned.{MayServe};
 ghost use Rattle.m3_program.specs.Exchanges.{is_blank, reply_line};
@@ -19,40 +19,63 @@ fn is_blank(line: &[u8]) -> bool
         .all(|&b| (b == b' ' || b == b'\t') || b == b'\r')
 }
 
-// The text of a reply, with a newline.
-fn line_of(alloc: Global, reply: &Reply, place: Option<&Placement>) -> Result<Vec<u8>, Memory>
-    ensures { IfOk result (λ text. text.items ≡ reply_line (option_copied place.entry) reply.now) }
+// Appends the text of a reply and a newline, or nothing where memory is wanted.
+fn put_reply(
+    alloc: Global,
+    replies: &mut Vec<u8>,
+    reply: &Reply,
+    place: Option<&Placement>,
+) -> Result<(), Memory>
+    ensures ok { OnOk result (replies.new.items ≡ replies.old.items ++ reply_line (option_copied place.entry) reply.now) }
+    ensures err { OnErr result (replies.new.items ≡ replies.old.items) }
 {
     let text = print_reply(alloc, reply, place)?;
-    let mut bytes = text.into_string().into_bytes();
-    bytes.push(b'\n')?;
-    Ok(bytes)
+    let len = replies.len();
+    replies.extend_from_slice(text.as_str().as_bytes())?;
+    match replies.push(b'\n') {
+        Ok(()) => Ok(()),
+        Err(_) => {
+            replies.truncate(len);
+            Err(Memory)
+        }
+    }
 }
 
-/// What is to be written for a line, which has no newline. Where memory is wanted, the request may have been served.
+/// Serves a line, which has no newline, and appends what is to be written for it.
+///
+/// # Errors
+///
+/// Want of memory. Then nothing is appended, and the request may have been served.
 pub fn answer_line<X: Disks>(
     alloc: Global,
     cluster: &mut Cluster<X::D>,
     disks: &mut X,
+    replies: &mut Vec<u8>,
     line: &[u8],
-) -> Result<Vec<u8>, Memory>
+) -> Result<(), Memory>
     requires owned { MayServe cluster.old (X.held disks.old) }
-    ensures ok { IfOk result (λ text. Advances X.D.state (stage cluster.old (X.held disks.old) (X.counted disks.old) (X.all_faults disks.old)) line.now text.items
+    ensures ok { OnOk result ((text : List ℕ) × (replies.new.items ≡ replies.old.items ++ text)
+        × Advances X.D.state (stage cluster.old (X.held disks.old) (X.counted disks.old) (X.all_faults disks.old)) line.now text
         (stage cluster.new (X.held disks.new) (X.counted disks.new) (X.all_faults disks.new))) }
     ensures err { OnErr result (Drops X.D.state (stage cluster.old (X.held disks.old) (X.counted disks.old) (X.all_faults disks.old)) line.now
         (stage cluster.new (X.held disks.new) (X.counted disks.new) (X.all_faults disks.new))) }
+    ensures nothing { OnErr result (replies.new.items ≡ replies.old.items) }
     ensures owned { MayServe cluster.new (X.held disks.new) }
 {
     if is_blank(line) {
-        return Ok(Vec::new(alloc));
+        return Ok(());
     }
     match read_line(alloc, line) {
         Ok(request) => {
             let reply = cluster.serve(alloc, disks, request);
-            line_of(alloc, &reply, cluster.place())
+            put_reply(alloc, replies, &reply, cluster.place())
         }
-        Err(LineErr::Form) => line_of(alloc, &Reply::One(Answer::Form), cluster.place()),
-        Err(LineErr::Later) => line_of(alloc, &Reply::One(Answer::Later), cluster.place()),
+        Err(LineErr::Form) => {
+            put_reply(alloc, replies, &Reply::One(Answer::Form), cluster.place())
+        }
+        Err(LineErr::Later) => {
+            put_reply(alloc, replies, &Reply::One(Answer::Later), cluster.place())
+        }
         Err(LineErr::Memory) => Err(Memory),
     }
 }

@@ -1,54 +1,96 @@
-ghost use Rattle.std.specs.Prelude.{◌≤◌, ℕ, List, [], ◌∷◌, ◌++◌, OnOk, OnErr, IfErr};
+ghost use Rattle.std.specs.Prelude.{◌≡◌, ◌<◌, ◌≤◌, ℕ, List, [], ◌∷◌, ◌++◌, length, OnOk, OnErr, IfErr};
 ghost use Rattle.std.specs.Io.KnownBytes.{Appends};
 ghost use Rattle.served_cluster.specs.Owned.{MayServe};
 ghost use Rattle.m3_program.specs.Streams.{NoNewline, TakesOn, Cuts, stage};
+ghost use Rattle.m3_program.specs.Writing.{Gathers, WritesUntil};
 ghost use Rattle.m3_program.specs.Causes.{EndsLine};
 
-use crate::output::serve_line;
+use crate::exchange::answer_line;
+use crate::output::{write_all, write_before_end, write_full};
 use crate::status::Status;
+use m3_model::Memory;
 use m3_outside::{Disks, Sink};
 use memchr::memchr;
 use served_cluster::Cluster;
 use std::alloc::Global;
 
-/// Takes the rest of a line, up to its newline: `line` is what was taken of it before.
-fn serve_rest<K: Sink, X: Disks>(
+/// Takes the rest of a line, up to its newline, and appends what is to be written for it: `line` is what was taken of it before.
+fn serve_rest<X: Disks>(
     alloc: Global,
     cluster: &mut Cluster<X::D>,
     disks: &mut X,
-    out: &mut K,
+    replies: &mut Vec<u8>,
     line: &mut Vec<u8>,
     rest: &[u8],
-) -> Result<(), Status>
+) -> Result<(), Memory>
     requires whole { NoNewline rest.now }
     requires owned { MayServe cluster.old (X.held disks.old) }
-    ensures ok { OnOk result ((text : List ℕ) × Appends (K.written out.old) (K.written out.new) text
+    ensures ok { OnOk result ((text : List ℕ) × (replies.new.items ≡ replies.old.items ++ text)
         × TakesOn X.D.state (stage cluster.old (X.held disks.old) (X.counted disks.old) (X.all_faults disks.old)) line.old.items (rest.now ++ 10 ∷ []) text
         (stage cluster.new (X.held disks.new) (X.counted disks.new) (X.all_faults disks.new)) line.new.items) }
-    ensures err { OnErr result ((part : List ℕ) × Appends (K.written out.old) (K.written out.new) part
-        × Cuts X.D.state (stage cluster.old (X.held disks.old) (X.counted disks.old) (X.all_faults disks.old)) line.old.items (rest.now ++ 10 ∷ []) part
+    ensures err { OnErr result (Cuts X.D.state (stage cluster.old (X.held disks.old) (X.counted disks.old) (X.all_faults disks.old)) line.old.items (rest.now ++ 10 ∷ []) []
         (stage cluster.new (X.held disks.new) (X.counted disks.new) (X.all_faults disks.new))) }
+    ensures nothing { OnErr result (replies.new.items ≡ replies.old.items) }
     ensures owned { MayServe cluster.new (X.held disks.new) }
-    ensures later { (K.faulted out.old ≤ K.faulted out.new) × (K.stalled out.old ≤ K.stalled out.new) }
-    ensures cause { IfErr result (λ s. EndsLine s (K.faulted out.old) (K.faulted out.new) (K.stalled out.old) (K.stalled out.new)) }
 {
     if line.as_slice().is_empty() {
-        return serve_line(alloc, cluster, disks, out, rest);
+        return answer_line(alloc, cluster, disks, replies, rest);
     }
     match line.extend_from_slice(rest) {
         Ok(()) => {}
-        Err(_) => return Err(Status::Memory),
+        Err(_) => return Err(Memory),
     }
-    match serve_line(alloc, cluster, disks, out, line.as_slice()) {
+    match answer_line(alloc, cluster, disks, replies, line.as_slice()) {
         Ok(()) => {
             line.clear();
             Ok(())
         }
-        Err(status) => Err(status),
+        Err(error) => Err(error),
     }
 }
 
-/// Takes a piece of the input: whole lines are served, and what begins a further line goes to `line`.
+/// Takes a piece of the input: whole lines are served, and what begins a further line goes to `line`. The replies are held,
+/// and written whenever they have 65,536 bytes or more, and before it ends for want of memory.
+fn serve_lines<K: Sink, X: Disks>(
+    alloc: Global,
+    cluster: &mut Cluster<X::D>,
+    disks: &mut X,
+    out: &mut K,
+    replies: &mut Vec<u8>,
+    line: &mut Vec<u8>,
+    piece: &[u8],
+) -> Result<(), Status>
+    requires owned { MayServe cluster.old (X.held disks.old) }
+    ensures ok { OnOk result ((text : List ℕ) × Gathers (K.written out.old) replies.old.items text (K.written out.new) replies.new.items
+        × TakesOn X.D.state (stage cluster.old (X.held disks.old) (X.counted disks.old) (X.all_faults disks.old)) line.old.items piece.now text
+        (stage cluster.new (X.held disks.new) (X.counted disks.new) (X.all_faults disks.new)) line.new.items) }
+    ensures err { IfErr result (λ s. (text : List ℕ) × WritesUntil s (K.written out.old) (replies.old.items ++ text) (K.written out.new)
+        × Cuts X.D.state (stage cluster.old (X.held disks.old) (X.counted disks.old) (X.all_faults disks.old)) line.old.items piece.now text
+        (stage cluster.new (X.held disks.new) (X.counted disks.new) (X.all_faults disks.new))) }
+    ensures few { length replies.old.items < 65536 → OnOk result (length replies.new.items < 65536) }
+    ensures owned { MayServe cluster.new (X.held disks.new) }
+    ensures later { (K.faulted out.old ≤ K.faulted out.new) × (K.stalled out.old ≤ K.stalled out.new) }
+    ensures cause { IfErr result (λ s. EndsLine s (K.faulted out.old) (K.faulted out.new) (K.stalled out.old) (K.stalled out.new)) }
+{
+    let mut rest = piece;
+    while let Some(end) = memchr(b'\n', rest) {
+        match serve_rest(alloc, cluster, disks, replies, line, &rest[..end]) {
+            Ok(()) => {}
+            Err(_) => return Err(write_before_end(out, replies.as_slice())),
+        }
+        match write_full(out, replies) {
+            Ok(()) => {}
+            Err(status) => return Err(status),
+        }
+        rest = &rest[end + 1..];
+    }
+    match line.extend_from_slice(rest) {
+        Ok(()) => Ok(()),
+        Err(_) => Err(write_before_end(out, replies.as_slice())),
+    }
+}
+
+/// Takes a piece of the input as `serve_lines` does, and writes all replies to its lines.
 pub fn serve_piece<K: Sink, X: Disks>(
     alloc: Global,
     cluster: &mut Cluster<X::D>,
@@ -61,23 +103,16 @@ pub fn serve_piece<K: Sink, X: Disks>(
     ensures ok { OnOk result ((text : List ℕ) × Appends (K.written out.old) (K.written out.new) text
         × TakesOn X.D.state (stage cluster.old (X.held disks.old) (X.counted disks.old) (X.all_faults disks.old)) line.old.items piece.now text
         (stage cluster.new (X.held disks.new) (X.counted disks.new) (X.all_faults disks.new)) line.new.items) }
-    ensures err { OnErr result ((part : List ℕ) × Appends (K.written out.old) (K.written out.new) part
-        × Cuts X.D.state (stage cluster.old (X.held disks.old) (X.counted disks.old) (X.all_faults disks.old)) line.old.items piece.now part
+    ensures err { IfErr result (λ s. (text : List ℕ) × WritesUntil s (K.written out.old) text (K.written out.new)
+        × Cuts X.D.state (stage cluster.old (X.held disks.old) (X.counted disks.old) (X.all_faults disks.old)) line.old.items piece.now text
         (stage cluster.new (X.held disks.new) (X.counted disks.new) (X.all_faults disks.new))) }
     ensures owned { MayServe cluster.new (X.held disks.new) }
     ensures later { (K.faulted out.old ≤ K.faulted out.new) × (K.stalled out.old ≤ K.stalled out.new) }
     ensures cause { IfErr result (λ s. EndsLine s (K.faulted out.old) (K.faulted out.new) (K.stalled out.old) (K.stalled out.new)) }
 {
-    let mut rest = piece;
-    while let Some(end) = memchr(b'\n', rest) {
-        match serve_rest(alloc, cluster, disks, out, line, &rest[..end]) {
-            Ok(()) => {}
-            Err(status) => return Err(status),
-        }
-        rest = &rest[end + 1..];
-    }
-    match line.extend_from_slice(rest) {
-        Ok(()) => Ok(()),
-        Err(_) => Err(Status::Memory),
+    let mut replies = Vec::new(alloc);
+    match serve_lines(alloc, cluster, disks, out, &mut replies, line, piece) {
+        Ok(()) => write_all(out, replies.as_slice()),
+        Err(status) => Err(status),
     }
 }

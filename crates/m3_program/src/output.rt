@@ -1,19 +1,20 @@
-ghost use Rattle.std.specs.Prelude.{◌≤◌, ℕ, List, take, OnOk, OnErr, IfErr};
+ghost use Rattle.std.specs.Prelude.{◌≡◌, ◌<◌, ◌≤◌, ℕ, List, [], length, take, OnOk, OnErr, IfErr};
 ghost use Rattle.std.specs.Io.KnownBytes.{Appends};
-ghost use Rattle.served_cluster.specs.Owned.{MayServe};
-ghost use Rattle.m3_program.specs.Streams.{Advances, Halts, stage};
 ghost use Rattle.m3_program.specs.Causes.{EndsLine};
+ghost use Rattle.m3_program.specs.Writing.{Gathers, WritesUntil};
+ghost use Rattle.m3_program.specs.declared.status.Status.TheVariants as status;
 
-use crate::exchange::answer_line;
 use crate::status::Status;
-use m3_outside::{Disks, Sink};
-use served_cluster::Cluster;
-use std::alloc::Global;
+use m3_outside::Sink;
 
-/// Writes all of the bytes, or a front of them.
-fn write_all<K: Sink>(out: &mut K, bytes: &[u8]) -> Result<(), Status>
+/// With so many bytes, what is held is written before the piece of the input is served to its end.
+const FULL: usize = 65536;
+
+/// Writes all of the bytes, or a front of them where the sink fails.
+pub fn write_all<K: Sink>(out: &mut K, bytes: &[u8]) -> Result<(), Status>
     ensures ok { OnOk result (Appends (K.written out.old) (K.written out.new) bytes.now) }
     ensures err { OnErr result ((n : ℕ) × Appends (K.written out.old) (K.written out.new) (take n bytes.now)) }
+    ensures by { IfErr result (λ s. s ≡ status.WriteFault) }
     ensures later { (K.faulted out.old ≤ K.faulted out.new) × (K.stalled out.old ≤ K.stalled out.new) }
     ensures cause { IfErr result (λ s. EndsLine s (K.faulted out.old) (K.faulted out.new) (K.stalled out.old) (K.stalled out.new)) }
 {
@@ -32,27 +33,36 @@ fn write_all<K: Sink>(out: &mut K, bytes: &[u8]) -> Result<(), Status>
     Ok(())
 }
 
-/// Answers one line and writes its reply.
-pub fn serve_line<K: Sink, X: Disks>(
-    alloc: Global,
-    cluster: &mut Cluster<X::D>,
-    disks: &mut X,
-    out: &mut K,
-    line: &[u8],
-) -> Result<(), Status>
-    requires owned { MayServe cluster.old (X.held disks.old) }
-    ensures ok { OnOk result ((text : List ℕ) × Appends (K.written out.old) (K.written out.new) text
-        × Advances X.D.state (stage cluster.old (X.held disks.old) (X.counted disks.old) (X.all_faults disks.old)) line.now text
-        (stage cluster.new (X.held disks.new) (X.counted disks.new) (X.all_faults disks.new))) }
-    ensures err { OnErr result ((part : List ℕ) × Appends (K.written out.old) (K.written out.new) part
-        × Halts X.D.state (stage cluster.old (X.held disks.old) (X.counted disks.old) (X.all_faults disks.old)) line.now part
-        (stage cluster.new (X.held disks.new) (X.counted disks.new) (X.all_faults disks.new))) }
-    ensures owned { MayServe cluster.new (X.held disks.new) }
+/// Writes all of the bytes before the run ends for want of memory, and answers how it ends: by a write fault where the sink fails.
+pub fn write_before_end<K: Sink>(out: &mut K, bytes: &[u8]) -> Status
+    ensures written { WritesUntil result (K.written out.old) bytes.now (K.written out.new) }
+    ensures later { (K.faulted out.old ≤ K.faulted out.new) × (K.stalled out.old ≤ K.stalled out.new) }
+    ensures cause { EndsLine result (K.faulted out.old) (K.faulted out.new) (K.stalled out.old) (K.stalled out.new) }
+{
+    match write_all(out, bytes) {
+        Ok(()) => Status::Memory,
+        Err(status) => status,
+    }
+}
+
+/// Writes what is held where that is 65,536 bytes or more, and nothing where it is less.
+pub fn write_full<K: Sink>(out: &mut K, replies: &mut Vec<u8>) -> Result<(), Status>
+    ensures ok { OnOk result (Gathers (K.written out.old) replies.old.items [] (K.written out.new) replies.new.items) }
+    ensures err { OnErr result ((lost : List ℕ) × Gathers (K.written out.old) replies.old.items [] (K.written out.new) lost) }
+    ensures few { OnOk result (length replies.new.items < 65536) }
+    ensures held { length replies.old.items < 65536 → replies.new.items ≡ replies.old.items }
+    ensures by { IfErr result (λ s. s ≡ status.WriteFault) }
     ensures later { (K.faulted out.old ≤ K.faulted out.new) × (K.stalled out.old ≤ K.stalled out.new) }
     ensures cause { IfErr result (λ s. EndsLine s (K.faulted out.old) (K.faulted out.new) (K.stalled out.old) (K.stalled out.new)) }
 {
-    match answer_line(alloc, cluster, disks, line) {
-        Ok(text) => write_all(out, text.as_slice()),
-        Err(_) => Err(Status::Memory),
+    if replies.len() < FULL {
+        return Ok(());
+    }
+    match write_all(out, replies.as_slice()) {
+        Ok(()) => {
+            replies.clear();
+            Ok(())
+        }
+        Err(status) => Err(status),
     }
 }

@@ -1,18 +1,19 @@
-ghost use Rattle.std.specs.Prelude.{◌≡◌, ◌<◌, ◌≤◌, ◌+◌, ℕ, List, [], ◌++◌, Some, None, true, map, length, string_bytes, IfOk, OnOk, OnErr, IfErr, IsErrOf};
+ghost use Rattle.std.specs.Prelude.{◌≡◌, ◌<◌, ◌≤◌, ◌+◌, ℕ, List, [], ◌++◌, Some, None, true, map, length, string_bytes, IfOk, OnOk, IfErr, IsErrOf};
 ghost use Rattle.std.specs.Io.KnownBytes.{Appends, Consumes, IsAtEnd};
 ghost use Rattle.m3_model.specs.declared.limits.TheConstants.{INPUT_END};
 ghost use Rattle.m3_outside.specs.Slots.{Out};
 ghost use Rattle.m3_outside.specs.declared.slot.Slot.{Slot};
-ghost use Rattle.m3_outside.specs.Depots.{Depot};
 ghost use Rattle.served_cluster.specs.Owned.{MayServe};
 ghost use Rattle.m3_program.specs.Words.{is_run};
-ghost use Rattle.m3_program.specs.Streams.{StreamState, TakesOn, Cuts, Halted, Finished, HasServed, IsFresh, stage};
+ghost use Rattle.m3_program.specs.Streams.{TakesOn, Cuts, Finishes, HaltsLast, HasServed, IsFresh, stage};
+ghost use Rattle.m3_program.specs.Writing.{WritesUntil};
 ghost use Rattle.m3_program.specs.Causes.{EndsLine, EndsStep, EndsRun};
 ghost use Rattle.m3_program.specs.Runs.{HasRun};
 ghost use Rattle.m3_program.specs.declared.status.Status.TheVariants as status;
 
+use crate::exchange::answer_line;
 use crate::input::serve_piece;
-use crate::output::serve_line;
+use crate::output::write_all;
 use crate::status::Status;
 use crate::words::is_run;
 use m3_model::limits::INPUT_END;
@@ -23,7 +24,7 @@ use std::alloc::Global;
 /// How much is taken at once.
 const PIECE: usize = 65536;
 
-/// Takes what one read gives; 0 is the end of the input.
+/// Takes what one read gives, and writes the replies to the lines that it ends; 0 is the end of the input.
 fn serve_read<S: Source, K: Sink, X: Disks>(
     alloc: Global,
     cluster: &mut Cluster<X::D>,
@@ -39,9 +40,9 @@ fn serve_read<S: Source, K: Sink, X: Disks>(
         × TakesOn X.D.state (stage cluster.old (X.held disks.old) (X.counted disks.old) (X.all_faults disks.old)) line.old.items piece text
         (stage cluster.new (X.held disks.new) (X.counted disks.new) (X.all_faults disks.new)) line.new.items
         × (n ≡ 0 → 0 < length buf.old → IsAtEnd (S.left source.new))) }
-    ensures err { OnErr result ((piece part : List ℕ) × Consumes (S.left source.old) (S.left source.new) piece × (length piece ≤ length buf.old)
-        × Appends (K.written out.old) (K.written out.new) part
-        × Cuts X.D.state (stage cluster.old (X.held disks.old) (X.counted disks.old) (X.all_faults disks.old)) line.old.items piece part
+    ensures err { IfErr result (λ s. (piece text : List ℕ) × Consumes (S.left source.old) (S.left source.new) piece × (length piece ≤ length buf.old)
+        × WritesUntil s (K.written out.old) text (K.written out.new)
+        × Cuts X.D.state (stage cluster.old (X.held disks.old) (X.counted disks.old) (X.all_faults disks.old)) line.old.items piece text
         (stage cluster.new (X.held disks.new) (X.counted disks.new) (X.all_faults disks.new))) }
     ensures at_fault { IsErrOf result status.ReadFault → Consumes (S.left source.old) (S.left source.new) [] × Appends (K.written out.old) (K.written out.new) []
         × TakesOn X.D.state (stage cluster.old (X.held disks.old) (X.counted disks.old) (X.all_faults disks.old)) line.old.items [] []
@@ -59,7 +60,7 @@ fn serve_read<S: Source, K: Sink, X: Disks>(
     }
 }
 
-/// Takes a last line without a newline.
+/// Takes a last line without a newline, and writes its reply.
 fn serve_last<K: Sink, X: Disks>(
     alloc: Global,
     cluster: &mut Cluster<X::D>,
@@ -69,11 +70,11 @@ fn serve_last<K: Sink, X: Disks>(
 ) -> Result<(), Status>
     requires owned { MayServe cluster.old (X.held disks.old) }
     ensures ok { OnOk result ((text : List ℕ) × Appends (K.written out.old) (K.written out.new) text
-        × ((first : Depot X.D) (taken told : List ℕ) → StreamState X.D.state first taken told (stage cluster.old (X.held disks.old) (X.counted disks.old) (X.all_faults disks.old)) line.now
-        → Finished X.D.state first (stage cluster.new (X.held disks.new) (X.counted disks.new) (X.all_faults disks.new)) taken (told ++ text))) }
-    ensures err { OnErr result ((part : List ℕ) × Appends (K.written out.old) (K.written out.new) part
-        × ((first : Depot X.D) (taken told : List ℕ) → StreamState X.D.state first taken told (stage cluster.old (X.held disks.old) (X.counted disks.old) (X.all_faults disks.old)) line.now
-        → Halted X.D.state first (stage cluster.new (X.held disks.new) (X.counted disks.new) (X.all_faults disks.new)) taken taken (told ++ part))) }
+        × Finishes X.D.state (stage cluster.old (X.held disks.old) (X.counted disks.old) (X.all_faults disks.old)) line.now text
+        (stage cluster.new (X.held disks.new) (X.counted disks.new) (X.all_faults disks.new))) }
+    ensures err { IfErr result (λ s. (text : List ℕ) × WritesUntil s (K.written out.old) text (K.written out.new)
+        × HaltsLast X.D.state (stage cluster.old (X.held disks.old) (X.counted disks.old) (X.all_faults disks.old)) line.now text
+        (stage cluster.new (X.held disks.new) (X.counted disks.new) (X.all_faults disks.new))) }
     ensures owned { MayServe cluster.new (X.held disks.new) }
     ensures later { (K.faulted out.old ≤ K.faulted out.new) × (K.stalled out.old ≤ K.stalled out.new) }
     ensures cause { IfErr result (λ s. EndsLine s (K.faulted out.old) (K.faulted out.new) (K.stalled out.old) (K.stalled out.new)) }
@@ -81,7 +82,11 @@ fn serve_last<K: Sink, X: Disks>(
     if line.is_empty() {
         return Ok(());
     }
-    serve_line(alloc, cluster, disks, out, line)
+    let mut replies = Vec::new(alloc);
+    match answer_line(alloc, cluster, disks, &mut replies, line) {
+        Ok(()) => write_all(out, replies.as_slice()),
+        Err(_) => Err(Status::Memory),
+    }
 }
 
 /// How much may be taken at once where this much was taken.
@@ -140,7 +145,8 @@ fn serve_all<S: Source, K: Sink, X: Disks>(
 }
 
 /// The program: where the words are the one word `run`, reads request lines to the input's end, serves each in order
-/// and writes each reply as a line. The nodes' replicas stand over these disks, which are all given back at the end.
+/// and writes each reply as a line, before it reads on. The nodes' replicas stand over these disks, which are all given
+/// back at the end.
 pub fn run<S: Source, K: Sink, X: Disks>(
     alloc: Global,
     words: &[String],

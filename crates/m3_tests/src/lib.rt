@@ -4,6 +4,8 @@
 #[cfg(test)]
 mod buffers;
 #[cfg(test)]
+mod calls;
+#[cfg(test)]
 mod disks;
 #[cfg(test)]
 mod lines;

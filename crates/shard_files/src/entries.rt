@@ -5,6 +5,7 @@ ghost use Rattle.shard_files.specs.Entries.{IsEntry, HasPoint, HavePoints, MayBr
 
 use m3_model::{Memory, Point, Seq, Text};
 use std::alloc::{AllocFailed, Global};
+use thiserror::Error;
 use wire_bytes::{EntryAt, WireErr, get_entry, get_point};
 
 /// An entry of a replica's log.
@@ -19,12 +20,14 @@ pub enum LogEntry {
 }
 
 /// Why some bytes aren't read as an entry, or a segment as entries.
-#[derive(Clone, Copy, Debug, PartialEq, Eq)]
+#[derive(Clone, Copy, Debug, PartialEq, Eq, Error)]
 pub enum EntryErr {
     /// Want of memory.
+    #[error("out of memory")]
     Memory,
     /// They are none: some entry, or some segment of entries, begins with the bytes before the place `at`, and none goes on
     /// with the byte there, or there is none.
+    #[error("no entry goes on with the byte at {at}")]
     Form { at: usize },
 }
 

@@ -1,14 +1,18 @@
 use m3_model::Memory;
 use m3_outside::{DiskErr, FileName};
+use thiserror::Error;
 
 /// Why a replica's files can't be read.
-#[derive(Clone, Copy, Debug, PartialEq, Eq)]
+#[derive(Clone, Copy, Debug, PartialEq, Eq, Error)]
 pub enum LoadErr {
     /// The disk failed. Its count of faults rose in that call.
+    #[error("the disk failed")]
     Disk,
     /// Want of memory.
+    #[error("out of memory")]
     Memory,
     /// The SHA-256 of the file isn't the one that is kept of it.
+    #[error("the digest of {file:?} differs from the one kept")]
     Digest {
         file: FileName,
         kept: [u8; 32],
@@ -16,6 +20,7 @@ pub enum LoadErr {
     },
     /// With the byte at the place `at`, or for want of it, no such file goes on. It is 0 where the file isn't there, and where it
     /// keeps to its digest and is damaged all the same: no place in it is looked for then.
+    #[error("{file:?} is damaged at byte {at}")]
     Form {
         file: FileName,
         at: u64,

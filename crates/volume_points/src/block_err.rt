@@ -1,17 +1,22 @@
 use fileset_read::FileErr;
 use m3_model::Memory;
 use m3_outside::FileName;
+use thiserror::Error;
 
 /// Why there are no rows for a new volume of a block.
-#[derive(Clone, Copy, Debug, PartialEq, Eq)]
+#[derive(Clone, Copy, Debug, PartialEq, Eq, Error)]
 pub enum BlockErr {
     /// The disk failed. Its count of faults rose in that call.
+    #[error("the disk failed")]
     Disk,
     /// Want of memory.
+    #[error("out of memory")]
     Memory,
     /// The file isn't that of a volume.
+    #[error("{file:?} is damaged")]
     Form { file: FileName },
     /// The block has more series than a volume may have, or a series more points.
+    #[error("the block is too large for a volume")]
     Large,
 }
 

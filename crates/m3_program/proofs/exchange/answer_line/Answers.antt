@@ -1,54 +1,68 @@
-use Rattle.std.proofs.Common.{sym, ◌∙◌, ap, subst}
+use Rattle.std.proofs.Common.{[], sym, ◌∙◌, ap, refl, subst, append-nil}
 use Rattle.std.specs.Prelude.{Err}
-use Rattle.std.proofs.lemmas.Result.{IfOk-weaker}
 use Rattle.m3_model.specs.declared.answer.Answer.TheVariants as answer
 use Rattle.m3_model.specs.declared.turn.Reply.TheVariants as reply
 use Rattle.m3_json.specs.Requests.{LineMeans}
 use Rattle.m3_program.specs.Exchanges.{reply_line}
 use Rattle.m3_program.specs.Streams.{Stage, stage}
-use Rattle.m3_program.proofs.WrittenLemmas.{on_err_just}
+use Rattle.m3_program.proofs.WrittenLemmas.{on_err_just, on_ok_map}
 use Rattle.m3_program.proofs.ExchangeLemmas.{passes, refuses, answers, drops_served, drops_unserved}
 use Rattle.m3_program.proofs.exchange.answer_line.Goals as goal
 
 pub returns-then-is_blank-clause-ok : goal.returns-then-is_blank-clause-ok
 returns-then-is_blank-clause-ok g c =
     let now : Stage g.row.X-D.Denot g.X.D.Disk = stage c.args.cluster.now (g.X.Disks.held c.args.disks.now) (g.X.Disks.counted c.args.disks.now) (g.X.Disks.all_faults c.args.disks.now) in
-    passes g.X.D.Disk.state now c.args.line.now c.new.result.items (sym c.is_blank.ensures ∙ c.if-is_blank.true) c.new.ensures.items
+    ([], sym (append-nil c.args.replies.now.items), passes g.X.D.Disk.state now c.args.line.now [] (sym c.is_blank.ensures ∙ c.if-is_blank.true) refl)
 
 pub returns-in-Ok-clause-ok : goal.returns-in-Ok-clause-ok
 returns-in-Ok-clause-ok g c =
     let old : Stage g.row.X-D.Denot g.X.D.Disk = stage c.args.cluster.now (g.X.Disks.held c.args.disks.now) (g.X.Disks.counted c.args.disks.now) (g.X.Disks.all_faults c.args.disks.now) in
     let new : Stage g.row.X-D.Denot g.X.D.Disk = stage c.serve-reply.new.self (g.X.Disks.held c.serve-reply.new.disks) (g.X.Disks.counted c.serve-reply.new.disks) (g.X.Disks.all_faults c.serve-reply.new.disks) in
-    IfOk-weaker c.line_of.result _ _ (λ v e. answers g.X.D.Disk.state old new c.args.line.now v.items c.in-Ok.request c.serve-reply.result (sym c.is_blank.ensures ∙ c.if-is_blank.false) c.in-Ok.ensures.ok
-    (e ∙ ap (λ place. reply_line place c.serve-reply.result) c.place.ensures.stands) c.serve-reply.ensures.answered c.place.ensures.left c.serve-reply.ensures.tracks) c.line_of.ensures
+    on_ok_map c.put_reply.result
+    (λ e. (
+      _,
+      e,
+      answers g.X.D.Disk.state old new c.args.line.now _ c.in-Ok.request c.serve-reply.result (sym c.is_blank.ensures ∙ c.if-is_blank.false) c.in-Ok.ensures.ok
+          (ap (λ place. reply_line place c.serve-reply.result) c.place.ensures.stands) c.serve-reply.ensures.answered c.place.ensures.left c.serve-reply.ensures.tracks,
+    )) c.put_reply.ensures.ok
 
 pub returns-in-Ok-clause-err : goal.returns-in-Ok-clause-err
 returns-in-Ok-clause-err g c =
     let old : Stage g.row.X-D.Denot g.X.D.Disk = stage c.args.cluster.now (g.X.Disks.held c.args.disks.now) (g.X.Disks.counted c.args.disks.now) (g.X.Disks.all_faults c.args.disks.now) in
     let new : Stage g.row.X-D.Denot g.X.D.Disk = stage c.serve-reply.new.self (g.X.Disks.held c.serve-reply.new.disks) (g.X.Disks.counted c.serve-reply.new.disks) (g.X.Disks.all_faults c.serve-reply.new.disks) in
-    on_err_just c.line_of.result (drops_served g.X.D.Disk.state old new c.args.line.now c.in-Ok.request c.serve-reply.result c.in-Ok.ensures.ok c.serve-reply.ensures.tracks)
+    on_err_just c.put_reply.result (drops_served g.X.D.Disk.state old new c.args.line.now c.in-Ok.request c.serve-reply.result c.in-Ok.ensures.ok c.serve-reply.ensures.tracks)
 
 pub returns-in-Err-Form-clause-ok : goal.returns-in-Err-Form-clause-ok
 returns-in-Err-Form-clause-ok g c =
     let now : Stage g.row.X-D.Denot g.X.D.Disk = stage c.args.cluster.now (g.X.Disks.held c.args.disks.now) (g.X.Disks.counted c.args.disks.now) (g.X.Disks.all_faults c.args.disks.now) in
-    IfOk-weaker c.line_of-in-Err-Form.result _ _ (λ v e. refuses g.X.D.Disk.state now c.args.line.now v.items answer.Form (sym c.is_blank.ensures ∙ c.if-is_blank.false)
-    (subst (λ f. LineMeans c.args.line.now (Err f)) c.in-Err-Form.field-0-is c.in-Err-Form.ensures.err) (e ∙ ap (λ place. reply_line place (reply.One answer.Form)) c.place-in-Err-Form.ensures.stands) c.place-in-Err-Form.ensures.left) c.line_of-in-Err-Form.ensures
+    on_ok_map c.put_reply-in-Err-Form.result
+    (λ e. (
+      _,
+      e,
+      refuses g.X.D.Disk.state now c.args.line.now _ answer.Form (sym c.is_blank.ensures ∙ c.if-is_blank.false)
+          (subst (λ f. LineMeans c.args.line.now (Err f)) c.in-Err-Form.field-0-is c.in-Err-Form.ensures.err) (ap (λ place. reply_line place (reply.One answer.Form)) c.place-in-Err-Form.ensures.stands) c.place-in-Err-Form.ensures.left,
+    )) c.put_reply-in-Err-Form.ensures.ok
 
 pub returns-in-Err-Form-clause-err : goal.returns-in-Err-Form-clause-err
 returns-in-Err-Form-clause-err g c =
     let now : Stage g.row.X-D.Denot g.X.D.Disk = stage c.args.cluster.now (g.X.Disks.held c.args.disks.now) (g.X.Disks.counted c.args.disks.now) (g.X.Disks.all_faults c.args.disks.now) in
-    on_err_just c.line_of-in-Err-Form.result (drops_unserved g.X.D.Disk.state now c.args.line.now)
+    on_err_just c.put_reply-in-Err-Form.result (drops_unserved g.X.D.Disk.state now c.args.line.now)
 
 pub returns-in-Err-Later-clause-ok : goal.returns-in-Err-Later-clause-ok
 returns-in-Err-Later-clause-ok g c =
     let now : Stage g.row.X-D.Denot g.X.D.Disk = stage c.args.cluster.now (g.X.Disks.held c.args.disks.now) (g.X.Disks.counted c.args.disks.now) (g.X.Disks.all_faults c.args.disks.now) in
-    IfOk-weaker c.line_of-in-Err-Later.result _ _ (λ v e. refuses g.X.D.Disk.state now c.args.line.now v.items answer.Later (sym c.is_blank.ensures ∙ c.if-is_blank.false)
-    (subst (λ f. LineMeans c.args.line.now (Err f)) c.in-Err-Later.field-0-is c.in-Err-Later.ensures.err) (e ∙ ap (λ place. reply_line place (reply.One answer.Later)) c.place-in-Err-Later.ensures.stands) c.place-in-Err-Later.ensures.left) c.line_of-in-Err-Later.ensures
+    on_ok_map c.put_reply-in-Err-Later.result
+    (λ e. (
+      _,
+      e,
+      refuses g.X.D.Disk.state now c.args.line.now _ answer.Later (sym c.is_blank.ensures ∙ c.if-is_blank.false)
+          (subst (λ f. LineMeans c.args.line.now (Err f)) c.in-Err-Later.field-0-is c.in-Err-Later.ensures.err) (ap (λ place. reply_line place (reply.One answer.Later)) c.place-in-Err-Later.ensures.stands) c.place-in-Err-Later.ensures.left,
+    )) c.put_reply-in-Err-Later.ensures.ok
 
 pub returns-in-Err-Later-clause-err : goal.returns-in-Err-Later-clause-err
 returns-in-Err-Later-clause-err g c =
     let now : Stage g.row.X-D.Denot g.X.D.Disk = stage c.args.cluster.now (g.X.Disks.held c.args.disks.now) (g.X.Disks.counted c.args.disks.now) (g.X.Disks.all_faults c.args.disks.now) in
-    on_err_just c.line_of-in-Err-Later.result (drops_unserved g.X.D.Disk.state now c.args.line.now)
+    on_err_just c.put_reply-in-Err-Later.result (drops_unserved g.X.D.Disk.state now c.args.line.now)
 
 pub returns-in-Err-Memory-clause-err : goal.returns-in-Err-Memory-clause-err
 returns-in-Err-Memory-clause-err g c =

@@ -1,89 +1,45 @@
-use Rattle.std.proofs.Common.{[], ◌∷◌, ◌++◌, ◌+◌, ◌-◌, take, drop, length, sym, ap, ◌∙◌, subst, refl, arith, append-nil, append_assoc}
-use Rattle.m3_program.specs.Streams.{TakesOn, Cuts, Stage, stage}
-use Rattle.m3_program.proofs.WrittenLemmas.{appends_nothing, appends_more}
-use Rattle.m3_program.proofs.StreamLemmas.{takes_nothing, takes_both, cuts_after, takes_more, cuts_silently}
-use Rattle.m3_program.proofs.PieceLemmas.{before_newline, without_newline, at_newline}
+use Rattle.std.proofs.Common.{[], ◌++◌, subst, append-nil}
+use Rattle.std.proofs.lemmas.Result.{IfErr-weaker}
+use Rattle.m3_program.specs.Streams.{Cuts, Stage, stage}
+use Rattle.m3_program.specs.Writing.{WritesUntil}
+use Rattle.m3_program.proofs.WrittenLemmas.{on_ok_map, if_err_both}
+use Rattle.m3_program.proofs.GatherLemmas.{writes_held, writes_front}
+use Rattle.m3_program.proofs.StreamLemmas.{cuts_behind}
 use Rattle.m3_program.proofs.CauseLemmas.{ends_earlier}
 use Rattle.m3_program.proofs.input.serve_piece.Goals as goal
 
-pub loop-end-init : goal.loop-end-init
-loop-end-init g c =
-    let now : Stage g.row.X-D.Denot g.X.D.Disk = stage c.args.cluster.now (g.X.Disks.held c.args.disks.now) (g.X.Disks.counted c.args.disks.now) (g.X.Disks.all_faults c.args.disks.now) in
-    record {
-      done = [];
-      text = [];
-      parts = refl;
-      written = appends_nothing (g.K.Sink.written c.args.out.now);
-      takes = takes_nothing g.X.D.Disk.state now c.args.line.now.items;
-      owned = c.requires.owned;
-      faults = omega arith;
-      stalls = omega arith;
-    }
+pub returns-in-Ok-clause-ok : goal.returns-in-Ok-clause-ok
+returns-in-Ok-clause-ok g c =
+    let w = c.in-Ok.ensures.ok in
+    on_ok_map c.write_all.result
+    (λ wrote. (
+      w.0,
+      writes_held (g.K.Sink.written c.args.out.now) (g.K.Sink.written c.serve_lines.new.out) (g.K.Sink.written c.write_all.new.out) c.new-replies.result.items w.0 c.serve_lines.new.replies.items c.as_slice.result.now c.new-replies.ensures.items w.1 c.as_slice.ensures.value wrote,
+      w.2,
+    ))
+    c.write_all.ensures.ok
 
-pub serve_rest-requires-clause-whole : goal.serve_rest-requires-clause-whole
-serve_rest-requires-clause-whole g c = λ lives bounds. before_newline c.loop-end.rest.now c.in-Some.end c.in-Some.ensures
-
-pub loop-end-preserved : goal.loop-end-preserved
-loop-end-preserved g c =
+pub returns-in-Ok-clause-err : goal.returns-in-Ok-clause-err
+returns-in-Ok-clause-err g c =
     let first : Stage g.row.X-D.Denot g.X.D.Disk = stage c.args.cluster.now (g.X.Disks.held c.args.disks.now) (g.X.Disks.counted c.args.disks.now) (g.X.Disks.all_faults c.args.disks.now) in
-    let old : Stage g.row.X-D.Denot g.X.D.Disk = stage c.loop-end.cluster (g.X.Disks.held c.loop-end.disks) (g.X.Disks.counted c.loop-end.disks) (g.X.Disks.all_faults c.loop-end.disks) in
-    let new : Stage g.row.X-D.Denot g.X.D.Disk = stage c.serve_rest.new.cluster (g.X.Disks.held c.serve_rest.new.disks) (g.X.Disks.counted c.serve_rest.new.disks) (g.X.Disks.all_faults c.serve_rest.new.disks) in
-    let was = c.loop-end.invariant in
-    let now = c.in-Ok.ensures.ok in
-    let front = take c.in-Some.end c.loop-end.rest.now in
-    let after = take (length c.loop-end.rest.now - (c.in-Some.end + 1)) (drop (c.in-Some.end + 1) c.loop-end.rest.now) in
-    record {
-      done = was.done ++ (front ++ 10 ∷ []);
-      text = was.text ++ now.0;
-      parts = was.parts ∙ ap (λ l. was.done ++ l) (at_newline c.loop-end.rest.now c.in-Some.end c.in-Some.ensures) ∙ sym (append_assoc was.done (front ++ 10 ∷ []) after);
-      written = appends_more _ _ _ was.text now.0 was.written now.1;
-      takes = takes_both g.X.D.Disk.state first old new c.args.line.now.items c.loop-end.line.items c.serve_rest.new.line.items was.done (front ++ 10 ∷ []) was.text now.0 was.takes now.2;
-      owned = c.in-Ok.ensures.owned;
-      faults = let a = was.faults in let h = c.in-Ok.ensures.later.0 in omega arith;
-      stalls = let a = was.stalls in let h = c.in-Ok.ensures.later.1 in omega arith;
-    }
+    let new : Stage g.row.X-D.Denot g.X.D.Disk = stage c.serve_lines.new.cluster (g.X.Disks.held c.serve_lines.new.disks) (g.X.Disks.counted c.serve_lines.new.disks) (g.X.Disks.all_faults c.serve_lines.new.disks) in
+    let w = c.in-Ok.ensures.ok in
+    let cuts = subst (λ p. Cuts g.X.D.Disk.state first c.args.line.now.items p w.0 new) (append-nil c.args.piece.now)
+    (cuts_behind g.X.D.Disk.state first new c.args.line.now.items c.serve_lines.new.line.items c.args.piece.now [] w.0 w.2) in
+    if_err_both c.write_all.result _ _
+    (λ s by part. (
+      w.0,
+      writes_front s (g.K.Sink.written c.args.out.now) (g.K.Sink.written c.serve_lines.new.out) (g.K.Sink.written c.write_all.new.out) c.new-replies.result.items w.0 c.serve_lines.new.replies.items c.as_slice.result.now part.0 by c.new-replies.ensures.items w.1 c.as_slice.ensures.value part.1,
+      cuts,
+    ))
+    c.write_all.ensures.by c.write_all.ensures.err
 
-pub returns-in-Err-clause-err : goal.returns-in-Err-clause-err
-returns-in-Err-clause-err g c =
-    let first : Stage g.row.X-D.Denot g.X.D.Disk = stage c.args.cluster.now (g.X.Disks.held c.args.disks.now) (g.X.Disks.counted c.args.disks.now) (g.X.Disks.all_faults c.args.disks.now) in
-    let old : Stage g.row.X-D.Denot g.X.D.Disk = stage c.loop-end.cluster (g.X.Disks.held c.loop-end.disks) (g.X.Disks.counted c.loop-end.disks) (g.X.Disks.all_faults c.loop-end.disks) in
-    let new : Stage g.row.X-D.Denot g.X.D.Disk = stage c.serve_rest.new.cluster (g.X.Disks.held c.serve_rest.new.disks) (g.X.Disks.counted c.serve_rest.new.disks) (g.X.Disks.all_faults c.serve_rest.new.disks) in
-    let was = c.loop-end.invariant in
-    let now = c.in-Err.ensures.err in
-    let front = take c.in-Some.end c.loop-end.rest.now in
-    let after = take (length c.loop-end.rest.now - (c.in-Some.end + 1)) (drop (c.in-Some.end + 1) c.loop-end.rest.now) in (
-      was.text ++ now.0,
-      appends_more _ _ _ was.text now.0 was.written now.1,
-      subst (λ p. Cuts g.X.D.Disk.state first c.args.line.now.items p (was.text ++ now.0) new) (sym (was.parts ∙ ap (λ l. was.done ++ l) (at_newline c.loop-end.rest.now c.in-Some.end c.in-Some.ensures)))
-          (cuts_after g.X.D.Disk.state first old new c.args.line.now.items c.loop-end.line.items was.done (front ++ 10 ∷ []) after was.text now.0 was.takes now.2),
-    )
+pub returns-in-Ok-clause-cause : goal.returns-in-Ok-clause-cause
+returns-in-Ok-clause-cause g c =
+    let was = c.in-Ok.ensures.later in
+    IfErr-weaker c.write_all.result _ _ (λ s e. ends_earlier s _ _ _ _ _ _ was.0 was.1 e) c.write_all.ensures.cause
 
-pub returns-in-Err-clause-cause : goal.returns-in-Err-clause-cause
-returns-in-Err-clause-cause g c = ends_earlier c.in-Err.status _ _ _ _ _ _ c.loop-end.invariant.faults c.loop-end.invariant.stalls c.in-Err.ensures.cause
-
-pub returns-in-Err-clause-later : goal.returns-in-Err-clause-later
-returns-in-Err-clause-later g c =
-    ((let a = c.loop-end.invariant.faults in let h = c.in-Err.ensures.later.0 in omega arith), (let a = c.loop-end.invariant.stalls in let h = c.in-Err.ensures.later.1 in omega arith))
-
-pub returns-in-Ok-extend_from_slice-clause-ok : goal.returns-in-Ok-extend_from_slice-clause-ok
-returns-in-Ok-extend_from_slice-clause-ok g c =
-    let first : Stage g.row.X-D.Denot g.X.D.Disk = stage c.args.cluster.now (g.X.Disks.held c.args.disks.now) (g.X.Disks.counted c.args.disks.now) (g.X.Disks.all_faults c.args.disks.now) in
-    let now : Stage g.row.X-D.Denot g.X.D.Disk = stage c.loop-end.cluster (g.X.Disks.held c.loop-end.disks) (g.X.Disks.counted c.loop-end.disks) (g.X.Disks.all_faults c.loop-end.disks) in
-    let was = c.loop-end.invariant in
-    let more = takes_more g.X.D.Disk.state now c.loop-end.line.items c.loop-end.rest.now c.extend_from_slice.new.self.items (without_newline c.loop-end.rest.now c.in_default.ensures) c.in-Ok-extend_from_slice.ensures.items in (
-      was.text ++ [],
-      appends_more _ _ _ was.text [] was.written (appends_nothing (g.K.Sink.written c.loop-end.out)),
-      subst (λ p. TakesOn g.X.D.Disk.state first c.args.line.now.items p (was.text ++ []) now c.extend_from_slice.new.self.items) (sym was.parts)
-          (takes_both g.X.D.Disk.state first now now c.args.line.now.items c.loop-end.line.items c.extend_from_slice.new.self.items was.done c.loop-end.rest.now was.text [] was.takes more),
-    )
-
-pub returns-in-Err-extend_from_slice-clause-err : goal.returns-in-Err-extend_from_slice-clause-err
-returns-in-Err-extend_from_slice-clause-err g c =
-    let first : Stage g.row.X-D.Denot g.X.D.Disk = stage c.args.cluster.now (g.X.Disks.held c.args.disks.now) (g.X.Disks.counted c.args.disks.now) (g.X.Disks.all_faults c.args.disks.now) in
-    let now : Stage g.row.X-D.Denot g.X.D.Disk = stage c.loop-end.cluster (g.X.Disks.held c.loop-end.disks) (g.X.Disks.counted c.loop-end.disks) (g.X.Disks.all_faults c.loop-end.disks) in
-    let was = c.loop-end.invariant in (
-      was.text ++ [],
-      appends_more _ _ _ was.text [] was.written (appends_nothing (g.K.Sink.written c.loop-end.out)),
-      subst (λ p. Cuts g.X.D.Disk.state first c.args.line.now.items p (was.text ++ []) now) (sym (was.parts ∙ ap (λ l. was.done ++ l) (sym (append-nil c.loop-end.rest.now))))
-          (cuts_after g.X.D.Disk.state first now now c.args.line.now.items c.loop-end.line.items was.done c.loop-end.rest.now [] was.text [] was.takes (cuts_silently g.X.D.Disk.state now c.loop-end.line.items c.loop-end.rest.now)),
-    )
+pub returns-clause-err : goal.returns-clause-err
+returns-clause-err g c =
+    let w = c.in-Err.ensures.err in
+    (w.0, subst (λ l. WritesUntil c.in-Err.status (g.K.Sink.written c.args.out.now) (l ++ w.0) (g.K.Sink.written c.serve_lines.new.out)) c.new-replies.ensures.items w.1, w.2)

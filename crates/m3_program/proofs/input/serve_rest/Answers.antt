@@ -1,45 +1,44 @@
 use Rattle.std.proofs.Common.{[], ◌∷◌, ◌++◌, ◌≡◌, sym, ap, ◌∙◌}
 use Rattle.std.proofs.lemmas.Bool.{eqb-true}
 use Rattle.m3_program.specs.Streams.{Stage, stage}
-use Rattle.m3_program.proofs.WrittenLemmas.{appends_nothing, on_ok_map, on_err_map, empty_of}
-use Rattle.m3_program.proofs.StreamLemmas.{takes_line, cuts_line, cuts_silently}
+use Rattle.m3_program.proofs.WrittenLemmas.{on_ok_map, on_err_map, empty_of}
+use Rattle.m3_program.proofs.StreamLemmas.{takes_line, drops_line, cuts_silently}
 use Rattle.m3_program.proofs.input.serve_rest.Goals as goal
 
 pub returns-then-is_empty-clause-ok : goal.returns-then-is_empty-clause-ok
 returns-then-is_empty-clause-ok g c =
     let old : Stage g.row.X-D.Denot g.X.D.Disk = stage c.args.cluster.now (g.X.Disks.held c.args.disks.now) (g.X.Disks.counted c.args.disks.now) (g.X.Disks.all_faults c.args.disks.now) in
-    let new : Stage g.row.X-D.Denot g.X.D.Disk = stage c.serve_line.new.cluster (g.X.Disks.held c.serve_line.new.disks) (g.X.Disks.counted c.serve_line.new.disks) (g.X.Disks.all_faults c.serve_line.new.disks) in
+    let new : Stage g.row.X-D.Denot g.X.D.Disk = stage c.answer_line.new.cluster (g.X.Disks.held c.answer_line.new.disks) (g.X.Disks.counted c.answer_line.new.disks) (g.X.Disks.all_faults c.answer_line.new.disks) in
     let empty : c.args.line.now.items ≡ [] = sym c.as_slice.ensures.value ∙ empty_of c.as_slice.result.now (eqb-true _ _ (sym c.is_empty.ensures ∙ c.if-is_empty.true)) in
-    on_ok_map c.serve_line.result (λ w. (
+    on_ok_map c.answer_line.result (λ w. (
       w.0,
       w.1,
       takes_line g.X.D.Disk.state old new c.args.line.now.items c.args.rest.now w.0 c.args.rest.now c.args.line.now.items c.requires.whole (ap (λ l. l ++ c.args.rest.now) (sym empty)) empty w.2,
-    )) c.serve_line.ensures.ok
+    )) c.answer_line.ensures.ok
 
 pub returns-then-is_empty-clause-err : goal.returns-then-is_empty-clause-err
 returns-then-is_empty-clause-err g c =
     let old : Stage g.row.X-D.Denot g.X.D.Disk = stage c.args.cluster.now (g.X.Disks.held c.args.disks.now) (g.X.Disks.counted c.args.disks.now) (g.X.Disks.all_faults c.args.disks.now) in
-    let new : Stage g.row.X-D.Denot g.X.D.Disk = stage c.serve_line.new.cluster (g.X.Disks.held c.serve_line.new.disks) (g.X.Disks.counted c.serve_line.new.disks) (g.X.Disks.all_faults c.serve_line.new.disks) in
+    let new : Stage g.row.X-D.Denot g.X.D.Disk = stage c.answer_line.new.cluster (g.X.Disks.held c.answer_line.new.disks) (g.X.Disks.counted c.answer_line.new.disks) (g.X.Disks.all_faults c.answer_line.new.disks) in
     let empty : c.args.line.now.items ≡ [] = sym c.as_slice.ensures.value ∙ empty_of c.as_slice.result.now (eqb-true _ _ (sym c.is_empty.ensures ∙ c.if-is_empty.true)) in
-    on_err_map c.serve_line.result (λ w. (w.0, w.1, cuts_line g.X.D.Disk.state old new c.args.line.now.items c.args.rest.now w.0 c.args.rest.now c.requires.whole (ap (λ l. l ++ c.args.rest.now) (sym empty)) w.2)) c.serve_line.ensures.err
+    on_err_map c.answer_line.result (λ w. drops_line g.X.D.Disk.state old new c.args.line.now.items c.args.rest.now c.args.rest.now c.requires.whole (ap (λ l. l ++ c.args.rest.now) (sym empty)) w) c.answer_line.ensures.err
 
 pub returns-in-Err-clause-err : goal.returns-in-Err-clause-err
 returns-in-Err-clause-err g c =
     let now : Stage g.row.X-D.Denot g.X.D.Disk = stage c.args.cluster.now (g.X.Disks.held c.args.disks.now) (g.X.Disks.counted c.args.disks.now) (g.X.Disks.all_faults c.args.disks.now) in
-    ([], appends_nothing (g.K.Sink.written c.args.out.now), cuts_silently g.X.D.Disk.state now c.args.line.now.items (c.args.rest.now ++ 10 ∷ []))
+    cuts_silently g.X.D.Disk.state now c.args.line.now.items (c.args.rest.now ++ 10 ∷ [])
 
-pub returns-in-Ok-serve_line-clause-ok : goal.returns-in-Ok-serve_line-clause-ok
-returns-in-Ok-serve_line-clause-ok g c =
+pub returns-in-Ok-answer_line-clause-ok : goal.returns-in-Ok-answer_line-clause-ok
+returns-in-Ok-answer_line-clause-ok g c =
     let old : Stage g.row.X-D.Denot g.X.D.Disk = stage c.args.cluster.now (g.X.Disks.held c.args.disks.now) (g.X.Disks.counted c.args.disks.now) (g.X.Disks.all_faults c.args.disks.now) in
-    let new : Stage g.row.X-D.Denot g.X.D.Disk = stage c.serve_line-2.new.cluster (g.X.Disks.held c.serve_line-2.new.disks) (g.X.Disks.counted c.serve_line-2.new.disks) (g.X.Disks.all_faults c.serve_line-2.new.disks) in
-    let w = c.in-Ok-serve_line.ensures.ok in
+    let new : Stage g.row.X-D.Denot g.X.D.Disk = stage c.answer_line-2.new.cluster (g.X.Disks.held c.answer_line-2.new.disks) (g.X.Disks.counted c.answer_line-2.new.disks) (g.X.Disks.all_faults c.answer_line-2.new.disks) in
+    let w = c.in-Ok-answer_line.ensures.ok in
     let whole : c.as_slice-2.result.now ≡ c.args.line.now.items ++ c.args.rest.now = c.as_slice-2.ensures.value ∙ c.in-Ok.ensures.items in
     (w.0, w.1, takes_line g.X.D.Disk.state old new c.args.line.now.items c.args.rest.now w.0 c.as_slice-2.result.now c.clear.new.self.items c.requires.whole whole c.clear.ensures.items w.2)
 
-pub returns-in-Err-serve_line-clause-err : goal.returns-in-Err-serve_line-clause-err
-returns-in-Err-serve_line-clause-err g c =
+pub returns-in-Err-answer_line-clause-err : goal.returns-in-Err-answer_line-clause-err
+returns-in-Err-answer_line-clause-err g c =
     let old : Stage g.row.X-D.Denot g.X.D.Disk = stage c.args.cluster.now (g.X.Disks.held c.args.disks.now) (g.X.Disks.counted c.args.disks.now) (g.X.Disks.all_faults c.args.disks.now) in
-    let new : Stage g.row.X-D.Denot g.X.D.Disk = stage c.serve_line-2.new.cluster (g.X.Disks.held c.serve_line-2.new.disks) (g.X.Disks.counted c.serve_line-2.new.disks) (g.X.Disks.all_faults c.serve_line-2.new.disks) in
-    let w = c.in-Err-serve_line.ensures.err in
+    let new : Stage g.row.X-D.Denot g.X.D.Disk = stage c.answer_line-2.new.cluster (g.X.Disks.held c.answer_line-2.new.disks) (g.X.Disks.counted c.answer_line-2.new.disks) (g.X.Disks.all_faults c.answer_line-2.new.disks) in
     let whole : c.as_slice-2.result.now ≡ c.args.line.now.items ++ c.args.rest.now = c.as_slice-2.ensures.value ∙ c.in-Ok.ensures.items in
-    (w.0, w.1, cuts_line g.X.D.Disk.state old new c.args.line.now.items c.args.rest.now w.0 c.as_slice-2.result.now c.requires.whole whole w.2)
+    drops_line g.X.D.Disk.state old new c.args.line.now.items c.args.rest.now c.as_slice-2.result.now c.requires.whole whole c.in-Err-answer_line.ensures.err

@@ -1,7 +1,7 @@
-use Rattle.std.proofs.Common.{◌≡◌, ◌+◌, [], length-take, refl, sym, ap, arith, subst}
+use Rattle.std.proofs.Common.{◌≡◌, ◌+◌, [], length-take, refl, ap, arith, subst}
 use Rattle.m3_model.specs.declared.limits.TheConstants.{INPUT_END}
 use Rattle.std.specs.Prelude.{Err}
-use Rattle.m3_program.specs.Streams.{Stage, StreamState, stage}
+use Rattle.m3_program.specs.Streams.{Finishes, HaltsLast, Stage, stage}
 use Rattle.m3_program.proofs.CauseLemmas.{step_ends_run, line_ends_step, line_no_read}
 use Rattle.m3_program.proofs.RunLemmas.{known_fault, known_begins, known_more, known_cuts, known_stops, known_finishes, known_limit, step_told}
 use Rattle.m3_program.proofs.run.serve_all.Goals as goal
@@ -25,7 +25,7 @@ returns-in-Err-clause-told g c = λ input before p q.
     let old : Stage g.row.X-D.Denot g.X.D.Disk = stage c.loop-taken.cluster (g.X.Disks.held c.loop-taken.disks) (g.X.Disks.counted c.loop-taken.disks) (g.X.Disks.all_faults c.loop-taken.disks) in
     let new : Stage g.row.X-D.Denot g.X.D.Disk = stage c.serve_read.new.cluster (g.X.Disks.held c.serve_read.new.disks) (g.X.Disks.counted c.serve_read.new.disks) (g.X.Disks.all_faults c.serve_read.new.disks) in
     let w = c.in-Err.ensures.err in
-    step_told g.X.D.Disk.state first.depot new c.in-Err.status _ _ _ _ _ _ c.in-Err.ensures.cause input before (g.S.Source.left c.serve_read.new.source) (g.K.Sink.written c.serve_read.new.out)
+    step_told g.X.D.Disk.state first.depot new c.in-Err.status _ _ _ _ _ _ c.in-Err.ensures.cause input before (g.S.Source.left c.serve_read.new.source) (g.K.Sink.written c.loop-taken.out) (g.K.Sink.written c.serve_read.new.out) w.1
     (λ is.
     let at = c.in-Err.ensures.at_fault (ap Err is) in
     let known = known_more g.X.D.Disk.state first.depot (g.S.Source.left c.args.source.now) (g.K.Sink.written c.args.out.now) (g.S.Source.left c.loop-taken.source) (g.S.Source.left c.serve_read.new.source)
@@ -34,7 +34,9 @@ returns-in-Err-clause-told g c = λ input before p q.
     known_fault g.X.D.Disk.state first.depot (g.S.Source.left c.args.source.now) (g.K.Sink.written c.args.out.now) (g.S.Source.left c.serve_read.new.source) (g.K.Sink.written c.serve_read.new.out)
     c.loop-taken.taken new c.serve_read.new.line.items known (let below = c.loop-taken.invariant.below in omega arith) input before p q)
     (known_cuts g.X.D.Disk.state first.depot (g.S.Source.left c.args.source.now) (g.K.Sink.written c.args.out.now) (g.S.Source.left c.loop-taken.source) (g.S.Source.left c.serve_read.new.source)
-    (g.K.Sink.written c.loop-taken.out) (g.K.Sink.written c.serve_read.new.out) c.loop-taken.taken old new c.loop-taken.line.items w.0 w.1 c.loop-taken.invariant.known w.2 (let room = c.room_after-room.ensures.limit in let size = w.3 in let part = length-take c.room_after-room.result c.loop-taken.buf in omega arith) w.4 w.5 input before p q)
+    (g.K.Sink.written c.loop-taken.out) c.loop-taken.taken old new c.loop-taken.line.items w.0 w.1 c.loop-taken.invariant.known w.2
+    (let room = c.room_after-room.ensures.limit in let size = w.3 in let part = length-take c.room_after-room.result c.loop-taken.buf in omega arith)
+    (let room = c.room_after-room.ensures.piece in let size = w.3 in let part = length-take c.room_after-room.result c.loop-taken.buf in omega arith) w.5 input before p q) w.4
 
 pub returns-in-Err-clause-cause : goal.returns-in-Err-clause-cause
 returns-in-Err-clause-cause g c = step_ends_run c.in-Err.status _ _ _ _ _ _ _ _ _ c.loop-taken.invariant.reads c.loop-taken.invariant.faults c.loop-taken.invariant.stalls c.in-Err.ensures.cause
@@ -81,13 +83,14 @@ returns-in-Ok-eq0-clause-told g c = λ input before p q.
           let f = v.in-Ok-serve_last.ensures.ok in
           rw v.result-is (known_finishes g.X.D.Disk.state first.depot (g.S.Source.left c.args.source.now) (g.K.Sink.written c.args.out.now) (g.S.Source.left c.serve_read.new.source) (g.K.Sink.written c.serve_read.new.out) (g.K.Sink.written c.serve_last.new.out)
           _ mid new c.serve_read.new.line.items f.0 known (let zero = c.in-Ok-eq0.field-0-test in let test = c.loop-taken-test.true in omega arith) ended
-          f.1 (λ first taken told t. f.2 first taken told (subst (λ l. StreamState g.X.D.Disk.state first taken told mid l) (sym c.as_slice.ensures.value) t)) input before p q)
+          f.1 (subst (λ l. Finishes g.X.D.Disk.state mid l f.0 new) c.as_slice.ensures.value f.2) input before p q)
       | in-Err-serve_last v ↦
           let f = v.in-Err-serve_last.ensures.err in
-          rw v.result-is (step_told g.X.D.Disk.state first.depot new v.in-Err-serve_last.status 0 0 _ _ _ _ (line_ends_step v.in-Err-serve_last.status 0 0 _ _ _ _ v.in-Err-serve_last.ensures.cause) input before (g.S.Source.left c.serve_read.new.source) (g.K.Sink.written c.serve_last.new.out)
+          rw v.result-is (step_told g.X.D.Disk.state first.depot new v.in-Err-serve_last.status 0 0 _ _ _ _ (line_ends_step v.in-Err-serve_last.status 0 0 _ _ _ _ v.in-Err-serve_last.ensures.cause) input before (g.S.Source.left c.serve_read.new.source)
+          (g.K.Sink.written c.serve_read.new.out) (g.K.Sink.written c.serve_last.new.out) f.0
           (λ is. absurd (line_no_read v.in-Err-serve_last.status _ _ _ _ v.in-Err-serve_last.ensures.cause is))
-          (known_stops g.X.D.Disk.state first.depot (g.S.Source.left c.args.source.now) (g.K.Sink.written c.args.out.now) (g.S.Source.left c.serve_read.new.source) (g.K.Sink.written c.serve_read.new.out) (g.K.Sink.written c.serve_last.new.out)
-          _ mid new c.serve_read.new.line.items f.0 known (let zero = c.in-Ok-eq0.field-0-test in let below = c.loop-taken.invariant.below in omega arith) ended f.1 (λ first taken told t. f.2 first taken told (subst (λ l. StreamState g.X.D.Disk.state first taken told mid l) (sym c.as_slice.ensures.value) t)) input before p q))
+          (known_stops g.X.D.Disk.state first.depot (g.S.Source.left c.args.source.now) (g.K.Sink.written c.args.out.now) (g.S.Source.left c.serve_read.new.source) (g.K.Sink.written c.serve_read.new.out)
+          _ mid new c.serve_read.new.line.items f.0 known (let zero = c.in-Ok-eq0.field-0-test in let below = c.loop-taken.invariant.below in omega arith) ended (subst (λ l. HaltsLast g.X.D.Disk.state mid l f.0 new) c.as_slice.ensures.value f.2) input before p q) f.1)
     ]
 
 pub returns-in-Ok-eq0-clause-cause : goal.returns-in-Ok-eq0-clause-cause

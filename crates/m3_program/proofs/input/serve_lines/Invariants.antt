@@ -1,15 +1,16 @@
-use Rattle.std.proofs.Common.{◌≡◌, ◌≤◌, ◌++◌, ℕ, List, length}
-use Rattle.std.specs.Io.KnownBytes.{Appends}
+use Rattle.std.proofs.Common.{◌≡◌, ◌<◌, ◌≤◌, ◌++◌, ℕ, List, length}
 use Rattle.served_cluster.specs.Owned.{MayServe}
 use Rattle.m3_program.specs.Streams.{TakesOn, stage}
-use Rattle.m3_program.proofs.input.serve_piece.Given as goal
+use Rattle.m3_program.specs.Writing.{Gathers}
+use Rattle.m3_program.proofs.input.serve_lines.Given as goal
 
 abbrev pub invariant-loop-end : goal.invariant-loop-end
 invariant-loop-end g l = record {
   done : List ℕ;
   text : List ℕ;
   parts : l.fn.piece ≡ done ++ l.rest;
-  written : Appends (g.K.Sink.written l.fn.out) (g.K.Sink.written l.out) text;
+  gathers : Gathers (g.K.Sink.written l.fn.out) l.fn.replies.items text (g.K.Sink.written l.out) l.replies.items;
+  few : length l.fn.replies.items < 65536 → length l.replies.items < 65536;
   takes : TakesOn g.X.D.Disk.state (stage l.fn.cluster (g.X.Disks.held l.fn.disks) (g.X.Disks.counted l.fn.disks) (g.X.Disks.all_faults l.fn.disks)) l.fn.line.items done text
       (stage l.cluster (g.X.Disks.held l.disks) (g.X.Disks.counted l.disks) (g.X.Disks.all_faults l.disks)) l.line.items;
   owned : MayServe l.cluster (g.X.Disks.held l.disks);
