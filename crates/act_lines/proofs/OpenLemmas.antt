@@ -17,7 +17,7 @@ use Rattle.m3_model.proofs.MemberLemmas.{IsIn-append_cases}
 use Rattle.m3_outside.specs.DiskState.{DiskState, EachImage}
 use Rattle.m3_outside.specs.Files.{Files}
 use Rattle.m3_outside.specs.declared.disk.Disk.{Ghosts}
-use Rattle.shard_files.proofs.HeldLemmas.{held_is_one}
+use Rattle.shard_files.proofs.FilesHoldLemmas.{files_hold_one}
 use Rattle.cluster_core.specs.Earlier.{HasTenure, last_place}
 use Rattle.cluster_core.specs.Lists.{At}
 use Rattle.cluster_core.specs.Replicas.{after, fresh, replica, step_of}
@@ -231,7 +231,7 @@ module _ {D : Type 0} (state : D → DiskState) (tells : Bool) (start : Option M
         let lawful_begin = t.step.lawful (was.first).value r t.is events n s (given_tenure events n s tenure now) in
         let high : tenure ≤ fence = lawful_begin.fence_high in
         let low = low_file made.before made.was in
-        let one = held_is_one low.points made.points_before low.held_tenure made.tenure_before low.fence made.fence_before made.before low.held made.held_before in
+        let one = files_hold_one low.points made.points_before low.held_tenure made.tenure_before low.fence made.fence_before made.before low.held made.held_before in
         elim made.fence_up as (λ _. (fence ≡ tenure) ⊎ IsLeftFence start fence) [
           | inl le ↦ elim low.fenced as (λ _. (fence ≡ tenure) ⊎ IsLeftFence start fence) [
             | inl under ↦ (let same = one.2 in inl (omega (arith, le, under, same, high)))
@@ -259,8 +259,8 @@ module _ {D : Type 0} (state : D → DiskState) (tells : Bool) (start : Option M
               let image = (may.disks disk).read_is_image tells_it in
               let made = stays_as_made state (was.first).value (replica n s past) h.now.machine sound is none tells_it (state disk).files image in
               let low = low_file made.before made.was in
-              let below = held_is_one low.points made.points_before low.held_tenure made.tenure_before low.fence made.fence_before made.before low.held made.held_before in
-              let one = held_is_one made.points holds.points made.tenure holds.held_tenure made.fence holds.fence (state disk).files made.held holds.held in
+              let below = files_hold_one low.points made.points_before low.held_tenure made.tenure_before low.fence made.fence_before made.before low.held made.held_before in
+              let one = files_hold_one made.points holds.points made.tenure holds.held_tenure made.fence holds.fence (state disk).files made.held holds.held in
               let base : made.tenure_before ≤ tenure = (let e = below.1 in let le = low.not_higher in omega (arith, e, le)) in
               let up = up_low made.tenure_before (replica n s past).tried made.tenure base each made.tenure_up in
               let e = one.1 in

@@ -11,7 +11,7 @@ use Rattle.m3_model.specs.declared.point.Point.{Point}
 use Rattle.m3_outside.specs.Depots.{Depot, TellAll}
 use Rattle.m3_outside.specs.DiskState.{DiskState, EachImage}
 use Rattle.shard_files.specs.Once.{HaveSamePoints}
-use Rattle.shard_files.proofs.HeldLemmas.{held_is_one}
+use Rattle.shard_files.proofs.FilesHoldLemmas.{files_hold_one}
 use Rattle.cluster_core.specs.Lists.{At}
 use Rattle.cluster_core.specs.Replicas.{after, fresh, replica, step_of}
 use Rattle.cluster_core.specs.declared.event.Event.{Event}
@@ -169,7 +169,7 @@ first_none {D} state first tell bare r tenure fence points old new is step none 
     let sound : AllSound (state first).images = λ files image. (let b = bare (tell first) files image in record { points = []; tenure = b.tenure; fence = b.fence; held = b.held }) in
     let began = first_begin_is_as_made state first r tenure fence points old new sound (tell old.disk) is none step in
     let b = bare (tell first) began.before began.was in
-    let one = held_is_one began.points_before [] began.tenure_before b.tenure began.fence_before b.fence began.before began.held_before b.held in
+    let one = files_hold_one began.points_before [] began.tenure_before b.tenure began.fence_before b.fence began.before began.held_before b.held in
     let same : HaveSamePoints points [] = subst (λ (ps : List Point). HaveSamePoints points ps) one.0 began.once.same in
     none_in points same
 

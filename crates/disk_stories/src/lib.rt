@@ -10,7 +10,7 @@ pub mod words;
 pub use files::{
     bytes_at, decoded, digest_of, drop_file, make, put, say, tell_bytes, tell_name, turn,
 };
-pub use stops::{At, first_other, first_wrong};
-pub use stories::{first_wrong, quietly, steps};
+pub use stops::{At, first_other};
+pub use stories::{quietly, steps};
 pub use turns::{EACH_BIT, first_untold};
 pub use words::{Words, cut, file, number, part, small, text};

@@ -63,6 +63,22 @@ fn first_on<W: Words>(
     Ok(None)
 }
 
+// The same, where the first words come before.
+fn first_behind<W: Words>(
+    alloc: Global,
+    disk: &mut MemDisk,
+    words: [&str; 2],
+    name: FileName,
+    places: Range<usize>,
+    bits: &[u8],
+) -> Result<Option<usize>, DiskErr> {
+    let [before, last] = words;
+    if !quietly::<W>(alloc, disk, before)? {
+        return Ok(Some(0));
+    }
+    first_on::<W>(alloc, disk, last, name, places, bits)
+}
+
 /// The first byte of the file among these of which one of these bits is turned and the last words don't tell what they are to; none
 /// where there is no such byte. The first words come before, and each bit is turned back.
 pub fn first_untold<W: Words>(
@@ -72,10 +88,7 @@ pub fn first_untold<W: Words>(
     places: Range<usize>,
     bits: &[u8],
 ) -> Result<Option<usize>, Fail> {
-    let [before, last] = words;
     let mut disk = MemDisk::new(alloc, &[], None)?;
-    if !quietly::<W>(alloc, &mut disk, before)? {
-        return Ok(Some(0));
-    }
-    Ok(first_on::<W>(alloc, &mut disk, last, name, places, bits)?)
+    let untold = first_behind::<W>(alloc, &mut disk, words, name, places, bits);
+    Ok(untold?)
 }

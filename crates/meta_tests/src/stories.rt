@@ -1,6 +1,6 @@
 //! Stories of states and of the log of the meta disk.
 use crate::acts::MetaWords;
-use disk_stories::first_wrong;
+use disk_stories::stories::first_wrong;
 use std::test::Fail;
 
 // States, and their bytes.
@@ -75,15 +75,6 @@ t0100000000000000000000000001000000000000000101016101670101010000000000000000010
 t01000000000000000000000000010000000000000001010161016701010100000000000000000101ff01016d0000000000000002000000000000000000000000000000000000000000000001 => rules|
 t01000000000000000000000000010000000000000001010161016701010100000000000000000101ff02016d0000000000000001000000000000000000000000000000000000000000000001016d0000000000000001000000000000000000000000000000000000000000000001 => rules|";
 
-#[test]
-fn states_have_these_bytes(rt: HostRuntime) -> Result<(), Fail> {
-    for rows in [STATES, FORMS, RULES] {
-        let wrong = first_wrong::<MetaWords>(rt.alloc(), "", rows, "")?;
-        assert_eq!(rt; wrong.as_str(), "");
-    }
-    Ok(())
-}
-
 // A run opens with the state that was saved last. It makes its first segment with the first save, which takes the others away. No
 // segment has the number 2^62 or a higher one.
 const RUNS: &str = "r l => 0||
@@ -95,8 +86,10 @@ S4611686018427387901: r7 l => |0>7| 0.0.0.4611686018427387902|
 S4611686018427387903: r => |memory|";
 
 #[test]
-fn runs_open_what_was_saved(rt: HostRuntime) -> Result<(), Fail> {
-    let wrong = first_wrong::<MetaWords>(rt.alloc(), "", RUNS, "")?;
-    assert_eq!(rt; wrong.as_str(), "");
+fn states_are_spelled_and_saved(rt: HostRuntime) -> Result<(), Fail> {
+    for rows in [STATES, FORMS, RULES, RUNS] {
+        let wrong = first_wrong::<MetaWords>(rt.alloc(), "", rows, "")?;
+        assert_eq!(rt; wrong.as_str(), "");
+    }
     Ok(())
 }

@@ -1,6 +1,7 @@
 //! Damage: bytes that changed, files that are gone, and bytes of no snapshot that keep to their digest.
 use crate::acts::{Snapshots, checkpoint_name, data_name};
-use disk_stories::{EACH_BIT, first_untold, first_wrong};
+use disk_stories::stories::first_wrong;
+use disk_stories::turns::{EACH_BIT, first_untold};
 use std::test::Fail;
 
 // Saves two snapshots.
@@ -32,13 +33,6 @@ d9.0.0.5 b8.0.0.4:3:ff => digest of 8.0.0.4 kept 3100f83a00e701b65f61eec5f4528b1
 c9.0.0.6:01 => form of 9.0.0.6 at 1|
 c9.0.0.6:012074460ac219de4c0a4a8f2e6c7ccaf870173576d13661b247b8308fcd8989a5 => form of 8.0.0.6 at 0|
 c9.0.0.6:012074460ac219de4c0a4a8f2e6c7ccaf870173576d13661b247b8308fcd8989a5 c8.0.0.6:0100000000000000050000000000000003000000000000000700000000000000020000000200000568656c6c6f000000000000006400000000000000050200047a756c750000000000000095ffffffffffffffff => form of 8.0.0.6 at 0|";
-
-#[test]
-fn damage_is_told(rt: HostRuntime) -> Result<(), Fail> {
-    let wrong = first_wrong::<Snapshots>(rt.alloc(), TWO, DAMAGES, "e")?;
-    assert_eq!(rt; wrong.as_str(), "");
-    Ok(())
-}
 
 // Data of no snapshot of the number, or of another one, though it keeps to its digest.
 const RESEALED: &str = "b8.0.0.5:0:00 => |form of 8.0.0.5 at 0|
@@ -75,24 +69,19 @@ d8.0.0.5 c8.0.0.5:01000000000000000500000000000000030000000000000007000000000000
 d8.0.0.5 c8.0.0.5:0100000000000000050000000000000003000000000000000700000000000000020000000200000161000000000000000100000000000000010000016100000000000000020000000000000002 => |5.3.7.2:0,a,1,1;0,a,2,2;|";
 
 #[test]
-fn other_data_is_told(rt: HostRuntime) -> Result<(), Fail> {
-    let wrong = first_wrong::<Snapshots>(rt.alloc(), TWO, RESEALED, "s5 e")?;
-    assert_eq!(rt; wrong.as_str(), "");
+fn damage_is_told(rt: HostRuntime) -> Result<(), Fail> {
+    for (rows, last) in [(DAMAGES, "e"), (RESEALED, "s5 e")] {
+        let wrong = first_wrong::<Snapshots>(rt.alloc(), TWO, rows, last)?;
+        assert_eq!(rt; wrong.as_str(), "");
+    }
     Ok(())
 }
 
 #[test]
 fn each_bit_is_told(rt: HostRuntime) -> Result<(), Fail> {
-    let words = [TWO, "e"];
-    let data = first_untold::<Snapshots>(rt.alloc(), words, data_name(5), 0..84, &EACH_BIT)?;
-    let checkpoint = first_untold::<Snapshots>(
-        rt.alloc(),
-        words,
-        checkpoint_name(5),
-        0..33,
-        &EACH_BIT,
-    )?;
-    assert_eq!(rt; data, None);
-    assert_eq!(rt; checkpoint, None);
+    for (name, len) in [(data_name(5), 84), (checkpoint_name(5), 33)] {
+        let untold = first_untold::<Snapshots>(rt.alloc(), [TWO, "e"], name, 0..len, &EACH_BIT)?;
+        assert_eq!(rt; untold, None);
+    }
     Ok(())
 }

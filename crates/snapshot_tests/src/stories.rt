@@ -1,6 +1,6 @@
 //! Stories of snapshots: saved, read, numbered and taken away.
 use crate::acts::Snapshots;
-use disk_stories::first_wrong;
+use disk_stories::stories::first_wrong;
 use std::test::Fail;
 
 // The files of snapshots with no points, with one and with four.
@@ -11,13 +11,6 @@ w1.0.0.1: g8.0.0.1 => |010000000000000001000000000000000000000000000000000000000
 w1.0.0.1: g9.0.0.1 => |01867bdffeee2254591b0c981328575155d8d9a8413a494682283d616cfb37d8df|
 w6.3.9.4:0,hello,100,5;0,hello,101,-3;0,zulu,7,-9223372036854775808;2,a,0,9223372036854775807; g8.0.0.6 => |0100000000000000060000000000000003000000000000000900000000000000040000000400000568656c6c6f0000000000000064000000000000000500000568656c6c6f0000000000000065fffffffffffffffd0000047a756c75000000000000000780000000000000000200016100000000000000007fffffffffffffff|
 w6.3.9.4:0,hello,100,5;0,hello,101,-3;0,zulu,7,-9223372036854775808;2,a,0,9223372036854775807; g9.0.0.6 => |01edf1859da24bb831410f672689753213545e5a850cba6a81f0b5e7643f4a91b0|";
-
-#[test]
-fn snapshots_are_spelled_so(rt: HostRuntime) -> Result<(), Fail> {
-    let wrong = first_wrong::<Snapshots>(rt.alloc(), "", BYTES, "")?;
-    assert_eq!(rt; wrong.as_str(), "");
-    Ok(())
-}
 
 // What is saved is read, and of several that count the one of the highest number.
 const SAVED: &str = "e => none|
@@ -45,13 +38,6 @@ w1.1.1.1: d9.0.0.1 w1.2.2.2: => ||no|
 w1.1.1.1: d8.0.0.1 d9.0.0.1 w1.2.2.2: e => ||||1.2.2.2:|
 c0.0.0.7:616263 c1.0.0.5:00 c7.0.0.5:01 w5.3.7.2:0,hello,100,5; l => |||| 0.0.0.7 1.0.0.5 7.0.0.5 8.0.0.5 9.0.0.5|";
 
-#[test]
-fn the_newest_is_read(rt: HostRuntime) -> Result<(), Fail> {
-    let wrong = first_wrong::<Snapshots>(rt.alloc(), "", SAVED, "")?;
-    assert_eq!(rt; wrong.as_str(), "");
-    Ok(())
-}
-
 // No snapshot has such a number, or such points.
 const REFUSED: &str = "w4611686018427387904.0.0.0: l => no||
 w1.0.0.0:8,a,0,0; l => no||
@@ -64,13 +50,6 @@ w1.0.0.0:1,a,0,0;0,a,0,0; l => no||
 w1.0.0.0:0,a,0,0;0,a,0,0; l => no||
 w1.0.0.0:0,a,0,0;0,a,0,1; l => no||
 w1.0.0.0:0,a,0,0;0,b,0,0;0,b,0,1; l => no||";
-
-#[test]
-fn other_values_are_refused(rt: HostRuntime) -> Result<(), Fail> {
-    let wrong = first_wrong::<Snapshots>(rt.alloc(), "", REFUSED, "")?;
-    assert_eq!(rt; wrong.as_str(), "");
-    Ok(())
-}
 
 // All snapshots below a number go, complete or not, and no other file.
 const CLEARED: &str = "x5 l => ||
@@ -87,8 +66,10 @@ w4611686018427387903.1.1.1: w1.1.1.1: x4611686018427387903 l n => ||| 8.0.0.4611
 w1.1.1.1: x18446744073709551615 l => |||";
 
 #[test]
-fn older_ones_go(rt: HostRuntime) -> Result<(), Fail> {
-    let wrong = first_wrong::<Snapshots>(rt.alloc(), "", CLEARED, "")?;
-    assert_eq!(rt; wrong.as_str(), "");
+fn snapshots_are_saved_and_read(rt: HostRuntime) -> Result<(), Fail> {
+    for rows in [BYTES, SAVED, REFUSED, CLEARED] {
+        let wrong = first_wrong::<Snapshots>(rt.alloc(), "", rows, "")?;
+        assert_eq!(rt; wrong.as_str(), "");
+    }
     Ok(())
 }

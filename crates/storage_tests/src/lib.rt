@@ -4,6 +4,4 @@
 #[cfg(test)]
 mod machines;
 #[cfg(test)]
-mod openings;
-#[cfg(test)]
 mod points;

@@ -1,0 +1,40 @@
+ghost use Rattle.std.specs.Prelude.{◌≡◌, ◌≤◌, ℕ, true, List, [], ◌∷◌, IsErrOf, OnOk};
+ghost use Rattle.m3_model.specs.Contents.{Contents};
+ghost use Rattle.m3_outside.specs.Causes.{CountsFaults};
+ghost use Rattle.m3_outside.specs.DiskState.{DiskState, EachImage, Elapses, Becomes};
+ghost use Rattle.m3_outside.specs.declared.disk_err.DiskErr.TheVariants.{Failed as DiskFailed, Memory as WantOfMemory};
+ghost use Rattle.commit_log.specs.Contents.{numbers};
+ghost use Rattle.commit_log.specs.LogEnd.{LogEnd, Stands};
+ghost use Rattle.wire_bytes.specs.Snapshots.{Snapshot};
+ghost use Rattle.shard_files.specs.Keeps.{Keeps};
+ghost use Rattle.shard_files.specs.Parts.{KnownVolume, counted_snapshots, snapshot_checkpoint};
+ghost use Rattle.volume_steps.specs.Known.{HaveContent};
+ghost use Rattle.snapshot_steps.specs.Saved.{HoldsSaved};
+
+use m3_outside::{Disk, DiskErr};
+use snapshot_files::clear_before;
+use std::alloc::Global;
+
+/// Takes away all snapshots below this number, complete or not, their checkpoints first. The newest that counts isn't one of them.
+///
+/// # Errors
+///
+/// A fault, after which the first few of their files are gone, or none, or all. Want of memory, after which the files are as they
+/// were.
+pub fn clear_snapshots<D: Disk>(alloc: Global, disk: &mut D, number: u64) -> Result<(), DiskErr>
+    // A stop at any moment leaves all that is to be kept, the tenure and the fence.
+    ensures any_moment { (s : Snapshot) (kept memory : Contents) (known : List KnownVolume) (tenure fence : ℕ) → number ≤ s.number → EachImage (D.state disk.old) (HoldsSaved s memory known tenure fence) → HaveContent memory known kept → (D.state disk.old).tells ≡ true → Elapses (Keeps kept) (D.state disk.old) (D.state disk.new) }
+
+    ensures saved { (s : Snapshot) (memory : Contents) (known : List KnownVolume) (tenure fence : ℕ) → number ≤ s.number → EachImage (D.state disk.old) (HoldsSaved s memory known tenure fence) → EachImage (D.state disk.new) (HoldsSaved s memory known tenure fence) }
+
+    // Of the newest one's own number, it is the only one that counts.
+    ensures alone { (s : Snapshot) (memory : Contents) (known : List KnownVolume) (tenure fence : ℕ) → number ≡ s.number → EachImage (D.state disk.old) (HoldsSaved s memory known tenure fence) → OnOk result (EachImage (D.state disk.new) (λ files. counted_snapshots files ≡ snapshot_checkpoint s.number ∷ [])) }
+
+    ensures memory { (D.state disk.old).tells ≡ true → IsErrOf result WantOfMemory → Becomes (λ files. files) (D.state disk.old) (D.state disk.new) }
+    ensures segments { (D.state disk.old).tells ≡ true → numbers (D.state disk.new).files ≡ numbers (D.state disk.old).files }
+    ensures log_stands { (log : LogEnd) → Stands log (D.state disk.old) → Stands log (D.state disk.new) }
+    ensures tells { (D.state disk.new).tells ≡ (D.state disk.old).tells }
+    ensures faults { CountsFaults (IsErrOf result DiskFailed) (D.state disk.old).faults (D.state disk.new).faults }
+{
+    clear_before(alloc, disk, number)
+}

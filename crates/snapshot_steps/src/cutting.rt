@@ -1,0 +1,37 @@
+ghost use Rattle.std.specs.Prelude.{◌≡◌, ◌≤◌, ℕ, true, List, IsErrOf, OnOk};
+ghost use Rattle.m3_model.specs.Contents.{Contents};
+ghost use Rattle.m3_outside.specs.Causes.{CountsFaults};
+ghost use Rattle.m3_outside.specs.DiskState.{DiskState, EachImage, Elapses, Becomes};
+ghost use Rattle.m3_outside.specs.declared.disk_err.DiskErr.TheVariants.{Failed as DiskFailed, Memory as WantOfMemory};
+ghost use Rattle.commit_log.specs.Contents.{numbers};
+ghost use Rattle.commit_log.specs.Cutting.{numbers_from};
+ghost use Rattle.commit_log.specs.LogEnd.{LogEnd, Stands};
+ghost use Rattle.wire_bytes.specs.Snapshots.{Snapshot};
+ghost use Rattle.shard_files.specs.Keeps.{Keeps};
+ghost use Rattle.shard_files.specs.Parts.{KnownVolume};
+ghost use Rattle.volume_steps.specs.Known.{HaveContent};
+ghost use Rattle.snapshot_steps.specs.Saved.{HoldsSaved};
+
+use commit_log::cut_before;
+use m3_outside::{Disk, DiskErr};
+use std::alloc::Global;
+
+/// Takes away all segments of the log below this number, the lowest first. The newest snapshot has all that is in memory, the
+/// tenure and the fence.
+///
+/// # Errors
+///
+/// A fault, after which the lowest few of them are gone, or none, or all. Want of memory, after which the files are as they were.
+pub fn cut_log<D: Disk>(alloc: Global, disk: &mut D, number: u64) -> Result<(), DiskErr>
+    // A stop at any moment leaves all that is to be kept, the tenure and the fence.
+    ensures any_moment { (s : Snapshot) (kept memory : Contents) (known : List KnownVolume) (tenure fence : ℕ) → EachImage (D.state disk.old) (HoldsSaved s memory known tenure fence) → HaveContent memory known kept → (D.state disk.old).tells ≡ true → Elapses (Keeps kept) (D.state disk.old) (D.state disk.new) }
+
+    ensures saved { (s : Snapshot) (memory : Contents) (known : List KnownVolume) (tenure fence : ℕ) → EachImage (D.state disk.old) (HoldsSaved s memory known tenure fence) → EachImage (D.state disk.new) (HoldsSaved s memory known tenure fence) }
+    ensures memory { (D.state disk.old).tells ≡ true → IsErrOf result WantOfMemory → Becomes (λ files. files) (D.state disk.old) (D.state disk.new) }
+    ensures segments { (D.state disk.old).tells ≡ true → OnOk result (numbers (D.state disk.new).files ≡ numbers_from number (D.state disk.old).files) }
+    ensures log_stands { (log : LogEnd) → number ≤ log.number → Stands log (D.state disk.old) → Stands log (D.state disk.new) }
+    ensures tells { (D.state disk.new).tells ≡ (D.state disk.old).tells }
+    ensures faults { CountsFaults (IsErrOf result DiskFailed) (D.state disk.old).faults (D.state disk.new).faults }
+{
+    cut_before(alloc, disk, number)
+}
