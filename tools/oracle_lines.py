@@ -188,8 +188,19 @@ ROWS = {
     "stop": Row({"node": name}, {}),
     "restart": Row({"node": name}, {"pick": time}),
     "bootstrap": Row({"node": name}, {"shard": whole(0, 64)}),
+    "add": Row({"node": name, "group": name}, {}),
+    "drain": Row({"node": name}, {}),
+    "cancel": Row({"node": name}, {}),
+    "remove": Row({"node": name}, {}),
+    "replace": Row({"node": name, "by": name, "group": name}, {}),
+    "tick": Row({}, {}),
+    "flush": Row({}, {}),
+    "snapshot": Row({}, {}),
+    "repair": Row({}, {}),
+    "status": Row({}, {}),
 }
-LATER = ("add", "drain", "cancel", "remove", "replace", "tick", "flush", "snapshot", "repair", "status", "par")
+LATER = ("add", "drain", "cancel", "remove", "replace", "tick", "flush", "snapshot", "repair", "status")
+LATER_WHATEVER_ELSE = ("par",)
 
 
 def check_whole(request: Request) -> None:
@@ -212,13 +223,13 @@ def is_later(request: Request) -> bool:
     if request["op"] == "init":
         nodes = request["nodes"]
         return len(nodes) != request["rf"] or not are_different([group for _, group in nodes])
-    return "version" in request
+    return request["op"] in LATER or "version" in request
 
 
 def read_line(line: bytes) -> Request:
     value = read_json(line)
     demand(isinstance(value, dict) and isinstance(value.get("op"), str))
-    if value["op"] in LATER:
+    if value["op"] in LATER_WHATEVER_ELSE:
         raise Refused("later")
     demand(value["op"] in ROWS)
     row = ROWS[value["op"]]

@@ -244,15 +244,15 @@ def too_many_spaces() -> list[bytes]:
 
 def deep_lines() -> list[bytes]:
     nested = [b"[" * depth + b"]" * depth for depth in (1, 126, 127, 128, 2000)]
-    lines = [b'{"op":"%s","x":%s}' % (op, it) for op in (b"tick", b"deliver") for it in nested]
-    return [INIT, *lines, b'{"op":"tick","x":"%s"}' % (b"[" * 999)]
+    lines = [b'{"op":"%s","x":%s}' % (op, it) for op in (b"par", b"deliver") for it in nested]
+    return [INIT, *lines, b'{"op":"par","x":"%s"}' % (b"[" * 999)]
 
 
 def long_lines() -> list[bytes]:
     """Lines beyond 65,536 bytes: one that is put off, one of blanks, a match with long values, and one that is wrong."""
     value = b"v" * 40000
     match = b'{"op":"match","ns":"m","from":0,"to":1,"where":[["a","=","%s"],["b","!=","%s"]]}' % (value, value)
-    others = [b'{"op":"tick","x":"%s"}' % (2 * value), b" " * 70000, b'{"op":"stop","node":"%s"}' % (2 * value)]
+    others = [b'{"op":"par","x":"%s"}' % (2 * value), b" " * 70000, b'{"op":"stop","node":"%s"}' % (2 * value)]
     return [INIT, SPACE % b"m", *others, match, FETCH]
 
 
@@ -277,7 +277,13 @@ BASES: list[Request] = [
     {"op": "deliver"},
     {"op": "stop", "node": "q"},
     {"op": "restart", "node": "q", "pick": 0},
-    {"op": "bootstrap", "node": "q", "shard": 0}]
+    {"op": "bootstrap", "node": "q", "shard": 0},
+    {"op": "add", "node": "q", "group": "g"},
+    {"op": "drain", "node": "q"},
+    {"op": "cancel", "node": "q"},
+    {"op": "remove", "node": "q"},
+    {"op": "replace", "node": "q", "by": "r", "group": "g"},
+    *({"op": op} for op in ("tick", "flush", "snapshot", "repair", "status"))]
 FATES = [[0, 0, "a", "late"], [0, 0, "a", "lose"], [0, 1, "a", "late"], [1, 0, "a", "late"], [0, 0, "b", "late"]]
 
 

@@ -14,18 +14,20 @@ use Rattle.m3_model.specs.declared.rules.MetaState.{MetaState}
 use Rattle.m3_model.specs.declared.rules.Rules.{Rules}
 use Rattle.m3_model.specs.declared.turn.Turn.{Turn}
 use Rattle.placement_core.specs.NodeNames.{is_listed}
+use Rattle.told_by.specs.Lines.{place_after}
 use Rattle.told_moves.specs.Order.{IsInitAct}
 use Rattle.transcripts.specs.Fates.{is_stopped}
 use Rattle.transcripts.specs.Placements.{placements}
 use Rattle.transcripts.specs.Record.{inner_turns}
 use Rattle.transcripts.specs.Refusals.{missing_in, missing_shard, refusal_by}
 use Rattle.transcripts.specs.Rules.{rules_after, start_rules}
+use Rattle.transcripts.proofs.RefusalLemmas.{step_refusal}
 use Rattle.cluster_members.proofs.NameLemmas.{node_found}
-use Rattle.act_lines.specs.Due.{BootstrapsAreDue, CallsAreDue, DeliveriesAreDue, FatesAreDue, FirstInitIsFree, FlagsTell, HaveLeft, InitsAreDue, IsDueNext, MomentsAreDue, NamespacesAreDue, OrderIsDue, RestartsAreDue, SpaceDue, StopsAreDue}
+use Rattle.act_lines.specs.Due.{BootstrapsAreDue, CallsAreDue, DeliveriesAreDue, FatesAreDue, FirstInitIsFree, FlagsTell, HaveLeft, InitsAreDue, IsDueNext, MomentsAreDue, NamespacesAreDue, OrderIsDue, RestartsAreDue, SpaceDue, StepsAreDue, StopsAreDue}
 use Rattle.act_lines.proofs.NameLemmas.{listed_where, missing_same, none_missing, unlisted_where}
 
 -- what is due, by the placement, the rules and the stopped nodes
-refused_by : (start : Option MetaState) (turns : List Turn) (place : Option Placement) (rules : Rules) → HaveLeft start turns place rules → (a : Act) (b : Answer) (refusal : Option Answer)
+pub refused_by : (start : Option MetaState) (turns : List Turn) (place : Option Placement) (rules : Rules) → HaveLeft start turns place rules → (a : Act) (b : Answer) (refusal : Option Answer)
     → ((versions : List ℕ) → refusal_by place versions rules (is_stopped (inner_turns turns)) a ≡ refusal) → IsDueNext start turns a b refusal
 refused_by start turns place rules left a b refusal by =
     let stopped = is_stopped (inner_turns turns) in
@@ -174,3 +176,8 @@ bootstraps_are_due start turns place rules left name asked b = record {
     due : (listed : Bool) (missing : Option (List ℕ)) (halted : Bool) → is_listed name place ≡ listed → missing_shard (Some place) asked ≡ missing → is_stopped (inner_turns turns) name ≡ halted → IsDueNext start turns (act.Bootstrap name asked) b (boot_refusal name listed missing halted)
     due listed missing halted e g f = refused_by start turns (Some place) rules left (act.Bootstrap name asked) b (boot_refusal name listed missing halted)
         (λ versions. ap (λ l. boot_refusal name l (missing_shard (Some place) asked) (is_stopped (inner_turns turns) name)) e ∙ ap (λ o. boot_refusal name listed o (is_stopped (inner_turns turns) name)) g ∙ ap (boot_refusal name listed missing) f)
+
+-- ---- placements
+
+pub steps_are_due : StepsAreDue
+steps_are_due start turns place rules left a b step = step_refusal start (place_after turns a b) (inner_turns turns) place left.place_is step

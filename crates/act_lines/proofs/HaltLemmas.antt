@@ -81,7 +81,7 @@ abbrev pub IsHaltCall : StepCall → Type 0
 IsHaltCall c = (c ≡ call.Stop) ⊎ (c ≡ call.Restart)
 
 module _ (Kind : StepCall → Type 0) where
-  exchange_halts : (slots : List Slot) (s : Slot) → IsIn slots s → (c : StepCall) → Kind c → (r : StepReply) (e : Event) → IsIn (exchange s.node s.shard c r) e → IsHaltOf Kind slots e
+  pub exchange_halts : (slots : List Slot) (s : Slot) → IsIn slots s → (c : StepCall) → Kind c → (r : StepReply) (e : Event) → IsIn (exchange s.node s.shard c r) e → IsHaltOf Kind slots e
   exchange_halts slots s among c kind r e (inl is) = record { slot = s; among = among; c = c; kind = kind; is = inl (sym is) }
   exchange_halts slots s among c kind r e (inr (inl is)) = record { slot = s; among = among; c = c; kind = kind; is = inr (r, sym is) }
   exchange_halts slots s among c kind r e (inr (inr none)) = absurd none
@@ -106,7 +106,7 @@ module _ (Kind : StepCall → Type 0) where
 
   -- ---- what such an event isn't
 
-  halt_no_place : (slots : List Slot) (e : Event) → IsHaltOf Kind slots e → IsNoPlace e
+  pub halt_no_place : (slots : List Slot) (e : Event) → IsHaltOf Kind slots e → IsNoPlace e
   halt_no_place slots e h = elim h.is as (λ _. IsNoPlace e) [ inl is ↦ subst IsNoPlace (sym is) tt | inr is ↦ subst IsNoPlace (sym is.1) tt ]
 
   halt_calm : ((c : StepCall) → Kind c → IsHaltCall c) → (slots : List Slot) (e : Event) → IsHaltOf Kind slots e → IsCalm e
@@ -120,7 +120,7 @@ module _ (Kind : StepCall → Type 0) where
         ])
       ]
 
-  halt_step : (slots : List Slot) (n s : ℕ) (c : StepCall) (r : StepReply) → IsHaltOf Kind slots (event.Step n s c r) → IsIn slots (slot_at n s)
+  pub halt_step : (slots : List Slot) (n s : ℕ) (c : StepCall) (r : StepReply) → IsHaltOf Kind slots (event.Step n s c r) → IsIn slots (slot_at n s)
   halt_step slots n s c r h = by h.slot h.among h.c h.is
     where
       by : (slot : Slot) → IsIn slots slot → (d : StepCall) → (event.Step n s c r ≡ ask_of slot.node slot.shard d) ⊎ ((q : StepReply) × (event.Step n s c r ≡ event.Step slot.node slot.shard d q)) → IsIn slots (slot_at n s)

@@ -1,6 +1,6 @@
 -- Lines by which nothing came to the list: the refusal that is due was answered, or there was no room.
 use Rattle.std.proofs.Common.{◌≡◌, ℕ, ◌*◌, List, [], ◌++◌, length, map, refl, sym, subst, inl, inr, arith, Bool, true, false}
-use Rattle.std.specs.Prelude.{⊤, Option, Some, None, option_map}
+use Rattle.std.specs.Prelude.{⊤, Option, Some, None, option_map, not, ◌&&◌, nat_le}
 use Rattle.std.specs.Option.{option_or}
 use Rattle.std.proofs.lemmas.List.{append-nil}
 use Rattle.m3_model.specs.Reads.{found_of}
@@ -8,7 +8,7 @@ use Rattle.m3_model.specs.declared.act.Act.{Act}
 use Rattle.m3_model.specs.declared.act.Act.TheVariants as act
 use Rattle.m3_model.specs.declared.answer.Answer.{Answer}
 use Rattle.m3_model.specs.declared.answer.Answer.TheVariants as answer
-use Rattle.m3_model.specs.declared.limits.TheConstants.{MOST_LATE_WRITES}
+use Rattle.m3_model.specs.declared.limits.TheConstants.{MOST_LATE_WRITES, MOST_NODES, MOST_VERSIONS}
 use Rattle.m3_model.specs.declared.placement.Placement.{Placement}
 use Rattle.m3_model.specs.declared.rules.MetaState.{MetaState}
 use Rattle.m3_model.specs.declared.rules.Rules.{Rules}
@@ -33,7 +33,8 @@ use Rattle.transcripts.specs.Fates.{is_stopped}
 use Rattle.transcripts.specs.Placements.{placement_after, placements, printed, start_placement}
 use Rattle.transcripts.specs.Record.{TurnPlace, inner_turns}
 use Rattle.transcripts.specs.Rules.{rules_after, start_rules}
-use Rattle.transcripts.specs.Refusals.{answer_if, is_out_of_order, limit_reached, lowered_moment, missing_name, refusal_by, wrong_state}
+use Rattle.placement_acts.specs.Acts.{answer_if, is_known, is_step_act, versions_due}
+use Rattle.transcripts.specs.Refusals.{is_out_of_order, kept_versions, limit_reached, lowered_moment, missing_name, names_reached, refusal_by, wrong_state}
 use Rattle.call_lines.proofs.DeliverLemmas.{none_behind, nothing_at, nothing_tells, prints_none}
 use Rattle.call_lines.proofs.ServeLemmas.{delivered_so, few_members, may_lack, serves_so}
 use Rattle.call_lines.specs.Laws.{LeavesServed}
@@ -67,9 +68,22 @@ unknown_kind : (o : Option (List ℕ)) (b : Answer) → option_map (λ name. ans
 unknown_kind None b e = absurd (let bad : None ≡ Some b = e in cc)
 unknown_kind (Some name) b e = if_kind true (answer.Unknown name) b tt e
 
-limit_kind : (spaces : List Space) (a : Act) (b : Answer) → limit_reached spaces a ≡ Some b → IsRefusal b
-limit_kind spaces (act.Namespace name block past future retention) b e = if_kind _ _ b tt e
-limit_kind spaces _ b e = absurd (let bad : None ≡ Some b = e in cc)
+names_kind : (place : Option Placement) (name : List ℕ) (b : Answer) → names_reached place name ≡ Some b → IsRefusal b
+names_kind None name b e = absurd (let bad : None ≡ Some b = e in cc)
+names_kind (Some place) name b e = if_kind (not (is_known name place) && nat_le MOST_NODES (length place.instances)) (answer.Limit MOST_NODES) b tt e
+
+versions_kind : (kept : ℕ) (a : Act) (b : Answer) → versions_due kept a ≡ Some b → IsRefusal b
+versions_kind kept a b e = if_kind (is_step_act a && nat_le MOST_VERSIONS kept) (answer.Limit MOST_VERSIONS) b tt e
+
+limit_kind : (place : Option Placement) (versions : List ℕ) (spaces : List Space) (a : Act) (b : Answer) → limit_reached place versions spaces a ≡ Some b → IsRefusal b
+limit_kind place versions spaces (act.Namespace name block past future retention) b e = if_kind _ _ b tt e
+limit_kind place versions spaces (act.Add node group) b e =
+    let kept = kept_versions place versions in
+    or_kind (names_reached place node) (versions_due kept (act.Add node group)) b (λ r f. names_kind place node r f) (λ r f. versions_kind kept (act.Add node group) r f) e
+limit_kind place versions spaces (act.Replace node by group) b e =
+    let kept = kept_versions place versions in
+    or_kind (names_reached place by) (versions_due kept (act.Replace node by group)) b (λ r f. names_kind place by r f) (λ r f. versions_kind kept (act.Replace node by group) r f) e
+limit_kind place versions spaces a b e = versions_kind (kept_versions place versions) a b e
 
 clock_kind : (moment : ℕ) (a : Act) (b : Answer) → lowered_moment moment a ≡ Some b → IsRefusal b
 clock_kind moment (act.Now now) b e = if_kind _ _ b tt e
@@ -84,13 +98,13 @@ state_kind stopped _ b e = absurd (let bad : None ≡ Some b = e in cc)
 refusal_kind : (place : Option Placement) (versions : List ℕ) (rules : Rules) (stopped : List ℕ → Bool) (a : Act) (b : Answer) → refusal_by place versions rules stopped a ≡ Some b → IsRefusal b
 refusal_kind place versions rules stopped a b e =
     let late = option_or (lowered_moment rules.now a) (wrong_state stopped a) in
-    let limits = option_or (limit_reached rules.spaces a) late in
+    let limits = option_or (limit_reached place versions rules.spaces a) late in
     let missing = missing_name place versions rules.spaces a in
     let unknown : Option Answer = option_map (λ name. answer.Unknown name) missing in
     let out = is_out_of_order place rules.spaces a in
     or_kind (answer_if out answer.Order) (option_or unknown limits) b (λ r f. if_kind out answer.Order r tt f)
     (λ r f. or_kind unknown limits r (λ q g. unknown_kind missing q g)
-    (λ q g. or_kind (limit_reached rules.spaces a) late q (λ s h. limit_kind rules.spaces a s h) (λ s h. or_kind (lowered_moment rules.now a) (wrong_state stopped a) s (λ t i. clock_kind rules.now a t i) (λ t i. state_kind stopped a t i) h) g) f) e
+    (λ q g. or_kind (limit_reached place versions rules.spaces a) late q (λ s h. limit_kind place versions rules.spaces a s h) (λ s h. or_kind (lowered_moment rules.now a) (wrong_state stopped a) s (λ t i. clock_kind rules.now a t i) (λ t i. state_kind stopped a t i) h) g) f) e
 
 -- ---- what such an answer says of its line
 

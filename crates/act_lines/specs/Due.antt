@@ -14,10 +14,11 @@ use Rattle.m3_model.specs.declared.point.Matcher.{Matcher}
 use Rattle.m3_model.specs.declared.rules.MetaState.{MetaState}
 use Rattle.m3_model.specs.declared.rules.Rules.{Rules}
 use Rattle.m3_model.specs.declared.turn.Turn.{Turn}
+use Rattle.placement_acts.specs.Acts.{is_step_act, refusal_due}
 use Rattle.net_plan.specs.Fates.{Item}
 use Rattle.told_by.specs.Lines.{place_after}
 use Rattle.told_moves.specs.Order.{IsInitAct}
-use Rattle.transcripts.specs.Caused.{refusal_after}
+use Rattle.transcripts.specs.Caused.{kept_after, refusal_after}
 use Rattle.transcripts.specs.Fates.{is_stopped}
 use Rattle.transcripts.specs.Placements.{placement_after, start_placement}
 use Rattle.transcripts.specs.Record.{inner_turns}
@@ -132,3 +133,7 @@ pub record BootstrapDue (start : Option MetaState) (turns : List Turn) (place : 
 
 abbrev pub BootstrapsAreDue : Type 0
 BootstrapsAreDue = WhereLeft (λ start turns place rules. (name : List ℕ) (asked : Option ℕ) (b : Answer) → BootstrapDue start turns place name asked b)
+
+-- of a line that makes a placement: what its names and the limits refuse it for, or nothing
+abbrev pub StepsAreDue : Type 0
+StepsAreDue = WhereLeft (λ start turns place rules. (a : Act) (b : Answer) → is_step_act a ≡ true → IsDueNext start turns a b (refusal_due (Some place) (kept_after start (inner_turns turns) place) a))

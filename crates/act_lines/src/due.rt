@@ -1,5 +1,5 @@
 //! Which refusal is due of each act that is served, by what the turns before it left.
-ghost use Rattle.act_lines.specs.Due.{BootstrapsAreDue, CallsAreDue, DeliveriesAreDue, FatesAreDue, FirstInitIsFree, FlagsTell, InitsAreDue, MomentsAreDue, NamespacesAreDue, OrderIsDue, RestartsAreDue, StopsAreDue};
+ghost use Rattle.act_lines.specs.Due.{BootstrapsAreDue, CallsAreDue, DeliveriesAreDue, FatesAreDue, FirstInitIsFree, FlagsTell, InitsAreDue, MomentsAreDue, NamespacesAreDue, OrderIsDue, RestartsAreDue, StepsAreDue, StopsAreDue};
 
 /// Where no placement stands, `init` is refused by nothing, and all other acts by their order.
 pub fn first_acts_are_due()
@@ -29,4 +29,9 @@ pub fn nodes_are_due()
     ensures restarts { RestartsAreDue }
     ensures bootstraps { BootstrapsAreDue }
     ensures flags { FlagsTell }
+{}
+
+/// Lines that make a placement are refused, before a plan is tried, for just what their names and the limits refuse them for.
+pub fn steps_are_due()
+    ensures { StepsAreDue }
 {}

@@ -8,7 +8,7 @@ pub mod inits;
 pub mod nodes;
 pub mod settings;
 
-pub use due::{calls_are_due, first_acts_are_due, nodes_are_due, rules_are_due};
+pub use due::{calls_are_due, first_acts_are_due, nodes_are_due, rules_are_due, steps_are_due};
 pub use inits::{first_tells, untaken_tells};
 pub use nodes::{bootstraps_tell, first_begins_stay, restarts_tell, stops_tell};
 pub use settings::{

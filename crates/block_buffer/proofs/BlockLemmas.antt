@@ -24,7 +24,7 @@ use Rattle.series_slots.specs.Points.{value_of, points_of}
 use Rattle.series_slots.specs.Places.{Places, slots_of}
 use Rattle.series_slots.proofs.PointLemmas.{get-points}
 use Rattle.block_buffer.specs.Blocks.{block_start, block_of, IsBefore, IsBlocksOf, block_cmp, IsStartOf, IsBlockOf}
-use Rattle.block_buffer.specs.Timed.{IsFirst}
+use Rattle.block_buffer.specs.AllSeries.{IsFirst}
 
 pub any-IsIn : {X : Type 0} (p : X → Bool) (xs : List X) → list_any p xs ≡ true → (x : X) × IsIn xs x × (p x ≡ true)
 any-IsIn p [] e = cc

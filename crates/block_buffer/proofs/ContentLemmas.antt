@@ -16,10 +16,10 @@ use Rattle.series_slots.specs.Slots.{Slots, settled}
 use Rattle.series_slots.specs.Points.{slot_in, slot_at, value_of, points_of}
 use Rattle.series_slots.specs.Places.{Places, StandsAt, slots_of}
 use Rattle.series_slots.proofs.PointLemmas.{get-points}
-use Rattle.place_numbers.proofs.PlaceLemmas.{eq_or_not}
+use Rattle.block_buffer.proofs.PlaceLemmas.{eq_or_not}
 use Rattle.block_buffer.specs.Held.{without}
 use Rattle.block_buffer.specs.Room.{OnlyRoomIsEmpty}
-use Rattle.block_buffer.specs.Timed.{is_bare, IsSlotSet, AreSameSlots}
+use Rattle.block_buffer.specs.AllSeries.{is_bare, IsSlotSet, AreSameSlots}
 
 settled-cond : (b : Bool) (x y : Option (Option ℤ)) → settled (cond b x y) ≡ cond b (settled x) (settled y)
 settled-cond true x y = refl

@@ -1,34 +1,24 @@
--- The first value of a namespace, by the index of times.
-use Rattle.std.proofs.Common.{◌≡◌, ◌≢◌, ℕ, ◌<◌, ◌≤◌, ℤ, List, [], ◌∷◌, suc, cond, get_or, refl, sym, ap, subst, ◌∙◌, inl, inr, Bool, true, false, ◌&&◌, arith}
-use Rattle.std.specs.Prelude.{◌⊎◌, Option, Some, None, IsSome, slice_get}
-use Rattle.std.specs.List.{filter, list_any}
-use Rattle.std.specs.List.Sorted.{IsStrictlySortedBy}
+-- Where a value stands, and the first one of a namespace.
+use Rattle.std.proofs.Common.{◌≡◌, ℕ, suc, ◌+◌, ◌<◌, ◌≤◌, ℤ, [], ◌∷◌, cond, refl, sym, subst, ◌∙◌, inl, inr, Bool, true, false, length, arith}
+use Rattle.std.specs.Prelude.{◌⊎◌, Option, Some, None, IsSome, IfSome, slice_get}
 use Rattle.std.specs.FinMap as finite
 use Rattle.std.specs.Map.{lookup}
-use Rattle.std.specs.BTreeMap.{is_at}
-use Rattle.std.specs.BTreeMap.Range.{range_contains}
-use Rattle.std.specs.Ordering.{nat_cmp, ordering_then, is_le}
-use Rattle.std.specs.declared.ops.Bound.TheVariants.{Included, Unbounded}
-use Rattle.std.specs.declared.cmp.Ordering.{Ordering}
-use Rattle.std.specs.declared.cmp.Ordering.TheVariants.{Less, Equal, Greater}
-use Rattle.std.proofs.lemmas.Cmp.{ranked}
-use Rattle.std.proofs.lemmas.Option.{slice_get-get_or}
+use Rattle.std.proofs.lemmas.Option.{slice_get_within, IfSome_then}
 use Rattle.m3_model.specs.declared.point.Key.{Key}
-use Rattle.m3_model.specs.Members.{IsIn}
 use Rattle.m3_model.proofs.Keyed.{equal_of}
 use Rattle.series_slots.specs.declared.series_key.SeriesKey.{SeriesKey}
-use Rattle.series_slots.specs.SeriesKeys.{series_eq, series_of}
+use Rattle.series_slots.specs.SeriesKeys.{series_eq, series_of, key_at}
 use Rattle.series_slots.specs.Slots.{Slots, settled}
 use Rattle.series_slots.specs.Points.{slot_in, slot_at, value_of}
-use Rattle.series_slots.specs.Places.{Places, slots_of}
+use Rattle.series_slots.specs.Places.{Places, IsAt, slots_of}
+use Rattle.series_slots.specs.Firsts.{HasNoneLater, IsFirstAt}
 use Rattle.series_slots.proofs.PointLemmas.{series_cmp-IsAntisymmetric}
 use Rattle.series_slots.proofs.SeriesLemmas.{placed_at, series_tie}
-use Rattle.place_numbers.specs.Inverse.{AreDistinct}
-use Rattle.series_slots.proofs.MoveLemmas.{IsIn-filter, filter-IsIn}
-use Rattle.block_buffer.specs.Timed.{time_cmp, IsTimed, IsValueOf, HasNoValue, IsFirst, HasNoneFrom}
-use Rattle.block_buffer.proofs.TimedLemmas.{Time, same_time, tied_time, numbered}
-use Rattle.block_buffer.proofs.ContentLemmas.{value_some}
-use Rattle.block_buffer.proofs.BlockLemmas.{any-IsIn, IsIn-any, each_in}
+use Rattle.block_buffer.specs.declared.spot.Spot.{Spot}
+use Rattle.block_buffer.specs.AllSeries.{IsFirst, HasNoneFrom}
+use Rattle.block_buffer.specs.Spots.{IsUpTo}
+use Rattle.block_buffer.proofs.PlaceLemmas.{eq_or_not}
+use Rattle.block_buffer.proofs.BlockLemmas.{before_or_from}
 
 -- a series that is looked up has a place
 lookup_place : (es : Places) (s : SeriesKey) (v : Slots) → lookup (series_eq s) es ≡ Some v → (place : ℕ) × (slice_get es place ≡ Some (s, v))
@@ -71,20 +61,6 @@ slot_place es k h = by (finite.get (slots_of es) (series_of k)) refl h
     by None t g = cc
     by (Some v) t g = let at = lookup_place es (series_of k) v (sym (placed_at es (series_of k)) ∙ t) in record { place = at.0; slots = v; entry = at.1; slot = g }
 
--- its time in the index
-pub record IsIndexed (es : Places) (numbers : List ℕ) (has : Time → Bool) (k : Key) (w : ℤ) : Type 0 where
-  pub at : IsPlaced es k w
-  pub n : ℕ
-  pub number : slice_get numbers at.place ≡ Some n
-  pub there : has (k.ns, k.t, n) ≡ true
-
-pub value_indexed : (es : Places) (numbers : List ℕ) (has : Time → Bool) (k : Key) (w : ℤ) → IsTimed es numbers has → value_of (slots_of es) k ≡ Some w → IsIndexed es numbers has k w
-value_indexed es numbers has k w h e =
-    let at = value_place es k w e in
-    let n : ℕ = get_or numbers at.place 0 in
-    let number : slice_get numbers at.place ≡ Some n = slice_get-get_or numbers at.place 0 (numbered es numbers has at.place (series_of k, at.slots) h at.entry) in
-    record { at = at; n = n; number = number; there = h.listed at.place n k.t (series_of k) at.slots number at.entry (value_some (finite.get at.slots k.t) w at.value) }
-
 pub none_or_value : (es : Places) (k : Key) → ((w : ℤ) → value_of (slots_of es) k ≡ Some w → ⊥) → value_of (slots_of es) k ≡ None
 none_or_value es k h = by (value_of (slots_of es) k) refl
   where
@@ -92,150 +68,83 @@ none_or_value es k h = by (value_of (slots_of es) k) refl
     by None e = e
     by (Some w) e = absurd (h w e)
 
--- ---- the order of times
+-- ---- the first value of the series at the first so many places
 
-less_space : (x y : Time) → time_cmp x y ≡ Less → x.0 ≤ y.0
-less_space x y e = by (nat_cmp x.0 y.0) refl e
-  where
-    by : (o : Ordering) → nat_cmp x.0 y.0 ≡ o → ordering_then (ordering_then o (nat_cmp x.1 y.1)) (nat_cmp x.2 y.2) ≡ Less → x.0 ≤ y.0
-    by Less t g = let low : x.0 < y.0 = ranked x.0 y.0 Less (sym t) in omega (arith, low)
-    by Equal t g = let same : x.0 ≡ y.0 = ranked x.0 y.0 Equal (sym t) in omega (arith, same)
-    by Greater t g = cc
+-- the value is the first one of a series of the namespace
+pub record IsOneOf (es : Places) (ns low : ℕ) (x : Spot) : Type 0 where
+  pub series : SeriesKey
+  pub space : series.ns ≡ ns
+  pub at : IsFirstAt es x.place series low x.t x.v
 
-less_at : (x y : Time) → time_cmp x y ≡ Less → x.0 ≡ y.0 → x.1 ≤ y.1
-less_at x y e is = by (nat_cmp x.0 y.0) refl (nat_cmp x.1 y.1) refl e
-  where
-    by : (o : Ordering) → nat_cmp x.0 y.0 ≡ o → (p : Ordering) → nat_cmp x.1 y.1 ≡ p → ordering_then (ordering_then o p) (nat_cmp x.2 y.2) ≡ Less → x.1 ≤ y.1
-    by Less t p u g = let low : x.0 < y.0 = ranked x.0 y.0 Less (sym t) in absurd (omega (arith, low, is))
-    by Equal t Less u g = let low : x.1 < y.1 = ranked x.1 y.1 Less (sym u) in omega (arith, low)
-    by Equal t Equal u g = let same : x.1 ≡ y.1 = ranked x.1 y.1 Equal (sym u) in omega (arith, same)
-    by Equal t Greater u g = cc
-    by Greater t p u g = cc
+-- none of the values of the series comes before
+abbrev pub HasNoneBefore : Places → SeriesKey → ℕ → Option Spot → Type 0
+HasNoneBefore es s low first = (q : ℕ) (w : ℤ) → low ≤ q → value_of (slots_of es) (key_at s q) ≡ Some w → IsUpTo first q
 
--- what stands from a start on
-pub starts_at : (ns low : ℕ) (x : Time) → x.0 ≡ ns → low ≤ x.1 → is_le (time_cmp (ns, low, 0) x) ≡ true
-starts_at ns low x is from = by (nat_cmp ns x.0) refl (nat_cmp low x.1) refl (nat_cmp 0 x.2) refl
-  where
-    by : (o : Ordering) → nat_cmp ns x.0 ≡ o → (p : Ordering) → nat_cmp low x.1 ≡ p → (q : Ordering) → nat_cmp 0 x.2 ≡ q → is_le (ordering_then (ordering_then o p) q) ≡ true
-    by Less t p u q v = refl
-    by Equal t Less u q v = refl
-    by Equal t Equal u Less v = refl
-    by Equal t Equal u Equal v = refl
-    by Equal t Equal u Greater v = let wrong : x.2 < 0 = ranked 0 x.2 Greater (sym v) in absurd (omega (arith, wrong))
-    by Equal t Greater u q v = let wrong : x.1 < low = ranked low x.1 Greater (sym u) in absurd (omega (arith, wrong, from))
-    by Greater t p u q v = let wrong : x.0 < ns = ranked ns x.0 Greater (sym t) in absurd (omega (arith, wrong, is))
+pub record IsFirstBelow (es : Places) (ns low n : ℕ) (first : Option Spot) : Type 0 where
+  pub some : IfSome first (IsOneOf es ns low)
+  pub none : (p : ℕ) (s : SeriesKey) → p < n → IsAt es p s → s.ns ≡ ns → HasNoneBefore es s low first
 
-space_from : (ns low : ℕ) (x : Time) → is_le (time_cmp (ns, low, 0) x) ≡ true → ns ≤ x.0
-space_from ns low x e = by (nat_cmp ns x.0) refl e
-  where
-    by : (o : Ordering) → nat_cmp ns x.0 ≡ o → is_le (ordering_then (ordering_then o (nat_cmp low x.1)) (nat_cmp 0 x.2)) ≡ true → ns ≤ x.0
-    by Less t g = let low : ns < x.0 = ranked ns x.0 Less (sym t) in omega (arith, low)
-    by Equal t g = let same : ns ≡ x.0 = ranked ns x.0 Equal (sym t) in omega (arith, same)
-    by Greater t g = cc
+-- there are none
+pub none_yet : (es : Places) (ns low : ℕ) → IsFirstBelow es ns low 0 None
+none_yet es ns low = record { some = tt; none = λ p s below. absurd (omega (arith, below)) }
 
-and_true : (b : Bool) → (b && true) ≡ b
-and_true true = refl
-and_true false = refl
+up_later : (spot : Option Spot) (t q : ℕ) → t ≤ q → IsUpTo spot t → IsUpTo spot q
+up_later None t q rises h = h
+up_later (Some x) t q rises h = omega (arith, rises, h)
 
-pub has_key : (ks : List Time) (x : Time) → list_any (is_at (time_cmp x)) ks ≡ true → IsIn ks x
-has_key ks x e = let found = any-IsIn (is_at (time_cmp x)) ks e in subst (IsIn ks) (sym (same_time x found.0 found.2)) found.1
+up_by : (a r : Option Spot) (q : ℕ) → IsUpTo a q → IfSome a (λ x. IsUpTo r x.t) → IsUpTo r q
+up_by None r q h up = absurd h
+up_by (Some x) r q h up = up_later r x.t q h up
 
--- ---- the keys from a start on, one after the other
+module _ (es : Places) (ns low n : ℕ) (a b r : Option Spot) (h : IsFirstBelow es ns low n a) (one : (r ≡ a) ⊎ (r ≡ b)) (first : IfSome a (λ x. IsUpTo r x.t)) (second : IfSome b (λ x. IsUpTo r x.t))
+    (here : SeriesKey) (at : IsAt es n here) (bare : b ≡ None → (s : SeriesKey) → IsAt es n s → s.ns ≡ ns → HasNoneLater es s low)
+    (found : IfSome b (λ x. (x.place ≡ n) × ((s : SeriesKey) → IsAt es n s → (s.ns ≡ ns) × IsFirstAt es n s low x.t x.v))) where
+  one_here : (x : Spot) → x.place ≡ n → (here.ns ≡ ns) × IsFirstAt es n here low x.t x.v → IsOneOf es ns low x
+  one_here x is h = record { series = here; space = h.0; at = subst (λ p. IsFirstAt es p here low x.t x.v) (sym is) h.1 }
 
-pub all_from : (ks : List Time) (ns low : ℕ) (x : Time) → list_any (is_at (time_cmp x)) ks ≡ true → x.0 ≡ ns → low ≤ x.1 → IsIn (filter (range_contains time_cmp (Included (ns, low, 0)) Unbounded) ks) x
-all_from ks ns low x e is from =
-    filter-IsIn (range_contains time_cmp (Included (ns, low, 0)) Unbounded) ks x (has_key ks x e) (and_true (is_le (time_cmp (ns, low, 0) x)) ∙ starts_at ns low x is from)
+  none_here : (b : Option Spot) → (b ≡ None → (s : SeriesKey) → IsAt es n s → s.ns ≡ ns → HasNoneLater es s low)
+      → IfSome b (λ x. (x.place ≡ n) × ((s : SeriesKey) → IsAt es n s → (s.ns ≡ ns) × IsFirstAt es n s low x.t x.v)) → (s : SeriesKey) → IsAt es n s → s.ns ≡ ns → HasNoneBefore es s low b
+  none_here None bare found s at_s is q w from e = let wrong : None ≡ Some w = sym (bare refl s at_s is q from) ∙ e in cc
+  none_here (Some x) bare found s at_s is q w from e = elim (before_or_from q x.t) as (λ _. x.t ≤ q) [
+    | inl early ↦ absurd (let wrong : None ≡ Some w = sym ((found.1 s at_s).1.first q from early) ∙ e in cc)
+    | inr late ↦ late
+  ]
 
-pub spaces_from : (ks : List Time) (ns low : ℕ) (x : Time) → IsIn (filter (range_contains time_cmp (Included (ns, low, 0)) Unbounded) ks) x → ns ≤ x.0
-spaces_from ks ns low x m =
-    let found = IsIn-filter (range_contains time_cmp (Included (ns, low, 0)) Unbounded) ks x m in
-    space_from ns low x (sym (and_true (is_le (time_cmp (ns, low, 0) x))) ∙ found.1)
+  -- one series more
+  pub first_more : IsFirstBelow es ns low (n + 1) r
+  first_more = record {
+    some = elim one as (λ _. IfSome r (IsOneOf es ns low)) [
+      | inl is ↦ subst (λ o. IfSome o (IsOneOf es ns low)) (sym is) h.some
+      | inr is ↦ subst (λ o. IfSome o (IsOneOf es ns low)) (sym is) (IfSome_then b found (λ x f. one_here x f.0 (f.1 here at)))
+    ];
+    none = λ p s below at_p is q w from e. elim (eq_or_not p n) as (λ _. IsUpTo r q) [
+      | inl same ↦ up_by b r q (none_here b bare found s (subst (λ m. IsAt es m s) same at_p) is q w from e) second
+      | inr apart ↦ up_by a r q (h.none p s (omega (arith, below, apart)) at_p is q w from e) first
+    ];
+  }
 
-later_than : (x : Time) (rest : List Time) → IsStrictlySortedBy time_cmp (x ∷ rest) → (y : Time) → IsIn rest y → time_cmp x y ≡ Less
-unfolding IsStrictlySortedBy
-later_than x rest h y m = each_in (λ (z : Time). time_cmp x z ≡ Less) rest h.0 y m
+module _ (es : Places) (ns low n : ℕ) (all : length es ≤ n) where
+  placed_below : (k : Key) (w : ℤ) (e : value_of (slots_of es) k ≡ Some w) → (value_place es k w e).place < n
+  placed_below k w e = let at = value_place es k w e in let within = slice_get_within es at.place (series_of k, at.slots) at.entry in omega (arith, within, all)
 
-pub tail_ordered : (x : Time) (rest : List Time) → IsStrictlySortedBy time_cmp (x ∷ rest) → IsStrictlySortedBy time_cmp rest
-unfolding IsStrictlySortedBy
-tail_ordered x rest h = h.1
+  at_of : (k : Key) (w : ℤ) (e : value_of (slots_of es) k ≡ Some w) → IsAt es (value_place es k w e).place (series_of k)
+  at_of k w e = let at = value_place es k w e in record { slots = at.slots; entry = at.entry }
 
-module _ (es : Places) (numbers : List ℕ) (has : Time → Bool) (h : IsTimed es numbers has) (ns low : ℕ) where
-  -- no value stands at the times that were seen
-  abbrev pub SeenBut : List Time → Type 0
-  SeenBut rest = (x : Time) → has x ≡ true → x.0 ≡ ns → low ≤ x.1 → HasNoValue es numbers x.1 x.2 ⊎ IsIn rest x
+  -- of all series there is none
+  pub none_of_all : (first : Option Spot) → first ≡ None → IsFirstBelow es ns low n first → HasNoneFrom es ns low
+  none_of_all None bare h k is from = none_or_value es k (λ w e. h.none (value_place es k w e).place (series_of k) (placed_below k w e) (at_of k w e) is k.t w from e)
+  none_of_all (Some x) bare h k is from = cc
 
-  none_seen : (k : Key) (w : ℤ) (e : value_of (slots_of es) k ≡ Some w) → (at : IsIndexed es numbers has k w) → HasNoValue es numbers k.t at.n → ⊥
-  none_seen k w e at none = let wrong : None ≡ Some w = sym (none at.at.place (series_of k) at.at.slots at.number at.at.entry) ∙ e in cc
-
-  -- all were seen
-  pub none_from : SeenBut [] → HasNoneFrom es ns low
-  none_from seen k is from = none_or_value es k (λ w e.
-      let at = value_indexed es numbers has k w h e in
-      elim (seen (k.ns, k.t, at.n) at.there is from) as (λ _. ⊥) [ inl none ↦ none_seen k w e at none | inr m ↦ m ])
-
-  -- the next one is of a later namespace
-  pub none_of_space : (x : Time) (rest : List Time) → IsStrictlySortedBy time_cmp (x ∷ rest) → ns ≤ x.0 → x.0 ≢ ns → SeenBut (x ∷ rest) → HasNoneFrom es ns low
-  none_of_space x rest sorted from apart seen k is low_k = none_or_value es k (λ w e.
-      let at = value_indexed es numbers has k w h e in
-      elim (seen (k.ns, k.t, at.n) at.there is low_k) as (λ _. ⊥) [
-        | inl none ↦ none_seen k w e at none
-        | inr m ↦ elim m as (λ _. ⊥) [
-          | inl same ↦ apart (ap (λ (z : Time). z.0) same ∙ is)
-          | inr later ↦ let above = less_space x (k.ns, k.t, at.n) (later_than x rest sorted (k.ns, k.t, at.n) later) in omega (arith, above, from, apart, is)
-        ]
-      ])
-
-  -- the next one has a value, which is the first
-  pub first_found : (x : Time) (rest : List Time) (place : ℕ) (v : ℤ) → IsStrictlySortedBy time_cmp (x ∷ rest) → x.0 ≡ ns → low ≤ x.1 → SeenBut (x ∷ rest) → IsValueOf es numbers place x.1 x.2 v → has x ≡ true → AreDistinct numbers
-      → IsFirst es ns low place x.1 v
-  first_found x rest place v sorted is from seen found there distinct =
-      let at = h.placed x there in
-      let same : at.place ≡ place = distinct at.place place x.2 at.number found.number in
-      let both : ◌≡◌ {A = SeriesKey × Slots} (at.series, at.stands.slots) (found.series, found.stands.slots) = inside_entry _ _ (sym at.stands.entry ∙ ap (slice_get es) same ∙ found.stands.entry) in
-      record {
-        series = found.series;
-        space = sym (ap (λ (e : SeriesKey × Slots). e.0.ns) both) ∙ at.space ∙ is;
-        from = from;
-        stands = found.stands;
-        value = found.value;
-        first = λ k of_space low_k early. none_or_value es k (λ w e.
-            let is_at = value_indexed es numbers has k w h e in
-            elim (seen (k.ns, k.t, is_at.n) is_at.there of_space low_k) as (λ _. ⊥) [
-              | inl none ↦ none_seen k w e is_at none
-              | inr m ↦ elim m as (λ _. ⊥) [
-                | inl equal ↦ let time : x.1 ≡ k.t = ap (λ (z : Time). z.1) equal in omega (arith, time, early)
-                | inr later ↦ let above = less_at x (k.ns, k.t, is_at.n) (later_than x rest sorted (k.ns, k.t, is_at.n) later) (is ∙ sym of_space) in omega (arith, above, early)
-              ]
-            ]);
-      }
-    where
-      inside_entry : (a b : SeriesKey × Slots) → Some a ≡ Some b → a ≡ b
-      inside_entry a b e = cc
-
--- one more was seen
-pub seen_more : (es : Places) (numbers : List ℕ) (has : Time → Bool) (ns low : ℕ) (x : Time) (rest : List Time) → HasNoValue es numbers x.1 x.2
-    → ((y : Time) → has y ≡ true → y.0 ≡ ns → low ≤ y.1 → HasNoValue es numbers y.1 y.2 ⊎ IsIn (x ∷ rest) y)
-    → (y : Time) → has y ≡ true → y.0 ≡ ns → low ≤ y.1 → HasNoValue es numbers y.1 y.2 ⊎ IsIn rest y
-seen_more es numbers has ns low x rest none seen y there is from =
-    elim (seen y there is from) as (λ _. HasNoValue es numbers y.1 y.2 ⊎ IsIn rest y) [
-      | inl before ↦ inl before
-      | inr m ↦ elim m as (λ _. HasNoValue es numbers y.1 y.2 ⊎ IsIn rest y) [
-        | inl same ↦ inl (subst (λ (z : Time). HasNoValue es numbers z.1 z.2) same none)
-        | inr later ↦ inr later
-      ]
-    ]
-
-pub on_from : (ks : List Time) (ns low : ℕ) (x : Time) → IsIn (filter (range_contains time_cmp (Included (ns, low, 0)) Unbounded) ks) x → (list_any (is_at (time_cmp x)) ks ≡ true) × (x.0 ≡ ns → low ≤ x.1)
-on_from ks ns low x m =
-    let found = IsIn-filter (range_contains time_cmp (Included (ns, low, 0)) Unbounded) ks x m in
-    (IsIn-any (is_at (time_cmp x)) ks x found.0 (tied_time x x refl), λ is. low_of is (sym (and_true (is_le (time_cmp (ns, low, 0) x))) ∙ found.1))
-  where
-    low_of : x.0 ≡ ns → is_le (time_cmp (ns, low, 0) x) ≡ true → low ≤ x.1
-    low_of is e = by (nat_cmp ns x.0) refl (nat_cmp low x.1) refl e
-      where
-        by : (o : Ordering) → nat_cmp ns x.0 ≡ o → (p : Ordering) → nat_cmp low x.1 ≡ p → is_le (ordering_then (ordering_then o p) (nat_cmp 0 x.2)) ≡ true → low ≤ x.1
-        by Less t p u g = let wrong : ns < x.0 = ranked ns x.0 Less (sym t) in absurd (omega (arith, wrong, is))
-        by Equal t Less u g = let below : low < x.1 = ranked low x.1 Less (sym u) in omega (arith, below)
-        by Equal t Equal u g = let same : low ≡ x.1 = ranked low x.1 Equal (sym u) in omega (arith, same)
-        by Equal t Greater u g = cc
-        by Greater t p u g = cc
+  -- of all series it is the first
+  pub first_of_all : (first : Option Spot) → IsFirstBelow es ns low n first → IfSome first (λ x. IsFirst es ns low x.place x.t x.v)
+  first_of_all None h = tt
+  first_of_all (Some x) h = record {
+    series = h.some.series;
+    space = h.some.space;
+    from = h.some.at.from;
+    stands = h.some.at.stands;
+    value = h.some.at.value;
+    first = λ k is from early. none_or_value es k (λ w e.
+        let up : x.t ≤ k.t = h.none (value_place es k w e).place (series_of k) (placed_below k w e) (at_of k w e) is k.t w from e in
+        omega (arith, up, early));
+  }

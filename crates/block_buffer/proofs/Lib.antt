@@ -1,10 +1,11 @@
+pub mod PlaceLemmas
 pub mod SetLemmas
-pub mod TimedLemmas
+pub mod EntryLemmas
 pub mod ContentLemmas
 pub mod BlockLemmas
 pub mod FirstLemmas
+pub mod SpotLemmas
 pub mod TakenLemmas
-pub mod SpanLemmas
 pub mod LawLemmas
 pub mod JoinLemmas
 pub mod RoomLemmas

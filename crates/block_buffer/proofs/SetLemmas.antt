@@ -15,7 +15,7 @@ use Rattle.series_slots.specs.Points.{AllSlots, slot_in, slot_at}
 use Rattle.series_slots.specs.Places.{Places, slots_of}
 use Rattle.series_slots.specs.Written.{IsWritten, IsAdded, IsRemoved}
 use Rattle.series_slots.proofs.PointLemmas.{series_cmp-IsAntisymmetric, key_ties}
-use Rattle.block_buffer.specs.Timed.{IsSlotSet, AreSameSlots, HasNoSlots}
+use Rattle.block_buffer.specs.AllSeries.{IsSlotSet, AreSameSlots, HasNoSlots}
 
 slot_in-cond : (b : Bool) (w : Slots) (o : Option Slots) (t : ℕ) → slot_in (cond b (Some w) o) t ≡ cond b (map.get w t) (slot_in o t)
 slot_in-cond true w o t = refl

@@ -15,14 +15,12 @@ use Rattle.series_slots.specs.Places.{Places, IsAt, slots_of}
 use Rattle.series_slots.proofs.PointLemmas.{get-points}
 use Rattle.block_buffer.specs.Held.{Held, without, has_expired, is_in_block}
 use Rattle.block_buffer.specs.Room.{OnlyRoomIsEmpty}
-use Rattle.block_buffer.specs.Timed.{IsFirst, HasNoneFrom, HasNoSlots, HasSlots, IsTakenAt}
+use Rattle.block_buffer.specs.AllSeries.{IsFirst, HasNoneFrom, HasNoSlots, HasSlots, IsTakenAt}
+use Rattle.block_buffer.specs.Spots.{IsKeyWithin, HasNoValueOf}
 use Rattle.block_buffer.specs.Taken.{HasSeries, HasNone, IsTaken, IsEarliest, is_settled, settled_at}
 use Rattle.block_buffer.specs.declared.taken.Taken.{Taken}
 use Rattle.block_buffer.proofs.ContentLemmas.{point_left, only_taken, slot_valued, value_some, without_removed, without_none, len_removed}
 use Rattle.block_buffer.proofs.BlockLemmas.{before_or_from}
-
-abbrev pub InRange : ℕ → ℕ → ℕ → Key → Type 0
-InRange ns low high k = (k.ns ≡ ns) × (is_within low high k.t ≡ true)
 
 within : (low high t : ℕ) → low ≤ t → t ≤ high → is_within low high t ≡ true
 within low high t h g = grind (arith, nat_tests)
@@ -35,13 +33,16 @@ pub value_in : (es : Places) (k : Key) (v : ℤ) → finite.get (points_of (slot
 value_in es k v e = sym (get-points (slots_of es) k) ∙ e
 
 -- no value, no point
-pub none_in_range : (es : Places) (ns low high : ℕ) → HasNoneFrom es ns low → HasNone (points_of (slots_of es)) (InRange ns low high)
+pub none_in_range : (es : Places) (ns low high : ℕ) → HasNoneFrom es ns low → HasNone (points_of (slots_of es)) (IsKeyWithin ns low high)
 none_in_range es ns low high none k v e p =
     let wrong : None ≡ Some v = sym (none k p.0 (from_within low high k.t p.1).0) ∙ value_in es k v e in
     cc
 
+pub none_stands_of : (es : Places) (P : Key → Type 0) → HasNoValueOf es P → HasNone (points_of (slots_of es)) P
+none_stands_of es P none k v e p = let wrong : None ≡ Some v = sym (none k p) ∙ value_in es k v e in cc
+
 -- the first value comes too late
-pub late_in_range : (es : Places) (ns low high place t : ℕ) (v : ℤ) → IsFirst es ns low place t v → high < t → HasNone (points_of (slots_of es)) (InRange ns low high)
+pub late_in_range : (es : Places) (ns low high place t : ℕ) (v : ℤ) → IsFirst es ns low place t v → high < t → HasNone (points_of (slots_of es)) (IsKeyWithin ns low high)
 late_in_range es ns low high place t v first late k w e p =
     let times = from_within low high k.t p.1 in
     let below = times.1 in
@@ -85,18 +86,18 @@ taken_at old new P place t s x holds only h = record {
   gone = gone_or_left new place s x.gone only h.left;
 }
 
-pub first_in_range : (old : Places) (ns low high place t : ℕ) (v : ℤ) (first : IsFirst old ns low place t v) → t ≤ high → InRange ns low high (key_at first.series t)
+pub first_in_range : (old : Places) (ns low high place t : ℕ) (v : ℤ) (first : IsFirst old ns low place t v) → t ≤ high → IsKeyWithin ns low high (key_at first.series t)
 first_in_range old ns low high place t v first up = (first.space, within low high t first.from up)
 
 -- ---- ranges and blocks
 
-pub block_of_range : (ns start size : ℕ) (k : Key) → 0 < size → InRange ns start (start + (size - 1)) k → is_in_block ns start size k ≡ true
+pub block_of_range : (ns start size : ℕ) (k : Key) → 0 < size → IsKeyWithin ns start (start + (size - 1)) k → is_in_block ns start size k ≡ true
 block_of_range ns start size k some h = by k.ns k.t h.0 h.1
   where
     by : (n t : ℕ) → n ≡ ns → is_within start (start + (size - 1)) t ≡ true → (nat_eq ns n && (nat_le start t && nat_lt t (start + size))) ≡ true
     by n t e g = grind (arith, nat_tests)
 
-pub range_of_block : (ns start size : ℕ) (k : Key) → 0 < size → is_in_block ns start size k ≡ true → InRange ns start (start + (size - 1)) k
+pub range_of_block : (ns start size : ℕ) (k : Key) → 0 < size → is_in_block ns start size k ≡ true → IsKeyWithin ns start (start + (size - 1)) k
 range_of_block ns start size k some h = by k.ns k.t h
   where
     by : (n t : ℕ) → (nat_eq ns n && (nat_le start t && nat_lt t (start + size))) ≡ true → (n ≡ ns) × (is_within start (start + (size - 1)) t ≡ true)

@@ -1,7 +1,8 @@
 pub mod Room
-pub mod Timed
+pub mod AllSeries
 pub mod Held
 pub mod Taken
 pub mod Blocks
 pub mod Laws
 pub mod Joins
+pub mod Spots

@@ -1,12 +1,9 @@
-ghost use Rattle.std.specs.Prelude.{◌≡◌, ◌≢◌, ◌⊎◌, ℕ, ℤ, List, ◌<◌, ◌≤◌, ◌^◌, [], Some, None, true, false, IsTrue, IsSome, cond, length, slice_get, is_some, IfOk, IfSome, OnOk, OnErr, MatchOption};
-ghost use Rattle.std.specs.BTreeSet.{contains};
+ghost use Rattle.std.specs.Prelude.{◌≡◌, ◌≢◌, ◌⊎◌, ℕ, List, ◌<◌, ◌≤◌, ◌^◌, [], Some, None, true, false, IsTrue, IsSome, slice_get, is_some, IfOk, IfSome, OnOk, OnErr, MatchOption};
 ghost use Rattle.std.specs.FinMap as finite;
-ghost use Rattle.std.specs.Ordering.{nat_cmp};
 ghost use Rattle.m3_model.specs.declared.point.Key.{Key};
 ghost use Rattle.m3_model.specs.declared.point.Matcher.{Matcher};
 ghost use Rattle.m3_model.specs.declared.point.Pick.TheVariants as pick;
 ghost use Rattle.m3_model.specs.Contents.{higher, is_higher};
-ghost use Rattle.place_numbers.specs.Inverse.{AreDistinct};
 ghost use Rattle.series_slots.specs.declared.series_key.SeriesKey.{SeriesKey};
 ghost use Rattle.series_slots.specs.SeriesKeys.{key_at};
 ghost use Rattle.series_slots.specs.Slots.{Slots, settled};
@@ -14,36 +11,31 @@ ghost use Rattle.series_slots.specs.Points.{slot_at, value_of, points_of};
 ghost use Rattle.series_slots.specs.Places.{IsAt, StandsAt, slots_of};
 ghost use Rattle.series_slots.specs.Ranges.{IsRangeOf};
 ghost use Rattle.block_buffer.specs.Taken.{is_settled};
-ghost use Rattle.block_buffer.specs.Timed.{IsTakenAt, is_bare, time_cmp, IsTimed, IsSlotSet, AreSameSlots, IsFirst, HasNoneFrom, IsValueOf, HasNoValue, HasNoSlots, HasSlots};
+ghost use Rattle.series_slots.specs.Firsts.{HasNoneLater, IsFirstAt};
+ghost use Rattle.block_buffer.specs.Held.{has_expired};
+ghost use Rattle.block_buffer.specs.AllSeries.{IsTakenAt, is_bare, IsSlotSet, AreSameSlots, IsFirst, HasNoneFrom, HasNoSlots, HasSlots};
+ghost use Rattle.block_buffer.specs.Spots.{IsUpTo, turned, IsKeyWithin, IsValueOf, HasNoValueOf, HasNoneAt};
 
 use crate::spot::Spot;
 use crate::taken::Taken;
-use m3_model::{Duplicate, Memory, Seq, Series, Text};
-use place_numbers::PlaceNumbers;
+use m3_model::{Duplicate, Memory, Rules, Seq, Series, Text};
+use retention::last_expired;
 use series_slots::{PlacedSeries, SeriesKey};
 use std::alloc::Global;
-use std::collections::BTreeSet;
 use std::marker::Model;
 
-// The slots of each series, at its place, and an index of their times. A place is that of its series until a series
-// leaves.
+// The slots of each series, at its place. A place is that of its series until a series leaves.
 #[derive(Drop)]
 pub(crate) struct AllSeries {
     placed: PlacedSeries,
-    // The number of each place.
-    numbers: PlaceNumbers,
-    // The namespace and the time of each slot, under the number of its series.
-    times: BTreeSet<(u8, u64, u32)>,
     // One above the highest namespace that a series had.
     spaces: usize,
 }
 
 impl Model for AllSeries {
     ghost use Rattle.std.specs.Prelude.{◌≤◌};
-    ghost use Rattle.std.specs.BTreeSet.{contains};
     ghost use Rattle.series_slots.specs.Places.{Places, places_code};
-    ghost use Rattle.block_buffer.specs.Taken.{is_settled};
-    ghost use Rattle.block_buffer.specs.Timed.{IsTakenAt, is_bare, time_cmp, IsTimed, SpacesBelow};
+    ghost use Rattle.block_buffer.specs.AllSeries.{TimesFit, SpacesBelow};
 
     ghost Value = { Places };
 
@@ -51,7 +43,7 @@ impl Model for AllSeries {
 
     ghost view = { λ a. a.placed };
 
-    ghost invariant = { λ a. IsTimed a.placed a.numbers (contains time_cmp a.times) × SpacesBelow a.spaces a.placed × (a.spaces ≤ 256) };
+    ghost invariant = { λ a. TimesFit a.placed × SpacesBelow a.spaces a.placed × (a.spaces ≤ 256) };
 }
 
 // Where a slot is: the place of its series, and whether it has a value.
@@ -59,18 +51,6 @@ impl Model for AllSeries {
 pub(crate) struct Found {
     pub(crate) place: usize,
     pub(crate) valued: bool,
-}
-
-// The number of the place, which is there.
-fn number_of(numbers: &PlaceNumbers, place: usize) -> u32
-    requires { place < length numbers.now }
-    ensures number { slice_get numbers.now place ≡ Some result }
-    ensures distinct { AreDistinct numbers.now }
-{
-    match numbers.number_at(place) {
-        Some(number) => number,
-        None => 0,
-    }
 }
 
 // The value of a slot, if there is a slot and it has one.
@@ -81,18 +61,6 @@ fn settled(slot: Option<Option<i64>>) -> Option<i64>
         Some(value) => value,
         None => None,
     }
-}
-
-// The value under this number at this time, if there is one.
-fn spot(placed: &PlacedSeries, numbers: &PlaceNumbers, t: u64, number: u32) -> Option<Spot>
-    requires { length numbers.now ≡ length placed.now }
-    ensures some { IfSome result (λ x. (x.t ≡ t) × IsValueOf placed.now numbers.now x.place t number x.v) }
-    ensures none { result ≡ None → HasNoValue placed.now numbers.now t number }
-    ensures distinct { AreDistinct numbers.now }
-{
-    let place = numbers.place_of(number)?;
-    let v = settled(placed.slot_at(place, t))?;
-    Some(Spot { place, t, v })
 }
 
 // Whether there is a slot, and it has no value.
@@ -113,50 +81,31 @@ fn higher_of(a: usize, b: usize) -> usize
     if a < b { b } else { a }
 }
 
-// The first value of the namespace at the times from `low` on.
-fn first_in(
-    placed: &PlacedSeries,
-    numbers: &PlaceNumbers,
-    times: &BTreeSet<(u8, u64, u32)>,
-    ns: u8,
-    low: u64,
-) -> Option<Spot>
-    requires { IsTimed placed.now numbers.now (contains time_cmp times.now) }
-    ensures none { result ≡ None → HasNoneFrom placed.now ns low }
-    ensures some { IfSome result (λ x. IsFirst placed.now ns low x.place x.t x.v) }
+// The earlier one of two values, or the only one.
+fn earlier(a: Option<Spot>, b: Option<Spot>) -> Option<Spot>
+    ensures one { (result ≡ a) ⊎ (result ≡ b) }
+    ensures first { IfSome a (λ x. IsUpTo result x.t) }
+    ensures second { IfSome b (λ x. IsUpTo result x.t) }
 {
-    for (space, t, number) in times.range((ns, low, 0)..) {
-        if *space != ns {
-            return None;
-        }
-        if let Some(found) = spot(placed, numbers, *t, *number) {
-            return Some(found);
-        }
+    match (a, b) {
+        (Some(x), Some(y)) => Some(if y.t < x.t { y } else { x }),
+        (Some(x), None) => Some(x),
+        (None, y) => y,
     }
-    None
 }
 
-// The places of the series that have slots of the namespace with `from <= t < to`.
-fn places_in(
-    alloc: Global,
-    numbers: &PlaceNumbers,
-    times: &BTreeSet<(u8, u64, u32)>,
-    ns: u8,
-    from: u64,
-    to: u64,
-) -> Result<BTreeSet<usize>, Memory>
-    ensures { IfOk result (λ places. (place n t : ℕ) → slice_get numbers.now place ≡ Some n → contains time_cmp times.now (ns, t, n) ≡ true → from ≤ t → t < to → contains nat_cmp places place ≡ true) }
+// The place that comes so many steps after this one, where after the last of so many places comes the first.
+fn turned(places: usize, from: usize, step: usize) -> usize
+    requires { step < places }
+    ensures turned { result ≡ turned places from step }
+    ensures there { result < places }
 {
-    let mut places = BTreeSet::new(alloc);
-    if to <= from {
-        return Ok(places);
+    let before_end = places.saturating_sub(from);
+    if step < before_end {
+        from + step
+    } else {
+        step - before_end
     }
-    for (_, _, number) in times.range((ns, from, 0)..(ns, to, 0)) {
-        if let Some(place) = numbers.place_of(*number) {
-            places.insert(place)?;
-        }
-    }
-    Ok(places)
 }
 
 impl AllSeries {
@@ -165,8 +114,6 @@ impl AllSeries {
     {
         AllSeries {
             placed: PlacedSeries::new(alloc),
-            numbers: PlaceNumbers::new(alloc),
-            times: BTreeSet::new(alloc),
             spaces: 0,
         }
     }
@@ -240,19 +187,8 @@ impl AllSeries {
         ensures stands { (s : SeriesKey) → IsAt self.old place s → OnOk result (StandsAt self.new place t s) }
         ensures err { OnErr result (self.new ≡ self.old) }
     {
-        let time = (
-            self.placed.space_at(place),
-            t,
-            number_of(&self.numbers, place),
-        );
-        self.times.insert(time)?;
-        match self.placed.hold(place, t) {
-            Ok(()) => Ok(()),
-            Err(e) => {
-                self.times.remove(&time);
-                Err(e)
-            }
-        }
+        self.placed.hold(place, t)?;
+        Ok(())
     }
 
     // Makes a slot of a series that isn't there. It comes last.
@@ -279,17 +215,9 @@ impl AllSeries {
         ensures kept { AreSameSlots self.old self.new }
     {
         let spaces = series.ns as usize + 1;
-        self.numbers.push()?;
-        match self.placed.add(alloc, series) {
-            Ok(place) => {
-                self.spaces = higher_of(self.spaces, spaces);
-                Ok(place)
-            }
-            Err(e) => {
-                self.numbers.pop();
-                Err(e)
-            }
-        }
+        let place = self.placed.add(alloc, series)?;
+        self.spaces = higher_of(self.spaces, spaces);
+        Ok(place)
     }
 
     // Puts the value into the slot of the series at this place and time, unless one at least as high stands there. Says
@@ -346,12 +274,6 @@ impl AllSeries {
         ensures taken { (s : SeriesKey) → IsAt self.old place s → IsSlotSet self.old self.new (key_at s t) None }
         ensures there { (s : SeriesKey) → IsAt self.old place s → IsAt self.new place s }
     {
-        let time = (
-            self.placed.space_at(place),
-            t,
-            number_of(&self.numbers, place),
-        );
-        self.times.remove(&time);
         self.placed.take(place, t);
     }
 
@@ -364,17 +286,101 @@ impl AllSeries {
         if !self.placed.is_vacant(place) {
             return None;
         }
-        self.numbers.swap_remove(place);
         self.placed.remove(place)
     }
 
-    // The first value of the namespace at the times from `low` on.
+    // The first value of the namespace at the times from `low` on. Looks at each series.
     pub(crate) fn first(&self, ns: u8, low: u64) -> Option<Spot>
         ensures none { result ≡ None → HasNoneFrom self.now ns low }
         ensures some { IfSome result (λ x. IsFirst self.now ns low x.place x.t x.v) }
         ensures small { (k : Key) → IsSome (slot_at (slots_of self.now) k) → k.t < 2 ^ 64 }
     {
-        first_in(&self.placed, &self.numbers, &self.times, ns, low)
+        let mut first = None;
+        for place in 0..self.placed.len() {
+            first = earlier(first, self.first_at(place, ns, low));
+        }
+        first
+    }
+
+    // The first value of the series at this place at the times from `low` on, where it is of the namespace.
+    fn first_at(&self, place: usize, ns: u8, low: u64) -> Option<Spot>
+        requires { (s : SeriesKey) × IsAt self.now place s }
+        ensures none { result ≡ None → (s : SeriesKey) → IsAt self.now place s → s.ns ≡ ns → HasNoneLater self.now s low }
+        ensures some { IfSome result (λ x. (x.place ≡ place) × ((s : SeriesKey) → IsAt self.now place s → (s.ns ≡ ns) × IsFirstAt self.now place s low x.t x.v)) }
+    {
+        if self.placed.space_at(place) != ns {
+            return None;
+        }
+        let (t, v) = self.placed.first_from(place, low)?;
+        Some(Spot { place, t, v })
+    }
+
+    // A value of the namespace at the times from `low` up to and with `high`. Looks at the series from this place on, and then at
+    // those before.
+    pub(crate) fn any_within(&self, from: usize, ns: u8, low: u64, high: u64) -> Option<Spot>
+        ensures none { result ≡ None → HasNoValueOf self.now (IsKeyWithin ns low high) }
+        ensures some { IfSome result (λ x. IsValueOf self.now (IsKeyWithin ns low high) x.place x.t x.v) }
+    {
+        let places = self.placed.len();
+        for step in 0..places {
+            let found = self.within_at(turned(places, from, step), ns, low, high);
+            if found.is_some() {
+                return found;
+            }
+        }
+        None
+    }
+
+    // A value of the series at this place at the times from `low` up to and with `high`, where it is of the namespace.
+    fn within_at(&self, place: usize, ns: u8, low: u64, high: u64) -> Option<Spot>
+        requires { (s : SeriesKey) × IsAt self.now place s }
+        ensures none { result ≡ None → HasNoneAt self.now place (IsKeyWithin ns low high) }
+        ensures some { IfSome result (λ x. IsValueOf self.now (IsKeyWithin ns low high) x.place x.t x.v) }
+    {
+        let spot = self.first_at(place, ns, low)?;
+        if high < spot.t {
+            return None;
+        }
+        Some(spot)
+    }
+
+    // A value that has expired. Looks at the series from this place on, and then at those before.
+    pub(crate) fn any_expired(&self, from: usize, rules: &Rules) -> Option<Spot>
+        ensures none { result ≡ None → HasNoValueOf self.now (λ k. has_expired rules.entry.now k ≡ true) }
+        ensures some { IfSome result (λ x. IsValueOf self.now (λ k. has_expired rules.entry.now k ≡ true) x.place x.t x.v) }
+    {
+        let places = self.placed.len();
+        for step in 0..places {
+            let found = self.expired_at(turned(places, from, step), rules);
+            if found.is_some() {
+                return found;
+            }
+        }
+        None
+    }
+
+    // A value of the series at this place that has expired.
+    fn expired_at(&self, place: usize, rules: &Rules) -> Option<Spot>
+        requires { (s : SeriesKey) × IsAt self.now place s }
+        ensures none { result ≡ None → HasNoneAt self.now place (λ k. has_expired rules.entry.now k ≡ true) }
+        ensures some { IfSome result (λ x. IsValueOf self.now (λ k. has_expired rules.entry.now k ≡ true) x.place x.t x.v) }
+    {
+        let ns = self.placed.space_at(place);
+        let last = last_expired(rules, ns)?;
+        self.within_at(place, ns, 0, last)
+    }
+
+    // Takes the value at the spot out, and then the series if it has no slot.
+    pub(crate) fn take_spot(&mut self, spot: Spot) -> Taken
+        requires { (s : SeriesKey) × StandsAt self.old spot.place spot.t s × (value_of (slots_of self.old) (key_at s spot.t) ≡ Some spot.v) }
+        ensures { (s : SeriesKey) → StandsAt self.old spot.place spot.t s → IsTakenAt self.old self.new spot.place s spot.t result }
+    {
+        let gone = self.take(spot.place, spot.t);
+        Taken {
+            t: spot.t,
+            v: spot.v,
+            gone,
+        }
     }
 
     // A number of namespaces: each slot is of one of the first ones.
@@ -421,19 +427,5 @@ impl AllSeries {
         ensures { IfOk result (λ found. (wanted : List Matcher) → IsRangeOf (points_of (slots_of self.now)) (pick.Match ns wanted) from to found) }
     {
         self.placed.range_of_space(alloc, ns, from, to)
-    }
-
-    // The same, in proportion to the answer, and to its order.
-    pub(crate) fn range_by_time(
-        &self,
-        alloc: Global,
-        ns: u8,
-        from: u64,
-        to: u64,
-    ) -> Result<Seq<Series>, Memory>
-        ensures { IfOk result (λ found. (wanted : List Matcher) → IsRangeOf (points_of (slots_of self.now)) (pick.Match ns wanted) from to found) }
-    {
-        let places = places_in(alloc, &self.numbers, &self.times, ns, from, to)?;
-        self.placed.range_at(alloc, ns, &places, from, to)
     }
 }

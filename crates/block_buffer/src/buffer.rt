@@ -5,9 +5,9 @@ ghost use Rattle.m3_model.specs.declared.point.Matcher.{Matcher};
 ghost use Rattle.m3_model.specs.declared.point.Pick.TheVariants as pick;
 ghost use Rattle.m3_model.specs.Contents.{raised, raised_at, is_higher, key_of};
 ghost use Rattle.series_slots.specs.SeriesKeys.{key_at};
-ghost use Rattle.series_slots.specs.Slots.{is_within};
 ghost use Rattle.series_slots.specs.Ranges.{IsRangeOf};
 ghost use Rattle.block_buffer.specs.Blocks.{IsBlocksOf};
+ghost use Rattle.block_buffer.specs.Spots.{IsKeyWithin};
 ghost use Rattle.block_buffer.specs.Held.{without, has_expired, is_in_block};
 ghost use Rattle.block_buffer.specs.Joins.{joined, points_of_series, IsJoinedInPart};
 ghost use Rattle.block_buffer.specs.Taken.{HasSeries, HasId, HasNone, IsTaken, IsEarliest, settled_at, settled_with, IsSettledInPart};
@@ -17,13 +17,16 @@ use crate::blocks::{block_starts, listed};
 use crate::room::Room;
 use crate::taken::Taken;
 use m3_model::{Duplicate, Memory, Pick, Point, Rules, Seq, Series, Text};
-use retention::last_expired;
 use series_slots::SeriesKey;
 use std::alloc::Global;
 use std::marker::Model;
 
 /// The points of one replica in memory. Contracts see it as its content, and beside that the key for which there is
 /// room: at it the next `put` takes no memory.
+///
+/// The times of a series stand in a list, by which a point that comes after them all is found in constant time, and any other in
+/// their logarithm. One that comes or goes within them moves those on its shorter side by a place, beside the costs that the
+/// functions state.
 ///
 /// See M3DB's page "Storage Engine", of the buffer.
 #[derive(Drop)]
@@ -33,6 +36,8 @@ pub struct Buffer {
     // The series that was sought last. Where there is room, it is the one for which.
     sought: SeriesKey,
     room: Option<Room>,
+    // The place of the series that a point left last, where the search for the next one to leave begins.
+    hand: usize,
 }
 
 impl Model for Buffer {
@@ -60,6 +65,7 @@ impl Buffer {
             all: AllSeries::new(alloc),
             sought: SeriesKey::new(alloc),
             room: None,
+            hand: 0,
         }
     }
 
@@ -153,19 +159,18 @@ impl Buffer {
     }
 
     /// The points of the namespace with `start <= t < start + size`, as the rows of a volume: identifiers ascend strictly by
-    /// bytes, times ascend strictly, and no series is empty. Costs for each point the logarithm of all, and the order of the
-    /// series.
+    /// bytes, times ascend strictly, and no series is empty. Costs in proportion to the series, to the answer and to its order.
     ///
     /// The end of the block is below 2^64, as that of each block of rules within their limits.
     pub fn block(&self, alloc: Global, ns: u8, start: u64, size: u64) -> Result<Seq<Series>, Memory>
         requires { start + size < 2 ^ 64 }
         ensures { IfOk result (λ rows. (wanted : List Matcher) → IsRangeOf self.now.points (pick.Match ns wanted) start (start + size) rows) }
     {
-        self.all.range_by_time(alloc, ns, start, start + size)
+        self.all.range_of_space(alloc, ns, start, start + size)
     }
 
-    /// The namespace and the start of each block of the rules that has a point, ascending. Costs for each block the logarithm of
-    /// the points.
+    /// The namespace and the start of each block of the rules that has a point, ascending. Costs for each block in proportion to
+    /// the series, and for each of them the logarithm of its times.
     ///
     /// Block sizes are at least 1, as in all rules within their limits.
     pub fn blocks(&self, alloc: Global, rules: &Rules) -> Result<Seq<(u8, u64)>, Memory>
@@ -178,12 +183,12 @@ impl Buffer {
     }
 
     /// Takes the first point, by time, of the namespace at the times from `low` up to and with `high` out, and gives up the
-    /// room. Takes no memory, and the logarithm of the points.
+    /// room. Takes no memory, and for each series the logarithm of its times.
     pub fn take_first(&mut self, ns: u8, low: u64, high: u64) -> Option<Taken>
         ensures room { self.new.room ≡ None }
         ensures same { result ≡ None → self.new.points ≡ self.old.points }
-        ensures none { result ≡ None → HasNone self.old.points (λ k. (k.ns ≡ ns) × (is_within low high k.t ≡ true)) }
-        ensures taken { IfSome result (IsTaken self.old.points self.new.points (λ k. (k.ns ≡ ns) × (is_within low high k.t ≡ true))) }
+        ensures none { result ≡ None → HasNone self.old.points (IsKeyWithin ns low high) }
+        ensures taken { IfSome result (IsTaken self.old.points self.new.points (IsKeyWithin ns low high)) }
         ensures earliest { IfSome result (λ x. IsEarliest self.old.points ns low x.t) }
     {
         self.release();
@@ -199,7 +204,22 @@ impl Buffer {
         })
     }
 
-    /// Takes an expired point out, and gives up the room. Takes no memory, and for each namespace the logarithm of the points.
+    /// Takes a point of the namespace at the times from `low` up to and with `high` out, and gives up the room. Takes no memory. Looks
+    /// at one series after the other, from that on which a point left last, and finds its first point in the logarithm of its
+    /// times: to take all such points out costs in proportion to the series, and for each point that logarithm.
+    pub fn take_within(&mut self, ns: u8, low: u64, high: u64) -> Option<Taken>
+        ensures room { self.new.room ≡ None }
+        ensures same { result ≡ None → self.new.points ≡ self.old.points }
+        ensures none { result ≡ None → HasNone self.old.points (IsKeyWithin ns low high) }
+        ensures taken { IfSome result (IsTaken self.old.points self.new.points (IsKeyWithin ns low high)) }
+    {
+        self.release();
+        let spot = self.all.any_within(self.hand, ns, low, high)?;
+        self.hand = spot.place;
+        Some(self.all.take_spot(spot))
+    }
+
+    /// Takes an expired point out, and gives up the room. Takes no memory, and costs as `take_within`.
     pub fn take_expired(&mut self, rules: &Rules) -> Option<Taken>
         ensures room { self.new.room ≡ None }
         ensures same { result ≡ None → self.new.points ≡ self.old.points }
@@ -207,28 +227,13 @@ impl Buffer {
         ensures taken { IfSome result (IsTaken self.old.points self.new.points (λ k. has_expired rules.entry.now k ≡ true)) }
     {
         self.release();
-        for space in 0..self.all.spaces() {
-            if let Some(taken) = self.take_expired_of(rules, space as u8) {
-                return Some(taken);
-            }
-        }
-        None
-    }
-
-    // Takes an expired point of the namespace out, and gives up the room.
-    fn take_expired_of(&mut self, rules: &Rules, ns: u8) -> Option<Taken>
-        requires { self.old.room ≡ None }
-        ensures same { result ≡ None → self.new ≡ self.old }
-        ensures room { self.new.room ≡ None }
-        ensures none { result ≡ None → HasNone self.old.points (λ k. (k.ns ≡ ns) × (has_expired rules.entry.now k ≡ true)) }
-        ensures taken { IfSome result (IsTaken self.old.points self.new.points (λ k. has_expired rules.entry.now k ≡ true)) }
-    {
-        let last = last_expired(rules, ns)?;
-        self.take_first(ns, 0, last)
+        let spot = self.all.any_expired(self.hand, rules)?;
+        self.hand = spot.place;
+        Some(self.all.take_spot(spot))
     }
 
     /// Takes the expired points out, and gives up the room. Answers how many points went, up to the greatest number.
-    /// Takes no memory; costs for each point that goes the logarithm of all.
+    /// Takes no memory; costs in proportion to the series, and for each point that goes the logarithm of its series' times.
     pub fn expire(&mut self, rules: &Rules) -> u64
         ensures taken { self.new ≡ record { points = without self.old.points (has_expired rules.entry.now); room = None } }
         ensures counted { result ≡ min (finite.len self.old.points - finite.len self.new.points) (2 ^ 64 - 1) }
@@ -242,7 +247,7 @@ impl Buffer {
     }
 
     /// Takes the points of the namespace with `start <= t < start + size` out, and gives up the room. Takes no memory;
-    /// costs for each point that goes the logarithm of all.
+    /// costs as `expire`.
     ///
     /// The end of the block is below 2^64, as that of each block of rules within their limits.
     pub fn drop_block(&mut self, ns: u8, start: u64, size: u64)
@@ -253,7 +258,7 @@ impl Buffer {
         if size == 0 {
             return;
         }
-        while let Some(taken) = self.take_first(ns, start, start + (size - 1)) {
+        while let Some(taken) = self.take_within(ns, start, start + (size - 1)) {
             drop(taken);
         }
     }
@@ -283,7 +288,7 @@ impl Buffer {
     }
 
     /// Takes the point of the series of the namespace at this time out, if its value isn't above this one, and gives up the
-    /// room. Finds the series in constant expected time; where a point goes, that takes the logarithm of the points.
+    /// room. Finds the series in constant expected time; its time in the logarithm of its times.
     ///
     /// # Errors
     ///
@@ -310,7 +315,7 @@ impl Buffer {
     }
 
     /// Takes each point of the series of the namespace out whose value isn't above the one that is given for its time, and gives
-    /// up the room. Each point that is given costs constant expected time, and each that goes the logarithm of all.
+    /// up the room. Each point that is given costs constant expected time and the logarithm of the series' times.
     ///
     /// # Errors
     ///

@@ -42,7 +42,7 @@ use Rattle.cluster_core.specs.declared.replica_state.ReplicaState.{ReplicaState}
 use Rattle.cluster_core.proofs.ListLemmas.{some_same}
 use Rattle.placement_core.specs.NodeNames.{IsNamedBelow}
 use Rattle.session_net.specs.Reads.{asked_shards, count_from}
-use Rattle.replica_machine.specs.Damages.{IsFileDamage}
+use Rattle.replica_exchange.specs.Damages.{IsFileDamage}
 use Rattle.told_by.specs.Clocks.{sets_rules}
 use Rattle.told_by.specs.Openings.{sets_seed}
 use Rattle.told_by.specs.Writes.{IsUnmetWrite}

@@ -17,7 +17,7 @@ use Rattle.cluster_core.specs.declared.event.Event.TheVariants as event
 use Rattle.cluster_core.proofs.ExtendLemmas.{at_last, at_push, legal_last}
 use Rattle.cluster_core.proofs.ListLemmas.{at_append, at_within}
 use Rattle.event_trail.proofs.Balances.{IsBalanced, legal_init}
-use Rattle.replica_calls.specs.Calls.{Tracked}
+use Rattle.session_net.specs.Calls.{Tracked}
 use Rattle.session_net.specs.Ready.{IsReady}
 use Rattle.session_net.specs.Runs.{Ran}
 use Rattle.session_net.proofs.ReadyLemmas.{any_after, there_after}

@@ -10,8 +10,7 @@ ghost use Rattle.cluster_members.specs.Steps.{clock_events};
 use event_trail::{EventView, tell_apart};
 use m3_model::Rules;
 use m3_outside::Disk;
-use replica_calls::Replicas;
-use session_net::add;
+use session_net::{Replicas, add};
 
 // Adds an Ask for a Clock of the rules to the list, which has room for it.
 fn ask<D: Disk>(replicas: &mut Replicas<D>, rules: &Rules)

@@ -9,3 +9,4 @@ mod spaces;
 
 pub use calls::Range;
 pub use members::Members;
+pub use session_writes::deliver::deliver;

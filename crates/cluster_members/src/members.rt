@@ -1,4 +1,6 @@
 ghost use Rattle.std.specs.Prelude.{◌≡◌, ◌≤◌, ◌<◌, ◌*◌, length};
+ghost use Rattle.std.specs.List.{All};
+ghost use Rattle.std.proofs.Props.{props};
 ghost use Rattle.m3_model.specs.declared.limits.TheConstants.{MOST_NAMESPACES, MOST_NODES, MOST_SHARDS, TIME_END};
 
 use m3_outside::Disk;
@@ -13,6 +15,7 @@ pub struct Members<D: Disk> {
     /// By the number of the node.
     pub stopped: Vec<bool>,
     ghost few: { length net.state.rules.spaces ≤ MOST_NAMESPACES },
+    ghost sizes: { All (λ space. 0 < space.block) net.state.rules.spaces } by { Prim.hlevel props },
     ghost moment: { net.state.rules.now < TIME_END },
     ghost few_nodes: { length net.state.place.instances ≤ MOST_NODES },
     ghost few_slots: { length slots.items ≤ MOST_NODES * MOST_SHARDS },

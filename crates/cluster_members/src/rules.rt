@@ -1,5 +1,6 @@
 //! The namespaces and the moment of a cluster that stands.
 ghost use Rattle.std.specs.Prelude.{◌≡◌, ◌≤◌, ◌<◌, ◌++◌, ◌∷◌, [], length, IfOk};
+ghost use Rattle.std.specs.List.{All};
 ghost use Rattle.m3_model.specs.declared.limits.TheConstants.{MOST_NAMESPACES, TIME_END};
 ghost use Rattle.cluster_core.specs.Legal.{IsNextClock};
 ghost use Rattle.replica_exchange.specs.MachineCalls.{HasRoom};
@@ -44,6 +45,7 @@ impl<D: Disk> Members<D> {
         requires next { IsNextClock self.old.net.replicas.events rules }
         requires room { HasRoom 2 self.old.net.replicas.events }
         requires few { length rules.spaces ≤ MOST_NAMESPACES }
+        requires sizes { All (λ space. 0 < space.block) rules.spaces }
         requires moment { rules.now < TIME_END }
         ensures ready { IsReady self.new.net.state self.new.net.replicas self.new.net.bag }
         ensures sets { SetsRules D.state rules self.old self.new }
@@ -52,9 +54,11 @@ impl<D: Disk> Members<D> {
         drop(replace(&mut self.net.state.rules, rules));
     }
 
-    /// Makes a namespace, by a Clock of the list. `Order` says that its name is there, and `Limit` that there are as many
-    /// as may be; then `Full` that the list has no room, and `Memory` that memory was wanted. Nothing changes in these.
+    /// Makes a namespace, whose blocks have at least the size 1, by a Clock of the list. `Order` says that its name is there, and
+    /// `Limit` that there are as many as may be; then `Full` that the list has no room, and `Memory` that memory was wanted. Nothing
+    /// changes in these.
     pub fn name_space(&mut self, alloc: Global, space: Space) -> Answer
+        requires sized { 0 < space.block }
         requires ready { IsReady self.old.net.state self.old.net.replicas self.old.net.bag }
         ensures ready { IsReady self.new.net.state self.new.net.replicas self.new.net.bag }
         ensures named { IsNamed D.state self.old space result self.new }

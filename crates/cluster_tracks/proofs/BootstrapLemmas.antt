@@ -14,7 +14,7 @@ use Rattle.m3_outside.specs.declared.disk.Disk.{Ghosts}
 use Rattle.call_lines.specs.Laws.{IsNotRefused}
 use Rattle.cluster_members.specs.Names.{node_named}
 use Rattle.cluster_members.specs.declared.members.Members.{Members}
-use Rattle.node_calls.specs.Nodes.{HasShard, IsBootstrapped, IsHeldUp, IsNoShard, MayBoot}
+use Rattle.upkeep_lines.specs.Nodes.{HasShard, IsBootstrapped, IsHeldUp, IsNoShard, MayBoot}
 use Rattle.act_lines.specs.Due.{BootstrapDue, IsDueNext}
 use Rattle.act_lines.proofs.DueLemmas.{bootstraps_are_due}
 use Rattle.act_lines.specs.Nodes.{LeavesBegun}

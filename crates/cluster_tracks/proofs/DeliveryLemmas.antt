@@ -19,7 +19,7 @@ use Rattle.call_lines.specs.Left.{IsLeftBy}
 use Rattle.call_lines.proofs.DeliverLemmas.{delivered_tells}
 use Rattle.call_lines.proofs.KeepLemmas.{left_as_before, left_by_delivery}
 use Rattle.cluster_members.specs.declared.members.Members.{Members}
-use Rattle.node_calls.specs.Nodes.{IsDelivered, KeepsButReplicas}
+use Rattle.upkeep_lines.specs.Nodes.{IsDelivered, KeepsButReplicas}
 use Rattle.act_lines.specs.Settings.{LeavesNothing}
 use Rattle.act_lines.proofs.DueLemmas.{deliveries_are_due}
 use Rattle.act_lines.proofs.NothingLemmas.{full_delivery_tells}

@@ -15,8 +15,8 @@ use Rattle.m3_outside.specs.declared.disk.Disk.{Ghosts}
 use Rattle.cluster_core.specs.declared.event.Event.{Event}
 use Rattle.call_lines.specs.Laws.{IsNotRefused}
 use Rattle.cluster_members.specs.declared.members.Members.{Members}
-use Rattle.node_calls.specs.Halts.{restart_at, slots_of_node, stop_at}
-use Rattle.node_calls.specs.Nodes.{IsNode, IsRestarted, IsStopped, IsUnstarted}
+use Rattle.upkeep_lines.specs.Halts.{restart_at, slots_of_node, stop_at}
+use Rattle.upkeep_lines.specs.Nodes.{IsNode, IsRestarted, IsStopped, IsUnstarted}
 use Rattle.act_lines.specs.Due.{IsDueNext, RestartDue, StopDue}
 use Rattle.act_lines.proofs.DueLemmas.{restarts_are_due, stops_are_due}
 use Rattle.act_lines.proofs.HaltLemmas.{few_own, restart_failed_tells, restart_wanted_tells, restarted_tells, stopped_tells}

@@ -18,5 +18,7 @@ pub mod DeliveryLemmas
 pub mod NodeLemmas
 pub mod HaltLemmas
 pub mod BootstrapLemmas
+pub mod UpkeepLemmas
 pub mod InitLemmas
 pub mod LineLemmas
+pub use Rattle.act_lines.proofs.StandLemmas

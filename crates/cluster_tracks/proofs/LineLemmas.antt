@@ -1,7 +1,7 @@
 -- Any line of an act that is served, from those of the acts.
 use Rattle.std.proofs.Common.{◌≡◌, ℕ, List, [], ◌∷◌, ◌++◌, refl, sym, subst, Bool}
 use Rattle.std.specs.Prelude.{Option, Some, None}
-use Rattle.m3_model.specs.NotYet.{IsServedAct}
+use Rattle.served_acts.specs.NotYet.{IsServedAct}
 use Rattle.m3_model.specs.declared.act.Act.{Act}
 use Rattle.m3_model.specs.declared.act.Act.TheVariants as act
 use Rattle.m3_model.specs.declared.answer.Answer.{Answer}
@@ -16,13 +16,14 @@ use Rattle.cluster_members.specs.declared.members.Members.{Members}
 use Rattle.cluster_tracks.specs.Numbers.{numbers_by}
 use Rattle.cluster_tracks.specs.Tracks.{Tracks}
 use Rattle.cluster_tracks.specs.Acts.{Does, IsServedBy, OnMembers, next_call}
-use Rattle.cluster_tracks.specs.Lines.{BootstrapsAreTracked, DeliveriesAreTracked, EachMember, FatesAreTracked, FetchesAreTracked, InitsAreTracked, IsLeft, IsTrackedLine, LinesAreTracked, MatchesAreTracked, MomentsAreTracked, NamespacesAreTracked, OrdersAreTracked, RestartsAreTracked, StopsAreTracked, WritesAreTracked}
+use Rattle.cluster_tracks.specs.Lines.{BootstrapsAreTracked, DeliveriesAreTracked, EachMember, FatesAreTracked, FetchesAreTracked, FlushesAreTracked, InitsAreTracked, IsLeft, IsTrackedLine, LinesAreTracked, MatchesAreTracked, MomentsAreTracked, NamespacesAreTracked, OrdersAreTracked, RestartsAreTracked, StatusIsTracked, StopsAreTracked, TicksAreTracked, WritesAreTracked}
 use Rattle.cluster_tracks.proofs.BootstrapLemmas.{bootstraps_are_tracked}
 use Rattle.cluster_tracks.proofs.DeliveryLemmas.{deliveries_are_tracked}
 use Rattle.cluster_tracks.proofs.HaltLemmas.{restarts_are_tracked, stops_are_tracked}
 use Rattle.cluster_tracks.proofs.InitLemmas.{inits_are_tracked, orders_are_tracked}
 use Rattle.cluster_tracks.proofs.ReadLemmas.{fetches_are_tracked, matches_are_tracked}
 use Rattle.cluster_tracks.proofs.SettingLemmas.{fates_are_tracked, moments_are_tracked, namespaces_are_tracked}
+use Rattle.cluster_tracks.proofs.UpkeepLemmas.{flushes_are_tracked, status_is_tracked, ticks_are_tracked}
 use Rattle.cluster_tracks.proofs.WriteLemmas.{writes_are_tracked}
 
 -- the lines of each act of a cluster that stands
@@ -37,6 +38,9 @@ record ActsAreTracked {D : Type 0} {G : Ghosts D} (state : D → DiskState) (m :
   pub stop : StopsAreTracked state m
   pub restart : RestartsAreTracked state m
   pub bootstrap : BootstrapsAreTracked state m
+  pub tick : TicksAreTracked state m
+  pub flush : FlushesAreTracked state m
+  pub status : StatusIsTracked state m
 
 module _ {D : Type 0} {G : Ghosts D} (state : D → DiskState) where
   -- the act is served where a cluster stands, and is no `init`
@@ -51,6 +55,9 @@ module _ {D : Type 0} {G : Ghosts D} (state : D → DiskState) where
   by_act m each (act.Stop node) served other = each.stop node
   by_act m each (act.Restart node pick) served other = each.restart node pick
   by_act m each (act.Bootstrap node asked) served other = each.bootstrap node asked
+  by_act m each act.Tick served other = each.tick
+  by_act m each act.Flush served other = each.flush
+  by_act m each act.Status served other = each.status
   by_act m each (act.Init rf shards seed nodes) served other = absurd (other tt)
   by_act m each _ served other = absurd served
 
@@ -99,6 +106,9 @@ module _ {D : Type 0} {G : Ghosts D} (state : D → DiskState) where
       by (act.Stop node) it did = other (act.Stop node) (λ no. no) it did
       by (act.Restart node pick) it did = other (act.Restart node pick) (λ no. no) it did
       by (act.Bootstrap node asked) it did = other (act.Bootstrap node asked) (λ no. no) it did
+      by act.Tick it did = other act.Tick (λ no. no) it did
+      by act.Flush it did = other act.Flush (λ no. no) it did
+      by act.Status it did = other act.Status (λ no. no) it did
       by _ it did = absurd it
 
 pub lines_are_tracked : {D : Type 0} {G : Ghosts D} (state : D → DiskState) → ((d : D) → IsLawful (state d)) → (old : Option (Members D G)) → LinesAreTracked state old
@@ -114,4 +124,7 @@ lines_are_tracked state lawful old =
       stop = stops_are_tracked state lawful m;
       restart = restarts_are_tracked state lawful m;
       bootstrap = bootstraps_are_tracked state lawful m;
+      tick = ticks_are_tracked state lawful m;
+      flush = flushes_are_tracked state lawful m;
+      status = status_is_tracked state lawful m;
     }) (orders_are_tracked state old) (inits_are_tracked state lawful old)

@@ -20,8 +20,8 @@ use Rattle.transcripts.specs.Placements.{printed}
 use Rattle.transcripts.specs.Record.{inner_turns, line_of}
 use Rattle.call_lines.specs.Laws.{IsNotRefused}
 use Rattle.cluster_members.specs.declared.members.Members.{Members}
-use Rattle.node_calls.specs.Halts.{slots_of_node}
-use Rattle.node_calls.specs.Nodes.{IsNode, LacksRoom}
+use Rattle.upkeep_lines.specs.Halts.{slots_of_node}
+use Rattle.upkeep_lines.specs.Nodes.{IsNode, LacksRoom}
 use Rattle.act_lines.specs.Due.{IsDueNext}
 use Rattle.act_lines.specs.Settings.{LeavesNothing}
 use Rattle.act_lines.proofs.NothingLemmas.{no_room_tells, refused_tells}

@@ -17,7 +17,7 @@ use Rattle.told_by.specs.Makes.{OpensReplicas}
 use Rattle.transcripts.specs.Record.{line_of}
 use Rattle.cluster_members.specs.Steps.{SetsRules, clock_events}
 use Rattle.cluster_members.specs.declared.members.Members.{Members}
-use Rattle.node_calls.specs.Nodes.{KeepsButFates}
+use Rattle.upkeep_lines.specs.Nodes.{KeepsButFates}
 use Rattle.act_lines.specs.Due.{IsDueNext, MomentDue, NamespaceDue}
 use Rattle.act_lines.specs.Settings.{GoesOn}
 use Rattle.act_lines.specs.Quiet.{KeepsStops}

@@ -14,6 +14,8 @@ use Rattle.m3_model.specs.declared.rules.Space.{Space}
 use Rattle.m3_outside.specs.DiskState.{DiskState}
 use Rattle.m3_outside.specs.declared.disk.Disk.{Ghosts}
 use Rattle.cluster_core.specs.declared.event.Event.{Event}
+use Rattle.cluster_core.specs.declared.event.StepCall.{StepCall}
+use Rattle.cluster_core.specs.declared.event.StepCall.TheVariants as call
 use Rattle.replica_exchange.specs.declared.call_id.CallId.{CallId}
 use Rattle.replica_calls.specs.Calls.{Tracked}
 use Rattle.session_net.specs.Reads.{Wish}
@@ -23,9 +25,10 @@ use Rattle.cluster_members.specs.Calls.{IsFetched, IsReadAnswer, IsWriteAnswer, 
 use Rattle.cluster_members.specs.Steps.{IsMoved, IsNamed}
 use Rattle.cluster_members.specs.declared.calls.Range.{Range}
 use Rattle.cluster_members.specs.declared.members.Members.{Members}
-use Rattle.node_calls.specs.Halts.{HaveSameSlots}
-use Rattle.node_calls.specs.Nodes.{IsBootstrapped, IsDelivered, IsFated, IsRestarted, IsStopped}
-use Rattle.node_calls.proofs.RunLemmas.{same_itself, same_slots}
+use Rattle.upkeep_lines.specs.Halts.{HaveSameSlots}
+use Rattle.upkeep_lines.specs.Nodes.{IsBootstrapped, IsDelivered, IsFated, IsRestarted, IsStopped}
+use Rattle.upkeep_lines.proofs.RunLemmas.{same_itself, same_slots}
+use Rattle.cluster_upkeep.specs.Upkeep.{IsSwept, IsTold}
 use Rattle.cluster_tracks.specs.Acts.{MayCall}
 use Rattle.cluster_tracks.specs.Slots.{ActsKeepSlots, KeepsSlots}
 
@@ -137,6 +140,20 @@ module _ {D : Type 0} {G : Ghosts D} (state : D → DiskState) (m g : Members D 
   bootstrapped_so name asked answer.Full h = all_stays h.1.same
   bootstrapped_so name asked _ h = absurd h
 
+  -- ---- upkeep
+
+  swept_so : (c : StepCall) (b : Answer) → IsSwept state c m b g → KeepsSlots m g
+  swept_so c (answer.Swept done failed) h = steps_so _ h.keeps.keeps.slots h.ran
+  swept_so c answer.Memory same = all_stays same
+  swept_so c answer.Full h = all_stays h.same
+  swept_so c _ h = absurd h
+
+  told_so : (b : Answer) → IsTold state m b g → KeepsSlots m g
+  told_so (answer.Status now lines version) h = steps_so _ h.keeps.keeps.slots h.ran
+  told_so answer.Memory same = all_stays same
+  told_so answer.Full h = all_stays h.same
+  told_so _ h = absurd h
+
 -- each act but `init` leaves the slots, and which of them have replicas
 pub acts_keep_slots : {D : Type 0} {G : Ghosts D} (state : D → DiskState) (m : Members D G) → ActsKeepSlots state m
 acts_keep_slots state m id (act.Namespace name block past future retention) b g h = named_so state m g (record { name = name; block = block; past = past; future = future; retention = retention }) b h
@@ -149,4 +166,7 @@ acts_keep_slots state m id act.Deliver b g h = delivered_so state m g b h
 acts_keep_slots state m id (act.Stop node) b g h = stopped_so state m g node b h
 acts_keep_slots state m id (act.Restart node by) b g h = restarted_so state m g node b h
 acts_keep_slots state m id (act.Bootstrap node asked) b g h = bootstrapped_so state m g node asked b h
+acts_keep_slots state m id act.Tick b g h = swept_so state m g (call.Tick m.net.state.rules) b h
+acts_keep_slots state m id act.Flush b g h = swept_so state m g (call.Flush m.net.state.rules) b h
+acts_keep_slots state m id act.Status b g h = told_so state m g b h
 acts_keep_slots state m id _ b g h = absurd h

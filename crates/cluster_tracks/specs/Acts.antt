@@ -8,11 +8,13 @@ use Rattle.m3_model.specs.declared.point.Pick.TheVariants as pick
 use Rattle.m3_outside.specs.Depots.{Depot}
 use Rattle.m3_outside.specs.DiskState.{DiskState}
 use Rattle.m3_outside.specs.declared.disk.Disk.{Ghosts}
+use Rattle.cluster_core.specs.declared.event.StepCall.TheVariants as call
 use Rattle.replica_exchange.specs.declared.call_id.CallId.{CallId}
 use Rattle.cluster_members.specs.Calls.{IsFetched, IsWritten}
 use Rattle.cluster_members.specs.Steps.{IsMoved, IsNamed}
 use Rattle.cluster_members.specs.declared.members.Members.{Members}
-use Rattle.node_calls.specs.Nodes.{IsBootstrapped, IsDelivered, IsFated, IsRestarted, IsStopped}
+use Rattle.upkeep_lines.specs.Nodes.{IsBootstrapped, IsDelivered, IsFated, IsRestarted, IsStopped}
+use Rattle.cluster_upkeep.specs.Upkeep.{IsSwept, IsTold}
 use Rattle.first_cluster.specs.First.{IsFirst, IsRefusedInit}
 use Rattle.cluster_tracks.specs.Numbers.{last_number}
 
@@ -43,6 +45,9 @@ Does state id m act.Deliver answered g = IsDelivered state m answered g
 Does state id m (act.Stop node) answered g = IsStopped state m node answered g
 Does state id m (act.Restart node pick) answered g = IsRestarted state m node answered g
 Does state id m (act.Bootstrap node shard) answered g = IsBootstrapped state m node shard answered g
+Does state id m act.Tick answered g = IsSwept state (call.Tick m.net.state.rules) m answered g
+Does state id m act.Flush answered g = IsSwept state (call.Flush m.net.state.rules) m answered g
+Does state id m act.Status answered g = IsTold state m answered g
 Does state id m _ answered g = ⊥
 
 -- out of order where no cluster stands; else it does the act, and one stands afterwards

@@ -1,6 +1,6 @@
 -- Each line that a cluster answers is tracked with the turns before it.
 use Rattle.std.specs.Prelude.{◌≡◌, ℕ, ℤ, ⊤, List, [], ◌∷◌, ◌++◌, Option, Some, None, Bool}
-use Rattle.m3_model.specs.NotYet.{IsServedAct}
+use Rattle.served_acts.specs.NotYet.{IsServedAct}
 use Rattle.m3_model.specs.declared.act.Act.{Act}
 use Rattle.m3_model.specs.declared.act.Act.TheVariants as act
 use Rattle.m3_model.specs.declared.act.Fate.{Fate}
@@ -76,6 +76,16 @@ RestartsAreTracked state m = (name : List ℕ) (pick : ℕ) → IsTrackedLine st
 
 abbrev pub BootstrapsAreTracked : {D : Type 0} {G : Ghosts D} → (D → DiskState) → Members D G → Type 0
 BootstrapsAreTracked state m = (name : List ℕ) (asked : Option ℕ) → IsTrackedLine state m (act.Bootstrap name asked)
+
+-- upkeep, and how the replicas stand
+abbrev pub TicksAreTracked : {D : Type 0} {G : Ghosts D} → (D → DiskState) → Members D G → Type 0
+TicksAreTracked state m = IsTrackedLine state m act.Tick
+
+abbrev pub FlushesAreTracked : {D : Type 0} {G : Ghosts D} → (D → DiskState) → Members D G → Type 0
+FlushesAreTracked state m = IsTrackedLine state m act.Flush
+
+abbrev pub StatusIsTracked : {D : Type 0} {G : Ghosts D} → (D → DiskState) → Members D G → Type 0
+StatusIsTracked state m = IsTrackedLine state m act.Status
 
 -- ---- before a cluster stands, and `init`
 

@@ -6,7 +6,7 @@ use Rattle.m3_outside.specs.DiskState.{DiskState}
 use Rattle.m3_outside.specs.declared.disk.Disk.{Ghosts}
 use Rattle.replica_exchange.specs.declared.call_id.CallId.{CallId}
 use Rattle.cluster_members.specs.declared.members.Members.{Members}
-use Rattle.node_calls.specs.Halts.{HaveSameSlots}
+use Rattle.upkeep_lines.specs.Halts.{HaveSameSlots}
 use Rattle.cluster_tracks.specs.Acts.{Does}
 
 -- the slots stay, and the same ones have replicas

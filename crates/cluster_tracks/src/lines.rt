@@ -1,5 +1,5 @@
 //! The lines of a run tracked one after the other.
-ghost use Rattle.cluster_tracks.specs.Lines.{BootstrapsAreTracked, DeliveriesAreTracked, FatesAreTracked, FetchesAreTracked, InitsAreTracked, LinesAreTracked, MatchesAreTracked, MomentsAreTracked, NamespacesAreTracked, OrdersAreTracked, RestartsAreTracked, StopsAreTracked, WritesAreTracked};
+ghost use Rattle.cluster_tracks.specs.Lines.{BootstrapsAreTracked, DeliveriesAreTracked, FatesAreTracked, FetchesAreTracked, FlushesAreTracked, InitsAreTracked, LinesAreTracked, MatchesAreTracked, MomentsAreTracked, NamespacesAreTracked, OrdersAreTracked, RestartsAreTracked, StatusIsTracked, StopsAreTracked, TicksAreTracked, WritesAreTracked};
 ghost use Rattle.cluster_tracks.specs.Slots.{ActsKeepSlots};
 
 use cluster_members::Members;
@@ -30,6 +30,13 @@ pub fn nodes_are_tracked<D: Disk>(members: &Members<D>)
     ensures stop { StopsAreTracked D.state members.now }
     ensures restart { RestartsAreTracked D.state members.now }
     ensures bootstrap { BootstrapsAreTracked D.state members.now }
+{}
+
+/// Those that go over all replicas: ticks, flushes, and how they stand.
+pub fn upkeep_is_tracked<D: Disk>(members: &Members<D>)
+    ensures tick { TicksAreTracked D.state members.now }
+    ensures flush { FlushesAreTracked D.state members.now }
+    ensures status { StatusIsTracked D.state members.now }
 {}
 
 /// That of an `init`; and where no cluster stands, those that are out of order.

@@ -1,7 +1,7 @@
 -- What may be asked of a cluster.
 use Rattle.m3_model.specs.declared.act.Act.{Act}
 use Rattle.m3_model.specs.Limits.{MeetsLimits}
-use Rattle.m3_model.specs.NotYet.{IsServedAct}
+use Rattle.served_acts.specs.NotYet.{IsServedAct}
 
 -- within the limits, and of a kind that is served
 pub record MayAsk (act : Act) : Type 0 where

@@ -64,6 +64,13 @@ impl Log {
         })
     }
 
+    /// The number of the segment that the log ends in. Takes no memory.
+    pub fn number(&self) -> u64
+        ensures { result ≡ self.now.number }
+    {
+        self.number
+    }
+
     // Whether the segment has room for a chunk of so many bytes.
     fn has_room(&self, len: u32) -> bool
         requires { self.now.at ≤ SEGMENT_BYTES }

@@ -19,6 +19,8 @@ call_of (calls.Begin tenure) = call.Begin tenure
 call_of (calls.Put client number rules version point) = call.Put client number rules.value version point.value
 call_of (calls.Read client number rules version pick from to) = call.Read client number rules.value version pick.value from to
 call_of (calls.Fence version) = call.Fence version
+call_of (calls.Tick rules) = call.Tick rules.value
+call_of (calls.Flush rules) = call.Flush rules.value
 call_of calls.Report = call.Report
 call_of calls.Stop = call.Stop
 call_of calls.Restart = call.Restart
@@ -27,6 +29,7 @@ abbrev pub reply_of : ReplyParts → StepReply
 reply_of replies.Done = reply.Done
 reply_of (replies.Began fence points) = reply.Began fence points.value
 reply_of (replies.Found series) = reply.Found series.value
+reply_of (replies.Count count) = reply.Count count
 reply_of (replies.Told report) = reply.Told report.value
 reply_of (replies.Refused reason) = reply.Refused reason.value
 

@@ -22,6 +22,8 @@ enum CallParts {
     Put(u32, u64, Snapshot<Rules>, u64, Snapshot<Point>),
     Read(u32, u64, Snapshot<Rules>, u64, Snapshot<Pick>, u64, u64),
     Fence(u64),
+    Tick(Snapshot<Rules>),
+    Flush(Snapshot<Rules>),
     Report,
     Stop,
     Restart,
@@ -96,6 +98,24 @@ impl CallView {
         }
     }
 
+    /// The call that takes away what has expired by these rules.
+    pub fn tick(rules: &Rules) -> CallView
+        ensures { result ≡ call.Tick rules.entry.now }
+    {
+        CallView {
+            parts: CallParts::Tick(Snapshot::of(rules)),
+        }
+    }
+
+    /// The call that writes the blocks that have ended by these rules as volumes.
+    pub fn flush(rules: &Rules) -> CallView
+        ensures { result ≡ call.Flush rules.entry.now }
+    {
+        CallView {
+            parts: CallParts::Flush(Snapshot::of(rules)),
+        }
+    }
+
     pub fn report() -> CallView
         ensures { result ≡ call.Report }
     {
@@ -132,6 +152,7 @@ enum ReplyParts {
     Done,
     Began(u64, Snapshot<Seq<Point>>),
     Found(Snapshot<Seq<Series>>),
+    Count(u64),
     Told(Snapshot<Report>),
     Refused(Snapshot<Reason>),
 }
@@ -170,6 +191,15 @@ impl ReplyView {
     {
         ReplyView {
             parts: ReplyParts::Found(Snapshot::of(series)),
+        }
+    }
+
+    /// How many it were.
+    pub fn count(count: u64) -> ReplyView
+        ensures { result ≡ reply.Count count }
+    {
+        ReplyView {
+            parts: ReplyParts::Count(count),
         }
     }
 

@@ -7,3 +7,4 @@ pub mod DeliveryLives
 pub mod ShortLemmas
 pub mod VersionLives
 pub mod UntoldLemmas
+pub mod UpkeepLives

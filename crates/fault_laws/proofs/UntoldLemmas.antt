@@ -19,6 +19,7 @@ use Rattle.transcripts.specs.Levels.{IsAcked, AreSilent, MissesLevel, IsShort, I
 use Rattle.transcripts.specs.Moves.{IsNew, IsUnowned}
 use Rattle.transcripts.specs.Reasons.{MayFail, MayRefuse}
 use Rattle.transcripts.specs.Record.{Life, Record, TurnPlace}
+use Rattle.transcripts.specs.Sweeps.{IsSwept}
 use Rattle.transcripts.specs.Waiting.{Replica}
 use Rattle.model_laws.specs.Building.{begun, life_of, place, write, acks, unmet, by_each}
 use Rattle.model_laws.specs.Uncaused.{write_answered}
@@ -119,8 +120,12 @@ outcomes_less faults start p (m ∷ messages) [] each = absurd each
 outcomes_less faults start p (m ∷ messages) (o ∷ outcomes) each =
     (record { message = each.0.message; node_is = each.0.node_is; shard_is = each.0.shard_is; came = come_less faults start p m o.1 o.2 each.0.came }, outcomes_less faults start p messages outcomes each.1)
 
+swept_less : (faults : List Fault) (start : Option MetaState) (p : TurnPlace) (done : List (ℕ × ℕ × ℕ)) (failed : List (ℕ × ℕ × Reason)) → IsSwept true faults start p done failed → IsSwept false faults start p done failed
+swept_less faults start p done failed h = record { over = h.over; refused = λ x m. fail_less faults start p (h.over).place x.1 x.0 x.2 (h.refused x m) }
+
 own_less : (faults : List Fault) (start : Option MetaState) (messages : List LateMessage) (p : TurnPlace) (a : Act) (b : Answer) → IsOwn true faults start messages p a b → IsOwn false faults start messages p a b
 own_less faults start messages p (act.Init rf shards seed nodes) (answer.Placed used version) own = own
+own_less faults start messages p (act.Init rf shards seed nodes) (answer.Group shard) own = own
 own_less faults start messages p (act.Init rf shards seed nodes) (answer.Disk name shard) own = own
 own_less faults start messages p (act.Namespace name block past future retention) answer.Done own = tt
 own_less faults start messages p (act.Now now) answer.Done own = tt
@@ -132,12 +137,21 @@ own_less faults start messages p (act.Restart node pick) (answer.Disk name shard
 own_less faults start messages p (act.Bootstrap node asked) (answer.Available available used version) own = own
 own_less faults start messages p (act.Bootstrap node asked) (answer.Disk name shard) own = own
 own_less faults start messages p (act.Bootstrap node asked) (answer.Corrupt name shard damage) own = own
+own_less faults start messages p (act.Add node group) b own = own
+own_less faults start messages p (act.Drain node) b own = own
+own_less faults start messages p (act.Cancel node) b own = own
+own_less faults start messages p (act.Remove node) b own = own
+own_less faults start messages p (act.Replace node by group) b own = own
 own_less faults start messages p (act.Write ns id t v level version) (answer.Acks taken) own = own
 own_less faults start messages p (act.Write ns id t v level version) (answer.Consistency got needed reasons shard) own = misses_less faults start p got needed reasons shard own
 own_less faults start messages p (act.Fetch ns id from to level version) (answer.Found series short) own = found_less faults start p (Some id) level version short own
 own_less faults start messages p (act.Fetch ns id from to level version) (answer.Consistency got needed reasons shard) own = misses_less faults start p got needed reasons shard own
 own_less faults start messages p (act.Match ns wanted from to level version) (answer.Found series short) own = found_less faults start p None level version short own
 own_less faults start messages p (act.Match ns wanted from to level version) (answer.Consistency got needed reasons shard) own = misses_less faults start p got needed reasons shard own
+own_less faults start messages p act.Tick (answer.Swept done failed) own = swept_less faults start p done failed own
+own_less faults start messages p act.Flush (answer.Swept done failed) own = swept_less faults start p done failed own
+own_less faults start messages p act.Snapshot (answer.Swept done failed) own = swept_less faults start p done failed own
+own_less faults start messages p act.Status (answer.Status now lines version) own = own
 own_less faults start messages p _ _ own = absurd own
 
 due_less : (faults : List Fault) (start : Option MetaState) (messages : List LateMessage) (p : TurnPlace) (refusal : Option Answer) → IsDueBy true faults start messages p refusal → IsDueBy false faults start messages p refusal

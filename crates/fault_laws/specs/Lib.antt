@@ -1,3 +1,4 @@
 pub mod Faulty
 pub mod Versions
 pub mod Untold
+pub mod Upkeep

@@ -8,4 +8,5 @@ pub mod faults;
 pub mod messages;
 pub mod short_reads;
 pub mod untold;
+pub mod upkeep;
 pub mod versions;

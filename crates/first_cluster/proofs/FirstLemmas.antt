@@ -2,6 +2,8 @@
 use Rattle.std.proofs.Common.{◌≡◌, ◌≢◌, ◌≤◌, ◌<◌, ◌+◌, ◌*◌, ℕ, zero, suc, List, [], ◌∷◌, length, take, refl, sym, ap, subst, ◌∙◌, inl, inr, arith}
 use Rattle.std.specs.Prelude.{◌⊎◌, Option, Some, None, slice_get, slice_index_or}
 use Rattle.std.specs.FinMap.{get}
+use Rattle.std.specs.List.{All}
+use Rattle.std.proofs.lemmas.List.Elements.{All-nil}
 use Rattle.m3_model.specs.Ascends.{Ascends}
 use Rattle.m3_model.specs.Members.{IsIn}
 use Rattle.m3_model.proofs.MemberLemmas.{map-IsIn}
@@ -12,6 +14,7 @@ use Rattle.m3_model.specs.declared.placement.Assignment.{Assignment}
 use Rattle.m3_model.specs.declared.placement.Placement.{Placement}
 use Rattle.m3_model.specs.declared.rules.MetaState.{MetaState}
 use Rattle.m3_model.specs.declared.rules.Rules.{Rules}
+use Rattle.m3_model.specs.declared.rules.Space.{Space}
 use Rattle.placement_plan.specs.First.{IsFirstPlacement}
 use Rattle.m3_outside.specs.Depots.{Depot}
 use Rattle.m3_outside.specs.DiskState.{DiskState}
@@ -122,6 +125,9 @@ few_enough {n} few = omega (arith, few)
 
 pub few_spaces : (r : Rules) → r ≡ record { now = 0; spaces = [] } → length r.spaces ≤ MOST_NAMESPACES
 few_spaces r is = let none : length r.spaces ≡ 0 = ap (λ (x : Rules). length x.spaces) is in omega (arith, none)
+
+pub sized_spaces : (r : Rules) → r ≡ record { now = 0; spaces = [] } → All (λ (space : Space). 0 < space.block) r.spaces
+sized_spaces r is = subst (λ (x : Rules). All (λ (space : Space). 0 < space.block) x.spaces) (sym is) (All-nil (λ (space : Space). 0 < space.block))
 
 pub at_first_moment : (r : Rules) → r ≡ record { now = 0; spaces = [] } → r.now < TIME_END
 at_first_moment r is = let none : r.now ≡ 0 = ap (λ (x : Rules). x.now) is in omega (arith, none)

@@ -1,7 +1,7 @@
 //! What a cluster begins with.
 ghost use Rattle.std.specs.Prelude.{◌≡◌, ◌≢◌, ◌<◌, length, IfOk, IfErr, IsTrue};
 ghost use Rattle.m3_model.specs.Limits.{IsInit};
-ghost use Rattle.m3_model.specs.NotYet.{fills_its_nodes};
+ghost use Rattle.served_acts.specs.NotYet.{fills_its_nodes};
 ghost use Rattle.m3_outside.specs.Slots.{Out};
 ghost use Rattle.m3_outside.specs.declared.slot.Slot.{Slot as Place};
 ghost use Rattle.session_net.specs.Ready.{IsReady};

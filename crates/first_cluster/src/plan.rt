@@ -1,7 +1,7 @@
 //! What a cluster is to be, before it takes any disk.
 ghost use Rattle.std.specs.Prelude.{◌≡◌, ◌≤◌, ◌^◌, false, length, replicate, IfOk, IsTrue};
 ghost use Rattle.m3_model.specs.Limits.{IsInit};
-ghost use Rattle.m3_model.specs.NotYet.{fills_its_nodes};
+ghost use Rattle.served_acts.specs.NotYet.{fills_its_nodes};
 ghost use Rattle.first_cluster.specs.First.{IsPlan};
 ghost use Rattle.first_cluster.specs.Slots.{slots_in, starts_of};
 

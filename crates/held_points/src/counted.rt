@@ -5,9 +5,9 @@ ghost use Rattle.m3_model.specs.Contents.{raised, key_of};
 ghost use Rattle.m3_model.specs.declared.limits.TheConstants.{MOST_REPLICA_POINTS};
 ghost use Rattle.m3_model.specs.declared.point.Matcher.{Matcher};
 ghost use Rattle.m3_model.specs.declared.point.Pick.TheVariants as pick;
-ghost use Rattle.series_slots.specs.Slots.{is_within};
 ghost use Rattle.series_slots.specs.Ranges.{IsRangeOf};
 ghost use Rattle.block_buffer.specs.Blocks.{IsBlocksOf};
+ghost use Rattle.block_buffer.specs.Spots.{IsKeyWithin};
 ghost use Rattle.block_buffer.specs.Held.{has_expired};
 ghost use Rattle.block_buffer.specs.Taken.{HasId, HasNone, IsTaken, settled_at};
 
@@ -29,6 +29,7 @@ pub(crate) struct CountedBuffer {
 }
 
 impl Model for CountedBuffer {
+    ghost use Rattle.block_buffer.specs.Spots.{IsKeyWithin};
     ghost use Rattle.block_buffer.specs.Held.{Held, held_code};
     ghost use Rattle.held_points.specs.Counted.{IsCounted};
 
@@ -108,15 +109,14 @@ impl CountedBuffer {
         self.count
     }
 
-    // Takes the first point, by time, of the namespace at the times from `low` up to and with `high` out, and gives up the
-    // room.
-    pub(crate) fn take_first(&mut self, ns: u8, low: u64, high: u64) -> Option<Taken>
+    // Takes a point of the namespace at the times from `low` up to and with `high` out, and gives up the room.
+    pub(crate) fn take_within(&mut self, ns: u8, low: u64, high: u64) -> Option<Taken>
         ensures room { self.new.room ≡ None }
         ensures same { result ≡ None → self.new.points ≡ self.old.points }
-        ensures none { result ≡ None → HasNone self.old.points (λ k. (k.ns ≡ ns) × (is_within low high k.t ≡ true)) }
-        ensures taken { IfSome result (IsTaken self.old.points self.new.points (λ k. (k.ns ≡ ns) × (is_within low high k.t ≡ true))) }
+        ensures none { result ≡ None → HasNone self.old.points (IsKeyWithin ns low high) }
+        ensures taken { IfSome result (IsTaken self.old.points self.new.points (IsKeyWithin ns low high)) }
     {
-        let taken = self.buffer.take_first(ns, low, high)?;
+        let taken = self.buffer.take_within(ns, low, high)?;
         self.count -= 1;
         Some(taken)
     }

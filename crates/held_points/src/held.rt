@@ -5,9 +5,9 @@ ghost use Rattle.m3_model.specs.Contents.{raised, content_of, key_of};
 ghost use Rattle.m3_model.specs.Answers.{IsAnswer};
 ghost use Rattle.m3_model.specs.declared.point.Matcher.{Matcher};
 ghost use Rattle.m3_model.specs.declared.point.Pick.TheVariants as pick;
-ghost use Rattle.series_slots.specs.Slots.{is_within};
 ghost use Rattle.series_slots.specs.Ranges.{IsRangeOf};
 ghost use Rattle.block_buffer.specs.Blocks.{IsBlocksOf};
+ghost use Rattle.block_buffer.specs.Spots.{IsKeyWithin};
 ghost use Rattle.block_buffer.specs.Held.{without, has_expired, is_in_block};
 ghost use Rattle.block_buffer.specs.Joins.{points_of_series};
 ghost use Rattle.block_buffer.specs.Taken.{HasNone, settled_at, settled_with, IsSettledInPart};
@@ -39,6 +39,7 @@ pub struct HeldPoints {
 }
 
 impl Model for HeldPoints {
+    ghost use Rattle.block_buffer.specs.Spots.{IsKeyWithin};
     ghost use Rattle.block_buffer.specs.Held.{Held, held_code};
     ghost use Rattle.held_points.specs.Indexed.{IsIndexedFor};
 
@@ -139,8 +140,8 @@ impl HeldPoints {
         }
     }
 
-    /// The namespace and the start of each block of the rules that has a point, ascending. Costs for each block the logarithm of
-    /// the points.
+    /// The namespace and the start of each block of the rules that has a point, ascending. Costs for each block in proportion to
+    /// the series, and for each of them the logarithm of its times.
     ///
     /// Block sizes are at least 1, as in all rules within their limits.
     pub fn blocks(&self, rules: &Rules) -> Result<Seq<(u8, u64)>, Memory>
@@ -151,8 +152,7 @@ impl HeldPoints {
     }
 
     /// The points of the namespace with `start <= t < start + size`, as the rows of a volume: identifiers ascend strictly by
-    /// bytes, times ascend strictly, and no series is empty. Costs for each point the logarithm of all, and the order of the
-    /// series.
+    /// bytes, times ascend strictly, and no series is empty. Costs in proportion to the series, to the answer and to its order.
     ///
     /// The end of the block is below 2^64, as that of each block of rules within their limits.
     pub fn block(&self, ns: u8, start: u64, size: u64) -> Result<Seq<Series>, Memory>
@@ -162,8 +162,8 @@ impl HeldPoints {
         self.buffer.block(self.alloc, ns, start, size)
     }
 
-    /// Takes the expired points out, and answers how many went. Takes no memory; costs for each point that goes the logarithm of
-    /// all, and for each identifier that goes the removal of its tags.
+    /// Takes the expired points out, and answers how many went. Takes no memory; costs in proportion to
+    /// the series, for each point that goes the logarithm of its series' times, and for each identifier that goes the removal of its tags.
     pub fn expire(&mut self, rules: &Rules) -> u64
         requires { self.old.room ≡ None }
         ensures taken { self.new ≡ record { points = without self.old.points (has_expired rules.entry.now); room = None } }
@@ -200,16 +200,16 @@ impl HeldPoints {
         if size == 0 {
             return;
         }
-        while self.take_first(ns, start, start + (size - 1)) {}
+        while self.take_within(ns, start, start + (size - 1)) {}
     }
 
     // Takes a point of the namespace at the times from `low` up to and with `high` out, and says whether there was one.
-    fn take_first(&mut self, ns: u8, low: u64, high: u64) -> bool
+    fn take_within(&mut self, ns: u8, low: u64, high: u64) -> bool
         requires { self.old.room ≡ None }
-        ensures taken { IsTrue result → TakesOne self.old self.new (λ k. (k.ns ≡ ns) × (is_within low high k.t ≡ true)) }
-        ensures none { result ≡ false → (self.new ≡ self.old) × HasNone self.old.points (λ k. (k.ns ≡ ns) × (is_within low high k.t ≡ true)) }
+        ensures taken { IsTrue result → TakesOne self.old self.new (IsKeyWithin ns low high) }
+        ensures none { result ≡ false → (self.new ≡ self.old) × HasNone self.old.points (IsKeyWithin ns low high) }
     {
-        match self.buffer.take_first(ns, low, high) {
+        match self.buffer.take_within(ns, low, high) {
             Some(taken) => {
                 forget(&self.buffer, &mut self.index, taken.gone);
                 true

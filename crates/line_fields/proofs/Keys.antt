@@ -1,5 +1,5 @@
 -- The keys of an object against a list of texts.
-use Rattle.std.proofs.Common.{◌≡◌, ℕ, List, [], ◌∷◌, map, Bool, true, false, ◌||◌, refl, sym, ap, ◌∙◌, Bor, Global, Ordering, Less, Equal, Greater, is_eq}
+use Rattle.std.proofs.Common.{◌≡◌, ℕ, List, [], ◌∷◌, map, Bool, true, false, ◌||◌, refl, sym, ap, ap₂, ◌∙◌, Bor, Global, Ordering, Less, Equal, Greater, is_eq}
 use Rattle.std.specs.Prelude.{nat_eq, ◌&&◌}
 use Rattle.std.specs.List.{list_all, list_any}
 use Rattle.std.specs.Ordering.{nat_cmp, match_ordering}
@@ -45,14 +45,18 @@ keys_within-put allowed key d (member l e ms) = by (slice_cmp nat_cmp key l) ref
     by Greater is rest = ap (λ b. is_one_of allowed l && b) rest ∙ swapped (is_one_of allowed l) (is_one_of allowed key) (keys_within allowed ms)
 
 -- the keys of the members of a line, which go in one after the other
-pub keys_within-members_data : (allowed : List (Bor (List ℕ))) (members : List (Bor (List ℕ) × Value Global)) (found : Members) → keys_within (map (λ one. one.now) allowed) (members_data (members_view members) found)
-    ≡ (list_all (λ one. list_any (λ text. pointwise nat_eq text.now one.0.now) allowed) members && keys_within (map (λ one. one.now) allowed) found)
+pub keys_within-members_data : (allowed : List (List ℕ)) (members : List (Bor (List ℕ) × Value Global)) (found : Members)
+    → keys_within allowed (members_data (members_view members) found) ≡ (list_all (λ one. is_one_of allowed one.0.now) members && keys_within allowed found)
 keys_within-members_data allowed [] found = refl
 keys_within-members_data allowed (one ∷ members) found =
-    let texts = map (λ text. text.now) allowed in
-    keys_within-members_data allowed members (put one.0.now (content one.1) found) ∙ ap (λ b. list_all (λ other. list_any (λ text. pointwise nat_eq text.now other.0.now) allowed) members && b) (keys_within-put texts one.0.now (content one.1) found)
-    ∙ ap (λ b. list_all (λ other. list_any (λ text. pointwise nat_eq text.now other.0.now) allowed) members && (b && keys_within texts found)) (sym (one_of_texts allowed one.0.now))
-    ∙ moved (list_any (λ text. pointwise nat_eq text.now one.0.now) allowed) (list_all (λ other. list_any (λ text. pointwise nat_eq text.now other.0.now) allowed) members) (keys_within texts found)
+    keys_within-members_data allowed members (put one.0.now (content one.1) found) ∙ ap (λ b. list_all (λ other. is_one_of allowed other.0.now) members && b) (keys_within-put allowed one.0.now (content one.1) found)
+    ∙ moved (is_one_of allowed one.0.now) (list_all (λ other. is_one_of allowed other.0.now) members) (keys_within allowed found)
+
+-- the same test, over texts that references point to
+pub all_of_texts : (texts : List (Bor (List ℕ))) (members : List (Bor (List ℕ) × Value Global))
+    → list_all (λ one. list_any (λ text. pointwise nat_eq text.now one.0.now) texts) members ≡ list_all (λ one. is_one_of (map (λ text. text.now) texts) one.0.now) members
+all_of_texts texts [] = refl
+all_of_texts texts (one ∷ members) = ap₂ (λ b c. b && c) (one_of_texts texts one.0.now) (all_of_texts texts members)
 
 pub all_and_none : (b : Bool) → (b && true) ≡ b
 all_and_none true = refl

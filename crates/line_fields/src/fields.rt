@@ -3,7 +3,7 @@ ghost use Rattle.std.specs.List.{list_all, list_any};
 ghost use Rattle.std.specs.Cmp.Lexicographic.{pointwise};
 ghost use Rattle.line_parse.specs.Contents.{content};
 ghost use Rattle.m3_model.specs.Names.{is_name};
-ghost use Rattle.line_fields.specs.Fields.{Gives, has_only, text_of, name_in, number_of, field, text_at, name_at, number_at, value_at};
+ghost use Rattle.line_fields.specs.Fields.{Gives, is_one_of, has_only, text_of, name_in, number_of, field, text_at, name_at, number_at, value_at};
 
 use crate::fault::LineErr;
 use crate::names::is_name;
@@ -31,6 +31,35 @@ pub fn has_only(value: &Value<'_>, allowed: &[&str]) -> bool
     match as_object(value) {
         None => false,
         Some(members) => are_allowed(members, allowed),
+    }
+}
+
+/// The keys that the objects of a row of the grammar may have.
+pub trait Row {
+    ghost use Rattle.std.specs.Prelude.{ℕ, List};
+
+    ghost keys: { List (List ℕ) };
+
+    /// Whether it is one of them.
+    fn has(key: &str) -> bool
+        ensures { result ≡ is_one_of keys key.now };
+}
+
+fn are_of_row<R: Row>(members: &[(&str, Value<'_>)]) -> bool
+    ensures { result ≡ list_all (λ member. is_one_of R.keys member.0.now) members.now }
+{
+    members.iter().all(|member| R::has(member.0))
+}
+
+/// Whether it is an object with no other fields than those of the row. It takes fewer comparisons than `has_only`, for
+/// the rows of lines that come often.
+#[tactic(auto, unfolding(crate::specs::Fields::has_only))]
+pub fn is_of_row<R: Row>(value: &Value<'_>) -> bool
+    ensures { result ≡ has_only R.keys (content value.now) }
+{
+    match as_object(value) {
+        None => false,
+        Some(members) => are_of_row::<R>(members),
     }
 }
 
@@ -69,6 +98,7 @@ pub fn number_of(value: &Value<'_>, from: u64, limit: u64) -> Result<u64, LineEr
 }
 
 /// The field of this key; `Form` where it is absent.
+#[inline(always)]
 pub fn field<'v, 'a>(value: &'v Value<'a>, key: &str) -> Result<&'v Value<'a>, LineErr>
     ensures { Gives (λ v. content v.now) result (field key.now (content value.now)) }
 {
@@ -77,6 +107,7 @@ pub fn field<'v, 'a>(value: &'v Value<'a>, key: &str) -> Result<&'v Value<'a>, L
 
 /// The field as a text; `Form` where it is none.
 #[tactic(auto, unfolding(crate::specs::Fields::text_at))]
+#[inline(always)]
 pub fn text_at<'a>(value: &Value<'a>, key: &str) -> Result<&'a str, LineErr>
     ensures { Gives (λ s. s.now) result (text_at key.now (content value.now)) }
 {
@@ -85,6 +116,7 @@ pub fn text_at<'a>(value: &Value<'a>, key: &str) -> Result<&'a str, LineErr>
 
 /// The field as a name; `Form` where it is none.
 #[tactic(auto, unfolding(crate::specs::Fields::name_at))]
+#[inline(always)]
 pub fn name_at<'a>(value: &Value<'a>, key: &str) -> Result<&'a str, LineErr>
     ensures gives { Gives (λ s. s.now) result (name_at key.now (content value.now)) }
     ensures within { IfOk result (λ s. IsTrue (is_name s.now)) }
@@ -94,6 +126,7 @@ pub fn name_at<'a>(value: &Value<'a>, key: &str) -> Result<&'a str, LineErr>
 
 /// The field as a whole number, at least `from` and below `limit`; `Form` where it is none such.
 #[tactic(auto, unfolding(crate::specs::Fields::number_at))]
+#[inline(always)]
 pub fn number_at(value: &Value<'_>, key: &str, from: u64, limit: u64) -> Result<u64, LineErr>
     ensures gives { Gives (λ n. n) result (number_at key.now from limit (content value.now)) }
     ensures least { IfOk result (λ n. from ≤ n) }
@@ -104,6 +137,7 @@ pub fn number_at(value: &Value<'_>, key: &str, from: u64, limit: u64) -> Result<
 
 /// The field as a whole number from -2^63 to 2^63 - 1; `Form` where it is none.
 #[tactic(auto, unfolding(crate::specs::Fields::value_at))]
+#[inline(always)]
 pub fn value_at(value: &Value<'_>, key: &str) -> Result<i64, LineErr>
     ensures { Gives (λ z. z) result (value_at key.now (content value.now)) }
 {

@@ -7,6 +7,7 @@ pub mod names;
 
 pub use fault::LineErr;
 pub use fields::{
-    field, has_only, is_one_of, name_at, name_in, number_at, number_of, text_at, text_of, value_at,
+    Row, field, has_only, is_of_row, is_one_of, name_at, name_in, number_at, number_of, text_at,
+    text_of, value_at,
 };
 pub use names::{is_name, is_tag_name};

@@ -1,9 +1,10 @@
 //! Numerals, as serde_json reads them.
-ghost use Rattle.std.specs.Prelude.{◌≡◌, ◌==◌, ◌<◌, length, slice_index, IsTrue, true, false, option_map};
+ghost use Rattle.std.specs.Prelude.{◌≡◌, ◌==◌, ◌<◌, length, slice_index, IsTrue, IfSome, Some, true, false, option_map};
+ghost use Rattle.serde_json.specs.Data.{unsigned};
 ghost use Rattle.serde_json.specs.Read.{number_of, number_from, float_of};
 ghost use Rattle.serde_json.specs.View.{number_view};
 
-use fast_float::Numeral;
+use fast_float::{Numeral, parse_u64};
 use serde_json::Number;
 
 fn has_minus(bytes: &[u8]) -> bool
@@ -37,14 +38,38 @@ fn with_minus(numeral: &Numeral<'_>) -> Option<Number>
     }
 }
 
+// Reads any numeral.
+#[inline(never)]
+fn scanned(bytes: &[u8]) -> Option<Number>
+    ensures { option_map number_view result ≡ number_of bytes.now }
+{
+    if has_minus(bytes) {
+        with_minus(&Numeral::scan(&bytes[1..]))
+    } else {
+        without_minus(&Numeral::scan(bytes))
+    }
+}
+
+// The number of digits alone, where it fits 64 bits: most numerals of a line are such.
+fn digits_alone(bytes: &[u8]) -> Option<u64>
+    ensures { IfSome result (λ n. number_of bytes.now ≡ Some (unsigned n)) }
+{
+    if bytes.is_empty() || bytes[0] == b'+' {
+        return None;
+    }
+    match parse_u64(bytes) {
+        Ok(n) => Some(n),
+        Err(_) => None,
+    }
+}
+
 /// The number that a numeral of JSON writes: an integer of 64 bits, or else a float; none where it is too large for one.
 pub fn number_of(text: &str) -> Option<Number>
     ensures { option_map number_view result ≡ number_of text.now }
 {
     let bytes = text.as_bytes();
-    if has_minus(bytes) {
-        with_minus(&Numeral::scan(&bytes[1..]))
-    } else {
-        without_minus(&Numeral::scan(bytes))
+    match digits_alone(bytes) {
+        Some(n) => Some(Number::from(n)),
+        None => scanned(bytes),
     }
 }

@@ -1,18 +1,39 @@
 //! Looking into a parsed value, as into the data that it stands for.
 ghost use Rattle.std.specs.Prelude.{◌≡◌, option_map, option_and_then};
-ghost use Rattle.json.specs.Value.{members_view};
+ghost use Rattle.json.specs.Find.{get_member};
+ghost use Rattle.json.specs.Value.{value_view, members_view};
 ghost use Rattle.serde_json.specs.Data.{no_members};
 ghost use Rattle.serde_json.specs.Find.{get as get_data, as_str, as_number, as_u64, as_i64, as_array, as_object};
 ghost use Rattle.line_parse.specs.Contents.{content, contents, members_data};
 
+use crate::keys::is_named;
 use crate::numbers::number_of;
 use json::Value;
 
+#[inline(always)]
+fn last_member<'v, 'a>(members: &'v Vec<(&'a str, Value<'a>)>, key: &str) -> Option<&'v Value<'a>>
+    ensures { option_map (λ v. value_view v.now) result ≡ get_member key.now (members_view members.now.items) }
+{
+    let mut left = members.len();
+    while left > 0 {
+        left -= 1;
+        let member = &members[left];
+        if is_named(member.0, key) {
+            return Some(&member.1);
+        }
+    }
+    None
+}
+
 /// The member of this key, where it is an object; of several the last one.
+#[inline(always)]
 pub fn get<'v, 'a>(value: &'v Value<'a>, key: &str) -> Option<&'v Value<'a>>
     ensures { option_map (λ v. content v.now) result ≡ get_data key.now (content value.now) }
 {
-    value.get(key)
+    match value {
+        Value::Object(members) => last_member(members, key),
+        _ => None,
+    }
 }
 
 /// The text, where it is one.

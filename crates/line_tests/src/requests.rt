@@ -13,13 +13,13 @@ form {"op":7}
 form {"op":null}
 form {"op":"frob"}
 later {"op":"tick"}
-later {"op":"tick","now":"x"}
 later {"op":"par"}
+later {"op":"par","clients":"x","now":0}
 form {"op":"tick","op":"frob"}
 later {"op":"frob","op":"status"}
 form {"op":"tick"} x
-form {"op":"tick","x":"\ud800"}
-later {"op":"tick","x":"\ud800\udc00"}"#;
+form {"op":"par","x":"\ud800"}
+later {"op":"par","x":"\ud800\udc00"}"#;
 
 // Lines of init, each with its outcome before it.
 const INITS: &str =
@@ -192,6 +192,66 @@ form {"op":"bootstrap","node":"123456789012345678901234567890123"}
 form {"op":"bootstrap","node":"a","pick":0}
 form {"op":"bootstrap","node":"a","shard":0,"x":0}"#;
 
+// Lines of add, drain, cancel, remove and replace, each with its outcome before it.
+const PLACEMENTS: &str = r#"later {"op":"add","node":"d","group":"g4"}
+later {"group":"12345678901234567890123456789012","node":"-","op":"add"}
+later {"op":"add","node":"d","group":"","group":"d"}
+form {"op":"add"}
+form {"op":"add","node":"d"}
+form {"op":"add","group":"g4"}
+form {"op":"add","node":"","group":"g4"}
+form {"op":"add","node":"d","group":""}
+form {"op":"add","node":"d d","group":"g4"}
+form {"op":"add","node":"d","group":"g.4"}
+form {"op":"add","node":["d"],"group":"g4"}
+form {"op":"add","node":"d","group":null}
+form {"op":"add","node":"123456789012345678901234567890123","group":"g4"}
+form {"op":"add","node":"d","group":"123456789012345678901234567890123"}
+form {"op":"add","node":"d","group":"g4","by":"e"}
+later {"op":"drain","node":"a"}
+form {"op":"drain"}
+form {"op":"drain","node":""}
+form {"op":"drain","node":"a","group":"g1"}
+later {"op":"cancel","node":"a"}
+form {"op":"cancel","nodes":"a"}
+form {"op":"cancel","node":1}
+form {"op":"cancel","node":"a","shard":0}
+later {"node":"12345678901234567890123456789012","op":"remove"}
+form {"op":"remove"}
+form {"op":"remove","node":"a b"}
+form {"op":"remove","node":"123456789012345678901234567890123"}
+form {"op":"remove","node":"a","x":null}
+later {"op":"replace","node":"a","by":"d","group":"g4"}
+later {"group":"a","by":"a","node":"a","op":"replace"}
+form {"op":"replace","node":"a","by":"d"}
+form {"op":"replace","node":"a","group":"g4"}
+form {"op":"replace","by":"d","group":"g4"}
+form {"op":"replace","node":"","by":"d","group":"g4"}
+form {"op":"replace","node":"a","by":"","group":"g4"}
+form {"op":"replace","node":"a","by":"d","group":""}
+form {"op":"replace","node":"a","by":"d.","group":"g4"}
+form {"op":"replace","node":"a","by":["d"],"group":"g4"}
+form {"op":"replace","node":"a","by":"123456789012345678901234567890123","group":"g4"}
+form {"op":"replace","node":"a","by":"d","by":null,"group":"g4"}
+form {"op":"replace","node":"a","by":"d","group":"g4","x":0}"#;
+
+// Lines of tick, flush, snapshot, repair and status, each with its outcome before it.
+const UPKEEP: &str = r#"later {"op":"tick"}
+form {"op":"tick","now":0}
+form {"op":"tick","":null}
+later {"op":"flush"}
+form {"op":"flush","x":1}
+form {"op":"flush","node":"a"}
+later { "op" : "snapshot" }
+form {"op":"snapshot","shard":0}
+later {"\u006fp":"re\u0070air"}
+form {"op":"repair","shard":0}
+later {"op":"frob","op":"status"}
+form {"op":"status","node":"a"}
+form {"op":"status","Op":"status"}
+form {"op":"Status"}
+form {"op":"ticks"}"#;
+
 // Lines whose parts are spelled by escapes, come twice or aren't JSON, each with its outcome before it.
 const SPELLINGS: &str = r#"ok {"op":"st\u006fp","n\u006fde":"\u0061"}
 form {"op":"deliver","\u006fp":7}
@@ -200,23 +260,23 @@ form {"op":"deliver","\u0078":1}
 form {"op":"stop","node":"a\u0020b"}
 form {"op":"stop","node\u0000":"a"}
 form {"op":"stop","node":"a","n\u006fde":null}
-later {"op":"tick","":"\""}
-form {"op":"tick","x":"\x"}
-form {"op":"tick","x":"\u00g0"}
-form {"op":"tick","x":"\udc00"}
-form {"op":"tick","x\ud800\ud800":1}
-later {"op":"tick","x":{"op":"frob","op":7}}"#;
+later {"op":"par","":"\""}
+form {"op":"par","x":"\x"}
+form {"op":"par","x":"\u00g0"}
+form {"op":"par","x":"\udc00"}
+form {"op":"par","x\ud800\ud800":1}
+later {"op":"par","x":{"op":"frob","op":7}}"#;
 
 // Lines with numbers that a number of JSON or of 64 bits just can or can't be, each with its outcome before it.
-const NUMBERS: &str = r#"later {"op":"tick","x":1.7976931348623157e308}
-form {"op":"tick","x":1.7976931348623159e308}
-form {"op":"tick","x":[0,{"y":-1e309}]}
-form {"op":"tick","x":1e309,"x":1}
-later {"op":"tick","x":1e-400}
-form {"op":"tick","x":01}
-form {"op":"tick","x":-}
-form {"op":"tick","x":1.}
-form {"op":"tick","x":.5}
+const NUMBERS: &str = r#"later {"op":"par","x":1.7976931348623157e308}
+form {"op":"par","x":1.7976931348623159e308}
+form {"op":"par","x":[0,{"y":-1e309}]}
+form {"op":"par","x":1e309,"x":1}
+later {"op":"par","x":1e-400}
+form {"op":"par","x":01}
+form {"op":"par","x":-}
+form {"op":"par","x":1.}
+form {"op":"par","x":.5}
 form {"op":"now","now":18446744073709551615}
 form {"op":"now","now":18446744073709551616}
 form {"op":"now","now":4611686018427387903.0}
@@ -244,7 +304,8 @@ fn wrong_row(alloc: Global, rows: &str) -> Option<&str> {
 #[test]
 fn rows(rt: HostRuntime) {
     for rows in [
-        OBJECTS, INITS, NAMESPACES, MOMENTS, CALLS, MATCHES, FATES, NODES, SPELLINGS, NUMBERS,
+        OBJECTS, INITS, NAMESPACES, MOMENTS, CALLS, MATCHES, FATES, NODES, PLACEMENTS, UPKEEP,
+        SPELLINGS, NUMBERS,
     ] {
         assert_eq!(rt; wrong_row(rt.alloc(), rows), None);
     }
@@ -256,11 +317,11 @@ fn bytes(rt: HostRuntime) {
         (b"", "form"),
         (b"{\"op\":\"tick\"}\r", "later"),
         (b"\xef\xbb\xbf{\"op\":\"tick\"}", "form"),
-        (b"{\"op\":\"tick\",\"x\":\"\xff\"}", "form"),
-        (b"{\"op\":\"tick\",\"\xff\":1}", "form"),
-        (b"{\"op\":\"tick\",\"x\":\"\\n\xed\xa0\x80\"}", "form"),
-        (b"{\"op\":\"tick\",\"x\":\"\xc0\x80\"}", "form"),
-        (b"{\"op\":\"tick\",\"x\":\"\xc3\xa9\"}", "later"),
+        (b"{\"op\":\"par\",\"x\":\"\xff\"}", "form"),
+        (b"{\"op\":\"par\",\"\xff\":1}", "form"),
+        (b"{\"op\":\"par\",\"x\":\"\\n\xed\xa0\x80\"}", "form"),
+        (b"{\"op\":\"par\",\"x\":\"\xc0\x80\"}", "form"),
+        (b"{\"op\":\"par\",\"x\":\"\xc3\xa9\"}", "later"),
         (b"{\"op\":\"tick\"}\xc3", "form"),
     ];
     for (line, want) in table {
@@ -297,26 +358,26 @@ fn long_lines(rt: HostRuntime) -> Result<(), Fail> {
     let id_end = r#"","t":1,"v":1}"#;
     let ns = r#"{"op":"write","ns":""#;
     let ns_end = r#"","id":"a","t":1,"v":1}"#;
-    let tick = r#"{"op":"tick","x":"#;
-    let tick_text = r#"{"op":"tick","x":""#;
+    let par = r#"{"op":"par","x":"#;
+    let par_text = r#"{"op":"par","x":""#;
     let stop = r#"{"op":"stop""#;
     let stop_end = r#","n\u006fde":"\u0061"}"#;
     for (front, piece, closing, count, back, want) in [
         ("", "[", "", 10_000, "", "form"),
-        (tick, "9", "", 400, "}", "form"),
+        (par, "9", "", 400, "}", "form"),
         (id, "x", "", 512, id_end, "ok"),
         (id, "x", "", 513, id_end, "form"),
         (id, r"\u0078", "", 512, id_end, "ok"),
         (id, r"\u0078", "", 513, id_end, "form"),
         (ns, "m", "", 32, ns_end, "ok"),
         (ns, "m", "", 33, ns_end, "form"),
-        (tick, "[", "]", 126, "}", "later"),
-        (tick, "[", "]", 127, "}", "form"),
-        (tick, r#"{"y":["#, "]}", 63, "}", "later"),
-        (tick, r#"{"y":["#, "]}", 64, "}", "form"),
-        (tick_text, "y", "", 65_000, r#""}"#, "later"),
-        (tick_text, r"\u0079", "", 10_000, r#""}"#, "later"),
-        (r#"{"op":"tick","x":[0"#, ",1", "", 30_000, "]}", "later"),
+        (par, "[", "]", 126, "}", "later"),
+        (par, "[", "]", 127, "}", "form"),
+        (par, r#"{"y":["#, "]}", 63, "}", "later"),
+        (par, r#"{"y":["#, "]}", 64, "}", "form"),
+        (par_text, "y", "", 65_000, r#""}"#, "later"),
+        (par_text, r"\u0079", "", 10_000, r#""}"#, "later"),
+        (r#"{"op":"par","x":[0"#, ",1", "", 30_000, "]}", "later"),
         (stop, " ", "", 65_000, stop_end, "ok"),
         (stop, " ", "", 65_000, r#","node":"a b"}"#, "form"),
     ] {

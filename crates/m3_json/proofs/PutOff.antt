@@ -7,6 +7,7 @@ use Rattle.std.proofs.lemmas.Bool.{both_ways, false_from_ne_true}
 use Rattle.serde_json.specs.Data.{Data, Items, no_items, item}
 use Rattle.serde_json.specs.Find.{get, as_str, as_number, as_u64, as_i64, as_array}
 use Rattle.m3_model.specs.declared.act.Act.{Act}
+use Rattle.m3_model.specs.declared.act.Act.TheVariants as act
 use Rattle.m3_model.specs.declared.act.Fate.{Fate}
 use Rattle.m3_model.specs.declared.act.ReadLevel.{ReadLevel}
 use Rattle.m3_model.specs.declared.act.WriteLevel.{WriteLevel}
@@ -20,9 +21,11 @@ use Rattle.line_fields.specs.Fields.{◌>>=◌, needed, tested, is_one_of, text_
 use Rattle.line_lists.specs.Lists.{has_count, items_at, entries_of, list_at}
 use Rattle.line_lists.specs.Nodes.{node_of_two, node_of_items, node_of, names_differ, nodes_at}
 use Rattle.line_lists.specs.Matchers.{sign_named, matcher_of_three, matcher_of_items, matcher_of, matchers_at}
-use Rattle.m3_json.specs.Rows.{init_of, namespace_of, now_of, write_level_named, read_level_named, write_level_at, read_level_at, version_at, write_of, fetch_of, match_of, stop_of, pick_at, restart_of, shard_asked, bootstrap_of}
+use Rattle.m3_json.specs.Rows.{init_of, namespace_of, now_of, write_level_named, read_level_named, write_level_at, read_level_at, version_at, write_of, fetch_of, match_of, sole_node, stop_of, pick_at, restart_of, shard_asked, bootstrap_of}
 use Rattle.line_lists.specs.Fates.{fate_named, fate_of_four, fate_of_items, fate_of, messages_differ, fates_at}
-use Rattle.m3_json.specs.Fates.{fates_of, deliver_of}
+use Rattle.m3_json.specs.Fates.{fates_of}
+use Rattle.m3_json.specs.Placements.{add_of, drain_of, cancel_of, remove_of, replace_of}
+use Rattle.m3_json.specs.Upkeep.{without_fields}
 use Rattle.m3_json.specs.NotYet.{later_ops, refusal_of, is_put_off}
 use Rattle.m3_json.specs.Requests.{act_of, row_of, NamesSeries, IsPutOff}
 use Rattle.m3_json.specs.Laws.{HasLaterOp, HasLaterForm, PutsOffExactly}
@@ -213,13 +216,17 @@ Decided-fates_of : (d : Data) → Decided (fates_of d)
 unfolding fates_of
 Decided-fates_of d = search (Decided-steps, Decided-Ok, Decided-tested, Decided-fates_at) depth 20
 
-Decided-deliver_of : (d : Data) → Decided (deliver_of d)
-unfolding deliver_of
-Decided-deliver_of d = search (Decided-steps, Decided-Ok, Decided-tested) depth 20
+Decided-without_fields : (one : Act) (d : Data) → Decided (without_fields one d)
+unfolding without_fields
+Decided-without_fields one d = search (Decided-steps, Decided-Ok, Decided-tested) depth 20
+
+Decided-sole_node : (d : Data) → Decided (sole_node d)
+unfolding sole_node
+Decided-sole_node d = search (Decided-steps, Decided-tested, Decided-name_at) depth 20
 
 Decided-stop_of : (d : Data) → Decided (stop_of d)
 unfolding stop_of
-Decided-stop_of d = search (Decided-steps, Decided-Ok, Decided-tested, Decided-name_at) depth 20
+Decided-stop_of d = search (Decided-steps, Decided-Ok, Decided-sole_node) depth 20
 
 Decided-pick_at : (d : Data) → Decided (pick_at d)
 unfolding pick_at
@@ -237,6 +244,26 @@ Decided-bootstrap_of : (d : Data) → Decided (bootstrap_of d)
 unfolding bootstrap_of
 Decided-bootstrap_of d = search (Decided-steps, Decided-Ok, Decided-tested, Decided-name_at, Decided-shard_asked) depth 20
 
+Decided-add_of : (d : Data) → Decided (add_of d)
+unfolding add_of
+Decided-add_of d = search (Decided-steps, Decided-Ok, Decided-tested, Decided-name_at) depth 20
+
+Decided-drain_of : (d : Data) → Decided (drain_of d)
+unfolding drain_of
+Decided-drain_of d = search (Decided-steps, Decided-Ok, Decided-sole_node) depth 20
+
+Decided-cancel_of : (d : Data) → Decided (cancel_of d)
+unfolding cancel_of
+Decided-cancel_of d = search (Decided-steps, Decided-Ok, Decided-sole_node) depth 20
+
+Decided-remove_of : (d : Data) → Decided (remove_of d)
+unfolding remove_of
+Decided-remove_of d = search (Decided-steps, Decided-Ok, Decided-sole_node) depth 20
+
+Decided-replace_of : (d : Data) → Decided (replace_of d)
+unfolding replace_of
+Decided-replace_of d = search (Decided-steps, Decided-Ok, Decided-tested, Decided-name_at) depth 20
+
 -- where a chain of rows is answered `Later`, a row that decides isn't the one that was taken
 passes : {A : Type 0} (taken : Bool) (row others : Result A LineErr) → Decided row → (if taken then row else others) ≡ Err errors.Later → others ≡ Err errors.Later
 passes true row others decided e = absurd (decided e)
@@ -246,10 +273,17 @@ passes false row others decided e = e
 later_op : (op : List ℕ) (d : Data) → act_of op d ≡ Err errors.Later → IsTrue (is_one_of later_ops op)
 unfolding act_of refusal_of
 later_op op d e =
-    last (is_one_of later_ops op) (passes (pointwise nat_eq op (codes "bootstrap")) _ _ (Decided-bootstrap_of d) (passes (pointwise nat_eq op (codes "restart")) _ _ (Decided-restart_of d)
-    (passes (pointwise nat_eq op (codes "stop")) _ _ (Decided-stop_of d) (passes (pointwise nat_eq op (codes "deliver")) _ _ (Decided-deliver_of d) (passes (pointwise nat_eq op (codes "fates")) _ _ (Decided-fates_of d)
-    (passes (pointwise nat_eq op (codes "match")) _ _ (Decided-match_of d) (passes (pointwise nat_eq op (codes "fetch")) _ _ (Decided-fetch_of d) (passes (pointwise nat_eq op (codes "write")) _ _ (Decided-write_of d)
-    (passes (pointwise nat_eq op (codes "now")) _ _ (Decided-now_of d) (passes (pointwise nat_eq op (codes "namespace")) _ _ (Decided-namespace_of d) (passes (pointwise nat_eq op (codes "init")) _ _ (Decided-init_of d) e)))))))))))
+    last (is_one_of later_ops op) (passes (pointwise nat_eq op (codes "status")) _ _ (Decided-without_fields act.Status d) (passes (pointwise nat_eq op (codes "repair")) _ _ (Decided-without_fields act.Repair d)
+    (passes (pointwise nat_eq op (codes "snapshot")) _ _ (Decided-without_fields act.Snapshot d) (passes (pointwise nat_eq op (codes "flush")) _ _ (Decided-without_fields act.Flush d)
+    (passes (pointwise nat_eq op (codes "tick")) _ _ (Decided-without_fields act.Tick d) (passes (pointwise nat_eq op (codes "replace")) _ _ (Decided-replace_of d)
+    (passes (pointwise nat_eq op (codes "remove")) _ _ (Decided-remove_of d) (passes (pointwise nat_eq op (codes "cancel")) _ _ (Decided-cancel_of d)
+    (passes (pointwise nat_eq op (codes "drain")) _ _ (Decided-drain_of d) (passes (pointwise nat_eq op (codes "add")) _ _ (Decided-add_of d)
+    (passes (pointwise nat_eq op (codes "bootstrap")) _ _ (Decided-bootstrap_of d) (passes (pointwise nat_eq op (codes "restart")) _ _ (Decided-restart_of d)
+    (passes (pointwise nat_eq op (codes "stop")) _ _ (Decided-stop_of d) (passes (pointwise nat_eq op (codes "deliver")) _ _ (Decided-without_fields act.Deliver d)
+    (passes (pointwise nat_eq op (codes "fates")) _ _ (Decided-fates_of d) (passes (pointwise nat_eq op (codes "match")) _ _ (Decided-match_of d)
+    (passes (pointwise nat_eq op (codes "fetch")) _ _ (Decided-fetch_of d) (passes (pointwise nat_eq op (codes "write")) _ _ (Decided-write_of d)
+    (passes (pointwise nat_eq op (codes "now")) _ _ (Decided-now_of d) (passes (pointwise nat_eq op (codes "namespace")) _ _ (Decided-namespace_of d)
+    (passes (pointwise nat_eq op (codes "init")) _ _ (Decided-init_of d) e)))))))))))))))))))))
   where
     refused : Bool → Result Act LineErr
     refused later = Err (if later then errors.Later else errors.Form)
@@ -267,7 +301,33 @@ is_other_op op row later not_later =
 op_later : (op : List ℕ) (d : Data) → IsTrue (is_one_of later_ops op) → act_of op d ≡ Err errors.Later
 unfolding act_of refusal_of
 op_later op d later =
-    simp (is_other_op op (codes "init") later refl, is_other_op op (codes "namespace") later refl, is_other_op op (codes "now") later refl, is_other_op op (codes "write") later refl, is_other_op op (codes "fetch") later refl, is_other_op op (codes "match") later refl, is_other_op op (codes "fates") later refl, is_other_op op (codes "deliver") later refl, is_other_op op (codes "stop") later refl, is_other_op op (codes "restart") later refl, is_other_op op (codes "bootstrap") later refl, later)
+    simp (
+      other (codes "init") refl,
+      other (codes "namespace") refl,
+      other (codes "now") refl,
+      other (codes "write") refl,
+      other (codes "fetch") refl,
+      other (codes "match") refl,
+      other (codes "fates") refl,
+      other (codes "deliver") refl,
+      other (codes "stop") refl,
+      other (codes "restart") refl,
+      other (codes "bootstrap") refl,
+      other (codes "add") refl,
+      other (codes "drain") refl,
+      other (codes "cancel") refl,
+      other (codes "remove") refl,
+      other (codes "replace") refl,
+      other (codes "tick") refl,
+      other (codes "flush") refl,
+      other (codes "snapshot") refl,
+      other (codes "repair") refl,
+      other (codes "status") refl,
+      later,
+    )
+  where
+    other : (row : List ℕ) → is_one_of later_ops row ≡ false → pointwise nat_eq op row ≡ false
+    other row free = is_other_op op row later free
 
 put_off : (d : Data) → IsPutOff d → HasLaterOp d ⊎ HasLaterForm d
 put_off d cause = elim cause as (λ _. HasLaterOp d ⊎ HasLaterForm d) [ inl e ↦ by (text_at (codes "op") d) refl e | inr form ↦ inr (whole form.0 form.1.0 form.1.1 form.2) ]

@@ -4,7 +4,7 @@ use Rattle.std.specs.Prelude.{Option, Some, None, is_some}
 use Rattle.std.proofs.lemmas.Bool.{not-false}
 use Rattle.m3_model.specs.declared.act.Act.{Act}
 use Rattle.m3_model.specs.declared.act.Act.TheVariants as act
-use Rattle.m3_model.specs.NotYet.{fills_its_nodes, IsServedAct}
+use Rattle.served_acts.specs.NotYet.{fills_its_nodes, IsServedAct}
 use Rattle.m3_json.specs.NotYet.{is_put_off}
 
 no_version : (version : Option ℕ) → is_some version ≡ false → version ≡ None

@@ -1,4 +1,4 @@
--- The rows of the fates of messages, and of what ends and delivers them.
+-- The row of the fates of messages.
 use Rattle.std.specs.Prelude.{[], ◌∷◌, Result, Ok, codes}
 use Rattle.serde_json.specs.Data.{Data}
 use Rattle.m3_model.specs.declared.act.Act.{Act}
@@ -13,9 +13,3 @@ fates_of d = do
   whole ← tested (has_only (codes "list" ∷ codes "op" ∷ [])) d
   list ← fates_at (codes "list") d
   Ok (act.Fates list)
-
--- deliver: the late writes reach their nodes
-unfoldable pub deliver_of : Data → Result Act LineErr
-deliver_of d = do
-  whole ← tested (has_only (codes "op" ∷ [])) d
-  Ok act.Deliver

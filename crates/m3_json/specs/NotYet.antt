@@ -2,22 +2,20 @@
 use Rattle.std.specs.Prelude.{ℕ, List, [], ◌∷◌, Bool, true, false, not, is_some, if◌then◌else◌, codes}
 use Rattle.m3_model.specs.declared.act.Act.{Act}
 use Rattle.m3_model.specs.declared.act.Act.TheVariants as act
-use Rattle.m3_model.specs.NotYet.{fills_its_nodes}
+use Rattle.served_acts.specs.NotYet.{fills_its_nodes}
 use Rattle.line_fields.specs.declared.fault.LineErr.{LineErr}
 use Rattle.line_fields.specs.declared.fault.LineErr.TheVariants as errors
 use Rattle.line_fields.specs.Fields.{is_one_of}
 
 -- the ops that are put off, whatever other fields stand with them
 abbrev pub later_ops : List (List ℕ)
-later_ops =
-    codes "add" ∷ codes "drain"
-    ∷ codes "cancel" ∷ codes "remove" ∷ codes "replace" ∷ codes "tick" ∷ codes "flush" ∷ codes "snapshot" ∷ codes "repair" ∷ codes "status" ∷ codes "par" ∷ []
+later_ops = codes "par" ∷ []
 
 -- what an op without a row is answered: put off, or no op at all
 unfoldable pub refusal_of : List ℕ → LineErr
 refusal_of op = if is_one_of later_ops op then errors.Later else errors.Form
 
--- the act is put off: shards that aren't on all nodes, calls at a version, and acts that have no row yet
+-- the act is put off: shards that aren't on all nodes, calls at a version, and acts that nothing does yet
 unfoldable pub is_put_off : Act → Bool
 is_put_off (act.Init rf shards seed nodes) = not (fills_its_nodes rf nodes)
 is_put_off (act.Namespace name block past future retention) = false

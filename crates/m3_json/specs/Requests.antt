@@ -12,7 +12,9 @@ use Rattle.line_fields.specs.declared.fault.LineErr.{LineErr}
 use Rattle.line_fields.specs.declared.fault.LineErr.TheVariants as errors
 use Rattle.line_fields.specs.Fields.{◌>>=◌, text_at}
 use Rattle.m3_json.specs.Rows.{init_of, namespace_of, now_of, write_of, fetch_of, match_of, stop_of, restart_of, bootstrap_of}
-use Rattle.m3_json.specs.Fates.{fates_of, deliver_of}
+use Rattle.m3_json.specs.Fates.{fates_of}
+use Rattle.m3_json.specs.Placements.{add_of, drain_of, cancel_of, remove_of, replace_of}
+use Rattle.m3_json.specs.Upkeep.{without_fields}
 use Rattle.m3_json.specs.NotYet.{refusal_of, is_put_off}
 
 -- the row of this op
@@ -25,10 +27,20 @@ act_of op d =
     (if pointwise nat_eq op (codes "fetch") then fetch_of d else
     (if pointwise nat_eq op (codes "match") then match_of d else
     (if pointwise nat_eq op (codes "fates") then fates_of d else
-    (if pointwise nat_eq op (codes "deliver") then deliver_of d else
+    (if pointwise nat_eq op (codes "deliver") then without_fields act.Deliver d else
     (if pointwise nat_eq op (codes "stop") then stop_of d else
     (if pointwise nat_eq op (codes "restart") then restart_of d else
-    (if pointwise nat_eq op (codes "bootstrap") then bootstrap_of d else Err (refusal_of op)))))))))))
+    (if pointwise nat_eq op (codes "bootstrap") then bootstrap_of d else
+    (if pointwise nat_eq op (codes "add") then add_of d else
+    (if pointwise nat_eq op (codes "drain") then drain_of d else
+    (if pointwise nat_eq op (codes "cancel") then cancel_of d else
+    (if pointwise nat_eq op (codes "remove") then remove_of d else
+    (if pointwise nat_eq op (codes "replace") then replace_of d else
+    (if pointwise nat_eq op (codes "tick") then without_fields act.Tick d else
+    (if pointwise nat_eq op (codes "flush") then without_fields act.Flush d else
+    (if pointwise nat_eq op (codes "snapshot") then without_fields act.Snapshot d else
+    (if pointwise nat_eq op (codes "repair") then without_fields act.Repair d else
+    (if pointwise nat_eq op (codes "status") then without_fields act.Status d else Err (refusal_of op)))))))))))))))))))))
 
 -- the act of the row that an object is in by its field `op`; any text stands for an identifier here
 abbrev pub row_of : Data → Result Act LineErr

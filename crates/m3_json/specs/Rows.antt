@@ -70,10 +70,14 @@ read_level_at = optional_at read_level.Majority (codes "level") (λ v. text_of v
 unfoldable pub version_at : Data → Result (Option ℕ) LineErr
 version_at = optional_at None (codes "version") (λ v. number_of 0 TIME_END v >>= λ n. Ok (Some n))
 
+-- the keys of a write
+abbrev pub write_keys : List (List ℕ)
+write_keys = codes "id" ∷ codes "level" ∷ codes "ns" ∷ codes "op" ∷ codes "t" ∷ codes "v" ∷ codes "version" ∷ []
+
 -- write: a value for a series at a time; any text stands for the identifier here
 unfoldable pub write_of : Data → Result Act LineErr
 write_of d = do
-  whole ← tested (has_only (codes "id" ∷ codes "level" ∷ codes "ns" ∷ codes "op" ∷ codes "t" ∷ codes "v" ∷ codes "version" ∷ [])) d
+  whole ← tested (has_only write_keys) d
   ns ← name_at (codes "ns") d
   id ← text_at (codes "id") d
   t ← number_at (codes "t") 0 TIME_END d
@@ -82,10 +86,14 @@ write_of d = do
   version ← version_at d
   Ok (act.Write ns id t v level version)
 
+-- the keys of a fetch
+abbrev pub fetch_keys : List (List ℕ)
+fetch_keys = codes "from" ∷ codes "id" ∷ codes "level" ∷ codes "ns" ∷ codes "op" ∷ codes "to" ∷ codes "version" ∷ []
+
 -- fetch: the points of a series in a range of times; any text stands for the identifier here
 unfoldable pub fetch_of : Data → Result Act LineErr
 fetch_of d = do
-  whole ← tested (has_only (codes "from" ∷ codes "id" ∷ codes "level" ∷ codes "ns" ∷ codes "op" ∷ codes "to" ∷ codes "version" ∷ [])) d
+  whole ← tested (has_only fetch_keys) d
   ns ← name_at (codes "ns") d
   id ← text_at (codes "id") d
   from ← number_at (codes "from") 0 TIME_END d
@@ -106,11 +114,16 @@ match_of d = do
   version ← version_at d
   Ok (act.Match ns wanted from to level version)
 
+-- the node's name of an object that has no other field
+unfoldable pub sole_node : Data → Result (List ℕ) LineErr
+sole_node d = do
+  whole ← tested (has_only (codes "node" ∷ codes "op" ∷ [])) d
+  name_at (codes "node") d
+
 -- stop: the node's name
 unfoldable pub stop_of : Data → Result Act LineErr
 stop_of d = do
-  whole ← tested (has_only (codes "node" ∷ codes "op" ∷ [])) d
-  node ← name_at (codes "node") d
+  node ← sole_node d
   Ok (act.Stop node)
 
 -- the field `pick`, 0 where it is absent

@@ -3,11 +3,13 @@ ghost use Rattle.line_parse.specs.Contents.{content};
 ghost use Rattle.m3_model.specs.Limits.{MeetsLimits, IsMoment};
 ghost use Rattle.line_fields.specs.Fields.{Gives};
 ghost use Rattle.m3_json.specs.Requests.{NamesSeries};
-ghost use Rattle.m3_json.specs.Rows.{write_level_named, read_level_named, write_level_at, read_level_at, version_at, write_of, fetch_of};
+ghost use Rattle.m3_json.specs.Rows.{write_level_named, read_level_named, write_level_at, read_level_at, version_at, write_keys, write_of, fetch_keys, fetch_of};
 
 use json::Value;
-use line_fields::{LineErr, has_only, name_at, number_at, number_of, text_at, text_of, value_at};
-use line_parse::get;
+use line_fields::{
+    LineErr, Row, is_of_row, name_at, number_at, number_of, text_at, text_of, value_at,
+};
+use line_parse::{get, is_named};
 use m3_model::limits::TIME_END;
 use m3_model::{Act, ReadLevel, Text, WriteLevel};
 use std::alloc::Global;
@@ -68,13 +70,29 @@ pub fn version_at(value: &Value<'_>) -> Result<Option<u64>, LineErr>
     }
 }
 
+struct WriteRow;
+
+impl Row for WriteRow {
+    ghost keys = { write_keys };
+
+    fn has(key: &str) -> bool {
+        is_named("id", key)
+            || is_named("level", key)
+            || is_named("ns", key)
+            || is_named("op", key)
+            || is_named("t", key)
+            || is_named("v", key)
+            || is_named("version", key)
+    }
+}
+
 /// The write that an object spells; any text is taken for its identifier.
 #[tactic(auto, unfolding(crate::specs::Rows::write_of))]
 pub fn write_of(alloc: Global, value: &Value<'_>) -> Result<Act, LineErr>
     ensures gives { Gives (λ a. a) result (write_of (content value.now)) }
     ensures within { IfOk result (λ a. NamesSeries a → MeetsLimits a) }
 {
-    if !has_only(value, &["id", "level", "ns", "op", "t", "v", "version"]) {
+    if !is_of_row::<WriteRow>(value) {
         return Err(LineErr::Form);
     }
     let ns = name_at(value, "ns")?;
@@ -93,13 +111,29 @@ pub fn write_of(alloc: Global, value: &Value<'_>) -> Result<Act, LineErr>
     })
 }
 
+struct FetchRow;
+
+impl Row for FetchRow {
+    ghost keys = { fetch_keys };
+
+    fn has(key: &str) -> bool {
+        is_named("from", key)
+            || is_named("id", key)
+            || is_named("level", key)
+            || is_named("ns", key)
+            || is_named("op", key)
+            || is_named("to", key)
+            || is_named("version", key)
+    }
+}
+
 /// The fetch that an object spells; any text is taken for its identifier.
 #[tactic(auto, unfolding(crate::specs::Rows::fetch_of))]
 pub fn fetch_of(alloc: Global, value: &Value<'_>) -> Result<Act, LineErr>
     ensures gives { Gives (λ a. a) result (fetch_of (content value.now)) }
     ensures within { IfOk result (λ a. NamesSeries a → MeetsLimits a) }
 {
-    if !has_only(value, &["from", "id", "level", "ns", "op", "to", "version"]) {
+    if !is_of_row::<FetchRow>(value) {
         return Err(LineErr::Form);
     }
     let ns = name_at(value, "ns")?;

@@ -2,7 +2,7 @@ ghost use Rattle.std.specs.Prelude.{◌≡◌, IfOk};
 ghost use Rattle.line_parse.specs.Contents.{content};
 ghost use Rattle.m3_model.specs.Limits.{MeetsLimits};
 ghost use Rattle.line_fields.specs.Fields.{Gives};
-ghost use Rattle.m3_json.specs.Fates.{fates_of, deliver_of};
+ghost use Rattle.m3_json.specs.Fates.{fates_of};
 
 use json::Value;
 use line_fields::{LineErr, has_only};
@@ -21,17 +21,4 @@ pub fn fates_of(alloc: Global, value: &Value<'_>) -> Result<Act, LineErr>
     }
     let list = fates_at(alloc, value, "list")?;
     Ok(Act::Fates { list })
-}
-
-/// The delivery of late writes that an object spells.
-#[tactic(auto, unfolding(crate::specs::Fates::deliver_of))]
-pub fn deliver_of(value: &Value<'_>) -> Result<Act, LineErr>
-    ensures gives { Gives (λ a. a) result (deliver_of (content value.now)) }
-    ensures within { IfOk result MeetsLimits }
-{
-    if has_only(value, &["op"]) {
-        Ok(Act::Deliver)
-    } else {
-        Err(LineErr::Form)
-    }
 }

@@ -11,5 +11,7 @@ mod moment;
 mod namespace;
 mod nodes;
 mod not_yet;
+mod placements;
+mod upkeep;
 
 pub use lines::read_line;

@@ -2,18 +2,20 @@ ghost use Rattle.std.specs.Prelude.{◌≡◌, ◌↔◌, Ok, Err, IfOk, IfErr, 
 ghost use Rattle.json.specs.declared.error.Error.TheVariants.{OutOfMemory};
 ghost use Rattle.line_parse.specs.Contents.{content};
 ghost use Rattle.m3_model.specs.Limits.{MeetsLimits, KeepsLimits};
-ghost use Rattle.m3_model.specs.NotYet.{IsServed};
+ghost use Rattle.served_acts.specs.NotYet.{IsServed};
 ghost use Rattle.line_fields.specs.Fields.{Gives};
 ghost use Rattle.m3_json.specs.Requests.{act_of, NamesSeries, ObjectMeans, LineMeans};
 
 use crate::calls::{fetch_of, write_of};
-use crate::fates::{deliver_of, fates_of};
+use crate::fates::fates_of;
 use crate::init::init_of;
 use crate::matches::match_of;
 use crate::moment::now_of;
 use crate::namespace::namespace_of;
 use crate::nodes::{bootstrap_of, restart_of, stop_of};
 use crate::not_yet::{is_put_off, refusal_of};
+use crate::placements::{add_of, cancel_of, drain_of, remove_of, replace_of};
+use crate::upkeep::without_fields;
 use json::{Error, Scratch, Value};
 use line_fields::{LineErr, text_at};
 use line_parse::parse::parse;
@@ -34,10 +36,20 @@ fn act_of(alloc: Global, op: &str, value: &Value<'_>) -> Result<Act, LineErr>
         "fetch" => fetch_of(alloc, value),
         "match" => match_of(alloc, value),
         "fates" => fates_of(alloc, value),
-        "deliver" => deliver_of(value),
+        "deliver" => without_fields(value, Act::Deliver),
         "stop" => stop_of(alloc, value),
         "restart" => restart_of(alloc, value),
         "bootstrap" => bootstrap_of(alloc, value),
+        "add" => add_of(alloc, value),
+        "drain" => drain_of(alloc, value),
+        "cancel" => cancel_of(alloc, value),
+        "remove" => remove_of(alloc, value),
+        "replace" => replace_of(alloc, value),
+        "tick" => without_fields(value, Act::Tick),
+        "flush" => without_fields(value, Act::Flush),
+        "snapshot" => without_fields(value, Act::Snapshot),
+        "repair" => without_fields(value, Act::Repair),
+        "status" => without_fields(value, Act::Status),
         _ => Err(refusal_of(op)),
     }
 }

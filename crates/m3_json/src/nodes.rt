@@ -1,9 +1,10 @@
-ghost use Rattle.std.specs.Prelude.{◌≡◌, ◌<◌, IfOk, IfSome};
+ghost use Rattle.std.specs.Prelude.{◌≡◌, ◌<◌, IfOk, IfSome, IsTrue};
 ghost use Rattle.line_parse.specs.Contents.{content};
 ghost use Rattle.m3_model.specs.Limits.{MeetsLimits, IsMoment};
+ghost use Rattle.m3_model.specs.Names.{is_name};
 ghost use Rattle.m3_model.specs.declared.limits.TheConstants.{MOST_SHARDS};
 ghost use Rattle.line_fields.specs.Fields.{Gives};
-ghost use Rattle.m3_json.specs.Rows.{stop_of, pick_at, restart_of, shard_asked, bootstrap_of};
+ghost use Rattle.m3_json.specs.Rows.{sole_node, stop_of, pick_at, restart_of, shard_asked, bootstrap_of};
 
 use json::Value;
 use line_fields::{LineErr, has_only, name_at, number_of};
@@ -12,16 +13,26 @@ use m3_model::limits::{MOST_SHARDS, TIME_END};
 use m3_model::{Act, Text};
 use std::alloc::Global;
 
+/// The field `node` of an object that has no other field but its op; `Form` where it is no name, or there are others.
+#[tactic(auto, unfolding(crate::specs::Rows::sole_node))]
+pub fn sole_node<'a>(value: &Value<'a>) -> Result<&'a str, LineErr>
+    ensures gives { Gives (λ s. s.now) result (sole_node (content value.now)) }
+    ensures within { IfOk result (λ s. IsTrue (is_name s.now)) }
+{
+    if has_only(value, &["node", "op"]) {
+        name_at(value, "node")
+    } else {
+        Err(LineErr::Form)
+    }
+}
+
 /// The stop of a node that an object spells.
 #[tactic(auto, unfolding(crate::specs::Rows::stop_of))]
 pub fn stop_of(alloc: Global, value: &Value<'_>) -> Result<Act, LineErr>
     ensures gives { Gives (λ a. a) result (stop_of (content value.now)) }
     ensures within { IfOk result MeetsLimits }
 {
-    if !has_only(value, &["node", "op"]) {
-        return Err(LineErr::Form);
-    }
-    let node = name_at(value, "node")?;
+    let node = sole_node(value)?;
     Ok(Act::Stop {
         node: Text::from_str(alloc, node)?,
     })

@@ -1,7 +1,7 @@
 ghost use Rattle.std.specs.Prelude.{◌≡◌, ◌==◌};
 ghost use Rattle.std.specs.List.{list_any};
 ghost use Rattle.std.specs.Cmp.Lexicographic.{pointwise};
-ghost use Rattle.m3_model.specs.NotYet.{groups_differ, fills_its_nodes};
+ghost use Rattle.served_acts.specs.NotYet.{groups_differ, fills_its_nodes};
 ghost use Rattle.m3_json.specs.NotYet.{refusal_of, is_put_off};
 
 use line_fields::{LineErr, is_one_of};
@@ -12,10 +12,7 @@ use m3_model::{Act, Text};
 pub fn refusal_of(op: &str) -> LineErr
     ensures { result ≡ refusal_of op.now }
 {
-    let later_ops = [
-        "add", "drain", "cancel", "remove", "replace", "tick", "flush", "snapshot", "repair",
-        "status", "par",
-    ];
+    let later_ops = ["par"];
     if is_one_of(&later_ops, op) {
         LineErr::Later
     } else {

@@ -13,4 +13,3 @@ pub mod Delivery
 pub mod Calls
 pub mod Reads
 pub mod Answers
-pub mod NotYet

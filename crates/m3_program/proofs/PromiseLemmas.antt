@@ -11,9 +11,9 @@ use Rattle.m3_outside.specs.Causes.{RoseBy}
 use Rattle.m3_outside.specs.DiskState.{DiskState, IsLawful}
 use Rattle.m3_outside.specs.declared.disk.Disk.{Ghosts}
 use Rattle.m3_outside.specs.Depots.{Depot}
-use Rattle.cluster_tracks.specs.Ends.{AreGivenBack}
-use Rattle.cluster_tracks.specs.Tracks.{faults_of}
-use Rattle.cluster_tracks.proofs.EndLemmas.{caused_where_tracked, kept_where_tracked, shown_where_tracked}
+use Rattle.served_cluster.specs.Ends.{AreGivenBack}
+use Rattle.served_cluster.specs.Tracks.{faults_of}
+use Rattle.served_cluster.proofs.EndLemmas.{caused_where_tracked, kept_where_tracked, shown_where_tracked}
 use Rattle.served_cluster.specs.Owned.{TracksTurns}
 use Rattle.m3_program.specs.Exchanges.{Exchange, turns_of}
 use Rattle.m3_program.specs.Faults.{Counts, IsOfRun, counts_of, one_for}

@@ -7,7 +7,7 @@ use Rattle.m3_outside.specs.DiskState.{DiskState, IsLawful}
 use Rattle.m3_outside.specs.declared.disk.Disk.{Ghosts}
 use Rattle.m3_model.proofs.SplitLemmas.{not_empty}
 use Rattle.m3_outside.specs.Depots.{Depot}
-use Rattle.cluster_tracks.specs.Ends.{AreGivenBack}
+use Rattle.served_cluster.specs.Ends.{AreGivenBack}
 use Rattle.m3_program.specs.declared.status.Status.{Status}
 use Rattle.m3_program.specs.declared.status.Status.TheVariants as status
 use Rattle.m3_program.specs.Causes.{EndsStep}

@@ -3,3 +3,5 @@ pub mod OwnerLives
 pub mod FenceLives
 pub mod BootLives
 pub mod SlotLives
+pub mod StepLemmas
+pub mod PlannedLives

@@ -5,18 +5,20 @@ use Rattle.std.specs.List.{All}
 use Rattle.std.proofs.Props.{props}
 use Rattle.m3_outside.specs.declared.disk.Disk.{Ghosts}
 use Rattle.m3_model.specs.declared.rules.MetaState.{MetaState}
+use Rattle.m3_model.specs.declared.rules.Space.{Space}
 use Rattle.net_plan.specs.declared.late_write.LateWrite.{LateWrite}
 use Rattle.wire_bytes.specs.Entries.{IsBounded}
 use Rattle.cluster_members.specs.declared.members.Members.{Members}
 
 -- the same members, with other proofs of their facts
 pub same_state : {D : Type 0} {G : Ghosts D} (m : Members D G) (state : MetaState) → state ≡ m.net.state → (some : 0 < length state.place.shards) (few_shards : length state.place.shards < 2 ^ 32) (bounded : All (λ (one : LateWrite). IsBounded one.point) m.net.bag)
-    (few : length state.rules.spaces ≤ MOST_NAMESPACES) (moment : state.rules.now < TIME_END) (few_nodes : length state.place.instances ≤ MOST_NODES) (few_slots : length m.slots.items ≤ MOST_NODES * MOST_SHARDS) (one_each : length m.stopped.items ≡ length state.place.instances)
+    (few : length state.rules.spaces ≤ MOST_NAMESPACES) (sizes : All (λ (space : Space). 0 < space.block) state.rules.spaces) (moment : state.rules.now < TIME_END) (few_nodes : length state.place.instances ≤ MOST_NODES) (few_slots : length m.slots.items ≤ MOST_NODES * MOST_SHARDS) (one_each : length m.stopped.items ≡ length state.place.instances)
     → ◌≡◌ {A = Members D G} (record {
       net = record { state = state; replicas = m.net.replicas; fates = m.net.fates; bag = m.net.bag; some_shards = some; few_shards = few_shards; bounded_late = bounded };
       slots = m.slots;
       stopped = m.stopped;
       few = few;
+      sizes = sizes;
       moment = moment;
       few_nodes = few_nodes;
       few_slots = few_slots;
@@ -26,13 +28,14 @@ same_state {D} {G} m state is = subst Same (sym is) own
   where
     Same : MetaState → Type 0
     Same s =
-        (some : 0 < length s.place.shards) (few_shards : length s.place.shards < 2 ^ 32) (bounded : All (λ (one : LateWrite). IsBounded one.point) m.net.bag) (few : length s.rules.spaces ≤ MOST_NAMESPACES) (moment : s.rules.now < TIME_END)
+        (some : 0 < length s.place.shards) (few_shards : length s.place.shards < 2 ^ 32) (bounded : All (λ (one : LateWrite). IsBounded one.point) m.net.bag) (few : length s.rules.spaces ≤ MOST_NAMESPACES) (sizes : All (λ (space : Space). 0 < space.block) s.rules.spaces) (moment : s.rules.now < TIME_END)
         (few_nodes : length s.place.instances ≤ MOST_NODES) (few_slots : length m.slots.items ≤ MOST_NODES * MOST_SHARDS) (one_each : length m.stopped.items ≡ length s.place.instances)
         → ◌≡◌ {A = Members D G} (record {
           net = record { state = s; replicas = m.net.replicas; fates = m.net.fates; bag = m.net.bag; some_shards = some; few_shards = few_shards; bounded_late = bounded };
           slots = m.slots;
           stopped = m.stopped;
           few = few;
+          sizes = sizes;
           moment = moment;
           few_nodes = few_nodes;
           few_slots = few_slots;
@@ -51,6 +54,9 @@ same_state {D} {G} m state is = subst Same (sym is) own
     few_prop : IsProp (length m.net.state.rules.spaces ≤ MOST_NAMESPACES)
     few_prop = Prim.hlevel props
 
+    sizes_prop : IsProp (All (λ (space : Space). 0 < space.block) m.net.state.rules.spaces)
+    sizes_prop = Prim.hlevel props
+
     moment_prop : IsProp (m.net.state.rules.now < TIME_END)
     moment_prop = Prim.hlevel props
 
@@ -64,7 +70,7 @@ same_state {D} {G} m state is = subst Same (sym is) own
     each_prop = Prim.hlevel props
 
     own : Same m.net.state
-    own some few_shards bounded few moment few_nodes few_slots one_each = λ i. record {
+    own some few_shards bounded few sizes moment few_nodes few_slots one_each = λ i. record {
       net = record {
         state = m.net.state;
         replicas = m.net.replicas;
@@ -77,13 +83,14 @@ same_state {D} {G} m state is = subst Same (sym is) own
       slots = m.slots;
       stopped = m.stopped;
       few = few_prop few m.few i;
+      sizes = sizes_prop sizes m.sizes i;
       moment = moment_prop moment m.moment i;
       few_nodes = nodes_prop few_nodes m.few_nodes i;
       few_slots = slots_prop few_slots m.few_slots i;
       one_each = each_prop one_each m.one_each i;
     }
 
-pub same_members : {D : Type 0} {G : Ghosts D} (m : Members D G) (few : length m.net.state.rules.spaces ≤ MOST_NAMESPACES) (moment : m.net.state.rules.now < TIME_END) (few_nodes : length m.net.state.place.instances ≤ MOST_NODES)
+pub same_members : {D : Type 0} {G : Ghosts D} (m : Members D G) (few : length m.net.state.rules.spaces ≤ MOST_NAMESPACES) (sizes : All (λ (space : Space). 0 < space.block) m.net.state.rules.spaces) (moment : m.net.state.rules.now < TIME_END) (few_nodes : length m.net.state.place.instances ≤ MOST_NODES)
     (few_slots : length m.slots.items ≤ MOST_NODES * MOST_SHARDS) (one_each : length m.stopped.items ≡ length m.net.state.place.instances)
-    → ◌≡◌ {A = Members D G} (record { net = m.net; slots = m.slots; stopped = m.stopped; few = few; moment = moment; few_nodes = few_nodes; few_slots = few_slots; one_each = one_each }) m
-same_members m few moment few_nodes few_slots one_each = same_state m m.net.state refl m.net.some_shards m.net.few_shards m.net.bounded_late few moment few_nodes few_slots one_each
+    → ◌≡◌ {A = Members D G} (record { net = m.net; slots = m.slots; stopped = m.stopped; few = few; sizes = sizes; moment = moment; few_nodes = few_nodes; few_slots = few_slots; one_each = one_each }) m
+same_members m few sizes moment few_nodes few_slots one_each = same_state m m.net.state refl m.net.some_shards m.net.few_shards m.net.bounded_late few sizes moment few_nodes few_slots one_each

@@ -71,7 +71,7 @@ pub fn deliver<D: Disk>(members: &mut Members<D>, alloc: Global) -> Answer
     ensures ready { IsReady members.new.net.state members.new.net.replicas members.new.net.bag }
     ensures same_slots { HaveSameSlots members.old.net.replicas members.new.net.replicas }
 {
-    match session_writes::deliver::deliver(&mut members.net, alloc) {
+    match cluster_members::deliver(&mut members.net, alloc) {
         Ok(outcomes) => Answer::Outcomes { outcomes },
         Err(SessionErr::Full) => Answer::Full,
         Err(_) => Answer::Memory,

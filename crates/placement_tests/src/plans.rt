@@ -22,7 +22,7 @@ fn push_node(
     Ok(())
 }
 
-fn three_nodes(alloc: Global) -> Result<Seq<(Text, Text)>, Memory>
+pub(crate) fn three_nodes(alloc: Global) -> Result<Seq<(Text, Text)>, Memory>
     ensures { IfOk result (λ nodes. nodes ≡ (97 ∷ [], 49 ∷ []) ∷ (98 ∷ [], 50 ∷ []) ∷ (99 ∷ [], 51 ∷ []) ∷ []) }
 {
     let mut nodes = Vec::new(alloc);
@@ -33,7 +33,7 @@ fn three_nodes(alloc: Global) -> Result<Seq<(Text, Text)>, Memory>
 }
 
 // The word, where it is one of those that rows use as names.
-fn name(word: Option<&str>) -> &'static str
+pub(crate) fn name(word: Option<&str>) -> &'static str
     ensures { IsTrue (is_name result.now) }
 {
     match word.unwrap_or("") {
@@ -108,7 +108,7 @@ fn spell_assignment(out: &mut String, assignment: &Assignment) -> Result<(), All
 }
 
 // Version, nodes (drained ones with `-`, ones that aren't listed with `!`), and shards.
-fn spell(alloc: Global, place: &Placement) -> Result<String, AllocError> {
+pub(crate) fn spell(alloc: Global, place: &Placement) -> Result<String, AllocError> {
     let mut out = String::new(alloc);
     let version = place.version;
     write!(out, "{version}")?;
@@ -190,7 +190,7 @@ fn plans_are_those_of_the_rules(rt: HostRuntime) -> Result<(), Fail> {
 }
 
 // Calls after which 16 names are known.
-const SIXTEEN: &str =
+pub(crate) const SIXTEEN: &str =
     "add d 4|add e 4|add f 4|add g 4|add h 4|add i 4|add j 4|add k 4|add l 4|add m 4|add n 4|add o 4|add p 4";
 
 // Calls where 16 names are known, and what the last of them is refused.

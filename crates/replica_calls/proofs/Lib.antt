@@ -1,3 +1,4 @@
+pub mod MapLemmas
 pub mod SlotLemmas
 mod AddLemmas
 pub mod TrackLemmas

@@ -10,7 +10,7 @@ use Rattle.std.specs.declared.cmp.Ordering.{Ordering}
 use Rattle.std.specs.declared.cmp.Ordering.TheVariants.{Less, Equal, Greater}
 use Rattle.std.proofs.lemmas.Cmp.{then_total, on_total, nat_cmp_total}
 use Rattle.m3_model.proofs.Keyed.{equal_of}
-use Rattle.series_slots.proofs.MapLemmas.{sorted_of, get_of, inserted}
+use Rattle.replica_calls.proofs.MapLemmas.{sorted_of, get_of, inserted}
 use Rattle.replica_exchange.specs.declared.member.Member.{Member}
 use Rattle.replica_exchange.specs.declared.slot.Slot.{Slot}
 use Rattle.replica_calls.specs.Slots.{slot_cmp, MemberMap}

@@ -11,7 +11,7 @@ use Rattle.cluster_core.specs.declared.event.Event.TheVariants as event
 use Rattle.cluster_core.specs.declared.event.StepCall.{StepCall}
 use Rattle.cluster_core.specs.declared.event.StepReply.{StepReply}
 use Rattle.cluster_core.proofs.ExtendLemmas.{any_more, at_last}
-use Rattle.replica_machine.specs.Steps.{reply_by}
+use Rattle.replica_exchange.specs.Steps.{reply_by}
 use Rattle.replica_exchange.specs.MachineCalls.{Promise, Adding}
 use Rattle.replica_exchange.specs.Exchanges.{ask_of, own_events, Seen, seen_in, IsNothing, HasExchanged, HasStepped, HasAdded}
 use Rattle.replica_exchange.specs.declared.call_err.CallErr.{CallErr}

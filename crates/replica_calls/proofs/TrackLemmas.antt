@@ -8,14 +8,14 @@ use Rattle.std.specs.FinMap.{from_sorted, same_map, is_sorted, get-empty, get-re
 use Rattle.std.specs.Ordering.{eq_by_cmp, is_eq}
 use Rattle.std.specs.declared.snapshot.Snapshot.{Snapshot}
 use Rattle.m3_model.proofs.RaiseLemmas.{from_sorted-empty}
-use Rattle.series_slots.proofs.MapLemmas.{get_of}
+use Rattle.replica_calls.proofs.MapLemmas.{get_of}
 use Rattle.m3_model.specs.declared.reason.Reason.TheVariants as reason
 use Rattle.m3_outside.specs.DiskState.{DiskState}
 use Rattle.cluster_core.specs.Replicas.{replica, fresh}
 use Rattle.cluster_core.specs.declared.event.Event.{Event}
 use Rattle.cluster_core.specs.declared.event.StepCall.{StepCall}
 use Rattle.cluster_core.specs.declared.event.StepReply.{StepReply}
-use Rattle.replica_machine.specs.Machines.{MachineState, first_machine, IsMachineOf}
+use Rattle.replica_exchange.specs.Machines.{MachineState, first_machine, IsMachineOf}
 use Rattle.replica_exchange.specs.MachineCalls.{IsMemberOf, HasRoom, Promise, Adding, MayAnswerBy, OtherReplicasStay}
 use Rattle.replica_exchange.specs.declared.call_err.CallErr.{CallErr}
 use Rattle.replica_exchange.specs.declared.call_err.CallErr.TheVariants as call_err

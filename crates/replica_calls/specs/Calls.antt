@@ -9,7 +9,7 @@ use Rattle.cluster_core.specs.declared.event.Event.{Event}
 use Rattle.cluster_core.specs.declared.event.Event.TheVariants as event
 use Rattle.cluster_core.specs.declared.event.StepCall.{StepCall}
 use Rattle.cluster_core.specs.declared.event.StepReply.{StepReply}
-use Rattle.replica_machine.specs.Machines.{first_machine}
+use Rattle.replica_exchange.specs.Machines.{first_machine}
 use Rattle.replica_exchange.specs.MachineCalls.{IsMemberOf, HasRoom, Adding, Promise, HasAnswered, AddsBoth, AddsStep}
 use Rattle.replica_exchange.specs.declared.call_err.CallErr.{CallErr}
 use Rattle.replica_exchange.specs.declared.call_err.CallErr.TheVariants as call_err

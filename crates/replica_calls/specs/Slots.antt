@@ -5,7 +5,7 @@ use Rattle.std.specs.FinMap as finite
 use Rattle.std.specs.Ordering.{nat_cmp, on, then_cmp}
 use Rattle.std.specs.declared.cmp.Ordering.{Ordering}
 use Rattle.std.specs.declared.snapshot.Snapshot.{Snapshot}
-use Rattle.replica_machine.specs.Machines.{MachineState, machine_code}
+use Rattle.replica_exchange.specs.Machines.{MachineState, machine_code}
 use Rattle.replica_exchange.specs.declared.member.Member.{Member}
 use Rattle.replica_exchange.specs.declared.slot.Slot.{Slot}
 

@@ -1,5 +1,6 @@
 ghost use Rattle.std.specs.Prelude.{◌≡◌, ◌↔◌, ◌+◌, ◌<◌, ◌≤◌, length, nat_le, OnOk, OnErr, IfOk, IfErr, IsErr};
 ghost use Rattle.std.specs.FinMap as finite;
+ghost use Rattle.std.specs.List.{All};
 ghost use Rattle.std.specs.Option.{option_copied};
 ghost use Rattle.m3_model.specs.Reads.{space_picked};
 ghost use Rattle.wire_bytes.specs.Entries.{IsBounded};
@@ -11,7 +12,7 @@ ghost use Rattle.event_book.specs.Lists.{most_entries};
 ghost use Rattle.event_trail.specs.Trails.{IsLegalOver, IsLawfulOver};
 ghost use Rattle.replica_exchange.specs.MachineCalls.{HasRoom};
 ghost use Rattle.replica_exchange.specs.Exchanges.{seen_in, IsNothing, HasAdded};
-ghost use Rattle.replica_exchange.specs.Promises.{Begins, Puts, Reads, Fences, Stops, Restarts, Reports};
+ghost use Rattle.replica_exchange.specs.Promises.{Begins, Puts, Reads, Flushes, Ticks, Fences, Stops, Restarts, Reports};
 ghost use Rattle.replica_calls.specs.Calls.{first_member, AreMembersOf, MayCall, MayTell, IsNoStep};
 
 use event_book::Full;
@@ -19,10 +20,9 @@ use event_trail::{EventView, Trail};
 use m3_model::{Pick, Point, Reason, Report, Rules, Seq, Series};
 use m3_outside::Disk;
 use replica_exchange::{
-    CallErr, CallId, Member, Slot, boot_on, fence_on, put_on, read_on, report_on, restart_on,
-    stop_on,
+    CallErr, CallId, Machine, Member, Slot, boot_on, fence_on, flush_on, put_on, read_on,
+    report_on, restart_on, stop_on, tick_on,
 };
-use replica_machine::Machine;
 use std::alloc::Global;
 use std::collections::BTreeMap;
 use std::marker::Model;
@@ -214,6 +214,40 @@ impl<D: Disk> Replicas<D> {
         }
     }
 
+    /// Has the replica at the slot write its ended blocks as volumes, by rules of an earlier Clock, and answers how many volumes it wrote.
+    /// Block sizes are at least 1, as in all rules within their limits.
+    ///
+    /// # Errors
+    ///
+    /// The replica's reason. `NotOwned` where the slot has no replica, or `Full` where the list has no room for two events: these change
+    /// nothing.
+    pub fn flush(&mut self, slot: Slot, rules: &Rules) -> Result<u64, CallErr>
+        requires clock { HasClock self.old.events rules.now }
+        requires sizes { All (λ space. 0 < space.block) rules.now.spaces }
+        ensures { MayCall D.state slot (call.Flush rules.entry.now) (λ n. reply.Count n) (Flushes D.state rules.entry.now) (λ n. n) result self.old self.new }
+    {
+        match self.map.get_mut(&slot) {
+            Some(member) => flush_on(member, &mut self.trail, slot, rules),
+            None => Err(CallErr::Refused(Reason::NotOwned)),
+        }
+    }
+
+    /// Has the replica at the slot take away what has expired, by rules of an earlier Clock, and answers how many keys its content lost.
+    ///
+    /// # Errors
+    ///
+    /// The replica's reason. `NotOwned` where the slot has no replica, or `Full` where the list has no room for two events: these change
+    /// nothing.
+    pub fn tick(&mut self, slot: Slot, rules: &Rules) -> Result<u64, CallErr>
+        requires clock { HasClock self.old.events rules.now }
+        ensures { MayCall D.state slot (call.Tick rules.entry.now) (λ n. reply.Count n) (Ticks D.state rules.entry.now) (λ n. n) result self.old self.new }
+    {
+        match self.map.get_mut(&slot) {
+            Some(member) => tick_on(member, &mut self.trail, slot, rules),
+            None => Err(CallErr::Refused(Reason::NotOwned)),
+        }
+    }
+
     /// Raises the fence of the replica at the slot to the version. A fence never falls.
     ///
     /// # Errors
@@ -259,9 +293,9 @@ impl<D: Disk> Replicas<D> {
         }
     }
 
-    /// How the replica at the slot stands, with its fence where it is open and else 0, and how many points it holds, one at each key. It
-    /// doesn't count segments, snapshots and volumes yet: these are 0. Nobody asks for its step, so the list needs room for that alone.
-    /// Takes no memory.
+    /// How the replica at the slot stands, with its fence where it is open and else 0; how many points it has in memory, one at each
+    /// key; how many segments its log has, the number of the newest snapshot on its disk, and how many volumes count there. Nobody asks
+    /// for its step, so the list needs room for that alone. Takes no memory.
     ///
     /// # Errors
     ///

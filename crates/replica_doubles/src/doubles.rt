@@ -99,7 +99,7 @@ pub fn space_of(pick: &Pick) -> u8
 }
 
 fn read_on<D: Disk>(
-    machine: &Machine<D>,
+    machine: &mut Machine<D>,
     rules: &Rules,
     version: u64,
     pick: &Pick,
@@ -253,7 +253,7 @@ impl<D: Disk> Double<D> {
         let slot = slot_at(sending, node);
         self.ask(slot, read_call(alloc, sending, rules, pick, range)?)?;
         let call = read_call(alloc, sending, rules, pick, range)?;
-        let reply = match self.machines.get(place_of(slot)) {
+        let reply = match self.machines.get_mut(place_of(slot)) {
             Some(machine) => read_on(machine, rules, sending.version, pick, range),
             None => no_reply(),
         };

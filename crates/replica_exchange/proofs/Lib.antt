@@ -1,2 +1,1 @@
 pub mod ExchangeLemmas
-mod ReadLemmas

@@ -1,7 +1,8 @@
 -- What a machine promises of each of its calls: what it answers, and what it is then.
-use Rattle.std.specs.Prelude.{◌≡◌, ◌≢◌, ◌↔◌, ℕ, ⊤, ◌<◌, ◌≤◌, max, true, List, Option, Some, None, Result, Ok, Err, OnOk, IfOk, IfErr, IsErrOf}
+use Rattle.std.specs.Prelude.{◌≡◌, ◌≢◌, ◌↔◌, ◌-◌, ℕ, ⊤, ◌<◌, ◌≤◌, max, true, List, None, Result, Ok, OnOk, IfOk, IfErr, IsErrOf, length}
 use Rattle.std.specs.FinMap as finite
 use Rattle.m3_model.specs.Contents.{raised}
+use Rattle.m3_model.specs.Reads.{IsOrdered}
 use Rattle.m3_model.specs.Rules.{InWindow}
 use Rattle.m3_model.specs.declared.limits.TheConstants.{MOST_REPLICA_POINTS}
 use Rattle.m3_model.specs.declared.point.Pick.{Pick}
@@ -15,14 +16,20 @@ use Rattle.m3_model.specs.declared.replica.Standing.TheVariants as standing
 use Rattle.m3_model.specs.declared.rules.Rules.{Rules}
 use Rattle.m3_outside.specs.DiskCalls.{LeavesFiles}
 use Rattle.m3_outside.specs.DiskState.{DiskState, Told, Becomes}
+use Rattle.block_buffer.specs.Held.{without, has_expired}
+use Rattle.commit_log.specs.Contents.{numbers}
 use Rattle.shard_files.specs.Gains.{a_point, a_fence, a_tenure}
+use Rattle.shard_files.specs.Keeps.{HoldContent, Rearranges}
 use Rattle.shard_files.specs.FilesHold.{IsSound}
+use Rattle.shard_files.specs.Parts.{IsNewestNumber, counted_volumes}
 use Rattle.cluster_core.specs.Rows.{open_fence}
 use Rattle.cluster_core.specs.declared.event.StepCall.{StepCall}
 use Rattle.replica_machine.specs.Boots.{BeganFrom, BeganAgain, MayBeUnowned, IsRefused, IsBootReason}
 use Rattle.replica_machine.specs.Damages.{IsDamageOf, IsFileDamage}
 use Rattle.replica_machine.specs.Machines.{MachineState, shut_machine, refusal, IsOwn, IsRefusedFor, IsLiveAnswer}
+use Rattle.replica_machine.specs.Reading.{IsRefusedReading}
 use Rattle.replica_machine.specs.Steps.{BringsTo, RestartsTo}
+use Rattle.replica_machine.specs.Upkeep.{IsFlushed, IsPartFlushed, IsTicked}
 use Rattle.replica_machine.specs.declared.machine.Began.{Began}
 
 module _ {D : Type 0} (state : D → DiskState) where
@@ -42,7 +49,7 @@ module _ {D : Type 0} (state : D → DiskState) where
 
   -- it takes the point, or refuses it and keeps all that it had, unless a fault closed it
   pub record Puts (rules : Rules) (point : Point) (c : StepCall) (said : Result ⊤ Reason) (old new : MachineState D) : Type 0 where
-    pub ok : OnOk said (new ≡ record old { disk = new.disk; content = raised old.content point })
+    pub ok : OnOk said (new ≡ record old { disk = new.disk; buffered = raised old.buffered point; content = raised old.content point })
     pub window : OnOk said (InWindow rules point)
     pub err : IfErr said (λ why. why ≢ reason.Disk → new ≡ record old { disk = new.disk })
     pub plain : IfErr said (λ why. why ≢ reason.Disk → why ≢ reason.Memory → new ≡ old)
@@ -51,19 +58,14 @@ module _ {D : Type 0} (state : D → DiskState) where
     pub refused : IsRefusedFor (refusal old c) said
     pub disk : BringsTo (a_point point) said (state old.disk) (state new.disk)
 
-  -- a read is refused for the reason that stands against it; where none does, for want of memory, a fault, or damage of its files
-  abbrev pub MayRefuseRead : Option Reason → MachineState D → Result (List Series) Reason → Type 0
-  MayRefuseRead (Some why) old said = IsErrOf said why
-  MayRefuseRead None old (Ok series) = ⊤
-  MayRefuseRead None old (Err (reason.Corrupt damage)) = Told (state old.disk) (λ files. ¬ IsSound files) × Told (state old.disk) (IsDamageOf damage)
-  MayRefuseRead None old (Err why) = IsOwn why
-
-  -- it answers with its live points, and keeps all that it had; a fault or damage of its files closes it
+  -- It answers with its live points where its disk tells what it holds, and keeps all that it had. A fault or damage of its files closes it.
   pub record Reads (rules : Rules) (pick : Pick) (from to : ℕ) (c : StepCall) (said : Result (List Series) Reason) (old new : MachineState D) : Type 0 where
-    pub ok : IfOk said (IsLiveAnswer old.content rules pick from to)
+    pub ok : (state old.disk).tells ≡ true → IfOk said (IsLiveAnswer old.content rules pick from to)
+    pub ordered : IfOk said IsOrdered
     pub stays : OnOk said (new ≡ record old { disk = new.disk })
     pub err : IfErr said (IsRefused old new)
-    pub refused : MayRefuseRead (refusal old c) old said
+    pub plain : refusal old c ≢ None → new ≡ old
+    pub refused : IsRefusedReading state (refusal old c) old said
     pub form : (damage : Damage) → IsErrOf said (reason.Corrupt damage) → IsFileDamage damage
     pub disk : LeavesFiles (IsErrOf said reason.Disk) (state old.disk) (state new.disk)
 
@@ -76,6 +78,28 @@ module _ {D : Type 0} (state : D → DiskState) where
     pub fault : IsErrOf said reason.Disk → new ≡ shut_machine standing.Down old new.disk
     pub refused : IsRefusedFor (refusal old c) said
     pub disk : BringsTo (a_fence version) said (state old.disk) (state new.disk)
+
+  -- It writes a volume for each block that may be flushed and has points in memory, and keeps its content. A fault or damage of its files closes it.
+  pub record Flushes (rules : Rules) (c : StepCall) (said : Result ℕ Reason) (old new : MachineState D) : Type 0 where
+    pub ok : IfOk said (IsFlushed state rules old new)
+    pub memory : IsErrOf said reason.Memory → IsPartFlushed state old new
+    pub err : IfErr said (λ why. why ≢ reason.Memory → IsRefused old new why)
+    pub plain : refusal old c ≢ None → new ≡ old
+    pub refused : IsRefusedReading state (refusal old c) old said
+    pub form : (damage : Damage) → IsErrOf said (reason.Corrupt damage) → IsFileDamage damage
+    pub disk : Rearranges old.content (IsErrOf said reason.Disk) (state old.disk) (state new.disk)
+
+  -- It takes away what has expired, and answers how many keys its content lost. A fault or damage of its files closes it.
+  pub record Ticks (rules : Rules) (c : StepCall) (said : Result ℕ Reason) (old new : MachineState D) : Type 0 where
+    pub ok : OnOk said (IsTicked state rules old new)
+    pub lost : (state old.disk).tells ≡ true → IfOk said (λ n. n ≡ finite.len old.content - finite.len new.content)
+    pub there : OnOk said (Told (state old.disk) (HoldContent new.content))
+    pub err : IfErr said (IsRefused old new)
+    pub unchanged : (state old.disk).tells ≡ true → IsErrOf said reason.Memory → Becomes (λ files. files) (state old.disk) (state new.disk)
+    pub plain : refusal old c ≢ None → new ≡ old
+    pub refused : IsRefusedReading state (refusal old c) old said
+    pub form : (damage : Damage) → IsErrOf said (reason.Corrupt damage) → IsFileDamage damage
+    pub disk : Rearranges (without old.content (has_expired rules)) (IsErrOf said reason.Disk) (state old.disk) (state new.disk)
 
   -- it is closed, over the same disk
   pub record Stops (c : StepCall) (said : Result ⊤ Reason) (old new : MachineState D) : Type 0 where
@@ -92,6 +116,10 @@ module _ {D : Type 0} (state : D → DiskState) where
 
   -- it says how it stands, and stays as it is
   pub record Reports (c : StepCall) (said : Result Report Reason) (old new : MachineState D) : Type 0 where
-    pub ok : IfOk said (λ report. (report.standing ≡ old.standing) × (report.fence ≡ open_fence old.standing old.fence) × (report.buffered ≡ finite.len old.content) × (report.buffered ≤ MOST_REPLICA_POINTS) × ((report.segments ≡ 0) × (report.snapshot ≡ 0) × (report.volumes ≡ 0)))
+    pub ok : IfOk said (λ report. (report.standing ≡ old.standing) × (report.fence ≡ open_fence old.standing old.fence) × (report.buffered ≡ finite.len old.buffered) × (report.buffered ≤ MOST_REPLICA_POINTS))
+    pub volumes : old.standing ≡ standing.Open → IfOk said (λ report. Told (state old.disk) (λ files. report.volumes ≡ length (counted_volumes files)))
+    pub segments : old.standing ≡ standing.Open → IfOk said (λ report. Told (state old.disk) (λ files. report.segments ≡ length (numbers files)))
+    pub snapshot : old.standing ≡ standing.Open → IfOk said (λ report. Told (state old.disk) (IsNewestNumber report.snapshot))
+    pub not_open : old.standing ≢ standing.Open → IfOk said (λ report. (report.volumes ≡ 0) × (report.segments ≡ 0) × (report.snapshot ≡ 0))
     pub never_refused : IfErr said (λ why. ⊥)
     pub stays : new ≡ old

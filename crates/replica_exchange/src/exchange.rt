@@ -1,6 +1,7 @@
 //! Calls of one machine, each with its events in the list: an Ask, and the step that answers it with the machine's own reply. The member that
 //! is given is the replica of the slot, and stays so. Replicas of other slots stay as the list has them.
 ghost use Rattle.std.specs.Prelude.{◌≡◌, ◌<◌, ◌≤◌, [], ◌∷◌, ◌++◌, length};
+ghost use Rattle.std.specs.List.{All};
 ghost use Rattle.m3_model.specs.Reads.{space_picked};
 ghost use Rattle.wire_bytes.specs.Entries.{IsBounded};
 ghost use Rattle.cluster_core.specs.Earlier.{HasClock, HasSend, HasTenure};
@@ -10,12 +11,14 @@ ghost use Rattle.cluster_core.specs.declared.event.StepReply.TheVariants as repl
 ghost use Rattle.event_trail.specs.Trails.{IsLawfulOver};
 ghost use Rattle.replica_exchange.specs.MachineCalls.{IsMemberOf, HasRoom, AddsStep, MayAnswerBy, MayAnswer, IsAnswer, OtherReplicasStay};
 ghost use Rattle.replica_exchange.specs.Exchanges.{ask_of};
-ghost use Rattle.replica_exchange.specs.Promises.{Begins, Puts, Reads, Fences, Stops, Restarts, Reports};
+ghost use Rattle.replica_exchange.specs.Promises.{Begins, Puts, Reads, Flushes, Ticks, Fences, Stops, Restarts, Reports};
 
 use crate::call_err::CallErr;
 use crate::call_id::CallId;
 use crate::member::Member;
-use crate::parts::{began_of, began_view, done_of, done_view, found_of, found_view};
+use crate::parts::{
+    began_of, began_view, count_of, count_view, done_of, done_view, found_of, found_view,
+};
 use crate::slot::Slot;
 use cluster_core::StepCall;
 use event_trail::{CallView, EventView, ReplyView, Trail, tell_apart};
@@ -159,6 +162,69 @@ pub fn read_on<D: Disk>(
     found_of(said)
 }
 
+/// Has the machine write its ended blocks as volumes, by rules of an earlier Clock, and adds an Ask and the step. Answers how many volumes
+/// it wrote. Block sizes are at least 1, as in all rules within their limits.
+///
+/// # Errors
+///
+/// The machine's reason. `Full` where the list has no room for two events: this changes nothing.
+pub fn flush_on<D: Disk>(
+    member: &mut Member<D>,
+    trail: &mut Trail<D>,
+    slot: Slot,
+    rules: &Rules,
+) -> Result<u64, CallErr>
+    requires is { IsMemberOf D.state slot trail.old member.old }
+    requires opened { 2 ≤ length trail.old }
+    requires clock { HasClock trail.old rules.now }
+    requires sizes { All (λ space. 0 < space.block) rules.now.spaces }
+    ensures is { IsMemberOf D.state slot trail.new member.new }
+    ensures others { OtherReplicasStay slot trail.old trail.new }
+    ensures opened { 2 ≤ length trail.new }
+    ensures answered { MayAnswer D.state slot (call.Flush rules.entry.now) (λ n. reply.Count n) (Flushes D.state rules.entry.now) (λ n. n) result member.old trail.old member.new trail.new }
+{
+    if !trail.has_room(2) {
+        return Err(CallErr::Full);
+    }
+    let call = CallView::flush(rules);
+    ask(trail, slot, &call);
+    let said = member.machine.flush(rules);
+    let reply = count_view(&said);
+    answer(trail, slot, &call, &reply);
+    count_of(said)
+}
+
+/// Has the machine take away what has expired, by rules of an earlier Clock, and adds an Ask and the step. Answers how many keys its
+/// content lost.
+///
+/// # Errors
+///
+/// The machine's reason. `Full` where the list has no room for two events: this changes nothing.
+pub fn tick_on<D: Disk>(
+    member: &mut Member<D>,
+    trail: &mut Trail<D>,
+    slot: Slot,
+    rules: &Rules,
+) -> Result<u64, CallErr>
+    requires is { IsMemberOf D.state slot trail.old member.old }
+    requires opened { 2 ≤ length trail.old }
+    requires clock { HasClock trail.old rules.now }
+    ensures is { IsMemberOf D.state slot trail.new member.new }
+    ensures others { OtherReplicasStay slot trail.old trail.new }
+    ensures opened { 2 ≤ length trail.new }
+    ensures answered { MayAnswer D.state slot (call.Tick rules.entry.now) (λ n. reply.Count n) (Ticks D.state rules.entry.now) (λ n. n) result member.old trail.old member.new trail.new }
+{
+    if !trail.has_room(2) {
+        return Err(CallErr::Full);
+    }
+    let call = CallView::tick(rules);
+    ask(trail, slot, &call);
+    let said = member.machine.tick(rules);
+    let reply = count_view(&said);
+    answer(trail, slot, &call, &reply);
+    count_of(said)
+}
+
 /// Raises the machine's fence to the version, and adds an Ask and the step. A fence never falls.
 ///
 /// # Errors
@@ -246,8 +312,8 @@ pub fn restart_on<D: Disk>(
     done_of(said)
 }
 
-/// How the machine stands, with its fence where it is open and else 0, and how many points it holds. Adds its step alone, as nobody asks
-/// for it. Takes no memory.
+/// How the machine stands, with its fence where it is open and else 0, how many points it has in memory, and how many volumes count on its
+/// disk. Adds its step alone, as nobody asks for it. Takes no memory.
 ///
 /// # Errors
 ///

@@ -62,3 +62,21 @@ pub(crate) fn found_of(said: Result<Seq<Series>, Reason>) -> Result<Seq<Series>,
         Err(reason) => Err(CallErr::Refused(reason)),
     }
 }
+
+pub(crate) fn count_view(said: &Result<u64, Reason>) -> ReplyView
+    ensures { result ≡ reply_by (λ n. reply.Count n) said.now }
+{
+    match said {
+        Ok(count) => ReplyView::count(*count),
+        Err(reason) => ReplyView::refused(reason),
+    }
+}
+
+pub(crate) fn count_of(said: Result<u64, Reason>) -> Result<u64, CallErr>
+    ensures { result ≡ result_of (λ n. n) said }
+{
+    match said {
+        Ok(count) => Ok(count),
+        Err(reason) => Err(CallErr::Refused(reason)),
+    }
+}

@@ -16,8 +16,8 @@ use Rattle.shard_files.specs.Damage.{OfForm, OfDigest}
 use Rattle.shard_files.specs.Gains.{nothing, a_tenure, Gains, MayGain}
 use Rattle.shard_files.specs.declared.load_err.LoadErr.{LoadErr}
 use Rattle.shard_files.specs.declared.load_err.LoadErr.TheVariants as failures
-use Rattle.shard_open.specs.Told.{MayBeUnsound}
-use Rattle.shard_open.proofs.ToldLemmas.{told_are_unsound}
+use Rattle.shard_store.specs.Told.{MayBeUnsound}
+use Rattle.shard_store.proofs.ToldLemmas.{told_are_unsound}
 use Rattle.shard_files.proofs.GainLemmas.{nothing_is_part}
 use Rattle.cluster_core.specs.Refusals.{closed}
 use Rattle.cluster_core.specs.declared.event.StepCall.TheVariants as call
@@ -25,7 +25,7 @@ use Rattle.cluster_core.specs.declared.event.StepReply.TheVariants as reply
 use Rattle.replica_machine.specs.Machines.{MachineState, IsOwn, shut_machine}
 use Rattle.replica_machine.specs.Steps.{IsStep, BringsTo, reply_by}
 use Rattle.replica_machine.specs.Damages.{told_of, IsDamageOf}
-use Rattle.replica_machine.specs.Boots.{BeganFrom, BeganAgain, HoldsHigher, MayBeUnowned, MayNotLoad, IsRefused}
+use Rattle.replica_machine.specs.Boots.{AreBesideVolumes, BeganFrom, BeganAgain, HoldsHigher, MayBeUnowned, MayNotLoad, IsRefused}
 use Rattle.replica_machine.specs.declared.machine.Began.{Began}
 use Rattle.replica_machine.proofs.DiskLemmas.{brings_none_to, stays_nothing, brings_stays, after_stays}
 use Rattle.replica_machine.proofs.BootLemmas.{begin_down, begin_unowned, begin_memory, begin_fault, begin_damage, begin_higher, step_after_stays}
@@ -155,6 +155,8 @@ module _ {D : Type 0} (state : D → DiskState) (old : MachineState D) (t : ℕ)
         not_higher = from.not_higher;
         fence_is = from.fence_is;
         new_is = from.new_is;
+        content = λ told. from.content (same ∙ told);
+        buffered = λ told. subst (AreBesideVolumes began.points new.buffered) (files told) (from.buffered (same ∙ told));
       };
       not_down = λ e. absurd (never reason.Down e);
       unowned = λ e. absurd (never reason.NotOwned e);

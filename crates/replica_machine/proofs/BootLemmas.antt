@@ -2,7 +2,7 @@
 use Rattle.std.proofs.Common.{◌≡◌, ◌<◌, ◌≤◌, inl, inr, ⊎_elim, ℕ, max, List, [], ◌∷◌, ◌++◌, refl, sym, ap, subst, ◌∙◌, arith, true, Some, None, Result, Ok, Err, All}
 use Rattle.std.specs.Prelude.{⊤, ◌≢◌, ◌⊎◌, Option, IsErrOf}
 use Rattle.std.proofs.lemmas.Bool.{OnTrue_from}
-use Rattle.m3_model.specs.Contents.{content_of, point_at}
+use Rattle.m3_model.specs.Contents.{Contents, content_of, point_at}
 use Rattle.m3_model.specs.Members.{IsIn}
 use Rattle.m3_model.specs.Reads.{Covers}
 use Rattle.m3_model.specs.declared.point.Point.{Point}
@@ -25,10 +25,10 @@ use Rattle.shard_store.specs.Stores.{StoreState, closed_over}
 use Rattle.shard_files.proofs.GainLemmas.{covers_itself}
 use Rattle.shard_files.proofs.FilesHoldLemmas.{files_hold_one}
 use Rattle.shard_store.proofs.LogStepLemmas.{counts_same}
-use Rattle.shard_open.proofs.Counts.{counts_both, counts_for}
+use Rattle.shard_store.proofs.Counts.{counts_both, counts_for}
 use Rattle.shard_files.proofs.ContentLemmas.{content_holds, content_source}
 use Rattle.cluster_core.specs.Refusals.{closed, first_refusal}
-use Rattle.cluster_core.specs.Replicas.{IsGone}
+use Rattle.cluster_core.specs.Replicas.{Shows, IsGone, after}
 use Rattle.cluster_core.specs.Rows.{NoneHigher, MayBeHigher, IsBegan, LawfulStep}
 use Rattle.cluster_core.specs.declared.event.StepCall.TheVariants as call
 use Rattle.cluster_core.specs.declared.event.StepReply.{StepReply}
@@ -38,7 +38,7 @@ use Rattle.cluster_core.proofs.ReplicaLemmas.{some_there}
 use Rattle.replica_machine.specs.Bases.{CameFrom}
 use Rattle.replica_machine.specs.Machines.{MachineState, IsMachineOf, IsHeldBy, IsOwn, shut_machine, reason_of, left_by}
 use Rattle.replica_machine.specs.Steps.{IsStep, BringsTo}
-use Rattle.replica_machine.specs.Boots.{HoldsHigher, IsRefused, BeganFrom, BeganAgain}
+use Rattle.replica_machine.specs.Boots.{AreBesideVolumes, HoldsHigher, IsRefused, BeganFrom, BeganAgain}
 use Rattle.replica_machine.specs.declared.machine.Began.{Began}
 use Rattle.replica_machine.proofs.DiskLemmas.{each_step, brings_ok, brings_err, each_whole}
 use Rattle.replica_machine.proofs.BaseLemmas.{came_nothing, came_tried}
@@ -153,8 +153,9 @@ module _ {D : Type 0} (state : D → DiskState) (old : MachineState D) (t : ℕ)
             ⊎_elim (λ (none : r.begun ≡ []). absurd (subst (λ (l : List Point). IsIn l p) (h.empty none) m))
             (λ (some : r.begun ≢ []). loaded_covers r points tenure_found fence_found (state old.disk).files (held told) (h.files some told (state old.disk).files (image told)) p m stays) (empty_or r.begun)
 
-        pub began_step : IsStep state old (call.Begin t) (reply.Began fence points) (record { standing = standing.Open; tenure = Some t; begun = t; fence = fence; content = content_of points; disk = d })
-        began_step = record {
+        pub began_step : (buffered content : Contents) → ((state old.disk).tells ≡ true → content ≡ content_of points)
+            → IsStep state old (call.Begin t) (reply.Began fence points) (record { standing = standing.Open; tenure = Some t; begun = t; fence = fence; buffered = buffered; content = content; disk = d })
+        began_step buffered content content_is = record {
           lawful = λ made r h past n s given. record {
             not_down = λ e. let clash : standing.Boot ≡ standing.Down = sym boot ∙ h.stands ∙ e in absurd (cc);
             fence_high = omega (arith, fence_is);
@@ -175,10 +176,10 @@ module _ {D : Type 0} (state : D → DiskState) (old : MachineState D) (t : ℕ)
               fence = refl;
               sure = refl;
               sure_fences = refl;
-              shows = λ tells. record {
+              shows = λ tells. subst (λ (c : Contents). Shows (after r (call.Begin t) (reply.Began fence points)) c) (sym (content_is (sym same ∙ tells))) (record {
                 sure = λ k v e. IsIn-append_right r.sure points (point_at k v) (content_source points k v e);
                 all = λ p m stays. content_holds points p (⊎_elim (λ (was : IsIn r.sure p). covered r h (sym same ∙ tells) p was stays) (λ (new : IsIn points p). covers_itself points p new) (IsIn-append_cases r.sure points p m));
-              };
+              });
             };
             files = λ b tells c now.
                 let told : (state old.disk).tells ≡ true = sym same ∙ tells in
@@ -310,7 +311,7 @@ pub record AgainDone {D : Type 0} (state : D → DiskState) (old : MachineState 
   pub step : IsStep state old (call.Begin t) (reply.Began began.fence began.points) new
 
 module _ {D : Type 0} (state : D → DiskState) (s : Standing) (tenure : Option ℕ) (begun : ℕ) (old : MachineState D) (before now : StoreState D) (view : machine_of s tenure begun before ≡ old) (t : ℕ) (began : Began) (u : ⊤) where
-  pub again_done : old.standing ≡ standing.Open → old.begun ≤ t → now ≡ record { disk = now.disk; open_ = true; content = before.content; tenure = max before.tenure t; fence = max before.fence t } → Brings (a_tenure t) (Ok u) (state before.disk) (state now.disk)
+  pub again_done : old.standing ≡ standing.Open → old.begun ≤ t → now ≡ record { disk = now.disk; open_ = true; buffered = before.buffered; content = before.content; tenure = max before.tenure t; fence = max before.fence t } → Brings (a_tenure t) (Ok u) (state before.disk) (state now.disk)
       → began.fence ≡ now.fence → began.points ≡ [] → AgainDone state old t began (machine_of s (Some t) t now)
   again_done is_open high ok brings fence none =
       let new = machine_of s (Some t) t now in
@@ -334,14 +335,16 @@ pub record OpenDone {D : Type 0} (state : D → DiskState) (old : MachineState D
 
 module _ {D : Type 0} (state : D → DiskState) (s : Standing) (tenure : Option ℕ) (begun : ℕ) (old : MachineState D) (before now : StoreState D) (view : machine_of s tenure begun before ≡ old) (t : ℕ) (began : Began) (u : ⊤) where
   pub open_done : old.standing ≡ standing.Boot → old.begun ≤ t → (points : List Point) (tenure_found fence_found : ℕ) → tenure_found ≤ t → Told (state old.disk) (HeldOnce points tenure_found fence_found) → EachImage (state old.disk) (λ c. c ≡ (state old.disk).files)
-      → Told (state old.disk) (state old.disk).images → now ≡ record { disk = now.disk; open_ = true; content = content_of points; tenure = max tenure_found t; fence = max fence_found t } → Brings (a_tenure t) (Ok u) (state before.disk) (state now.disk)
+      → Told (state old.disk) (state old.disk).images → (buffered : Contents) → now ≡ record { disk = now.disk; open_ = true; buffered = buffered; content = now.content; tenure = max tenure_found t; fence = max fence_found t } → ((state old.disk).tells ≡ true → now.content ≡ content_of points)
+      → Told (state old.disk) (AreBesideVolumes points buffered) → Brings (a_tenure t) (Ok u) (state before.disk) (state now.disk)
       → began.fence ≡ now.fence → began.points ≡ points → OpenDone state old t began (machine_of standing.Open (Some t) t now)
-  open_done boot high points tenure_found fence_found low held only image ok brings fence there =
+  open_done boot high points tenure_found fence_found low held only image buffered ok content_is beside brings fence there =
       let new = machine_of standing.Open (Some t) t now in
       let fence_is : began.fence ≡ max fence_found t = fence ∙ ap (λ (store : StoreState D). store.fence) ok in
-      let left : new ≡ record { standing = standing.Open; tenure = Some t; begun = t; fence = max fence_found t; content = content_of points; disk = now.disk } = ap (machine_of standing.Open (Some t) t) ok in
-      let new_is : new ≡ record { standing = standing.Open; tenure = Some t; begun = t; fence = began.fence; content = content_of points; disk = now.disk } =
-      left ∙ ap (λ (f : ℕ). let m : MachineState D = record { standing = standing.Open; tenure = Some t; begun = t; fence = f; content = content_of points; disk = now.disk } in m) (sym fence_is) in
+      let now_fence : now.fence ≡ began.fence = sym fence in
+      let new_is : new ≡ record { standing = standing.Open; tenure = Some t; begun = t; fence = began.fence; buffered = now.buffered; content = now.content; disk = now.disk } =
+      ap (λ (f : ℕ). let m : MachineState D = record { standing = standing.Open; tenure = Some t; begun = t; fence = f; buffered = now.buffered; content = now.content; disk = now.disk } in m) now_fence in
+      let buffered_is : now.buffered ≡ buffered = ap (λ (store : StoreState D). store.buffered) ok in
       let same = subst (λ (d : D). Brings (a_tenure t) (Ok u) (state d) (state now.disk)) (ap (λ (m : MachineState D). m.disk) view) brings in
       record {
         from = record {
@@ -350,11 +353,13 @@ module _ {D : Type 0} (state : D → DiskState) (s : Standing) (tenure : Option 
           held = λ told. subst (λ (ps : List Point). HeldOnce ps tenure_found fence_found (state old.disk).files) (sym there) (held told);
           not_higher = low;
           fence_is = fence_is;
-          new_is = subst (λ (ps : List Point). new ≡ record { standing = standing.Open; tenure = Some t; begun = t; fence = began.fence; content = content_of ps; disk = now.disk }) (sym there) new_is;
+          new_is = new_is;
+          content = λ told. content_is told ∙ sym (ap content_of there);
+          buffered = λ told. subst (λ (ps : List Point). AreBesideVolumes ps now.buffered (state old.disk).files) (sym there) (subst (λ (c : Contents). AreBesideVolumes points c (state old.disk).files) (sym buffered_is) (beside told));
         };
         disk = brings_ok (a_tenure t) u began (state old.disk) (state now.disk) same;
         step =
             subst (λ (ps : List Point). IsStep state old (call.Begin t) (reply.Began began.fence ps) new) (sym there)
             (subst (λ (m : MachineState D). IsStep state old (call.Begin t) (reply.Began began.fence points) m) (sym new_is)
-            (began_step state old t now.disk same.tells _ same.faults high began.fence (λ told. same.acknowledged told) boot points tenure_found fence_found low fence_is held only image));
+            (began_step state old t now.disk same.tells _ same.faults high began.fence (λ told. same.acknowledged told) boot points tenure_found fence_found low fence_is held only image now.buffered now.content content_is));
       }

@@ -1,7 +1,7 @@
 -- The reasons for which a begin is refused.
 use Rattle.std.proofs.Common.{◌≡◌, ⊎_elim, inl, inr, refl, sym, subst, ◌∙◌, Result, Ok, Err}
 use Rattle.std.specs.Prelude.{◌⊎◌, IfErr, IsErrOf}
-use Rattle.shard_open.specs.Told.{AreApart}
+use Rattle.shard_store.specs.Told.{AreApart}
 use Rattle.m3_model.specs.declared.reason.Damage.{Damage}
 use Rattle.m3_model.specs.declared.reason.Reason.{Reason}
 use Rattle.m3_model.specs.declared.reason.Reason.TheVariants as reason

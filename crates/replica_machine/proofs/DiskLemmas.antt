@@ -17,7 +17,7 @@ use Rattle.shard_files.proofs.GainLemmas.{gains_nothing, nothing_is_part}
 use Rattle.cluster_core.specs.declared.event.StepReply.{StepReply}
 use Rattle.cluster_core.specs.declared.event.StepReply.TheVariants as reply
 use Rattle.shard_store.proofs.LogStepLemmas.{after_nothing, steps_after_nothing, on_ok_as, brings_none}
-use Rattle.shard_open.proofs.Counts.{counts_both, counts_for}
+use Rattle.shard_store.proofs.Counts.{counts_both, counts_for}
 use Rattle.replica_machine.specs.Machines.{reason_of, settled_answer}
 use Rattle.replica_machine.specs.Steps.{reply_by, BringsTo}
 

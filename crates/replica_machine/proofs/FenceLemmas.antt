@@ -211,12 +211,12 @@ module _ {D : Type 0} (state : D → DiskState) (old : MachineState D) (version 
 
 -- with what the store's fence did, or as it was where it was refused
 pub fence_by : {D : Type 0} (state : D → DiskState) (s : Standing) (tenure : Option ℕ) (begun : ℕ) (old : MachineState D) (before now : StoreState D) (version : ℕ) (said : Result ⊤ DiskErr) → machine_of s tenure begun before ≡ old
-    → OnOk said (now ≡ record { disk = now.disk; open_ = true; content = before.content; tenure = before.tenure; fence = max before.fence version })
+    → OnOk said (now ≡ record { disk = now.disk; open_ = true; buffered = before.buffered; content = before.content; tenure = before.tenure; fence = max before.fence version })
     → ((state before.disk).tells ≡ true → IsErrOf said refused.Memory → Becomes (λ files. files) (state before.disk) (state now.disk)) → Brings (a_fence version) said (state before.disk) (state now.disk)
     → FenceBy state old (middle s tenure begun before now old said) version said
 fence_by {D} state s tenure begun old before now version said view ok unchanged brings = subst (λ (m : MachineState D). FenceBy state m (middle s tenure begun before now m said) version said) view (by said ok unchanged brings)
   where
-    by : (said : Result ⊤ DiskErr) → OnOk said (now ≡ record { disk = now.disk; open_ = true; content = before.content; tenure = before.tenure; fence = max before.fence version })
+    by : (said : Result ⊤ DiskErr) → OnOk said (now ≡ record { disk = now.disk; open_ = true; buffered = before.buffered; content = before.content; tenure = before.tenure; fence = max before.fence version })
         → ((state before.disk).tells ≡ true → IsErrOf said refused.Memory → Becomes (λ files. files) (state before.disk) (state now.disk)) → Brings (a_fence version) said (state before.disk) (state now.disk)
         → FenceBy state (machine_of s tenure begun before) (middle s tenure begun before now (machine_of s tenure begun before) said) version said
     by (Ok u) ok unchanged brings = record { ok = ap (machine_of s tenure begun) ok; err = tt; unchanged = unchanged; disk = brings }

@@ -18,3 +18,9 @@ pub mod BootReasons
 pub mod RefusedFiles
 pub mod RearrangedLemmas
 pub mod BaseSteps
+pub mod FilesLemmas
+pub mod KeptLemmas
+pub mod ReadLemmas
+pub mod FlushLemmas
+pub mod TickLemmas
+pub mod SavedLemmas

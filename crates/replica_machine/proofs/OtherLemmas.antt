@@ -23,7 +23,7 @@ use Rattle.shard_files.specs.Gains.{nothing, Gains}
 use Rattle.shard_store.specs.Stores.{StoreState, closed_over}
 use Rattle.shard_files.proofs.GainLemmas.{gains_nothing}
 use Rattle.shard_store.proofs.LogStepLemmas.{counts_same}
-use Rattle.shard_open.proofs.Counts.{counts_for}
+use Rattle.shard_store.proofs.Counts.{counts_for}
 use Rattle.cluster_core.specs.Replicas.{fresh}
 use Rattle.cluster_core.specs.Rows.{open_fence}
 use Rattle.cluster_core.specs.declared.event.StepCall.TheVariants as call

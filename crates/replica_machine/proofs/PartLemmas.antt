@@ -12,7 +12,7 @@ use Rattle.m3_outside.specs.DiskState.{DiskState, Told, Elapses}
 use Rattle.shard_files.specs.FilesHold.{FilesHold}
 use Rattle.shard_files.specs.Once.{HeldOnce}
 use Rattle.shard_files.specs.Gains.{a_tenure}
-use Rattle.shard_open.specs.Told.{MayBeUnsound}
+use Rattle.shard_store.specs.Told.{MayBeUnsound}
 use Rattle.shard_store.specs.Stores.{StoreState, closed_over}
 use Rattle.shard_files.specs.declared.load_err.LoadErr.{LoadErr}
 use Rattle.shard_files.specs.declared.load_err.LoadErr.TheVariants as failures

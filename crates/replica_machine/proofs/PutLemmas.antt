@@ -2,7 +2,7 @@
 use Rattle.std.proofs.Common.{◌≡◌, ℕ, true, [], ◌∷◌, ◌++◌, refl, sym, ap, subst, ◌∙◌, Option, Some, None, Result, Ok, Err}
 use Rattle.std.specs.Prelude.{⊤, ◌≢◌, OnOk, IfErr, IsErrOf}
 use Rattle.std.specs.Option.{option_or}
-use Rattle.m3_model.specs.Contents.{Contents, raised}
+use Rattle.m3_model.specs.Contents.{raised}
 use Rattle.m3_outside.proofs.Moments.{same_becomes}
 use Rattle.m3_model.specs.Rules.{InWindow}
 use Rattle.m3_model.specs.declared.point.Point.{Point}
@@ -35,7 +35,7 @@ use Rattle.replica_machine.proofs.StepLemmas.{machine_of, middle, kept_machine, 
 
 -- what a put answers and leaves
 pub record PutDone {D : Type 0} (state : D → DiskState) (old : MachineState D) (version : ℕ) (rules : Rules) (p : Point) (result : Result ⊤ Reason) (new : MachineState D) : Type 0 where
-  pub ok : OnOk result (new ≡ record old { disk = new.disk; content = raised old.content p })
+  pub ok : OnOk result (new ≡ record old { disk = new.disk; buffered = raised old.buffered p; content = raised old.content p })
   pub window : OnOk result (InWindow rules p)
   pub err : IfErr result (λ why. why ≢ reason.Disk → new ≡ record old { disk = new.disk })
   pub plain : IfErr result (λ why. why ≢ reason.Disk → why ≢ reason.Memory → new ≡ old)
@@ -47,9 +47,9 @@ pub record PutDone {D : Type 0} (state : D → DiskState) (old : MachineState D)
 
 -- what a store's put did
 pub record PutBy {D : Type 0} (state : D → DiskState) (old mid : MachineState D) (p : Point) (said : Result ⊤ DiskErr) : Type 0 where
-  pub ok : OnOk said (mid ≡ record old { disk = mid.disk; content = raised old.content p })
+  pub ok : OnOk said (mid ≡ record old { disk = mid.disk; buffered = raised old.buffered p; content = raised old.content p })
   pub memory : IsErrOf said refused.Memory → mid ≡ record old { disk = mid.disk }
-  pub fault : mid ≡ record old { disk = mid.disk; content = mid.content }
+  pub fault : mid ≡ record old { disk = mid.disk; buffered = mid.buffered; content = mid.content }
   pub unchanged : (state old.disk).tells ≡ true → IsErrOf said refused.Memory → Becomes (λ files. files) (state old.disk) (state mid.disk)
   pub disk : Brings (a_point p) said (state old.disk) (state mid.disk)
 
@@ -197,13 +197,13 @@ module _ {D : Type 0} (state : D → DiskState) (old : MachineState D) (version 
 
 -- with what the store's put did, or as it was where it was refused
 pub put_by : {D : Type 0} (state : D → DiskState) (s : Standing) (tenure : Option ℕ) (begun : ℕ) (old : MachineState D) (before now : StoreState D) (p : Point) (said : Result ⊤ DiskErr) → machine_of s tenure begun before ≡ old
-    → OnOk said (now ≡ record before { disk = now.disk; content = raised before.content p }) → ((state before.disk).tells ≡ true → IsErrOf said refused.Memory → Becomes (λ files. files) (state before.disk) (state now.disk))
+    → OnOk said (now ≡ record before { disk = now.disk; buffered = raised before.buffered p; content = raised before.content p }) → ((state before.disk).tells ≡ true → IsErrOf said refused.Memory → Becomes (λ files. files) (state before.disk) (state now.disk))
     → Brings (a_point p) said (state before.disk) (state now.disk) → PutBy state old (middle s tenure begun before now old said) p said
 put_by {D} state s tenure begun old before now p said view ok unchanged brings = subst (λ (m : MachineState D). PutBy state m (middle s tenure begun before now m said) p said) view (by said ok unchanged brings)
   where
-    by : (said : Result ⊤ DiskErr) → OnOk said (now ≡ record before { disk = now.disk; content = raised before.content p }) → ((state before.disk).tells ≡ true → IsErrOf said refused.Memory → Becomes (λ files. files) (state before.disk) (state now.disk))
+    by : (said : Result ⊤ DiskErr) → OnOk said (now ≡ record before { disk = now.disk; buffered = raised before.buffered p; content = raised before.content p }) → ((state before.disk).tells ≡ true → IsErrOf said refused.Memory → Becomes (λ files. files) (state before.disk) (state now.disk))
         → Brings (a_point p) said (state before.disk) (state now.disk) → PutBy state (machine_of s tenure begun before) (middle s tenure begun before now (machine_of s tenure begun before) said) p said
     by (Ok u) ok unchanged brings =
         let is = ap (machine_of s tenure begun) ok in
-        record { ok = is; memory = λ f. absurd (cc); fault = is ∙ ap (λ (c : Contents). record (machine_of s tenure begun before) { disk = now.disk; content = c }) (sym (ap (λ (x : StoreState D). x.content) ok)); unchanged = unchanged; disk = brings }
+        record { ok = is; memory = λ f. absurd (cc); fault = is ∙ ap (λ (x : StoreState D). record (machine_of s tenure begun before) { disk = now.disk; buffered = x.buffered; content = x.content }) (sym ok); unchanged = unchanged; disk = brings }
     by (Err why) ok unchanged brings = record { ok = tt; memory = λ f. refl; fault = refl; unchanged = unchanged; disk = brings }

@@ -1,5 +1,5 @@
 -- A replica over whose disk a call went that brings no point is still its machine's.
-use Rattle.std.proofs.Common.{◌≡◌, ◌≤◌, ℕ, true, List, [], ◌∷◌, ◌++◌, refl, sym, subst, ◌∙◌, All, Any}
+use Rattle.std.proofs.Common.{◌≡◌, ◌≤◌, ⊎_elim, ℕ, true, List, [], ◌∷◌, ◌++◌, refl, sym, subst, ◌∙◌, All, Any}
 use Rattle.std.specs.Prelude.{◌⊎◌, ◌≢◌}
 use Rattle.m3_model.specs.Contents.{Contents, Holds, point_at}
 use Rattle.m3_model.specs.Members.{IsIn}
@@ -15,12 +15,12 @@ use Rattle.m3_outside.specs.Files.{Files}
 use Rattle.m3_outside.specs.DiskState.{DiskState, EachImage}
 use Rattle.placement_core.proofs.ListLemmas.{All-from_each, each-from_All, Any-from_IsIn, IsIn-from_Any}
 use Rattle.shard_files.specs.Parts.{AreWhole}
-use Rattle.shard_files.specs.Keeps.{Keeps}
+use Rattle.shard_files.specs.Keeps.{Keeps, HoldContent}
 use Rattle.cluster_core.specs.Replicas.{Shows, IsGone, down}
 use Rattle.cluster_core.specs.declared.event.StepReply.TheVariants as reply
 use Rattle.cluster_core.specs.declared.replica_state.ReplicaState.{ReplicaState}
 use Rattle.replica_machine.specs.Machines.{MachineState, IsHeldBy, IsMachineOf, IsGreatest, shut_machine}
-use Rattle.replica_machine.specs.Rearranged.{IsTickedTo, KeptReplica, TickedReplica, KeepsImages, KeptMachine, TickedMachine}
+use Rattle.replica_machine.specs.Rearranged.{KeepsLive, KeptReplica, TickedReplica, KeepsImages, KeptMachine, TickedMachine}
 use Rattle.replica_machine.proofs.DiskLemmas.{each_step, each_whole}
 
 -- where the content has a value at the key, its point covers this one
@@ -65,16 +65,22 @@ any_last P xs y p = Any-from_IsIn P (xs ++ y ∷ []) y (IsIn-push xs y) p
 abbrev ticked : ReplicaState → Standing → Rules → ReplicaState
 ticked r s rules = record r { standing = s; ticks = r.ticks ++ rules ∷ [] }
 
-module _ (r : ReplicaState) (s : Standing) (rules : Rules) (content kept : Contents) (shows : Shows r content) (to : IsTickedTo rules content kept) where
+module _ (r : ReplicaState) (s : Standing) (rules : Rules) (content kept : Contents) (shows : Shows r content) (live : KeepsLive rules content kept) where
   -- what isn't gone then wasn't before, and the content that is kept has it
   still_there : (p : Point) → IsIn r.sure p → ¬ IsGone (ticked r s rules) p → Holds kept p
   still_there p m stays =
       let there = shows.all p m (λ gone. stays (any_left (λ rs. HasExpired rs p) r.ticks (rules ∷ []) gone)) in
-      let live = to.live (record p { v = there.value }) there.stands (λ e. stays (any_last (λ rs. HasExpired rs p) r.ticks rules (expired_as rules p there.value e))) in
-      record { value = there.value; at_least = there.at_least; stands = live }
+      let stands = live (record p { v = there.value }) there.stands (λ e. stays (any_last (λ rs. HasExpired rs p) r.ticks rules (expired_as rules p there.value e))) in
+      record { value = there.value; at_least = there.at_least; stands = stands }
 
-  ticked_shows : Shows (ticked r s rules) kept
-  ticked_shows = record { sure = λ k v e. shows.sure k v (to.nothing_else (point_at k v) e); all = still_there }
+  -- each of its points is one that files had which the replica may begin with, and nothing is in doubt
+  ticked_shows : (files : Files) → IsHeldBy r files → r.doubt ≡ [] → HoldContent kept files → Shows (ticked r s rules) kept
+  ticked_shows files h none had = record {
+    sure = λ k v e.
+        let p = point_at k v in
+        ⊎_elim (λ (sure : IsIn r.sure p). sure) (λ (doubt : IsIn r.doubt p). absurd (subst (λ (l : List Point). IsIn l p) none doubt)) (each-from_All (λ p. IsIn r.sure p ⊎ IsIn r.doubt p) h.points h.source p (had p e h.points h.tenure h.fence h.held));
+    all = still_there;
+  }
 
   ticked_held : (x y : Files) → Keeps kept x y → IsHeldBy r x → IsHeldBy (ticked r s rules) y
   ticked_held x y keeps h = kept_by r s (r.ticks ++ rules ∷ []) kept x y still_there keeps h
@@ -106,9 +112,9 @@ module _ {D : Type 0} (state : D → DiskState) (base : Files → Type 0) (r : R
   }
 
   -- an open one, with a content that shows what is left of the replica
-  open_by : (q : ReplicaState) (content : Contents) → q.standing ≡ r.standing → q.begun ≡ r.begun → q.fence ≡ r.fence → q.sure ≡ r.sure → q.tenure ≡ r.tenure → q.doubt ≡ r.doubt → q.doubt_fences ≡ r.doubt_fences → ((state d).tells ≡ true → Shows q content)
-      → EachImage (state d) (IsHeldBy q) → (((c : Files) → base c → AreWhole c) → EachImage (state d) AreWhole) → IsMachineOf state base q (record m { content = content; disk = d })
-  open_by q content stands begun fence sure tenure doubt fences shows files snapshots =
+  open_by : (q : ReplicaState) (buffered content : Contents) → q.standing ≡ r.standing → q.begun ≡ r.begun → q.fence ≡ r.fence → q.sure ≡ r.sure → q.tenure ≡ r.tenure → q.doubt ≡ r.doubt → q.doubt_fences ≡ r.doubt_fences → ((state d).tells ≡ true → Shows q content)
+      → EachImage (state d) (IsHeldBy q) → (((c : Files) → base c → AreWhole c) → EachImage (state d) AreWhole) → IsMachineOf state base q (record m { disk = d; buffered = buffered; content = content })
+  open_by q buffered content stands begun fence sure tenure doubt fences shows files snapshots =
       let a = h.open_ is_open in
       record {
         stands = h.stands ∙ sym stands;
@@ -131,9 +137,10 @@ module _ {D : Type 0} (state : D → DiskState) where
 
   pub kept_machine : KeptMachine state
   kept_machine = record {
-    open_ = λ first r m d is_open keeps h.
+    open_ = λ first r m d buffered content is_open keeps same h.
         let a = h.open_ is_open in
-        open_by state (state first).images r m d is_open h r m.content refl refl refl refl refl refl refl (λ tells. a.shows (sym keeps.tells ∙ tells))
+        open_by state (state first).images r m d is_open h r buffered content refl refl refl refl refl refl refl
+        (λ tells. let told = sym keeps.tells ∙ tells in subst (Shows r) (sym (same told)) (a.shows told))
         (images m.content (state m.disk) (state d) (IsHeldBy r) (IsHeldBy r) keeps (λ told x y kept held. kept_replica r r.standing m.content x y (a.shows told) kept held) (h.files a.begun))
         (whole m.content (state m.disk) (state d) (state first).images keeps h.snapshots);
     closed = λ first r m d is_open keeps h.
@@ -143,23 +150,27 @@ module _ {D : Type 0} (state : D → DiskState) where
         (whole m.content (state m.disk) (state d) (state first).images keeps h.snapshots);
   }
 
-  closed_tick : (first : D) (r : ReplicaState) (m : MachineState D) (d : D) (rules : Rules) (kept : Contents) → m.standing ≡ standing.Open → IsTickedTo rules m.content kept → KeepsImages kept (state m.disk) (state d) → IsMachineOf state (state first).images r m
+  closed_tick : (first : D) (r : ReplicaState) (m : MachineState D) (d : D) (rules : Rules) (kept : Contents) → m.standing ≡ standing.Open → KeepsLive rules m.content kept → KeepsImages kept (state m.disk) (state d) → IsMachineOf state (state first).images r m
       → IsMachineOf state (state first).images (ticked r standing.Down rules) (shut_machine standing.Down m d)
-  closed_tick first r m d rules kept is_open to keeps h =
+  closed_tick first r m d rules kept is_open live keeps h =
       let a = h.open_ is_open in
       let q = ticked r standing.Down rules in
       closed_by state (state first).images r m d is_open h q refl refl refl refl
-      (images kept (state m.disk) (state d) (IsHeldBy r) (IsHeldBy q) keeps (λ told x y one held. ticked_held r standing.Down rules m.content kept (a.shows told) to x y one held) (h.files a.begun))
+      (images kept (state m.disk) (state d) (IsHeldBy r) (IsHeldBy q) keeps (λ told x y one held. ticked_held r standing.Down rules m.content kept (a.shows told) live x y one held) (h.files a.begun))
       (whole kept (state m.disk) (state d) (state first).images keeps h.snapshots)
 
   pub ticked_machine : TickedMachine state
   ticked_machine = record {
-    done = λ first r m d rules n kept is_open to keeps h.
+    done = λ first r m d rules n kept buffered left is_open live keeps to h.
         let a = h.open_ is_open in
         let q = ticked r r.standing rules in
-        open_by state (state first).images r m d is_open h q kept refl refl refl refl refl refl refl (λ tells. ticked_shows r r.standing rules m.content kept (a.shows (sym keeps.tells ∙ tells)) to)
-        (images kept (state m.disk) (state d) (IsHeldBy r) (IsHeldBy q) keeps (λ told x y one held. ticked_held r r.standing rules m.content kept (a.shows told) to x y one held) (h.files a.begun))
+        open_by state (state first).images r m d is_open h q buffered left refl refl refl refl refl refl refl
+        (λ tells.
+        let told = sym keeps.tells ∙ tells in
+        let had = (to told).there told in
+        ticked_shows r r.standing rules m.content left (a.shows told) (to told).live (state m.disk).files (h.files a.begun told (state m.disk).files had.0) a.sure had.1)
+        (images kept (state m.disk) (state d) (IsHeldBy r) (IsHeldBy q) keeps (λ told x y one held. ticked_held r r.standing rules m.content kept (a.shows told) live x y one held) (h.files a.begun))
         (whole kept (state m.disk) (state d) (state first).images keeps h.snapshots);
-    failed = λ first r m d rules kept is_open to keeps h. closed_tick first r m d rules kept is_open to keeps h;
-    damaged = λ first r m d rules damage kept is_open to keeps h. closed_tick first r m d rules kept is_open to keeps h;
+    failed = λ first r m d rules kept is_open live keeps h. closed_tick first r m d rules kept is_open live keeps h;
+    damaged = λ first r m d rules damage kept is_open live keeps h. closed_tick first r m d rules kept is_open live keeps h;
   }

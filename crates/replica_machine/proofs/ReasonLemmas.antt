@@ -70,6 +70,9 @@ at_some (Some w) why p e = by w why p (some_same w why e)
     by : (a b : Reason) → IsPlain a → a ≡ b → IsPlain b
     by a b plain is = subst IsPlain is plain
 
+pub shut_by : (s : Standing) (why : Reason) → shut s ≡ Some why → IsPlain why
+shut_by s why e = at_some (shut s) why (shut_plain s) e
+
 pub served_plain : (s : Standing) (t : Option ℕ) (fence version : ℕ) (why : Reason) → option_or (shut s) (option_or (unowned t version) (outdated fence version)) ≡ Some why → IsPlain why
 served_plain s t fence version why e = at_some (option_or (shut s) (option_or (unowned t version) (outdated fence version))) why (plain_or (shut s) (option_or (unowned t version) (outdated fence version)) (shut_plain s) (plain_or (unowned t version) (outdated fence version) (unowned_plain t version) (outdated_plain fence version))) e
 
@@ -152,7 +155,7 @@ pub own_reason : (e : DiskErr) → IsOwn (reason_of e)
 own_reason refused.Failed = inr refl
 own_reason refused.Memory = inl refl
 
-pub refused_none : (o : Option Reason) (said : Result ⊤ DiskErr) → o ≡ None → IsRefusedFor o (settled_answer said)
+pub refused_none : {X : Type 0} (o : Option Reason) (said : Result X DiskErr) → o ≡ None → IsRefusedFor o (settled_answer said)
 refused_none (Some why) said e = let wrong : Some why ≡ None = e in absurd (cc)
 refused_none None (Ok u) e = tt
 refused_none None (Err why) e = own_reason why

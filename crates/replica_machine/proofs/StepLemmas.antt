@@ -79,7 +79,7 @@ module _ {D : Type 0} (state : D → DiskState) (base : Files → Type 0) where
   -- with a point that is in the log
   pub put_follows : (r : ReplicaState) (old : MachineState D) (d : D) (p : Point) → old.standing ≡ standing.Open → (state d).tells ≡ (state old.disk).tells
       → ((state old.disk).tells ≡ true → (c : Files) → (state d).images c → StepOf (Gains (a_point p)) (state old.disk).images c) → IsMachineOf state base r old
-      → IsMachineOf state base (record r { sure = r.sure ++ p ∷ [] }) (record old { disk = d; content = raised old.content p })
+      → IsMachineOf state base (record r { sure = r.sure ++ p ∷ [] }) (record old { disk = d; buffered = raised old.buffered p; content = raised old.content p })
   put_follows r old d p is_open same steps h =
       let a = h.open_ is_open in
       record {
@@ -139,7 +139,7 @@ store_stays s store is_open open_ = subst (λ (x : Standing). IsStoreOf x store)
 
 -- a machine by its own fields and its store
 abbrev pub machine_of : {D : Type 0} → Standing → Option ℕ → ℕ → StoreState D → MachineState D
-machine_of s tenure begun store = record { standing = s; tenure = tenure; begun = begun; fence = store.fence; content = store.content; disk = store.disk }
+machine_of s tenure begun store = record { standing = s; tenure = tenure; begun = begun; fence = store.fence; buffered = store.buffered; content = store.content; disk = store.disk }
 
 pub failed_is : (e : DiskErr) → (let said : Result ⊤ DiskErr = Err e in IsErrOf said refused.Failed) → e ≡ refused.Failed
 failed_is e f = cc
@@ -158,7 +158,7 @@ module _ {D : Type 0} (s : Standing) (tenure : Option ℕ) (begun : ℕ) (before
   settled_is now_s (Err refused.Memory) memory fault down stays = ap (λ (x : Standing). machine_of x tenure begun now) (stays (λ f. cc)) ∙ ap (machine_of s tenure begun) (memory refl)
   settled_is now_s (Err refused.Failed) memory fault down stays = ap (λ (x : Standing). machine_of x tenure begun now) (down refl) ∙ ap (machine_of standing.Down tenure begun) (fault refl)
 
-  pub store_after : (now_s : Standing) (said : Result ⊤ DiskErr) → s ≡ standing.Open → before.open_ ≡ true → OnOk said (now.open_ ≡ true) → (IsErrOf said refused.Memory → now ≡ record before { disk = now.disk }) → (IsErrOf said refused.Failed → now ≡ closed_over now.disk)
+  pub store_after : {X : Type 0} (now_s : Standing) (said : Result X DiskErr) → s ≡ standing.Open → before.open_ ≡ true → OnOk said (now.open_ ≡ true) → (IsErrOf said refused.Memory → now ≡ record before { disk = now.disk }) → (IsErrOf said refused.Failed → now ≡ closed_over now.disk)
       → (IsErrOf said refused.Failed → now_s ≡ standing.Down) → ((IsErrOf said refused.Failed → ⊥) → now_s ≡ s) → IsStoreOf now_s now
   store_after now_s (Ok u) is_open opened ok memory fault down stays = store_stays now_s now (stays (λ f. cc) ∙ is_open) ok
   store_after now_s (Err refused.Memory) is_open opened ok memory fault down stays = store_stays now_s now (stays (λ f. cc) ∙ is_open) (ap (λ (x : StoreState D). x.open_) (memory refl) ∙ opened)

@@ -1,13 +1,15 @@
 -- How a machine begins a tenure.
-use Rattle.std.specs.Prelude.{◌≡◌, ◌⊎◌, ⊤, ℕ, ◌<◌, ◌≤◌, max, [], List, Some}
-use Rattle.m3_model.specs.Contents.{content_of}
+use Rattle.std.specs.Prelude.{◌≡◌, ◌⊎◌, ⊤, ℕ, ◌<◌, ◌≤◌, max, true, [], List, Some}
+use Rattle.m3_model.specs.Contents.{Contents, content_of}
 use Rattle.m3_model.specs.declared.point.Point.{Point}
 use Rattle.m3_model.specs.declared.reason.Reason.{Reason}
 use Rattle.m3_model.specs.declared.reason.Reason.TheVariants as reason
 use Rattle.m3_model.specs.declared.replica.Standing.TheVariants as standing
 use Rattle.m3_outside.specs.Files.{Files}
 use Rattle.m3_outside.specs.DiskState.{DiskState, Told}
-use Rattle.shard_files.specs.FilesHold.{FilesHold}
+use Rattle.block_buffer.specs.Taken.{settled_with}
+use Rattle.shard_files.specs.Parts.{KnownVolume, VolumesAre}
+use Rattle.shard_files.specs.FilesHold.{FilesHold, volume_points}
 use Rattle.shard_files.specs.Once.{HeldOnce}
 use Rattle.shard_files.specs.Damage.{OfForm, OfDigest}
 use Rattle.shard_files.specs.declared.load_err.LoadErr.{LoadErr}
@@ -16,14 +18,22 @@ use Rattle.replica_machine.specs.Damages.{told_of}
 use Rattle.replica_machine.specs.Machines.{MachineState, shut_machine}
 use Rattle.replica_machine.specs.declared.machine.Began.{Began}
 
--- from Boot: open with what the files hold, each point once and in order, of which the tenure isn't higher
+-- these are the points, joined, that are above each of a volume of the files at their key
+pub record AreBesideVolumes (points : List Point) (buffered : Contents) (files : Files) : Type 0 where
+  pub known : List KnownVolume
+  pub are : VolumesAre known files
+  pub is : buffered ≡ settled_with (content_of points) (volume_points known)
+
+-- From Boot: open with what the files hold, each point once and in order, of which the tenure isn't higher. Those of them that no volume has are in memory.
 pub record BeganFrom {D : Type 0} (state : D → DiskState) (tenure : ℕ) (old new : MachineState D) (began : Began) : Type 0 where
   pub tenure_found : ℕ
   pub fence_found : ℕ
   pub held : Told (state old.disk) (HeldOnce began.points tenure_found fence_found)
   pub not_higher : tenure_found ≤ tenure
   pub fence_is : began.fence ≡ max fence_found tenure
-  pub new_is : new ≡ record { standing = standing.Open; tenure = Some tenure; begun = tenure; fence = began.fence; content = content_of began.points; disk = new.disk }
+  pub new_is : new ≡ record { standing = standing.Open; tenure = Some tenure; begun = tenure; fence = began.fence; buffered = new.buffered; content = new.content; disk = new.disk }
+  pub content : (state old.disk).tells ≡ true → new.content ≡ content_of began.points
+  pub buffered : Told (state old.disk) (AreBesideVolumes began.points new.buffered)
 
 -- of an open machine: with the tenure, and a fence not below it
 pub record BeganAgain {D : Type 0} (tenure : ℕ) (old new : MachineState D) (began : Began) : Type 0 where

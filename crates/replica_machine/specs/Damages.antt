@@ -1,11 +1,11 @@
 -- What is said of a file that is damaged.
-use Rattle.std.specs.Prelude.{◌≡◌, ◌≢◌, ℕ, List, ◌++◌, ◌==◌, if◌then◌else◌, codes, decimal}
+use Rattle.std.specs.Prelude.{◌≡◌, ◌≢◌, ℕ, ◌≤◌, List, [], ◌++◌, ◌==◌, if◌then◌else◌, codes, decimal, String, string_bytes, string_len, string_capacity}
 use Rattle.m3_model.specs.declared.reason.Damage.{Damage}
 use Rattle.m3_model.specs.declared.reason.Damage.TheVariants as damage
 use Rattle.m3_outside.specs.Files.{Files}
 use Rattle.m3_outside.specs.declared.file_name.FileName.{FileName}
 use Rattle.shard_files.specs.Damage.{Damage as FileDamage, OfForm, OfDigest}
-use Rattle.shard_open.specs.Told.{FilesTell}
+use Rattle.shard_store.specs.Told.{FilesTell}
 
 -- ---- the names of a replica's files, as they are printed
 
@@ -29,6 +29,12 @@ volume_text name = codes "fileset-" ++ (decimal name.ns ++ (codes "-" ++ (decima
 -- a file by its name; no kind is above 9
 abbrev pub file_text : FileName → List ℕ
 file_text name = if name.kind == 0 then segment_text name.number else if name.kind == 8 then snapshot_text 8 name.number else if name.kind == 9 then snapshot_text 9 name.number else volume_text name
+
+-- an empty text, with room for each of these
+pub record IsNameRoom {Z : Type 0} (text : String Z) : Type 0 where
+  pub empty : string_bytes text ≡ []
+  pub len : string_len text ≡ 0
+  pub room : 96 ≤ string_capacity text
 
 -- ---- what is told
 

@@ -2,7 +2,9 @@ pub mod Bases
 pub mod Machines
 pub mod Steps
 pub mod Damages
+pub mod Reading
 pub mod Boots
+pub mod Upkeep
 pub mod MachineLaws
 pub mod Openings
 pub mod Rearranged

@@ -33,12 +33,13 @@ use Rattle.replica_machine.specs.Bases.{CameFrom}
 -- ---- a machine
 
 -- What a machine is: how it stands, the version that gave it its shard, the greatest with which it began, and its disk; and, while it is open, the
--- version below which it refuses and its points.
+-- version below which it refuses, the points that it has in memory, and its content, which is these joined with the points of its volumes.
 pub record MachineState (D : Type 0) : Type 0 where
   pub standing : Standing
   pub tenure : Option ℕ
   pub begun : ℕ
   pub fence : ℕ
+  pub buffered : Contents
   pub content : Contents
   pub disk : D
 
@@ -62,9 +63,9 @@ standing_code = code_by (Option Bool) (coded_option coded_bool) standing_bits st
 
 abbrev pub machine_code : {D : Type 0} → Coded D → Coded (MachineState D)
 machine_code {D} disk_code =
-    code_by (Standing × (Option ℕ × (ℕ × (ℕ × (Contents × D))))) (coded× standing_code (coded× (coded_option coded_ℕ) (coded× coded_ℕ (coded× coded_ℕ (coded× contents_code disk_code)))))
-    (λ m. (m.standing, (m.tenure, (m.begun, (m.fence, (m.content, m.disk))))))
-    (λ p. record { standing = p.0; tenure = p.1.0; begun = p.1.1.0; fence = p.1.1.1.0; content = p.1.1.1.1.0; disk = p.1.1.1.1.1 }) (λ _. refl)
+    code_by (Standing × (Option ℕ × (ℕ × (ℕ × (Contents × (Contents × D)))))) (coded× standing_code (coded× (coded_option coded_ℕ) (coded× coded_ℕ (coded× coded_ℕ (coded× contents_code (coded× contents_code disk_code))))))
+    (λ m. (m.standing, (m.tenure, (m.begun, (m.fence, (m.buffered, (m.content, m.disk)))))))
+    (λ p. record { standing = p.0; tenure = p.1.0; begun = p.1.1.0; fence = p.1.1.1.0; buffered = p.1.1.1.1.0; content = p.1.1.1.1.1.0; disk = p.1.1.1.1.1.1 }) (λ _. refl)
 
 -- the machine's store is open exactly where the machine is, and else has nothing in memory
 abbrev pub IsStoreOf : {D : Type 0} → Standing → StoreState D → Type 0
@@ -74,11 +75,11 @@ IsStoreOf standing.Open s = s.open_ ≡ true
 
 -- over a disk from which nothing was read yet
 abbrev pub first_machine : {D : Type 0} → D → MachineState D
-first_machine disk = record { standing = standing.Boot; tenure = None; begun = 0; fence = 0; content = finite.empty; disk = disk }
+first_machine disk = record { standing = standing.Boot; tenure = None; begun = 0; fence = 0; buffered = finite.empty; content = finite.empty; disk = disk }
 
 -- without points in memory
 abbrev pub shut_machine : {D : Type 0} → Standing → MachineState D → D → MachineState D
-shut_machine s m disk = record { standing = s; tenure = m.tenure; begun = m.begun; fence = 0; content = finite.empty; disk = disk }
+shut_machine s m disk = record { standing = s; tenure = m.tenure; begun = m.begun; fence = 0; buffered = finite.empty; content = finite.empty; disk = disk }
 
 -- ---- what it answers for its disk, what it refuses, and what it finds
 
@@ -91,8 +92,8 @@ abbrev pub left_by : {D : Type 0} → DiskErr → MachineState D → MachineStat
 left_by refused.Failed m = shut_machine standing.Down m m.disk
 left_by refused.Memory m = m
 
-abbrev pub settled_answer : Result ⊤ DiskErr → Result ⊤ Reason
-settled_answer (Ok u) = Ok u
+abbrev pub settled_answer : {X : Type 0} → Result X DiskErr → Result X Reason
+settled_answer (Ok x) = Ok x
 settled_answer (Err why) = Err (reason_of why)
 
 abbrev pub settled : {D : Type 0} → Result ⊤ DiskErr → MachineState D → MachineState D

@@ -1,13 +1,16 @@
-ghost use Rattle.std.specs.Prelude.{◌≡◌, ◌≢◌, ◌⊎◌, ◌<◌, ◌≤◌, ◌↔◌, ℕ, [], max, true, Some, OnOk, OnErr, IfOk, IfErr, IsErrOf};
+ghost use Rattle.std.specs.Prelude.{◌≡◌, ◌≢◌, ◌⊎◌, ◌<◌, ◌≤◌, ◌↔◌, ℕ, [], max, length, true, Some, OnOk, OnErr, IfOk, IfErr, IsErrOf};
 ghost use Rattle.m3_model.specs.Contents.{content_of};
 ghost use Rattle.m3_model.specs.declared.reason.Reason.TheVariants as reason;
 ghost use Rattle.m3_model.specs.declared.replica.Standing.TheVariants.{Down as IsDown, Boot as IsBoot, Open as IsOpen};
 ghost use Rattle.m3_outside.specs.DiskState.{DiskState, Told, EachImage, Becomes};
+ghost use Rattle.commit_log.specs.Contents.{numbers};
 ghost use Rattle.commit_log.specs.LogEnd.{NoneFrom};
 ghost use Rattle.m3_model.specs.declared.reason.Damage.{Damage as Wrong};
 ghost use Rattle.shard_files.specs.FilesHold.{IsSound};
 ghost use Rattle.shard_files.specs.Gains.{a_tenure};
 ghost use Rattle.shard_files.specs.Once.{HeldOnce};
+ghost use Rattle.shard_files.specs.Parts.{IsNewestNumber};
+ghost use Rattle.shard_store.specs.Loads.{AreOpened};
 ghost use Rattle.cluster_core.specs.declared.event.StepCall.TheVariants as call;
 ghost use Rattle.cluster_core.specs.declared.event.StepReply.TheVariants as reply;
 ghost use Rattle.replica_machine.specs.Machines.{IsOwn};
@@ -21,7 +24,7 @@ use crate::opening::open_store;
 use m3_model::{Damage, Memory, Reason, Seq, Standing};
 use m3_outside::{Disk, DiskErr};
 use shard_files::LoadErr;
-use shard_open::Loaded;
+use shard_store::Loaded;
 
 impl<D: Disk> Machine<D> {
     /// Begins a tenure. From Boot it syncs and loads the files, begins a fresh segment of the log, has the tenure in it where
@@ -116,7 +119,10 @@ impl<D: Disk> Machine<D> {
         requires held { Told (D.state self.old.disk) (HeldOnce loaded.points loaded.tenure loaded.fence) }
         requires only { EachImage (D.state self.old.disk) (λ c. c ≡ (D.state self.old.disk).files) }
         requires fresh { Told (D.state self.old.disk) (NoneFrom loaded.next_segment) }
+        requires volumes { Told (D.state self.old.disk) (AreOpened loaded.volumes) }
         requires order { loaded.tenure ≤ loaded.fence }
+        requires segments { Told (D.state self.old.disk) (λ files. loaded.segments ≡ length (numbers files)) }
+        requires snapshot { Told (D.state self.old.disk) (IsNewestNumber loaded.snapshot) }
         ensures began { IfOk result (BeganFrom D.state tenure self.old self.new) }
         ensures err { IfErr result (IsRefused self.old self.new) }
         ensures own { IfErr result IsOwn }

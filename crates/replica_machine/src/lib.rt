@@ -6,6 +6,8 @@ mod damage;
 pub mod laws;
 pub mod machine;
 mod opening;
+mod reading;
 mod refusals;
+mod upkeep;
 
 pub use machine::{Began, Machine};

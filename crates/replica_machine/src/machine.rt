@@ -1,24 +1,25 @@
-ghost use Rattle.std.specs.Prelude.{◌≡◌, ◌≢◌, ◌⊎◌, ℕ, ◌+◌, ◌-◌, ◌^◌, ◌<◌, ◌≤◌, ◌↔◌, max, true, None, Some, OnOk, OnErr, IfOk, IfErr, IsErrOf, length};
+ghost use Rattle.std.specs.Prelude.{◌≡◌, ◌≢◌, ◌⊎◌, ℕ, ◌-◌, ◌<◌, ◌≤◌, ◌↔◌, max, true, None, Some, OnOk, OnErr, IfOk, IfErr, IsErrOf, length};
 ghost use Rattle.std.specs.FinMap as finite;
 ghost use Rattle.m3_model.specs.Contents.{raised, content_of};
 ghost use Rattle.m3_model.specs.declared.limits.TheConstants.{MOST_REPLICA_POINTS};
-ghost use Rattle.m3_model.specs.Reads.{space_picked};
 ghost use Rattle.m3_model.specs.Rules.{InWindow};
 ghost use Rattle.m3_model.specs.declared.reason.Reason.TheVariants as reason;
 ghost use Rattle.m3_model.specs.declared.replica.Standing.TheVariants.{Down as IsDown, Boot as IsBoot, Open as IsOpen};
 ghost use Rattle.m3_outside.specs.DiskState.{DiskState, Told, Becomes};
 ghost use Rattle.m3_outside.specs.declared.disk_err.DiskErr.TheVariants.{Failed as DiskFailed};
+ghost use Rattle.commit_log.specs.Contents.{numbers};
 ghost use Rattle.wire_bytes.specs.Entries.{IsBounded};
 ghost use Rattle.shard_files.specs.Gains.{nothing, a_point, a_fence, a_tenure};
+ghost use Rattle.shard_files.specs.Parts.{IsNewestNumber, counted_volumes};
 ghost use Rattle.cluster_core.specs.Replicas.{fresh};
 ghost use Rattle.cluster_core.specs.Rows.{open_fence};
 ghost use Rattle.cluster_core.specs.declared.event.StepCall.TheVariants as call;
 ghost use Rattle.cluster_core.specs.declared.event.StepReply.TheVariants as reply;
-ghost use Rattle.replica_machine.specs.Machines.{first_machine, shut_machine, IsMachineOf, reason_of, left_by, settled_answer, refusal, unserved, IsOwn, IsRefusedFor, IsLiveAnswer};
+ghost use Rattle.replica_machine.specs.Machines.{first_machine, shut_machine, IsMachineOf, reason_of, left_by, settled_answer, refusal, unserved, IsOwn, IsRefusedFor};
 ghost use Rattle.replica_machine.specs.Steps.{reply_by, IsStep, BringsTo, RestartsTo};
 
 use crate::refusals::{check_fence, check_open, check_owner, check_window};
-use m3_model::{Pick, Point, Reason, Report, Rules, Seq, Series, Standing};
+use m3_model::{Point, Reason, Report, Rules, Seq, Standing};
 use m3_outside::{Disk, DiskErr};
 use shard_store::Store;
 use std::alloc::Global;
@@ -58,31 +59,9 @@ impl<D: Disk> Model for Machine<D> {
 
     ghost coded = { machine_code D.code };
 
-    ghost view = { λ m. record { standing = m.standing; tenure = m.tenure; begun = m.begun; fence = m.store.fence; content = m.store.content; disk = m.store.disk } };
+    ghost view = { λ m. record { standing = m.standing; tenure = m.tenure; begun = m.begun; fence = m.store.fence; buffered = m.store.buffered; content = m.store.content; disk = m.store.disk } };
 
     ghost invariant = { λ m. IsStoreOf m.standing m.store };
-}
-
-fn space_of(pick: &Pick) -> u8
-    ensures { result ≡ space_picked pick.now }
-{
-    match pick {
-        Pick::One { ns, .. } => *ns,
-        Pick::Match { ns, .. } => *ns,
-    }
-}
-
-// The first time, not below this one, at which a point hasn't expired. No point stands at the last time of all.
-fn first_live(retention: u64, now: u64, from: u64) -> u64
-    ensures low { (t : ℕ) → result ≤ t → from ≤ t }
-    ensures live { (t : ℕ) → t < 2 ^ 64 - 1 → result ≤ t → now < t + retention }
-    ensures first { (t : ℕ) → from ≤ t → now < t + retention → result ≤ t }
-{
-    if retention <= now {
-        from.max((now - retention).saturating_add(1))
-    } else {
-        from
-    }
 }
 
 // What a machine answers for what its open store refused: a fault, which closed the store, takes it down.
@@ -99,13 +78,13 @@ pub(crate) fn fall(standing: &mut Standing, why: DiskErr) -> Reason
 }
 
 // The same for what the store answered.
-fn settle(standing: &mut Standing, said: Result<(), DiskErr>) -> Result<(), Reason>
+pub(crate) fn settle<T>(standing: &mut Standing, said: Result<T, DiskErr>) -> Result<T, Reason>
     ensures said { result ≡ settled_answer said }
     ensures down { IsErrOf said DiskFailed → standing.new ≡ IsDown }
     ensures stays { ¬ (IsErrOf said DiskFailed) → standing.new ≡ standing.old }
 {
     match said {
-        Ok(()) => Ok(()),
+        Ok(done) => Ok(done),
         Err(why) => Err(fall(standing, why)),
     }
 }
@@ -126,7 +105,7 @@ impl<D: Disk> Machine<D> {
     }
 
     // Whether a write or a read of this version may go on.
-    fn check_version(&self, version: u64) -> Result<(), Reason>
+    pub(crate) fn check_version(&self, version: u64) -> Result<(), Reason>
         ensures ok { OnOk result (unserved self.now version ≡ None) }
         ensures err { IfErr result (λ why. unserved self.now version ≡ Some why) }
     {
@@ -161,7 +140,7 @@ impl<D: Disk> Machine<D> {
     pub fn put(&mut self, rules: &Rules, version: u64, point: &Point) -> Result<(), Reason>
         requires space { point.now.ns < length rules.now.spaces }
         requires bounded { IsBounded point.now }
-        ensures ok { OnOk result (self.new ≡ record self.old { disk = self.new.disk; content = raised self.old.content point.now }) }
+        ensures ok { OnOk result (self.new ≡ record self.old { disk = self.new.disk; buffered = raised self.old.buffered point.now; content = raised self.old.content point.now }) }
         ensures window { OnOk result (InWindow rules.entry.now point.now) }
         ensures err { IfErr result (λ why. why ≢ reason.Disk → self.new ≡ record self.old { disk = self.new.disk }) }
         ensures plain { IfErr result (λ why. why ≢ reason.Disk → why ≢ reason.Memory → self.new ≡ self.old) }
@@ -175,37 +154,6 @@ impl<D: Disk> Machine<D> {
         check_window(rules, point)?;
         let said = self.store.put(point);
         settle(&mut self.standing, said)
-    }
-
-    /// The held points with `from <= t < to` that haven't expired, of the series that the pick asks for. Identifiers and
-    /// times ascend strictly, and series without points are left out. The pick's namespace is one of the rules.
-    ///
-    /// One identifier costs logarithmic time, and a match its proportion to the series held; each beside its answer.
-    ///
-    /// # Errors
-    ///
-    /// The first of `Down`, `Boot`, `NotOwned` and `Stale` that holds, else want of memory alone.
-    pub fn read(
-        &self,
-        rules: &Rules,
-        version: u64,
-        pick: &Pick,
-        from: u64,
-        to: u64,
-    ) -> Result<Seq<Series>, Reason>
-        requires { space_picked pick.now < length rules.now.spaces }
-        ensures ok { IfOk result (IsLiveAnswer self.now.content rules.entry.now pick.now from to) }
-        ensures refused { (client number : ℕ) → IsRefusedFor (refusal self.now (call.Read client number rules.entry.now version pick.now from to)) result }
-        ensures no_fault { ¬ (IsErrOf result reason.Disk) }
-        ensures step { (client number : ℕ) → IsStep D.state self.now (call.Read client number rules.entry.now version pick.now from to) (reply_by (λ series. reply.Found series) result) self.now }
-    {
-        self.check_version(version)?;
-        let space = &rules.spaces.as_slice()[space_of(pick) as usize];
-        let first = first_live(space.retention, rules.now, from);
-        match self.store.fetch(pick, first, to) {
-            Ok(series) => Ok(series),
-            Err(_) => Err(Reason::Memory),
-        }
     }
 
     /// Raises the fence to the version, and has it in the log. A fence never falls.
@@ -239,15 +187,19 @@ impl<D: Disk> Machine<D> {
         self.standing = Standing::Down;
     }
 
-    /// How the machine stands, with its fence where it is open and else 0, and how many points it holds, one at each key: never
-    /// more than `MOST_REPLICA_POINTS`, and none where it isn't open. It doesn't count segments, snapshots and volumes yet: these
-    /// are 0. Takes no memory.
+    /// How the machine stands, with its fence where it is open and else 0; how many points it has in memory, one at each key: never
+    /// more than `MOST_REPLICA_POINTS`; how many segments its log has; the number of the newest snapshot that counts on its disk, 0
+    /// where none counts; and how many volumes count there. All of these are 0 where it isn't open. It doesn't look at the disk, and
+    /// takes no memory.
     pub fn report(&self) -> Report
         ensures standing { result.standing ≡ self.now.standing }
         ensures fence { result.fence ≡ open_fence self.now.standing self.now.fence }
-        ensures held { result.buffered ≡ finite.len self.now.content }
+        ensures held { result.buffered ≡ finite.len self.now.buffered }
         ensures limit { result.buffered ≤ MOST_REPLICA_POINTS }
-        ensures counts { (result.segments ≡ 0) × (result.snapshot ≡ 0) × (result.volumes ≡ 0) }
+        ensures volumes { self.now.standing ≡ IsOpen → Told (D.state self.now.disk) (λ files. result.volumes ≡ length (counted_volumes files)) }
+        ensures segments { self.now.standing ≡ IsOpen → Told (D.state self.now.disk) (λ files. result.segments ≡ length (numbers files)) }
+        ensures snapshot { self.now.standing ≡ IsOpen → Told (D.state self.now.disk) (IsNewestNumber result.snapshot) }
+        ensures not_open { self.now.standing ≢ IsOpen → (result.volumes ≡ 0) × (result.segments ≡ 0) × (result.snapshot ≡ 0) }
         ensures step { IsStep D.state self.now call.Report (reply.Told result) self.now }
     {
         Report {
@@ -257,10 +209,10 @@ impl<D: Disk> Machine<D> {
             } else {
                 0
             },
-            buffered: self.store.points_held(),
-            segments: 0,
-            snapshot: 0,
-            volumes: 0,
+            buffered: self.store.buffered_points(),
+            segments: self.store.segments(),
+            snapshot: self.store.newest_snapshot(),
+            volumes: self.store.volumes_known(),
         }
     }
 

@@ -1,9 +1,8 @@
-pub mod MapLemmas
 pub mod HashLemmas
 pub mod MoveLemmas
 pub mod SortLemmas
 pub mod SlotLemmas
 pub mod PointLemmas
 pub mod SeriesLemmas
+pub mod FirstLemmas
 pub mod AnswerLemmas
-pub mod PlaceLemmas

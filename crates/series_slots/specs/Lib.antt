@@ -1,6 +1,8 @@
 pub mod SeriesKeys
 pub mod Slots
+pub mod SlotPlaces
 pub mod Points
 pub mod Places
 pub mod Ranges
 pub mod Written
+pub mod Firsts

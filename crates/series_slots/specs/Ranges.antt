@@ -1,5 +1,5 @@
 -- What a range of a buffer answers.
-use Rattle.std.specs.Prelude.{◌≡◌, ℕ, ℤ, List, [], ◌∷◌, Option, Some, None, cond, nat_eq}
+use Rattle.std.specs.Prelude.{◌≡◌, ℕ, ℤ, List, [], ◌∷◌, Some, cond, nat_eq}
 use Rattle.std.specs.List.{filter_map}
 use Rattle.std.specs.FinMap as map
 use Rattle.m3_model.specs.declared.point.Point.{Point}
@@ -35,8 +35,3 @@ some_series id (p ∷ ps) = record { id = id; points = p ∷ ps } ∷ []
 -- the series of a namespace's slots in a range
 abbrev pub series_in : ℕ → ℕ → ℕ → SeriesKey × Slots → List Series
 series_in ns from to e = cond (nat_eq e.0.ns ns) (some_series e.0.id (filter_map (valued_in from to) (map.entries e.1))) []
-
--- the same of an entry, if there is one
-abbrev pub series_of_entry : ℕ → ℕ → ℕ → Option (SeriesKey × Slots) → List Series
-series_of_entry ns from to None = []
-series_of_entry ns from to (Some e) = series_in ns from to e

@@ -1,7 +1,6 @@
-ghost use Rattle.std.specs.Prelude.{◌≡◌, ℕ, ◌<◌, ◌↔◌, List, [], Some, None, false, length, slice_get, option_map, IsTrue, IfOk, IfSome, OnOk, OnErr, ◌++◌, IsPermutation, IsSortedByKey};
+ghost use Rattle.std.specs.Prelude.{◌≡◌, ◌↔◌, List, [], Some, None, length, slice_get, IsTrue, IfOk, IfSome, OnOk, OnErr, ◌++◌, IsPermutation, IsSortedByKey};
 ghost use Rattle.std.specs.List.{flat_map, filter_map, IsDistinct};
 ghost use Rattle.std.specs.Map.{keys_of};
-ghost use Rattle.std.specs.BTreeSet.{contains};
 ghost use Rattle.std.specs.Cmp.Lexicographic.{slice_cmp};
 ghost use Rattle.std.specs.Ordering.{nat_cmp};
 ghost use Rattle.std.specs.FinMap as finite;
@@ -13,19 +12,22 @@ ghost use Rattle.series_slots.specs.SeriesKeys.{series_eq};
 ghost use Rattle.series_slots.specs.Slots.{Slots, value_at, valued_in};
 ghost use Rattle.series_slots.specs.Points.{points_of};
 ghost use Rattle.series_slots.specs.Places.{IsAt, StandsAt, slots_of};
+ghost use Rattle.series_slots.specs.Firsts.{IsFirstAt, HasNoneLater};
 ghost use Rattle.series_slots.specs.Written.{IsWritten, IsAdded, IsRemoved};
-ghost use Rattle.series_slots.specs.Ranges.{IsRangeOf, some_series, series_in, series_of_entry};
+ghost use Rattle.series_slots.specs.Ranges.{IsRangeOf, some_series, series_in};
 
 use crate::series_buffer::SeriesBuffer;
 use crate::series_key::SeriesKey;
 use indexmap::IndexMap;
 use m3_model::{Duplicate, Memory, Seq, Series, Text};
 use std::alloc::Global;
-use std::collections::BTreeSet;
 use std::marker::Model;
 
 /// Series with their slots. Contracts see them by their places, which count from 0. A place is that of its series until a
 /// series leaves.
+///
+/// The slots of a series are a list by time: one that comes after all others is appended, and one that comes or goes within
+/// them moves those on its shorter side by a place. Late points are rare, and a series has at most the points of its open blocks.
 #[derive(Drop)]
 pub struct PlacedSeries {
     map: IndexMap<SeriesKey, SeriesBuffer>,
@@ -65,6 +67,13 @@ impl PlacedSeries {
         Some(place)
     }
 
+    /// How many places there are.
+    pub fn len(&self) -> usize
+        ensures { result ≡ length self.now }
+    {
+        self.map.len()
+    }
+
     /// The namespace of the series at this place, in constant time.
     pub fn space_at(&self, place: usize) -> u8
         requires { (s : SeriesKey) × IsAt self.now place s }
@@ -83,6 +92,16 @@ impl PlacedSeries {
         ensures found { (s : SeriesKey) (slots : Slots) → slice_get self.now place ≡ Some (s, slots) → finite.get (slots_of self.now) s ≡ Some slots }
     {
         self.map[place].get(t)
+    }
+
+    /// The time and the value of the first slot of the series at this place from `low` on that has one. Costs the logarithm of the
+    /// series' slots, beside those without a value that come before.
+    pub fn first_from(&self, place: usize, low: u64) -> Option<(u64, i64)>
+        requires { (s : SeriesKey) × IsAt self.now place s }
+        ensures none { result ≡ None → (s : SeriesKey) → IsAt self.now place s → HasNoneLater self.now s low }
+        ensures some { IfSome result (λ x. (s : SeriesKey) → IsAt self.now place s → IsFirstAt self.now place s low x.0 x.1) }
+    {
+        self.map[place].first_from(low)
     }
 
     /// Whether the series at this place has no slot, in constant time.
@@ -109,7 +128,8 @@ impl PlacedSeries {
         Ok(place)
     }
 
-    /// Makes the slot of the series at this place and time one without a value, in the logarithm of the series' slots.
+    /// Makes the slot of the series at this place and time one without a value. A new slot after all others costs constant time
+    /// beside the room for it; any other costs the logarithm of the series' slots, and a new one moves those on its shorter side.
     ///
     /// # Errors
     ///
@@ -132,7 +152,8 @@ impl PlacedSeries {
         self.map[place].raise(t, v)
     }
 
-    /// Takes the slot of the series at this place and time out. Takes no memory, and the logarithm of the series' slots.
+    /// Takes the slot of the series at this place and time out. Takes no memory, and the logarithm of the series' slots; moves
+    /// those on its shorter side, of which the first and the last have none.
     pub fn take(&mut self, place: usize, t: u64)
         requires { (s : SeriesKey) × IsAt self.old place s }
         ensures { (s : SeriesKey) (slots : Slots) → slice_get self.old place ≡ Some (s, slots) → IsWritten self.old self.new place s slots (finite.remove slots t) }
@@ -204,64 +225,6 @@ impl PlacedSeries {
             }
         }
         Ok(found)
-    }
-
-    /// The points of a namespace with `from <= t < to`, where all of them are at these places. Costs in proportion to the
-    /// places, to the answer and to its order.
-    pub fn range_at(
-        &self,
-        alloc: Global,
-        ns: u8,
-        places: &BTreeSet<usize>,
-        from: u64,
-        to: u64,
-    ) -> Result<Seq<Series>, Memory>
-        requires { (place : ℕ) (s : SeriesKey) (slots : Slots) → slice_get self.now place ≡ Some (s, slots) → contains nat_cmp places.now place ≡ false → series_in ns from to (s, slots) ≡ [] }
-        ensures { IfOk result (λ found. (wanted : List Matcher) → IsRangeOf (points_of (slots_of self.now)) (pick.Match ns wanted) from to found) }
-    {
-        let found = self.series_at(alloc, ns, places, from, to)?;
-        Ok(Seq::from_vec(by_id(found)))
-    }
-
-    // The same, by the places of the series.
-    fn series_at(
-        &self,
-        alloc: Global,
-        ns: u8,
-        places: &BTreeSet<usize>,
-        from: u64,
-        to: u64,
-    ) -> Result<Vec<Series>, Memory>
-        requires { (place : ℕ) (s : SeriesKey) (slots : Slots) → slice_get self.now place ≡ Some (s, slots) → contains nat_cmp places.now place ≡ false → series_in ns from to (s, slots) ≡ [] }
-        ensures answer { IfOk result (λ found. found.items ≡ flat_map (series_in ns from to) self.now) }
-        ensures distinct { IsDistinct series_eq (keys_of self.now) }
-    {
-        let _ = &self.map;
-        let mut found = Vec::new(alloc);
-        for place in places {
-            self.push_at(alloc, &mut found, ns, *place, from, to)?;
-        }
-        Ok(found)
-    }
-
-    // Pushes the series at the place with its pairs in the range, if it is of the namespace and there are any.
-    fn push_at(
-        &self,
-        alloc: Global,
-        found: &mut Vec<Series>,
-        ns: u8,
-        place: usize,
-        from: u64,
-        to: u64,
-    ) -> Result<(), Memory>
-        ensures { OnOk result (found.new.items ≡ found.old.items ++ series_of_entry ns from to (slice_get self.now place)) }
-    {
-        match self.map.get_index(place) {
-            Some((series, buffer)) if series.ns == ns => {
-                push_range(alloc, found, &series.id, buffer, from, to)
-            }
-            _ => Ok(()),
-        }
     }
 }
 

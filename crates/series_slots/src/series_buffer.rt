@@ -1,22 +1,23 @@
-ghost use Rattle.std.specs.Prelude.{◌≡◌, ℕ, ◌<◌, ◌↔◌, Some, None, length, IsTrue, IsSome, IfOk, OnOk, OnErr};
+ghost use Rattle.std.specs.Prelude.{◌≡◌, ◌<◌, ◌↔◌, Some, None, length, IsTrue, IsSome, IfOk, IfErr, IfSome, OnOk, OnErr};
 ghost use Rattle.std.specs.FinMap as finite;
-ghost use Rattle.std.specs.FinMap.{entries};
+ghost use Rattle.std.specs.FinMap.{entries, is_sorted};
 ghost use Rattle.std.specs.List.{filter_map};
 ghost use Rattle.m3_model.specs.Contents.{higher, is_higher};
 ghost use Rattle.std.specs.Ordering.{nat_cmp};
-ghost use Rattle.std.specs.BTreeMap.Range.{entries_between};
-ghost use Rattle.std.specs.declared.ops.Bound.TheVariants.{Included, Excluded};
-ghost use Rattle.series_slots.specs.Slots.{value_at, valued, valued_in};
+ghost use Rattle.series_slots.specs.Slots.{value_at, valued_in};
+ghost use Rattle.series_slots.specs.Firsts.{IsFirstFrom, IsBareFrom};
+ghost use Rattle.series_slots.specs.SlotPlaces.{IsSlotAt, IsGapFor, IsPlaceFrom};
 
 use m3_model::Memory;
 use std::alloc::Global;
-use std::collections::BTreeMap;
+use std::collections::VecDeque;
 use std::marker::Model;
 
-// The slots of one series. A slot without a value is room for one.
+// The slots of one series, by ascending time: a list, since most points come after all that stand, and most that leave are
+// the first. A slot without a value is room for one.
 #[derive(Drop)]
 pub(crate) struct SeriesBuffer {
-    slots: BTreeMap<u64, Option<i64>>,
+    slots: VecDeque<(u64, Option<i64>)>,
 }
 
 impl Model for SeriesBuffer {
@@ -29,9 +30,9 @@ impl Model for SeriesBuffer {
 
     ghost coded = { slots_code };
 
-    ghost view = { λ s. from_sorted s.slots.entries };
+    ghost view = { λ s. from_sorted s.slots.items };
 
-    ghost invariant = { λ s. IsTrue (is_sorted nat_cmp s.slots.entries) };
+    ghost invariant = { λ s. IsTrue (is_sorted nat_cmp s.slots.items) };
 }
 
 // Whether no value stands, or a lower one.
@@ -56,18 +57,62 @@ fn raise_slot(slot: &mut Option<i64>, v: i64) -> bool
     rises
 }
 
+// Whether each slot is of an earlier time, in constant time.
+fn is_after_all(slots: &VecDeque<(u64, Option<i64>)>, t: u64) -> bool
+    requires { IsTrue (is_sorted nat_cmp slots.now.items) }
+    ensures { IsTrue result → IsGapFor t slots.now.items (length slots.now.items) }
+{
+    match slots.back() {
+        Some((last, _)) => *last < t,
+        None => true,
+    }
+}
+
+fn time_of(slot: &(u64, Option<i64>)) -> u64
+    ensures { result ≡ slot.now.0 }
+{
+    slot.0
+}
+
+// The place of the slot of this time, or else that where one would stand: in constant time after all slots, else in the
+// logarithm of them.
+fn place_of(slots: &VecDeque<(u64, Option<i64>)>, t: u64) -> Result<usize, usize>
+    requires { IsTrue (is_sorted nat_cmp slots.now.items) }
+    ensures there { IfOk result (IsSlotAt t slots.now.items) }
+    ensures absent { IfErr result (IsGapFor t slots.now.items) }
+{
+    if is_after_all(slots, t) {
+        return Err(slots.len());
+    }
+    slots.binary_search_by_key(&t, time_of)
+}
+
+// The place of the first slot from this time on.
+fn place_from(slots: &VecDeque<(u64, Option<i64>)>, t: u64) -> usize
+    requires { IsTrue (is_sorted nat_cmp slots.now.items) }
+    ensures { IsPlaceFrom t slots.now.items result }
+{
+    match place_of(slots, t) {
+        Ok(place) => place,
+        Err(place) => place,
+    }
+}
+
 // The values of the slots with `from <= t < to`.
 fn pairs_between(
     alloc: Global,
-    slots: &BTreeMap<u64, Option<i64>>,
+    slots: &VecDeque<(u64, Option<i64>)>,
     from: u64,
     to: u64,
 ) -> Result<Vec<(u64, i64)>, Memory>
-    requires { from < to }
-    ensures { IfOk result (λ pairs. pairs.items ≡ filter_map valued (entries_between nat_cmp (Included from) (Excluded to) slots.now.entries)) }
+    requires sorted { IsTrue (is_sorted nat_cmp slots.now.items) }
+    requires some { from < to }
+    ensures { IfOk result (λ pairs. pairs.items ≡ filter_map (valued_in from to) slots.now.items) }
 {
-    let mut pairs = Vec::new(alloc);
-    for (t, slot) in slots.range(from..to) {
+    let low = place_from(slots, from);
+    let high = place_from(slots, to);
+    let mut pairs = Vec::with_capacity(alloc, high - low)?;
+    for (t, slot) in slots.range(low..high) {
         if let Some(value) = slot {
             pairs.push((*t, *value))?;
         }
@@ -80,7 +125,7 @@ impl SeriesBuffer {
         ensures { result ≡ finite.empty }
     {
         SeriesBuffer {
-            slots: BTreeMap::new(alloc),
+            slots: VecDeque::new(alloc),
         }
     }
 
@@ -88,15 +133,21 @@ impl SeriesBuffer {
     pub(crate) fn get(&self, t: u64) -> Option<Option<i64>>
         ensures { result ≡ finite.get self.now t }
     {
-        self.slots.get(&t).copied()
+        match place_of(&self.slots, t) {
+            Ok(place) => Some(self.slots[place].1),
+            Err(_) => None,
+        }
     }
 
-    // Makes the slot at this time one without a value.
+    // Makes the slot at this time one without a value. A new one moves the slots on its shorter side by a place.
     pub(crate) fn hold(&mut self, t: u64) -> Result<(), Memory>
         ensures ok { OnOk result (self.new ≡ finite.insert self.old t None) }
         ensures err { OnErr result (self.new ≡ self.old) }
     {
-        self.slots.insert(t, None)?;
+        match place_of(&self.slots, t) {
+            Ok(place) => self.slots[place] = (t, None),
+            Err(place) => self.slots.insert(place, (t, None))?,
+        }
         Ok(())
     }
 
@@ -106,17 +157,27 @@ impl SeriesBuffer {
         ensures raised { self.new ≡ finite.insert self.old t (Some (higher (value_at self.old t) v)) }
         ensures changed { result ≡ is_higher (value_at self.old t) v }
     {
-        match self.slots.get_mut(&t) {
-            Some(slot) => raise_slot(slot, v),
-            None => false,
+        match place_of(&self.slots, t) {
+            Ok(place) => {
+                let mut slot = self.slots[place].1;
+                let rises = raise_slot(&mut slot, v);
+                self.slots[place] = (t, slot);
+                rises
+            }
+            Err(_) => false,
         }
     }
 
-    // Takes the slot at this time out.
+    // Takes the slot at this time out. That moves the slots on its shorter side by a place.
     pub(crate) fn take(&mut self, t: u64)
         ensures { self.new ≡ finite.remove self.old t }
     {
-        self.slots.remove(&t);
+        match place_of(&self.slots, t) {
+            Ok(place) => {
+                self.slots.remove(place);
+            }
+            Err(_) => {}
+        }
     }
 
     // The values with `from <= t < to`, by ascending time.
@@ -127,6 +188,20 @@ impl SeriesBuffer {
             return Ok(Vec::new(alloc));
         }
         pairs_between(alloc, &self.slots, from, to)
+    }
+
+    // The time and the value of the first slot from `low` on that has one.
+    pub(crate) fn first_from(&self, low: u64) -> Option<(u64, i64)>
+        ensures none { result ≡ None → IsBareFrom self.now low }
+        ensures some { IfSome result (λ x. IsFirstFrom self.now low x.0 x.1) }
+    {
+        let place = place_from(&self.slots, low);
+        for (t, slot) in self.slots.range(place..) {
+            if let Some(value) = slot {
+                return Some((*t, *value));
+            }
+        }
+        None
     }
 
     // Whether it has no slot.

@@ -1,3 +1,4 @@
 pub mod ActLemmas
 pub mod OwnLemmas
 pub mod TrackLemmas
+pub use Rattle.cluster_tracks.proofs.EndLemmas

@@ -1,7 +1,7 @@
 -- The turns tracked by a cluster.
 use Rattle.std.proofs.Common.{◌≡◌, ℕ, List, [], ◌∷◌, ◌++◌, sym, subst, Bool, true}
 use Rattle.std.specs.Prelude.{Option, Some, None, option_map}
-use Rattle.m3_model.specs.NotYet.{IsServedAct}
+use Rattle.served_acts.specs.NotYet.{IsServedAct}
 use Rattle.m3_model.specs.declared.act.Act.{Act}
 use Rattle.m3_model.specs.declared.answer.Answer.{Answer}
 use Rattle.m3_model.specs.declared.turn.Reply.TheVariants as reply
@@ -16,7 +16,7 @@ use Rattle.replica_calls.specs.Calls.{AreMembersOf}
 use Rattle.transcripts.specs.Placements.{placement_after}
 use Rattle.transcripts.specs.Record.{inner_turns, line_of}
 use Rattle.cluster_members.specs.declared.members.Members.{Members}
-use Rattle.act_lines.proofs.StandLemmas.{no_placement}
+use Rattle.cluster_tracks.proofs.StandLemmas.{no_placement}
 use Rattle.cluster_tracks.specs.Tracks.{MayStand, events_of}
 use Rattle.cluster_tracks.specs.Lines.{EachMember, IsLeft}
 use Rattle.cluster_tracks.proofs.LineLemmas.{lines_are_tracked}

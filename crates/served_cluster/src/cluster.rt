@@ -4,7 +4,7 @@ ghost use Rattle.m3_model.specs.declared.turn.Turn.{Turn};
 ghost use Rattle.m3_model.specs.declared.act.Act.TheVariants as act;
 ghost use Rattle.m3_model.specs.Calls.{is_call};
 ghost use Rattle.m3_model.specs.Limits.{IsInit, MeetsLimits, KeepsLimits};
-ghost use Rattle.m3_model.specs.NotYet.{fills_its_nodes, IsServedAct, IsServed};
+ghost use Rattle.served_acts.specs.NotYet.{fills_its_nodes, IsServedAct, IsServed};
 ghost use Rattle.m3_outside.specs.Depots.{Depot, TellAll};
 ghost use Rattle.m3_outside.specs.Slots.{Out};
 ghost use Rattle.m3_outside.specs.declared.slot.Slot.{Slot as Place};
@@ -25,6 +25,7 @@ ghost use Rattle.served_cluster.specs.Acts.{Answers, Serves, is_init, sets_fates
 ghost use Rattle.served_cluster.specs.Owned.{AreReady, MayServe, TracksTurns, place_of};
 
 use cluster_members::{Members, Range};
+use cluster_upkeep::{flush, status, tick};
 use first_cluster::{first_members, give_all};
 use m3_model::{Act, Answer, Fate, Placement, Reply, Request, Seq, Space, Text};
 use m3_outside::{Disk, Disks};
@@ -90,7 +91,7 @@ fn make_call<D: Disk>(members: &mut Members<D>, alloc: Global, id: CallId, act: 
     }
 }
 
-// Changes the rules or the nodes, or delivers late messages.
+// Changes the rules or the nodes, delivers late messages, or goes over all replicas.
 fn make_change<D: Disk>(members: &mut Members<D>, alloc: Global, act: Act) -> Answer
     requires limits { MeetsLimits act }
     requires served { IsServedAct act }
@@ -123,6 +124,9 @@ fn make_change<D: Disk>(members: &mut Members<D>, alloc: Global, act: Act) -> An
         Act::Stop { node } => stop(members, node),
         Act::Restart { node, pick } => restart(members, node, pick),
         Act::Bootstrap { node, shard } => bootstrap(members, alloc, node, shard),
+        Act::Tick => tick(members, alloc),
+        Act::Flush => flush(members, alloc),
+        Act::Status => status(members, alloc),
         _ => unreachable!(),
     }
 }
@@ -229,7 +233,7 @@ impl<D: Disk> Cluster<D> {
         make_call(members, alloc, call_of(number), act)
     }
 
-    // Answers what changes the rules or the nodes, or delivers late messages.
+    // Answers what changes the rules or the nodes, delivers late messages, or goes over all replicas.
     fn answer_change(&mut self, alloc: Global, act: Act) -> Answer
         requires limits { MeetsLimits act }
         requires served { IsServedAct act }

@@ -12,7 +12,7 @@ use Rattle.cluster_core.specs.declared.event.Event.{Event}
 use Rattle.cluster_core.specs.declared.event.StepCall.{StepCall}
 use Rattle.cluster_core.specs.declared.event.StepReply.{StepReply}
 use Rattle.net_plan.specs.Fates.{FateMap}
-use Rattle.replica_machine.specs.Steps.{reply_by}
+use Rattle.replica_exchange.specs.Steps.{reply_by}
 use Rattle.replica_exchange.specs.MachineCalls.{Promise, HasRoom, result_of}
 use Rattle.replica_exchange.specs.declared.call_err.CallErr.{CallErr}
 use Rattle.replica_exchange.specs.declared.call_err.CallErr.TheVariants as call_err

@@ -11,8 +11,8 @@ use Rattle.cluster_core.specs.declared.event.Event.{Event}
 use Rattle.cluster_core.specs.declared.event.Event.TheVariants as event
 use Rattle.cluster_core.specs.declared.event.StepCall.{StepCall}
 use Rattle.cluster_core.specs.declared.event.StepReply.{StepReply}
-use Rattle.replica_machine.specs.Machines.{MachineState}
-use Rattle.replica_machine.specs.Steps.{reply_by}
+use Rattle.replica_exchange.specs.Machines.{MachineState}
+use Rattle.replica_exchange.specs.Steps.{reply_by}
 use Rattle.replica_exchange.specs.MachineCalls.{Promise, AddsBoth}
 use Rattle.replica_exchange.specs.Exchanges.{ask_of, seen_in, IsNothing, HasAdded}
 use Rattle.replica_exchange.specs.declared.call_err.CallErr.{CallErr}

@@ -7,3 +7,4 @@ pub mod Ready
 pub mod Writes
 pub mod Deliveries
 pub mod Reads
+pub use Rattle.replica_calls.specs.Calls

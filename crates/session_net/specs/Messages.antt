@@ -9,7 +9,7 @@ use Rattle.cluster_core.specs.declared.event.Event.TheVariants as event
 use Rattle.cluster_core.specs.declared.event.StepCall.{StepCall}
 use Rattle.cluster_core.specs.declared.event.StepReply.{StepReply}
 use Rattle.net_plan.specs.Fates.{FateMap, fate_of}
-use Rattle.replica_machine.specs.Steps.{reply_by}
+use Rattle.replica_exchange.specs.Steps.{reply_by}
 use Rattle.replica_exchange.specs.Exchanges.{ask_of}
 use Rattle.replica_exchange.specs.declared.call_id.CallId.{CallId}
 

@@ -29,7 +29,7 @@ use Rattle.net_plan.specs.Fates.{FateMap}
 use Rattle.replica_exchange.specs.MachineCalls.{HasRoom}
 use Rattle.replica_exchange.specs.declared.call_id.CallId.{CallId}
 use Rattle.replica_calls.specs.Calls.{Tracked}
-use Rattle.replica_machine.specs.Damages.{IsFileDamage}
+use Rattle.replica_exchange.specs.Damages.{IsFileDamage}
 use Rattle.session_net.specs.Messages.{Heard, AreHeard}
 use Rattle.session_net.specs.Outcomes.{Told, told_of, answering, AreCounted, IsTooFew}
 use Rattle.session_net.specs.Runs.{Ran}

@@ -10,5 +10,6 @@ pub mod tally;
 pub use adding::add;
 pub use messages::{fate_to, is_cut};
 pub use net::Net;
+pub use replica_calls::Replicas;
 pub use session_err::SessionErr;
 pub use tally::Tally;

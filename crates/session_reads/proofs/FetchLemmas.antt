@@ -8,7 +8,7 @@ use Rattle.cluster_core.specs.declared.event.StepReply.TheVariants as reply
 use Rattle.net_plan.specs.Fates.{FateMap}
 use Rattle.net_plan.specs.declared.late_write.LateWrite.{LateWrite}
 use Rattle.replica_exchange.specs.declared.call_id.CallId.{CallId}
-use Rattle.replica_calls.specs.Calls.{Tracked}
+use Rattle.session_net.specs.Calls.{Tracked}
 use Rattle.session_net.specs.Reads.{Wish, ShardRead, read_of, start_of, done_of, ended_of, AreRead, IsUnfound}
 use Rattle.session_net.specs.Ready.{IsReady}
 use Rattle.session_net.specs.Runs.{Ran}

@@ -18,7 +18,7 @@ use Rattle.cluster_core.specs.declared.event.Event.{Event}
 use Rattle.net_plan.specs.Fates.{FateMap}
 use Rattle.replica_exchange.specs.MachineCalls.{HasRoom}
 use Rattle.replica_exchange.specs.declared.call_id.CallId.{CallId}
-use Rattle.replica_calls.specs.Calls.{Tracked}
+use Rattle.session_net.specs.Calls.{Tracked}
 use Rattle.session_net.specs.Outcomes.{answering}
 use Rattle.session_net.specs.Reads.{Wish, ShardRead, told_in, IsAsked, IsEnded, start_of, done_of, ended_of, count_from, asked_shards, AreRead, IsUnfound, most_added}
 use Rattle.session_net.specs.Runs.{Ran}

@@ -43,7 +43,7 @@ use Rattle.placement_core.specs.Shards.{Shard, shard_at, nodes_of, counted, is_a
 use Rattle.placement_core.proofs.ListLemmas.{IsIn-from_index, index-from_IsIn, Any-from_IsIn, All-from_each, IsIn-filter}
 use Rattle.placement_core.proofs.OrderLemmas.{came}
 use Rattle.replica_exchange.specs.declared.call_id.CallId.{CallId}
-use Rattle.replica_calls.specs.Calls.{Tracked}
+use Rattle.session_net.specs.Calls.{Tracked}
 use Rattle.session_net.specs.Messages.{IsDelivery, IsHeard, Heard, AreHeard, fate_to}
 use Rattle.session_net.specs.Outcomes.{AreCounted, told_of, answering, refusing, IsShortOf}
 use Rattle.session_net.specs.Reads.{Wish, AreForms, read_of, start_of}

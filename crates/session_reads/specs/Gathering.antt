@@ -16,7 +16,7 @@ use Rattle.cluster_core.specs.declared.event.StepReply.TheVariants as reply
 use Rattle.net_plan.specs.Fates.{FateMap}
 use Rattle.replica_exchange.specs.MachineCalls.{HasRoom}
 use Rattle.replica_exchange.specs.declared.call_id.CallId.{CallId}
-use Rattle.replica_calls.specs.Calls.{Tracked}
+use Rattle.session_net.specs.Calls.{Tracked}
 use Rattle.session_net.specs.Messages.{Heard, AreHeard}
 use Rattle.session_net.specs.Outcomes.{answering, AreCounted, IsTooFew}
 use Rattle.session_net.specs.Reads.{Wish, ShardRead, told_in, IsAsked, IsPartlyAsked, IsEnded, start_of, done_of, most_added, AreRead, AreTogether}

@@ -12,9 +12,8 @@ use crate::shard::{Gave, ask_shard};
 use m3_model::{MetaState, Pick, Seq};
 use m3_outside::Disk;
 use net_plan::Fates;
-use replica_calls::Replicas;
 use series_id::shard_of;
-use session_net::SessionErr;
+use session_net::{Replicas, SessionErr};
 use std::alloc::Global;
 
 // Reads all shards, one after the other, and joins what they give.

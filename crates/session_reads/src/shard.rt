@@ -19,8 +19,7 @@ use m3_model::{MetaState, Pick, Seq, Series};
 use m3_outside::Disk;
 use net_plan::Fates;
 use placement_core::counted;
-use replica_calls::Replicas;
-use session_net::{SessionErr, Tally, add};
+use session_net::{Replicas, SessionErr, Tally, add};
 use std::alloc::Global;
 
 // What was given: the join of all answers, and whether at least a majority of each shard answered.

@@ -20,7 +20,7 @@ use Rattle.net_plan.specs.declared.late_write.LateWrite.{LateWrite}
 use Rattle.placement_core.specs.Shards.{Shard, nodes_of}
 use Rattle.placement_core.proofs.ListLemmas.{IsIn-filter, All-from_each, each-from_All}
 use Rattle.replica_exchange.specs.declared.call_id.CallId.{CallId}
-use Rattle.replica_calls.specs.Calls.{Tracked}
+use Rattle.session_net.specs.Calls.{Tracked}
 use Rattle.session_net.specs.Messages.{fate_to}
 use Rattle.session_net.specs.Ready.{IsReady, IsLateSend}
 use Rattle.session_net.specs.Runs.{Ran, slot_at}

@@ -20,7 +20,7 @@ use Rattle.net_plan.specs.Fates.{FateMap}
 use Rattle.net_plan.specs.declared.late_write.LateWrite.{LateWrite}
 use Rattle.placement_core.specs.Shards.{Shard, counts, nodes_of}
 use Rattle.placement_core.proofs.ListLemmas.{All-from_each}
-use Rattle.replica_calls.specs.Calls.{Tracked}
+use Rattle.session_net.specs.Calls.{Tracked}
 use Rattle.session_net.specs.Messages.{Heard, AreHeard}
 use Rattle.session_net.specs.Outcomes.{told_of, answering, refusing, IsShortOf}
 use Rattle.session_net.specs.Runs.{Ran}

@@ -16,7 +16,7 @@ use Rattle.net_plan.specs.Fates.{FateMap}
 use Rattle.net_plan.specs.declared.late_write.LateWrite.{LateWrite}
 use Rattle.placement_core.specs.Shards.{Shard}
 use Rattle.replica_exchange.specs.declared.call_id.CallId.{CallId}
-use Rattle.replica_calls.specs.Calls.{Tracked}
+use Rattle.session_net.specs.Calls.{Tracked}
 use Rattle.session_net.specs.Runs.{Ran}
 use Rattle.session_net.specs.Writes.{shard_of_point, Sent, Putting, AreMembers, IsSent, HasSent, IsSettled, IsUnsettled, IsAcknowledged, IsRefused}
 use Rattle.session_net.specs.declared.net.Net.{Net}

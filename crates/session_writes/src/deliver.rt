@@ -18,9 +18,8 @@ use m3_model::limits::MOST_LATE_WRITES;
 use m3_model::{Memory, Reason, Rules, Seq};
 use m3_outside::Disk;
 use net_plan::LateWrite;
-use replica_calls::Replicas;
 use replica_exchange::{CallId, Slot};
-use session_net::{Net, SessionErr};
+use session_net::{Net, Replicas, SessionErr};
 use std::alloc::Global;
 
 // No outcomes yet, with room for so many.

@@ -28,10 +28,9 @@ use m3_outside::Disk;
 use net_plan::{Bag, Fates, LateWrite};
 use placement_core::members;
 use quorum_count::needed_write;
-use replica_calls::Replicas;
 use replica_exchange::{CallId, Slot};
 use series_id::shard_of;
-use session_net::{Net, SessionErr, Tally, add, fate_to};
+use session_net::{Net, Replicas, SessionErr, Tally, add, fate_to};
 use std::alloc::Global;
 
 // What the messages of one write share beside their point.

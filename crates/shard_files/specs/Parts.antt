@@ -113,6 +113,17 @@ abbrev pub NewestIs : Option Snapshot → Files → Type 0
 NewestIs None files = counted_snapshots files ≡ []
 NewestIs (Some s) files = IsNewest s files
 
+-- the number of the snapshot; 0 where there is none
+abbrev pub number_in_newest : Option Snapshot → ℕ
+number_in_newest None = 0
+number_in_newest (Some s) = s.number
+
+-- the newest snapshot that counts has this number; 0 where none counts
+pub record IsNewestNumber (number : ℕ) (files : Files) : Type 0 where
+  pub newest : Option Snapshot
+  pub is : NewestIs newest files
+  pub number_is : number ≡ number_in_newest newest
+
 -- the snapshot of this checkpoint is whole
 pub record IsWhole (files : Files) (name : FileName) : Type 0 where
   pub snapshot : Snapshot

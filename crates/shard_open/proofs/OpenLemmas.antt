@@ -50,7 +50,7 @@ points_more before now points found new v was is after =
 open_known : (files : Files) (name : FileName) (k : KnownVolume) (v : OpenVolume) → IsKnown files name k → IsOpen files (listed k) v → IsKnown files name (known_of v)
 open_known files name k v is open_ = record {
   named = is.named ∙ ap (λ (w : Volume). part_of Checkpoint (head_of w.head)) (sym open_.volume_is);
-  holds = subst (λ (w : Volume). VolumeHolds (head_of w.head) v.rows.value files) (sym open_.volume_is) open_.holds;
+  holds = subst (λ (w : Volume). VolumeHolds (head_of w.head) v.rows files) (sym open_.volume_is) open_.holds;
 }
 
 all_known : (files : Files) (names : List FileName) (known : List KnownVolume) (found : List OpenVolume) → AreKnown files names known → AreOpen files (map listed known) found → AreKnown files names (map known_of found)

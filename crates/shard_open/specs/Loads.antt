@@ -1,9 +1,9 @@
 -- What is loaded of volumes and of the newest snapshot.
-use Rattle.std.specs.Prelude.{◌≡◌, ⊤, ℕ, List, [], ◌∷◌, map, Option, Some, None}
+use Rattle.std.specs.Prelude.{◌≡◌, ⊤, ℕ, List, [], ◌∷◌, map, Option}
 use Rattle.m3_outside.specs.Files.{Files}
 use Rattle.wire_bytes.specs.Snapshots.{Snapshot}
 use Rattle.volume_bytes.specs.Heads.{head_of}
-use Rattle.shard_files.specs.Parts.{KnownVolume, VolumesAre, NewestIs, VolumeHolds}
+use Rattle.shard_files.specs.Parts.{KnownVolume, VolumesAre, NewestIs, VolumeHolds, number_in_newest}
 use Rattle.shard_files.specs.FilesHold.{points_in_newest, tenure_in_newest, fence_in_newest}
 use Rattle.fileset_check.specs.declared.volume.Volume.{Volume}
 use Rattle.shard_open.specs.declared.newest.Newest.{Newest}
@@ -11,12 +11,12 @@ use Rattle.shard_open.specs.declared.volumes.OpenVolume.{OpenVolume}
 
 -- the volume, as it is known
 abbrev pub known_of : OpenVolume → KnownVolume
-known_of v = record { head = head_of v.volume.head; rows = v.rows.value }
+known_of v = record { head = head_of v.volume.head; rows = v.rows }
 
 -- this volume, which is there whole, was opened
 pub record IsOpen (files : Files) (volume : Volume) (v : OpenVolume) : Type 0 where
   pub volume_is : v.volume ≡ volume
-  pub holds : VolumeHolds (head_of volume.head) v.rows.value files
+  pub holds : VolumeHolds (head_of volume.head) v.rows files
 
 -- these volumes were opened, one for one
 abbrev pub AreOpen : Files → List Volume → List OpenVolume → Type 0
@@ -29,22 +29,11 @@ AreOpen files (volume ∷ listed) (v ∷ found) = IsOpen files volume v × AreOp
 abbrev pub AreOpened : List OpenVolume → Files → Type 0
 AreOpened volumes files = VolumesAre (map known_of volumes) files
 
--- the number of the snapshot; 0 where there is none
-abbrev pub number_in : Option Snapshot → ℕ
-number_in None = 0
-number_in (Some s) = s.number
-
--- the newest snapshot that counts has this number; 0 where none counts
-pub record IsNewestNumber (number : ℕ) (files : Files) : Type 0 where
-  pub newest : Option Snapshot
-  pub is : NewestIs newest files
-  pub number_is : number ≡ number_in newest
-
 -- what the newest snapshot that counts has, and nothing where none counts
 pub record IsNewest (files : Files) (n : Newest) : Type 0 where
   pub newest : Option Snapshot
   pub is : NewestIs newest files
-  pub number_is : n.number ≡ number_in newest
+  pub number_is : n.number ≡ number_in_newest newest
   pub points_are : n.points ≡ points_in_newest newest
   pub tenure_is : n.tenure ≡ tenure_in_newest newest
   pub fence_is : n.fence ≡ fence_in_newest newest

@@ -6,8 +6,9 @@ ghost use Rattle.m3_outside.specs.Files.{Files, Stays};
 ghost use Rattle.commit_log.specs.Contents.{numbers as numbers_in};
 ghost use Rattle.commit_log.specs.LogEnd.{NoneFrom};
 ghost use Rattle.shard_files.specs.Once.{HeldOnce, IsEachOnce};
+ghost use Rattle.shard_files.specs.Parts.{IsNewestNumber};
 ghost use Rattle.shard_files.specs.declared.load_err.LoadErr.TheVariants as failures;
-ghost use Rattle.shard_open.specs.Loads.{AreOpened, IsNewestNumber};
+ghost use Rattle.shard_open.specs.Loads.{AreOpened};
 ghost use Rattle.shard_open.specs.Told.{AreApart, MayBeUnsound};
 
 use crate::log::held_entries;

@@ -17,8 +17,12 @@ fn append_row(alloc: Global, ns: u8, row: &Series, points: &mut Vec<Point>) -> R
     Ok(())
 }
 
-/// Appends the points of the series, which are of this namespace.
-pub(crate) fn append_rows(
+/// Appends the points of the series, which are of this namespace, in order.
+///
+/// # Errors
+///
+/// Want of memory, after which the first few of them are appended.
+pub fn append_rows(
     alloc: Global,
     ns: u8,
     rows: &[Series],

@@ -22,15 +22,14 @@ use m3_model::{Memory, Point, Seq, Series};
 use m3_outside::Disk;
 use shard_files::LoadErr;
 use std::alloc::Global;
-use std::snapshot::Snapshot;
 
 /// A volume that counts.
 #[derive(Drop)]
 pub struct OpenVolume {
     /// Which one it is, and how many series and points it has.
     pub volume: Volume,
-    /// Its series, for proofs alone.
-    pub rows: Snapshot<Seq<Series>>,
+    /// Its series.
+    pub rows: Seq<Series>,
 }
 
 // Why the volume wasn't read, of the replica's files.
@@ -55,7 +54,7 @@ fn open_one<D: Disk>(
     requires { Told (D.state disk.old) (IsThere (head_of volume.head)) }
     ensures leaves { LeavesFiles (IsErrOf result failures.Disk) (D.state disk.old) (D.state disk.new) }
     ensures ok { (D.state disk.old).tells ≡ true → IfOk result (IsOpen (D.state disk.old).files volume) }
-    ensures points { IfOk result (λ v. points.new.items ≡ points.old.items ++ points_of_rows v.volume.head.ns v.rows.value) }
+    ensures points { IfOk result (λ v. points.new.items ≡ points.old.items ++ points_of_rows v.volume.head.ns v.rows) }
     ensures sound { (D.state disk.old).tells ≡ true → IfErr result (Tells (λ damage. ⊥)) }
     ensures apart { IfErr result AreApart }
 {
@@ -64,8 +63,10 @@ fn open_one<D: Disk>(
         Err(why) => return Err(unread(why)),
     };
     append_rows(alloc, volume.head.ns, found.as_slice(), points)?;
-    let rows = Snapshot::of(&found);
-    Ok(OpenVolume { volume, rows })
+    Ok(OpenVolume {
+        volume,
+        rows: found,
+    })
 }
 
 // Appends the volume.

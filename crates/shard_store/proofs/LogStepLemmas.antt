@@ -1,5 +1,5 @@
 -- Calls of a log as steps of what the files hold.
-use Rattle.std.proofs.Common.{◌≡◌, inl, ℕ, ◌+◌, ◌≤◌, max, true, false, Option, Some, None, List, [], ◌∷◌, refl, sym, ap, subst, ◌∙◌, arith, Result, Ok, Err}
+use Rattle.std.proofs.Common.{◌≡◌, inl, ⊎_elim, ℕ, ◌+◌, ◌≤◌, max, true, false, Option, Some, None, List, [], ◌∷◌, refl, sym, ap, subst, ◌∙◌, arith, Result, Ok, Err}
 use Rattle.std.specs.Prelude.{⊤, IsErr, IsErrAnd, IsErrOf, IfOk, OnOk}
 use Rattle.m3_outside.specs.Causes.{CountsFaults}
 use Rattle.m3_outside.specs.Files.{Files}
@@ -11,60 +11,79 @@ use Rattle.commit_log.specs.Segment.{segment, MayAdd, Adds}
 use Rattle.commit_log.specs.LogEnd.{LogEnd, NoneAbove, NoneFrom, Stands, MayBegin}
 use Rattle.shard_files.specs.declared.entries.LogEntry.{LogEntry}
 use Rattle.shard_files.specs.Entries.{IsEntry}
-use Rattle.shard_files.specs.FilesHold.{FilesHold}
+use Rattle.shard_files.specs.Parts.{KnownVolume, VolumesAre, counted_volumes}
+use Rattle.shard_files.specs.FilesHold.{file_points, volume_points}
 use Rattle.shard_files.specs.Once.{HeldOnce}
-use Rattle.shard_files.proofs.OnceLemmas.{once_has_content}
 use Rattle.shard_files.specs.Gains.{Gain, nothing, Gains, MayGain, Brings}
 use Rattle.shard_files.specs.LogSteps.{gain_in}
 use Rattle.block_buffer.specs.Held.{Held as InMemory}
-use Rattle.m3_model.specs.Contents.{Contents, content_of, raised}
+use Rattle.block_buffer.specs.Taken.{settled_with}
+use Rattle.m3_model.specs.Answers.{HasPoint}
+use Rattle.m3_model.specs.Contents.{Contents, content_of, key_of, raised}
 use Rattle.m3_model.specs.declared.point.Key.{Key}
 use Rattle.shard_files.specs.declared.entries.LogEntry.TheVariants as entry
 use Rattle.shard_store.specs.declared.opened.Opened.{Opened}
 use Rattle.shard_store.specs.StoreParts.{state_of, IsKept}
-use Rattle.shard_store.specs.Stores.{StoreState, HoldsOpened, IsKeptOn, memory_with}
+use Rattle.shard_store.specs.Stores.{StoreState, HoldsOpened, IsKeptOn, joined_with, memory_with}
+use Rattle.shard_store.specs.Listed.{known_in}
 use Rattle.wire_bytes.specs.Entries.{IsBounded, ArePoints}
 use Rattle.m3_model.specs.Members.{IsIn}
 use Rattle.m3_model.specs.declared.point.Point.{Point}
 use Rattle.shard_files.proofs.GainLemmas.{gains_nothing, all_is_part, nothing_is_part, nothing_then_all, nothing_then_part}
 use Rattle.shard_files.specs.HeldEntries.{tenure_in, fence_in}
 use Rattle.shard_files.proofs.HeldLemmas.{tenure_is_fence}
-use Rattle.shard_store.proofs.KeptLemmas.{there_already, opened_by_all, opened_by_nothing}
+use Rattle.shard_files.proofs.ContentLemmas.{content_source}
 use Rattle.shard_files.proofs.FilesHoldLemmas.{append_brings}
+use Rattle.shard_files.proofs.PartLemmas.{one_volumes}
+use Rattle.m3_model.proofs.MemberLemmas.{IsIn-append_left, IsIn-append_cases}
+use Rattle.volume_steps.specs.Known.{HoldsKnown, points_beside}
+use Rattle.volume_steps.proofs.KnownLemmas.{stands_there}
+use Rattle.volume_steps.proofs.LawLemmas.{join_is_there}
+use Rattle.shard_store.proofs.KeptLemmas.{there_already}
+use Rattle.volume_steps.proofs.LogLemmas.{log_steps_keep}
+use Rattle.shard_store.proofs.PointLemmas.{settled_source}
 
 -- no image has a segment above the log's end
 above_all : (log : LogEnd) (d : DiskState) → IsLawful d → Stands log d → d.tells ≡ true → (c : Files) → d.images c → NoneAbove log.number c
 above_all log d lawful stands tells c image n lt = (lawful.same_names tells c image (segment n)).0 (stands.above tells n lt)
 
 -- what each image keeps, a step on
-pub kept_as : {step : Files → Files → Type 0} {P Q : Files → Type 0} (old new : DiskState) → new.tells ≡ old.tells → ((x y : Files) → step x y → P x → Q y)
+pub kept_as : {step : Files → Files → Type 0} {P Q : Files → Type 0} (old new : DiskState) → new.tells ≡ old.tells → (old.tells ≡ true → (x y : Files) → old.images x → step x y → P x → Q y)
     → (old.tells ≡ true → (c : Files) → new.images c → StepOf step old.images c) → EachImage old P → EachImage new Q
 kept_as old new same keeps steps each tells c image =
     let told = sym same ∙ tells in
     let step = steps told c image in
-    keeps step.before c step.stepped (each told step.before step.was)
+    keeps told step.before c step.was step.stepped (each told step.before step.was)
 
--- what is in memory is what each stop leaves still, where a call brings nothing
-pub kept_by_nothing : (log end : LogEnd) (memory : InMemory) (tenure fence : ℕ) (old new : DiskState) → new.tells ≡ old.tells → Stands end new → (old.tells ≡ true → Elapses (Gains nothing) old new)
-    → IsKeptOn log memory tenure fence old → IsKeptOn end memory tenure fence new
-kept_by_nothing log end memory tenure fence old new same stands goes kept = record {
+-- the log's next segment isn't there, and none above
+none_next : (log : LogEnd) (d : DiskState) → IsLawful d → Stands log d → d.tells ≡ true → (x : Files) → d.images x → NoneFrom (log.number + 1) x
+none_next log d lawful stands tells x image n le = above_all log d lawful stands tells x image n (omega (arith, le))
+
+-- what is in memory is what each stop leaves still, where a segment begins
+pub kept_by_begin : (number : ℕ) (log end : LogEnd) (memory : InMemory) (known : List KnownVolume) (tenure fence : ℕ) (old new : DiskState) → new.tells ≡ old.tells → Stands end new → (old.tells ≡ true → (x : Files) → old.images x → NoneFrom number x)
+    → (old.tells ≡ true → Elapses (MayBegin number) old new) → IsKeptOn log memory known tenure fence old → IsKeptOn end memory known tenure fence new
+kept_by_begin number log end memory known tenure fence old new same stands none goes kept = record {
   stands = stands;
-  exact = kept_as old new same (opened_by_nothing memory.points tenure fence) (λ tells. (goes tells).images) kept.exact;
+  exact = kept_as old new same (λ told x y image may has. log_steps_keep.begins number memory.points known tenure fence x y (none told x image) may has) (λ told. (goes told).images) kept.exact;
   at_rest = kept.at_rest;
   order = kept.order;
 }
 
--- and where it brings an entry
-pub kept_by_entry : {X E : Type 0} (r : Result X E) (e : LogEntry) (log end : LogEnd) (memory : InMemory) (tenure fence : ℕ) (old new : DiskState) → new.tells ≡ old.tells → Stands end new
-    → (old.tells ≡ true → OnOk r ((c : Files) → new.images c → StepOf (Gains (gain_in e)) old.images c)) → IsKeptOn log memory tenure fence old
-    → OnOk r (IsKeptOn end (memory_with e memory) (max tenure (tenure_in e)) (max fence (fence_in e)) new)
-kept_by_entry (Ok x) e log end memory tenure fence old new same stands steps kept = record {
+pub kept_by_ready : (log end : LogEnd) (memory : InMemory) (known : List KnownVolume) (tenure fence : ℕ) (old new : DiskState) → IsLawful old → Stands log old → new.tells ≡ old.tells → Stands end new → (old.tells ≡ true → Elapses (MayBegin (log.number + 1)) old new)
+    → IsKeptOn log memory known tenure fence old → IsKeptOn end memory known tenure fence new
+kept_by_ready log end memory known tenure fence old new lawful stood same stands goes kept = kept_by_begin (log.number + 1) log end memory known tenure fence old new same stands (none_next log old lawful stood) goes kept
+
+-- and where an entry is added
+pub kept_by_entry : {X E : Type 0} (r : Result X E) (e : LogEntry) (bytes : List ℕ) → IsEntry bytes e → (log end : LogEnd) (memory : InMemory) (known : List KnownVolume) (tenure fence : ℕ) (old new : DiskState) → IsLawful old → Stands log old → new.tells ≡ old.tells → Stands end new
+    → (old.tells ≡ true → OnOk r ((c : Files) → new.images c → StepOf (Adds (segment log.number) bytes) old.images c)) → IsKeptOn log memory known tenure fence old
+    → OnOk r (IsKeptOn end (memory_with e memory) known (max tenure (tenure_in e)) (max fence (fence_in e)) new)
+kept_by_entry (Ok x) e bytes is log end memory known tenure fence old new lawful stood same stands steps kept = record {
   stands = stands;
-  exact = kept_as old new same (λ x y gains has. opened_by_all (gain_in e) x y memory.points tenure fence gains has) steps kept.exact;
+  exact = kept_as old new same (λ told x y image adds has. log_steps_keep.adds e bytes log.number memory.points known tenure fence x y is (above_all log old lawful stood told x image) adds has) steps kept.exact;
   at_rest = kept.at_rest;
   order = let up = tenure_is_fence e in omega (arith, kept.order, up);
 }
-kept_by_entry (Err x) e log end memory tenure fence old new same stands steps kept = tt
+kept_by_entry (Err x) e bytes is log end memory known tenure fence old new lawful stood same stands steps kept = tt
 
 -- a segment that may begin
 module _ (log : LogEnd) (old new : DiskState) (lawful : IsLawful old) (stands : Stands log old) where
@@ -147,9 +166,10 @@ brings_none gain r a is =
     brings_nothing gain r Memory a a is (λ tells. elapses_same (Gains nothing) a (λ x image. gains_nothing x)) refl (counts_same (IsErrOf r DiskFailed) a.faults (λ h. not_failed (subst (λ (q : Result ⊤ DiskErr). IsErrOf q DiskFailed) is h)))
 
 -- a number that the files have already
-pub brings_there : (gain : Gain) (u : ⊤) (content : Contents) (tenure fence : ℕ) (a : DiskState) → EachImage a (HoldsOpened content tenure fence) → ((p : Point) → IsIn gain.points p → ⊥) → gain.tenure ≤ tenure → gain.fence ≤ fence → Brings gain (Ok u) a a
-brings_there gain u content tenure fence a each none t f =
-    let there = λ (tells : a.tells ≡ true) (x : Files) (image : a.images x). there_already gain x x content tenure fence (each tells x image) none t f in
+pub brings_there : (gain : Gain) (u : ⊤) (memory : Contents) (known : List KnownVolume) (tenure fence : ℕ) (a : DiskState) → EachImage a (HoldsKnown memory known tenure fence) → ((p : Point) → IsIn gain.points p → ⊥) → gain.tenure ≤ tenure → gain.fence ≤ fence
+    → Brings gain (Ok u) a a
+brings_there gain u memory known tenure fence a each none t f =
+    let there = λ (tells : a.tells ≡ true) (x : Files) (image : a.images x). let has = each tells x image in there_already gain x has.points tenure fence has.held none t f in
     brings_all gain u a a (λ tells. elapses_same (MayGain gain) a (λ x image. all_is_part gain x x (there tells x image)))
     (λ tells z image. record { before = z; was = image; stepped = there tells z image }) refl (counts_same ⊥ a.faults (λ h. h))
 
@@ -157,8 +177,12 @@ brings_there gain u content tenure fence a each none t f =
 pub brings_as : (gain : Gain) (r q : Result ⊤ DiskErr) (a b : DiskState) → q ≡ r → Brings gain r a b → Brings gain q a b
 brings_as gain r q a b same brings = subst (λ (x : Result ⊤ DiskErr). Brings gain x a b) (sym same) brings
 
-pub kept_for : (log : LogEnd) (memory : InMemory) (t f u g : ℕ) (d : DiskState) → t ≡ u → f ≡ g → IsKeptOn log memory t f d → IsKeptOn log memory u g d
-kept_for log memory t f u g d a b kept = subst (λ (n : ℕ). IsKeptOn log memory n g d) a (subst (λ (n : ℕ). IsKeptOn log memory t n d) b kept)
+pub kept_for : (log : LogEnd) (memory : InMemory) (known : List KnownVolume) (t f u g : ℕ) (d : DiskState) → t ≡ u → f ≡ g → IsKeptOn log memory known t f d → IsKeptOn log memory known u g d
+kept_for log memory known t f u g d a b kept = subst (λ (n : ℕ). IsKeptOn log memory known n g d) a (subst (λ (n : ℕ). IsKeptOn log memory known t n d) b kept)
+
+-- as the same volumes are known
+pub kept_known : (log : LogEnd) (memory : InMemory) (ks js : List KnownVolume) (t f : ℕ) (d : DiskState) → ks ≡ js → IsKeptOn log memory ks t f d → IsKeptOn log memory js t f d
+kept_known log memory ks js t f d same kept = subst (λ (l : List KnownVolume). IsKeptOn log memory l t f d) same kept
 
 -- the entry of one point
 pub one_bounded : (p : Point) → IsBounded p → ArePoints (p ∷ [])
@@ -168,19 +192,46 @@ one_bounded p bounded = record { some = omega arith; most = omega arith; bounded
 pub fresh_elapses : (number : ℕ) (old new : DiskState) → IsLawful old → Told old (NoneFrom number) → old.tells ≡ true → Elapses (MayBegin number) old new → Elapses (Gains nothing) old new
 fresh_elapses number old new lawful none tells goes = elapses_as old new (λ x y image may. append_brings.begins number x y (λ n le. (lawful.same_names tells x image (segment n)).0 (none tells n le)) may) goes
 
-pub begun_kept : (r : Result LogEnd DiskErr) (log : LogEnd) (memory : InMemory) (tenure fence : ℕ) (d : DiskState) → IfOk r (λ end. end ≡ log) → OnOk r (Stands log d)
-    → EachImage d (HoldsOpened memory.points tenure fence) → memory.room ≡ None → tenure ≤ fence → IfOk r (λ end. IsKeptOn end memory tenure fence d)
-begun_kept (Ok end) log memory tenure fence d is stands exact at_rest order = record { stands = subst (λ l. Stands l d) (sym is) stands; exact = exact; at_rest = at_rest; order = order }
-begun_kept (Err e) log memory tenure fence d is stands exact at_rest order = tt
+pub begun_kept : (r : Result LogEnd DiskErr) (log : LogEnd) (memory : InMemory) (known : List KnownVolume) (tenure fence : ℕ) (d : DiskState) → IfOk r (λ end. end ≡ log) → OnOk r (Stands log d)
+    → EachImage d (HoldsKnown memory.points known tenure fence) → memory.room ≡ None → tenure ≤ fence → IfOk r (λ end. IsKeptOn end memory known tenure fence d)
+begun_kept (Ok end) log memory known tenure fence d is stands exact at_rest order = record { stands = subst (λ l. Stands l d) (sym is) stands; exact = exact; at_rest = at_rest; order = order }
+begun_kept (Err e) log memory known tenure fence d is stands exact at_rest order = tt
+
+-- each image holds what it held where a fresh segment begins
+pub known_fresh : (number : ℕ) (memory : Contents) (known : List KnownVolume) (tenure fence : ℕ) (old new : DiskState) → IsLawful old → Told old (NoneFrom number) → new.tells ≡ old.tells → (old.tells ≡ true → Elapses (MayBegin number) old new)
+    → EachImage old (HoldsKnown memory known tenure fence) → EachImage new (HoldsKnown memory known tenure fence)
+known_fresh number memory known tenure fence old new lawful none same goes each =
+    kept_as old new same (λ told x y image may has. log_steps_keep.begins number memory known tenure fence x y (λ n le. (lawful.same_names told x image (segment n)).0 (none told n le)) may has) (λ told. (goes told).images) each
 
 pub brings_nothing_more : (u : ⊤) (a c : DiskState) → (a.tells ≡ true → Elapses (Gains nothing) a c) → c.tells ≡ a.tells → CountsFaults ⊥ a.faults c.faults → Brings nothing (Ok u) a c
 brings_nothing_more u a c goes same faults = brings_all nothing u a c (λ tells. elapses_as a c (λ x y image gains. all_is_part nothing x y gains) (goes tells)) (λ tells. (goes tells).images) same faults
 
--- what was read is what each image holds
-pub only_held : (points : List Point) (tenure fence : ℕ) (d : DiskState) → Told d (HeldOnce points tenure fence) → EachImage d (λ c. c ≡ d.files) → EachImage d (HoldsOpened (content_of points) tenure fence)
-only_held points tenure fence d held only tells c image =
-    let h : HeldOnce points tenure fence d.files = held tells in
-    record { points = h.all; held = subst (FilesHold h.all tenure fence) (sym (only tells c image)) h.held; make_up = sym (once_has_content h.all points h.once) }
+-- what was read is what each image holds; in memory are those of the points that no volume has
+pub only_held : (points : List Point) (known : List KnownVolume) (tenure fence : ℕ) (d : DiskState) → Told d (HeldOnce points tenure fence) → Told d (VolumesAre known) → EachImage d (λ c. c ≡ d.files)
+    → EachImage d (HoldsKnown (settled_with (content_of points) (volume_points known)) known tenure fence)
+only_held points known tenure fence d held are only tells c image = subst (HoldsKnown (settled_with (content_of points) (volume_points known)) known tenure fence) (sym (only tells c image)) here
+  where
+    h : HeldOnce points tenure fence d.files
+    h = held tells
+
+    same : h.held.parts.volumes ≡ known
+    same = one_volumes d.files (counted_volumes d.files) h.held.parts.volumes known h.held.holds.volumes (are tells)
+
+    beside : (p : Point) → HasPoint (settled_with (content_of points) (volume_points known)) p → IsIn (points_beside h.held.parts) p
+    beside p left =
+        let from = settled_source (volume_points known) (content_of points) p left in
+        let all : IsIn h.all p = (h.once.same p).0 (content_source points (key_of p) p.v from.0) in
+        let of : IsIn (file_points h.held.parts) p = subst (λ l. IsIn l p) h.held.points_are all in
+        ⊎_elim (λ (m : IsIn (volume_points h.held.parts.volumes) p). absurd (from.1 (subst (λ ks. IsIn (volume_points ks) p) same m))) (λ (m : IsIn (points_beside h.held.parts) p). m) (IsIn-append_cases (volume_points h.held.parts.volumes) (points_beside h.held.parts) p of)
+
+    here : HoldsKnown (settled_with (content_of points) (volume_points known)) known tenure fence d.files
+    here = record { points = h.all; held = h.held; volumes = same; there = beside }
+
+-- and each point of a volume is one of those that were read
+pub volumes_among : (points : List Point) (known : List KnownVolume) (tenure fence : ℕ) (files : Files) → HeldOnce points tenure fence files → VolumesAre known files → (p : Point) → IsIn (volume_points known) p → IsIn points p
+volumes_among points known tenure fence files h are p m =
+    let same : h.held.parts.volumes ≡ known = one_volumes files (counted_volumes files) h.held.parts.volumes known h.held.holds.volumes are in
+    (h.once.same p).1 (subst (λ l. IsIn l p) (sym h.held.points_are) (IsIn-append_left (volume_points h.held.parts.volumes) (points_beside h.held.parts) p (subst (λ ks. IsIn (volume_points ks) p) (sym same) m)))
 
 -- the same error, handed on
 pub err_to : {X Y E : Type 0} (r : Result X E) (q : Result Y E) (e d : E) → r ≡ Err e → q ≡ Err e → IsErrOf q d → IsErrOf r d
@@ -202,8 +253,16 @@ memory_put memory room now p k at_rest roomed is =
     let last : now ≡ record { points = raised memory.points p; room = None } = is ∙ ap (λ (m : InMemory). let n : InMemory = record { points = raised m.points p; room = None } in n) roomed in
     first ∙ sym last
 
--- what an open store shows is what each stop leaves
+-- each point of an open store's content is one that a stop leaves
+pub holds_content : (memory : Contents) (known : List KnownVolume) (tenure fence : ℕ) (files : Files) → HoldsKnown memory known tenure fence files → HoldsOpened (joined_with memory known) tenure fence files
+holds_content memory known tenure fence files has = record {
+  points = has.points;
+  held = has.held;
+  all = λ p h. subst (λ l. IsIn l p) (sym has.held.points_are) (stands_there memory known tenure fence files has p (join_is_there memory known p h));
+}
+
 pub shown_by_each : {D : Type 0} (state : D → DiskState) (s : StoreState D) (disk : D) (opened : Option Opened) → state_of disk opened ≡ s → IsKept opened (state disk) → s.open_ ≡ true
     → EachImage (state s.disk) (HoldsOpened s.content s.tenure s.fence)
 shown_by_each {D} state s disk None is kept open_ = let closed : false ≡ s.open_ = ap (λ (x : StoreState D). x.open_) is in absurd (cc)
-shown_by_each {D} state s disk (Some opened) is kept open_ = subst (λ (x : StoreState D). EachImage (state x.disk) (HoldsOpened x.content x.tenure x.fence)) is kept.exact
+shown_by_each {D} state s disk (Some opened) is kept open_ =
+    subst (λ (x : StoreState D). EachImage (state x.disk) (HoldsOpened x.content x.tenure x.fence)) is (λ tells c image. holds_content opened.held.points (known_in opened.volumes.items) opened.tenure opened.fence c (kept.0.exact tells c image))

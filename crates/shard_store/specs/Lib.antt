@@ -1,2 +1,11 @@
 pub mod Stores
+pub mod Listed
+pub mod Openings
 pub mod StoreParts
+pub mod Blocks
+pub mod Flushes
+pub mod Ticks
+pub mod OneSnapshot
+pub use Rattle.shard_open.specs.Loads
+pub use Rattle.shard_open.specs.Told
+pub use Rattle.shard_open.specs.declared.load.Loaded

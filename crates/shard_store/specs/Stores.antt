@@ -2,44 +2,56 @@
 use Rattle.std.specs.Prelude.{◌≡◌, ℕ, ◌≤◌, Bool, false, List, None, fold, refl}
 use Rattle.std.specs.Coded.{Coded, code_by, coded×, coded_ℕ, coded_bool}
 use Rattle.std.specs.FinMap as finite
-use Rattle.m3_model.specs.Contents.{Contents, contents_code, raised, content_of}
+use Rattle.m3_model.specs.Answers.{HasPoint}
+use Rattle.m3_model.specs.Contents.{Contents, contents_code, raised}
+use Rattle.m3_model.specs.Members.{IsIn}
 use Rattle.m3_model.specs.declared.point.Point.{Point}
 use Rattle.m3_outside.specs.Files.{Files}
 use Rattle.m3_outside.specs.DiskState.{DiskState, EachImage}
 use Rattle.block_buffer.specs.Held.{Held as InMemory}
+use Rattle.block_buffer.specs.Joins.{joined}
 use Rattle.commit_log.specs.LogEnd.{LogEnd, Stands}
 use Rattle.shard_files.specs.HeldEntries.{points_in}
-use Rattle.shard_files.specs.FilesHold.{FilesHold}
+use Rattle.shard_files.specs.Parts.{KnownVolume}
+use Rattle.shard_files.specs.FilesHold.{FilesHold, volume_points}
 use Rattle.shard_files.specs.declared.entries.LogEntry.{LogEntry}
+use Rattle.volume_steps.specs.Known.{HoldsKnown}
 
--- What a store is: its disk, whether its points are in memory, and then these, joined, with the greatest tenure and the greatest fence or tenure of
--- its files. A closed one has none of them.
+-- What a store is: its disk, whether it is open, and then the points that it has in memory, its content, which is these joined with the points of the volumes
+-- on its disk, and the greatest tenure and the greatest fence or tenure of its files. A closed one has none of them.
 pub record StoreState (D : Type 0) : Type 0 where
   pub disk : D
   pub open_ : Bool
+  pub buffered : Contents
   pub content : Contents
   pub tenure : ℕ
   pub fence : ℕ
 
 abbrev pub store_code : {D : Type 0} → Coded D → Coded (StoreState D)
 store_code {D} disk_code =
-    code_by (D × (Bool × (Contents × (ℕ × ℕ)))) (coded× disk_code (coded× coded_bool (coded× contents_code (coded× coded_ℕ coded_ℕ)))) (λ s. (s.disk, (s.open_, (s.content, (s.tenure, s.fence)))))
-    (λ p. record { disk = p.0; open_ = p.1.0; content = p.1.1.0; tenure = p.1.1.1.0; fence = p.1.1.1.1 }) (λ _. refl)
+    code_by (D × (Bool × (Contents × (Contents × (ℕ × ℕ))))) (coded× disk_code (coded× coded_bool (coded× contents_code (coded× contents_code (coded× coded_ℕ coded_ℕ)))))
+    (λ s. (s.disk, (s.open_, (s.buffered, (s.content, (s.tenure, s.fence))))))
+    (λ p. record { disk = p.0; open_ = p.1.0; buffered = p.1.1.0; content = p.1.1.1.0; tenure = p.1.1.1.1.0; fence = p.1.1.1.1.1 }) (λ _. refl)
 
 -- the store without points
 abbrev pub closed_over : {D : Type 0} → D → StoreState D
-closed_over disk = record { disk = disk; open_ = false; content = finite.empty; tenure = 0; fence = 0 }
+closed_over disk = record { disk = disk; open_ = false; buffered = finite.empty; content = finite.empty; tenure = 0; fence = 0 }
 
--- the files hold points that make up this content, this tenure and this fence
+-- what is in memory, joined with the points of these volumes
+abbrev pub joined_with : Contents → List KnownVolume → Contents
+joined_with buffered known = joined buffered (volume_points known)
+
+-- the files hold each point of the content, this tenure and this fence
 pub record HoldsOpened (content : Contents) (tenure fence : ℕ) (files : Files) : Type 0 where
   pub points : List Point
   pub held : FilesHold points tenure fence files
-  pub make_up : content_of points ≡ content
+  pub all : (p : Point) → HasPoint content p → IsIn points p
 
--- The log ends on the disk where it says. Each stop leaves files that hold just what is in memory. No put is under way, and a tenure is a fence too.
-pub record IsKeptOn (log : LogEnd) (memory : InMemory) (tenure fence : ℕ) (d : DiskState) : Type 0 where
+-- The log ends on the disk where it says. In the files that a stop leaves just the known volumes count, and each point in memory stands in the newest snapshot
+-- or in the log. No put is under way, and a tenure is a fence too.
+pub record IsKeptOn (log : LogEnd) (memory : InMemory) (known : List KnownVolume) (tenure fence : ℕ) (d : DiskState) : Type 0 where
   pub stands : Stands log d
-  pub exact : EachImage d (HoldsOpened memory.points tenure fence)
+  pub exact : EachImage d (HoldsKnown memory.points known tenure fence)
   pub at_rest : memory.room ≡ None
   pub order : tenure ≤ fence
 

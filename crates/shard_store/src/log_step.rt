@@ -1,5 +1,5 @@
 //! One more entry in a replica's log.
-ghost use Rattle.std.specs.Prelude.{◌≡◌, ◌+◌, ◌≤◌, ℕ, None, max, true, length, IfOk, OnOk, IsErr, IsErrOf};
+ghost use Rattle.std.specs.Prelude.{◌≡◌, ◌+◌, ◌≤◌, ℕ, List, None, max, true, length, IfOk, OnOk, IsErr, IsErrOf};
 ghost use Rattle.m3_model.specs.declared.limits.TheConstants.{SEGMENT_BYTES};
 ghost use Rattle.m3_outside.specs.Causes.{CountsFaults};
 ghost use Rattle.m3_outside.specs.DiskState.{DiskState, Told, EachImage, Elapses, StepOf, Becomes};
@@ -7,10 +7,14 @@ ghost use Rattle.m3_outside.specs.Files.{Files};
 ghost use Rattle.m3_outside.specs.declared.disk_err.DiskErr.TheVariants.{Failed as DiskFailed, Memory as WantOfMemory};
 ghost use Rattle.block_buffer.specs.Held.{Held as InMemory};
 ghost use Rattle.commit_log.specs.LogEnd.{LogEnd, NoneFrom, Stands, IsReadyFor};
+ghost use Rattle.commit_log.specs.Contents.{numbers};
 ghost use Rattle.shard_files.specs.Entries.{IsEntry};
 ghost use Rattle.shard_files.specs.Gains.{Gains, MayGain, Brings, nothing};
 ghost use Rattle.shard_files.specs.HeldEntries.{tenure_in, fence_in};
-ghost use Rattle.shard_store.specs.Stores.{HoldsOpened, IsKeptOn, memory_with};
+ghost use Rattle.shard_files.specs.Parts.{KnownVolume, IsNewestNumber};
+ghost use Rattle.volume_steps.specs.Known.{HoldsKnown};
+ghost use Rattle.snapshot_steps.specs.Counts.{AreCounted, StayCounted};
+ghost use Rattle.shard_store.specs.Stores.{IsKeptOn, memory_with};
 ghost use Rattle.shard_files.specs.declared.entries.LogEntry.{LogEntry as Entry};
 ghost use Rattle.shard_files.specs.LogSteps.{gain_in};
 
@@ -24,7 +28,8 @@ use m3_outside::{Disk, DiskErr, Failed};
 /// A fault or want of memory. The files hold what they held.
 pub(crate) fn begin_log<D: Disk>(disk: &mut D, number: u64) -> Result<Log, DiskErr>
     requires { Told (D.state disk.old) (NoneFrom number) }
-    ensures kept { (memory : InMemory) (tenure fence : ℕ) → memory.room ≡ None → tenure ≤ fence → EachImage (D.state disk.old) (HoldsOpened memory.points tenure fence) → IfOk result (λ log. IsKeptOn log memory tenure fence (D.state disk.new)) }
+    ensures kept { (memory : InMemory) (known : List KnownVolume) (tenure fence : ℕ) → memory.room ≡ None → tenure ≤ fence → EachImage (D.state disk.old) (HoldsKnown memory.points known tenure fence) → IfOk result (λ log. IsKeptOn log memory known tenure fence (D.state disk.new)) }
+    ensures counted { (missing snapshot : ℕ) → Told (D.state disk.old) (λ files. (length (numbers files) + missing ≡ number) × IsNewestNumber snapshot files) → IfOk result (λ log. Told (D.state disk.new) (AreCounted log missing snapshot)) }
     ensures unchanged { (D.state disk.old).tells ≡ true → IsErrOf result WantOfMemory → Becomes (λ files. files) (D.state disk.old) (D.state disk.new) }
     ensures any_moment { (D.state disk.old).tells ≡ true → Elapses (Gains nothing) (D.state disk.old) (D.state disk.new) }
     ensures tells { (D.state disk.new).tells ≡ (D.state disk.old).tells }
@@ -42,8 +47,9 @@ pub(crate) fn ready_entry<D: Disk>(disk: &mut D, log: &mut Log, len: u32) -> Res
     requires short { 5 + len ≤ SEGMENT_BYTES }
     requires stands { Stands log.old (D.state disk.old) }
     ensures ready { OnOk result (IsReadyFor log.new len (D.state disk.new)) }
-    ensures kept { (memory : InMemory) (tenure fence : ℕ) → IsKeptOn log.old memory tenure fence (D.state disk.old) → IsKeptOn log.new memory tenure fence (D.state disk.new) }
+    ensures kept { (memory : InMemory) (known : List KnownVolume) (tenure fence : ℕ) → IsKeptOn log.old memory known tenure fence (D.state disk.old) → IsKeptOn log.new memory known tenure fence (D.state disk.new) }
     ensures unchanged { (D.state disk.old).tells ≡ true → IsErrOf result WantOfMemory → Becomes (λ files. files) (D.state disk.old) (D.state disk.new) }
+    ensures counts { (D.state disk.old).tells ≡ true → ¬ (IsErrOf result DiskFailed) → StayCounted log.old log.new (D.state disk.old).files (D.state disk.new).files }
     ensures stands { Stands log.new (D.state disk.new) }
     ensures any_moment { (D.state disk.old).tells ≡ true → Elapses (Gains nothing) (D.state disk.old) (D.state disk.new) }
     ensures tells { (D.state disk.new).tells ≡ (D.state disk.old).tells }
@@ -60,7 +66,8 @@ pub(crate) fn ready_entry<D: Disk>(disk: &mut D, log: &mut Log, len: u32) -> Res
 pub(crate) fn append_entry<D: Disk>(disk: &mut D, log: &mut Log, bytes: &[u8]) -> Result<(), Failed>
     requires ready { IsReadyFor log.old (length bytes.now) (D.state disk.old) }
     requires entry { (e : Entry) × IsEntry bytes.now e }
-    ensures kept { (e : Entry) → IsEntry bytes.now e → (memory : InMemory) (tenure fence : ℕ) → IsKeptOn log.old memory tenure fence (D.state disk.old) → OnOk result (IsKeptOn log.new (memory_with e memory) (max tenure (tenure_in e)) (max fence (fence_in e)) (D.state disk.new)) }
+    ensures kept { (e : Entry) → IsEntry bytes.now e → (memory : InMemory) (known : List KnownVolume) (tenure fence : ℕ) → IsKeptOn log.old memory known tenure fence (D.state disk.old) → OnOk result (IsKeptOn log.new (memory_with e memory) known (max tenure (tenure_in e)) (max fence (fence_in e)) (D.state disk.new)) }
+    ensures counts { (D.state disk.old).tells ≡ true → OnOk result (StayCounted log.old log.new (D.state disk.old).files (D.state disk.new).files) }
     ensures stands { Stands log.new (D.state disk.new) }
     ensures any_moment { (e : Entry) → IsEntry bytes.now e → (D.state disk.old).tells ≡ true → Elapses (MayGain (gain_in e)) (D.state disk.old) (D.state disk.new) }
     ensures acknowledged { (e : Entry) → IsEntry bytes.now e → (D.state disk.old).tells ≡ true → OnOk result ((c : Files) → (D.state disk.new).images c → StepOf (Gains (gain_in e)) (D.state disk.old).images c) }
@@ -79,9 +86,10 @@ pub(crate) fn log_entry<D: Disk>(disk: &mut D, log: &mut Log, bytes: &[u8]) -> R
     requires short { 5 + length bytes.now ≤ SEGMENT_BYTES }
     requires stands { Stands log.old (D.state disk.old) }
     requires entry { (e : Entry) × IsEntry bytes.now e }
-    ensures kept { (e : Entry) → IsEntry bytes.now e → (memory : InMemory) (tenure fence : ℕ) → IsKeptOn log.old memory tenure fence (D.state disk.old) → OnOk result (IsKeptOn log.new (memory_with e memory) (max tenure (tenure_in e)) (max fence (fence_in e)) (D.state disk.new)) }
-    ensures memory { (memory : InMemory) (tenure fence : ℕ) → IsKeptOn log.old memory tenure fence (D.state disk.old) → IsErrOf result WantOfMemory → IsKeptOn log.new memory tenure fence (D.state disk.new) }
+    ensures kept { (e : Entry) → IsEntry bytes.now e → (memory : InMemory) (known : List KnownVolume) (tenure fence : ℕ) → IsKeptOn log.old memory known tenure fence (D.state disk.old) → OnOk result (IsKeptOn log.new (memory_with e memory) known (max tenure (tenure_in e)) (max fence (fence_in e)) (D.state disk.new)) }
+    ensures memory { (memory : InMemory) (known : List KnownVolume) (tenure fence : ℕ) → IsKeptOn log.old memory known tenure fence (D.state disk.old) → IsErrOf result WantOfMemory → IsKeptOn log.new memory known tenure fence (D.state disk.new) }
     ensures unchanged { (D.state disk.old).tells ≡ true → IsErrOf result WantOfMemory → Becomes (λ files. files) (D.state disk.old) (D.state disk.new) }
+    ensures counts { (D.state disk.old).tells ≡ true → ¬ (IsErrOf result DiskFailed) → StayCounted log.old log.new (D.state disk.old).files (D.state disk.new).files }
     ensures stands { Stands log.new (D.state disk.new) }
     ensures brings { (e : Entry) → IsEntry bytes.now e → Brings (gain_in e) result (D.state disk.old) (D.state disk.new) }
 {

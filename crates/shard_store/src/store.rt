@@ -1,39 +1,54 @@
-ghost use Rattle.std.specs.Prelude.{◌≡◌, ◌≤◌, true, false, None, max, length, IfOk, IfErr, OnOk, OnErr, IsErrOf};
+ghost use Rattle.std.specs.Prelude.{◌≡◌, ◌≢◌, ℕ, ◌-◌, ◌<◌, ◌≤◌, true, false, List, None, max, length, IfOk, IfErr, OnOk, OnErr, IsErrOf};
+ghost use Rattle.std.specs.List.{All};
 ghost use Rattle.std.specs.FinMap as finite;
-ghost use Rattle.m3_model.specs.Answers.{IsAnswer};
+ghost use Rattle.m3_model.specs.Answers.{HasPoint, IsAnswer};
 ghost use Rattle.m3_model.specs.Contents.{raised, content_of};
+ghost use Rattle.m3_model.specs.Reads.{IsOrdered};
 ghost use Rattle.m3_model.specs.declared.limits.TheConstants.{MOST_REPLICA_POINTS};
+ghost use Rattle.m3_model.specs.declared.point.Point.{Point};
 ghost use Rattle.m3_outside.specs.Causes.{CountsFaults};
 ghost use Rattle.m3_outside.specs.DiskState.{DiskState, Told, EachImage, Elapses, Becomes};
-ghost use Rattle.m3_outside.specs.DiskCalls.{Restarts};
+ghost use Rattle.m3_outside.specs.DiskCalls.{LeavesFiles, Restarts};
 ghost use Rattle.m3_outside.specs.Files.{Stays};
 ghost use Rattle.m3_outside.specs.declared.disk_err.DiskErr.TheVariants.{Failed as DiskFailed, Memory as WantOfMemory};
-ghost use Rattle.commit_log.specs.Contents.{numbers};
+ghost use Rattle.block_buffer.specs.Held.{without, has_expired};
+ghost use Rattle.commit_log.specs.Contents.{numbers as numbers_in, next_after};
 ghost use Rattle.commit_log.specs.LogEnd.{NoneFrom};
 ghost use Rattle.wire_bytes.specs.Entries.{IsBounded};
 ghost use Rattle.shard_files.specs.Gains.{Brings, nothing, a_point, a_fence, a_tenure};
-ghost use Rattle.shard_open.specs.Loads.{AreOpened, IsNewestNumber};
 ghost use Rattle.shard_open.specs.Told.{AreApart, MayBeUnsound};
+ghost use Rattle.shard_files.specs.Keeps.{HoldContent, Rearranges};
 ghost use Rattle.shard_files.specs.Once.{HeldOnce};
-ghost use Rattle.shard_store.specs.Stores.{closed_over, HoldsOpened};
+ghost use Rattle.shard_files.specs.Parts.{KnownVolume, VolumesAre, counted_volumes, IsNewestNumber};
+ghost use Rattle.shard_files.specs.Steps.{next_snapshot};
 ghost use Rattle.shard_files.specs.declared.load_err.LoadErr.TheVariants as failures;
+ghost use Rattle.fileset_read.specs.Volumes.{IsUndamaged};
+ghost use Rattle.fileset_read.specs.declared.file_err.FileErr.TheVariants as unread;
+ghost use Rattle.shard_open.specs.Loads.{AreOpened};
+ghost use Rattle.shard_store.specs.Flushes.{AreFlushed, HasFlushed, IsPartFlushed};
+ghost use Rattle.shard_store.specs.OneSnapshot.{HasOneSnapshot};
+ghost use Rattle.shard_store.specs.Openings.{beside_volumes};
+ghost use Rattle.shard_store.specs.Stores.{closed_over, HoldsOpened};
+ghost use Rattle.shard_store.specs.Ticks.{HasTicked};
 
 use crate::log_step::begin_log;
 use crate::opened::Opened;
-use held_points::hold;
-use m3_model::{Memory, Pick, Point, Seq, Series};
+use crate::settle::take_in;
+use fileset_read::FileErr;
+use m3_model::{Pick, Point, Rules, Seq, Series};
 use m3_outside::{Disk, DiskErr};
 use shard_files::LoadErr;
 use shard_open::Loaded;
 use shard_open::load::load;
+use snapshot_steps::Counts;
 use std::alloc::Global;
 use std::marker::Model;
 
-/// One replica's points of one shard, on its disk and, while it is open, in memory: those of its volumes, of its newest snapshot
-/// and of its log. Each put, fence and tenure is in the replica's commit log, synced, before it is acknowledged.
+/// One replica's points of one shard, on its disk and, while it is open, those of them in memory that no volume has. Each put,
+/// fence and tenure is in the replica's commit log, synced, before it is acknowledged.
 ///
-/// While it is open, each stop leaves just what is in memory: see `images_hold`. So a fault closes it, since what a stop
-/// then leaves isn't known.
+/// While it is open, each stop leaves all that it has: see `images_hold`. So a fault closes it, since what a stop then leaves
+/// isn't known.
 ///
 /// See M3DB's pages "Storage Engine" and "Commit Logs and Snapshot Files".
 #[derive(Drop)]
@@ -58,13 +73,27 @@ impl<D: Disk> Model for Store<D> {
 }
 
 // Forgets what is in memory where the disk failed, and hands on what was said.
-fn close_after(opened: &mut Option<Opened>, said: Result<(), DiskErr>) -> Result<(), DiskErr>
+fn close_after<T>(opened: &mut Option<Opened>, said: Result<T, DiskErr>) -> Result<T, DiskErr>
     ensures said { result ≡ said }
     ensures closed { IsErrOf said DiskFailed → opened.new ≡ None }
     ensures stays { ¬ (IsErrOf said DiskFailed) → opened.new ≡ opened.old }
 {
-    if let Err(DiskErr::Failed) = said {
+    if let Err(DiskErr::Failed) = &said {
         drop(opened.take());
+    }
+    said
+}
+
+// Forgets what is in memory where the disk failed or a file isn't what it is to be, and hands on what was said.
+fn close_unless<T>(opened: &mut Option<Opened>, said: Result<T, FileErr>) -> Result<T, FileErr>
+    ensures said { result ≡ said }
+    ensures closed { IfErr said (λ why. why ≢ unread.Memory → opened.new ≡ None) }
+    ensures ok { OnOk said (opened.new ≡ opened.old) }
+    ensures memory { IsErrOf said unread.Memory → opened.new ≡ opened.old }
+{
+    match &said {
+        Ok(_) | Err(FileErr::Memory) => {}
+        Err(_) => drop(opened.take()),
     }
     said
 }
@@ -88,7 +117,7 @@ impl<D: Disk> Store<D> {
         ensures ok { IfOk result (λ l. Told (D.state self.new.disk) (HeldOnce l.points l.tenure l.fence)) }
         ensures volumes { IfOk result (λ l. Told (D.state self.new.disk) (AreOpened l.volumes)) }
         ensures snapshot { IfOk result (λ l. Told (D.state self.new.disk) (IsNewestNumber l.snapshot)) }
-        ensures segments { IfOk result (λ l. Told (D.state self.new.disk) (λ files. l.segments ≡ length (numbers files))) }
+        ensures segments { IfOk result (λ l. Told (D.state self.new.disk) (λ files. l.segments ≡ length (numbers_in files))) }
         ensures only { IfOk result (λ _. EachImage (D.state self.new.disk) (λ c. c ≡ (D.state self.new.disk).files)) }
         ensures fresh { IfOk result (λ l. Told (D.state self.new.disk) (NoneFrom l.next_segment)) }
         ensures order { IfOk result (λ l. l.tenure ≤ l.fence) }
@@ -102,7 +131,7 @@ impl<D: Disk> Store<D> {
         load(self.alloc, &mut self.disk)
     }
 
-    /// Takes the points that were loaded into memory and begins a fresh segment of the log.
+    /// Takes those of the points that were loaded into memory that no volume has, and begins a fresh segment of the log.
     ///
     /// # Errors
     ///
@@ -113,25 +142,36 @@ impl<D: Disk> Store<D> {
         requires held { Told (D.state self.old.disk) (HeldOnce loaded.now.points loaded.now.tenure loaded.now.fence) }
         requires only { EachImage (D.state self.old.disk) (λ c. c ≡ (D.state self.old.disk).files) }
         requires fresh { Told (D.state self.old.disk) (NoneFrom loaded.now.next_segment) }
+        requires volumes { Told (D.state self.old.disk) (AreOpened loaded.now.volumes) }
         requires order { loaded.now.tenure ≤ loaded.now.fence }
-        ensures ok { OnOk result (self.new ≡ record { disk = self.new.disk; open_ = true; content = content_of loaded.now.points; tenure = loaded.now.tenure; fence = loaded.now.fence }) }
+        requires segments { Told (D.state self.old.disk) (λ files. loaded.now.segments ≡ length (numbers_in files)) }
+        requires snapshot { Told (D.state self.old.disk) (IsNewestNumber loaded.now.snapshot) }
+        ensures ok { OnOk result (self.new ≡ record { disk = self.new.disk; open_ = true; buffered = beside_volumes loaded.now; content = self.new.content; tenure = loaded.now.tenure; fence = loaded.now.fence }) }
+        ensures content { (D.state self.old.disk).tells ≡ true → OnOk result (self.new.content ≡ content_of loaded.now.points) }
         ensures err { OnErr result (self.new ≡ record self.old { disk = self.new.disk }) }
         ensures unchanged { (D.state self.old.disk).tells ≡ true → IsErrOf result WantOfMemory → Becomes (λ files. files) (D.state self.old.disk) (D.state self.new.disk) }
         ensures disk { Brings nothing result (D.state self.old.disk) (D.state self.new.disk) }
     {
-        let held = hold(self.alloc, loaded.points.as_slice())?;
+        let taken = take_in(self.alloc, loaded)?;
+        let (held, volumes) = taken;
         let log = match begin_log(&mut self.disk, loaded.next_segment) {
             Ok(log) => log,
             Err(e) => {
                 drop(held);
+                drop(volumes);
                 return Err(e);
             }
         };
         let opened = Opened {
             log,
             held,
+            volumes,
             tenure: loaded.tenure,
             fence: loaded.fence,
+            counts: Counts {
+                missing: loaded.next_segment.saturating_sub(loaded.segments),
+                snapshot: loaded.snapshot,
+            },
             bytes: Vec::new(self.alloc),
         };
         drop(self.opened.replace(opened));
@@ -146,7 +186,7 @@ impl<D: Disk> Store<D> {
     /// store and the files as they were.
     pub fn begin(&mut self, tenure: u64) -> Result<(), DiskErr>
         requires open_ { self.old.open_ ≡ true }
-        ensures ok { OnOk result (self.new ≡ record { disk = self.new.disk; open_ = true; content = self.old.content; tenure = max self.old.tenure tenure; fence = max self.old.fence tenure }) }
+        ensures ok { OnOk result (self.new ≡ record { disk = self.new.disk; open_ = true; buffered = self.old.buffered; content = self.old.content; tenure = max self.old.tenure tenure; fence = max self.old.fence tenure }) }
         ensures memory { IsErrOf result WantOfMemory → self.new ≡ record self.old { disk = self.new.disk } }
         ensures unchanged { (D.state self.old.disk).tells ≡ true → IsErrOf result WantOfMemory → Becomes (λ files. files) (D.state self.old.disk) (D.state self.new.disk) }
         ensures fault { IsErrOf result DiskFailed → self.new ≡ closed_over self.new.disk }
@@ -165,7 +205,7 @@ impl<D: Disk> Store<D> {
     /// and the files as they were.
     pub fn fence(&mut self, version: u64) -> Result<(), DiskErr>
         requires open_ { self.old.open_ ≡ true }
-        ensures ok { OnOk result (self.new ≡ record { disk = self.new.disk; open_ = true; content = self.old.content; tenure = self.old.tenure; fence = max self.old.fence version }) }
+        ensures ok { OnOk result (self.new ≡ record { disk = self.new.disk; open_ = true; buffered = self.old.buffered; content = self.old.content; tenure = self.old.tenure; fence = max self.old.fence version }) }
         ensures memory { IsErrOf result WantOfMemory → self.new ≡ record self.old { disk = self.new.disk } }
         ensures unchanged { (D.state self.old.disk).tells ≡ true → IsErrOf result WantOfMemory → Becomes (λ files. files) (D.state self.old.disk) (D.state self.new.disk) }
         ensures fault { IsErrOf result DiskFailed → self.new ≡ closed_over self.new.disk }
@@ -187,7 +227,7 @@ impl<D: Disk> Store<D> {
     pub fn put(&mut self, point: &Point) -> Result<(), DiskErr>
         requires open_ { self.old.open_ ≡ true }
         requires bounded { IsBounded point.now }
-        ensures ok { OnOk result (self.new ≡ record self.old { disk = self.new.disk; content = raised self.old.content point.now }) }
+        ensures ok { OnOk result (self.new ≡ record self.old { disk = self.new.disk; buffered = raised self.old.buffered point.now; content = raised self.old.content point.now }) }
         ensures memory { IsErrOf result WantOfMemory → self.new ≡ record self.old { disk = self.new.disk } }
         ensures unchanged { (D.state self.old.disk).tells ≡ true → IsErrOf result WantOfMemory → Becomes (λ files. files) (D.state self.old.disk) (D.state self.new.disk) }
         ensures fault { IsErrOf result DiskFailed → self.new ≡ closed_over self.new.disk }
@@ -198,26 +238,149 @@ impl<D: Disk> Store<D> {
         close_after(&mut self.opened, said)
     }
 
-    /// The points with `from <= t < to` of the series that the pick asks for, as `HeldPoints::fetch` finds them.
+    /// The points with `from <= t < to` of the series that the pick asks for: those in memory, as `HeldPoints::fetch` finds them,
+    /// joined with those of the volumes, as `volume_points::read` does. Identifiers ascend strictly by bytes, times ascend
+    /// strictly, and no series is empty.
     ///
     /// # Errors
     ///
-    /// Want of memory.
-    pub fn fetch(&self, pick: &Pick, from: u64, to: u64) -> Result<Seq<Series>, Memory>
-        requires { self.now.open_ ≡ true }
-        ensures { IfOk result (IsAnswer self.now.content pick.now from to) }
+    /// A fault, and damage only where the disk doesn't tell what it holds: these close the store. Want of memory, which leaves it
+    /// as it was. In any case the files, and what a stop leaves of them, are as they were.
+    pub fn fetch(&mut self, pick: &Pick, from: u64, to: u64) -> Result<Seq<Series>, FileErr>
+        requires open_ { self.old.open_ ≡ true }
+        ensures ok { OnOk result (self.new ≡ record self.old { disk = self.new.disk }) }
+        ensures answer { (D.state self.old.disk).tells ≡ true → IfOk result (IsAnswer self.old.content pick.now from to) }
+        ensures ordered { IfOk result IsOrdered }
+        ensures memory { IsErrOf result unread.Memory → self.new ≡ record self.old { disk = self.new.disk } }
+        ensures closed { IfErr result (λ why. why ≢ unread.Memory → self.new ≡ closed_over self.new.disk) }
+        ensures sound { (D.state self.old.disk).tells ≡ true → IfErr result IsUndamaged }
+        ensures leaves { LeavesFiles (IsErrOf result unread.Disk) (D.state self.old.disk) (D.state self.new.disk) }
     {
         let opened = self.opened.as_ref().unwrap();
-        opened.held.fetch(pick, from, to)
+        let said = opened.fetch(self.alloc, &mut self.disk, pick, from, to);
+        close_unless(&mut self.opened, said)
+    }
+
+    /// Writes a volume for each block that may be flushed and has points in memory, in order: one whose writes are all over,
+    /// `start + block + past <= now` by the rules of its namespace. The volume has the points of the block in memory and those of
+    /// all its volumes, under the next number; then these points leave memory and the older volumes of the block are taken away.
+    /// Answers how many volumes it wrote. Block sizes are at least 1, as in all rules within their limits.
+    ///
+    /// It costs in proportion to the points of the blocks that are flushed, in memory and in volumes, times the logarithm of all in
+    /// memory.
+    ///
+    /// # Errors
+    ///
+    /// A fault, and damage only where the disk doesn't tell what it holds: these close the store. Want of memory, also where a
+    /// block has more than a volume may have: the first few blocks are flushed then. In any case a stop at any moment leaves all
+    /// that the store had.
+    pub fn flush(&mut self, rules: &Rules) -> Result<u64, FileErr>
+        requires open_ { self.old.open_ ≡ true }
+        requires sizes { All (λ space. 0 < space.block) rules.now.spaces }
+        ensures ok { IfOk result (λ n. (blocks : List (ℕ × ℕ)) × AreFlushed rules.entry.now self.old.buffered blocks × HasFlushed D.state rules.entry.now blocks self.old self.new × (n ≡ length blocks)) }
+        ensures memory { IsErrOf result unread.Memory → IsPartFlushed D.state self.old self.new }
+        ensures closed { IfErr result (λ why. why ≢ unread.Memory → self.new ≡ closed_over self.new.disk) }
+        ensures sound { (D.state self.old.disk).tells ≡ true → IfErr result IsUndamaged }
+        ensures disk { Rearranges self.old.content (IsErrOf result unread.Disk) (D.state self.old.disk) (D.state self.new.disk) }
+    {
+        let opened = self.opened.as_mut().unwrap();
+        let said = opened.flush(self.alloc, &mut self.disk, rules);
+        close_unless(&mut self.opened, said)
+    }
+
+    /// Drops the expired points from memory, and takes away each volume whose block has expired as a whole,
+    /// `start + size + retention <= now` by the rules of its namespace. Answers how many keys the content lost: one at which a
+    /// volume that stays has a lower value isn't lost.
+    ///
+    /// It reads the volumes that go and, where anything goes, those of the namespace that have times which have expired.
+    ///
+    /// # Errors
+    ///
+    /// A fault, and damage only where the disk doesn't tell what it holds: these close the store. Want of memory, which leaves the
+    /// store and the files as they were. In any case a stop at any moment leaves each point of the store that hasn't expired.
+    pub fn tick(&mut self, rules: &Rules) -> Result<u64, FileErr>
+        requires open_ { self.old.open_ ≡ true }
+        ensures ok { OnOk result (HasTicked D.state rules.entry.now self.old self.new) }
+        ensures lost { (D.state self.old.disk).tells ≡ true → IfOk result (λ n. n ≡ finite.len self.old.content - finite.len self.new.content) }
+        ensures there { OnOk result (Told (D.state self.old.disk) (HoldContent self.new.content)) }
+        ensures stays { (D.state self.old.disk).tells ≡ true → OnOk result ((p : Point) → HasPoint (without self.old.content (has_expired rules.entry.now)) p → HasPoint self.new.content p) }
+        ensures memory { IsErrOf result unread.Memory → self.new ≡ record self.old { disk = self.new.disk } }
+        ensures unchanged { (D.state self.old.disk).tells ≡ true → IsErrOf result unread.Memory → Becomes (λ files. files) (D.state self.old.disk) (D.state self.new.disk) }
+        ensures closed { IfErr result (λ why. why ≢ unread.Memory → self.new ≡ closed_over self.new.disk) }
+        ensures sound { (D.state self.old.disk).tells ≡ true → IfErr result IsUndamaged }
+        ensures disk { Rearranges (without self.old.content (has_expired rules.entry.now)) (IsErrOf result unread.Disk) (D.state self.old.disk) (D.state self.new.disk) }
+    {
+        let opened = self.opened.as_mut().unwrap();
+        let said = opened.tick(self.alloc, &mut self.disk, rules);
+        close_unless(&mut self.opened, said)
+    }
+
+    /// Takes a snapshot, and gives its number: one above those of all snapshots of which a file was there, complete or not.
+    /// It has the points in memory, the tenure and the fence. A fresh segment begins first; when the snapshot stands, all
+    /// other segments of the log are taken away, and then all other snapshots.
+    ///
+    /// It costs in proportion to the points in memory, times their logarithm.
+    ///
+    /// # Errors
+    ///
+    /// A fault closes the store. Want of memory leaves it as it was, also where a number is at its limit, or where a point in
+    /// memory is out of bounds, which only a disk that doesn't tell what it holds can have given. The snapshot may stand then,
+    /// beside older ones and older segments. In any case a stop at any moment leaves all that the store had.
+    pub fn snapshot(&mut self) -> Result<u64, DiskErr>
+        requires open_ { self.old.open_ ≡ true }
+        ensures ok { OnOk result (self.new ≡ record self.old { disk = self.new.disk }) }
+        ensures number { (D.state self.old.disk).tells ≡ true → IfOk result (λ n. n ≡ next_snapshot (D.state self.old.disk).files) }
+        ensures saved { IfOk result (λ n. EachImage (D.state self.new.disk) (HasOneSnapshot n (next_after (numbers_in (D.state self.old.disk).files)) self.old.buffered self.old.tenure self.old.fence)) }
+        ensures volumes { (D.state self.old.disk).tells ≡ true → ¬ (IsErrOf result DiskFailed) → (known : List KnownVolume) → VolumesAre known (D.state self.old.disk).files → VolumesAre known (D.state self.new.disk).files }
+        ensures memory { IsErrOf result WantOfMemory → self.new ≡ record self.old { disk = self.new.disk } }
+        ensures fault { IsErrOf result DiskFailed → self.new ≡ closed_over self.new.disk }
+        ensures disk { Rearranges self.old.content (IsErrOf result DiskFailed) (D.state self.old.disk) (D.state self.new.disk) }
+    {
+        let opened = self.opened.as_mut().unwrap();
+        let said = opened.snapshot(self.alloc, &mut self.disk);
+        close_after(&mut self.opened, said)
     }
 
     /// How many points it has in memory, one at each key: never more than `MOST_REPLICA_POINTS`. 0 of a closed store.
-    pub fn points_held(&self) -> u64
-        ensures counted { result ≡ finite.len self.now.content }
+    pub fn buffered_points(&self) -> u64
+        ensures counted { result ≡ finite.len self.now.buffered }
         ensures limit { result ≤ MOST_REPLICA_POINTS }
     {
         match &self.opened {
             Some(opened) => opened.held.len(),
+            None => 0,
+        }
+    }
+
+    /// How many volumes count on its disk. 0 of a closed store.
+    pub fn volumes_known(&self) -> u64
+        ensures open_ { self.now.open_ ≡ true → Told (D.state self.now.disk) (λ files. result ≡ length (counted_volumes files)) }
+        ensures closed { self.now.open_ ≡ false → result ≡ 0 }
+    {
+        match &self.opened {
+            Some(opened) => opened.volumes.len() as u64,
+            None => 0,
+        }
+    }
+
+    /// How many segments the log on its disk has. 0 of a closed store.
+    pub fn segments(&self) -> u64
+        ensures open_ { self.now.open_ ≡ true → Told (D.state self.now.disk) (λ files. result ≡ length (numbers_in files)) }
+        ensures closed { self.now.open_ ≡ false → result ≡ 0 }
+    {
+        match &self.opened {
+            Some(opened) => opened.segments(),
+            None => 0,
+        }
+    }
+
+    /// The number of the newest snapshot that counts on its disk, and 0 where none counts. 0 of a closed store.
+    pub fn newest_snapshot(&self) -> u64
+        ensures open_ { self.now.open_ ≡ true → Told (D.state self.now.disk) (IsNewestNumber result) }
+        ensures closed { self.now.open_ ≡ false → result ≡ 0 }
+    {
+        match &self.opened {
+            Some(opened) => opened.counts.snapshot,
             None => 0,
         }
     }
@@ -264,8 +427,7 @@ impl<D: Disk> Store<D> {
         disk
     }
 
-    /// What each stop leaves of an open store is what it has in memory: its points, joined, its tenure and its fence, and
-    /// nothing else.
+    /// What each stop leaves of an open store has each point of its content, its very tenure and its very fence.
     pub fn images_hold(&self)
         ensures { self.now.open_ ≡ true → EachImage (D.state self.now.disk) (HoldsOpened self.now.content self.now.tenure self.now.fence) }
     {

@@ -154,53 +154,53 @@ module _ (memory : Contents) (known : List KnownVolume) (tenure fence : ℕ) (x 
         (λ p m. (points p).1 m) t_is f_is
 
 -- a snapshot that wasn't saved, of which no file was there
-pub unsaved_known : (memory : Contents) (known : List KnownVolume) (tenure fence : ℕ) (x y : Files) → HoldsKnown memory known tenure fence x → (number : ℕ) → ((name : FileName) → IsOfSnapshot number name → IsAbsent name x) → SavedNone number x y
-    → HoldsKnown memory known tenure fence y
-unsaved_known memory known tenure fence x y has number absent none = record {
-  points = has.points;
-  held = record {
-    parts = has.held.parts;
-    holds = record {
-      volumes = volumes_as x y (λ q low high. none.others q (λ own. let k = kind q own in omega (arith, k, high))) has.held.parts.volumes has.held.holds.volumes;
-      newest = newest has.held.parts.newest has.held.holds.newest;
-      log = log_as x y (λ q low high. none.others q (λ own. let k = kind q own in omega (arith, k, high))) has.held.parts.entries has.held.holds.log;
+module _ (x y : Files) (number : ℕ) (absent : (name : FileName) → IsOfSnapshot number name → IsAbsent name x) (none : SavedNone number x y) where
+  of_kind : (q : FileName) → IsOfSnapshot number q → 8 ≤ q.kind
+  of_kind q (inl e) = let k = ap (λ (n : FileName). n.kind) e in omega (arith, k)
+  of_kind q (inr e) = let k = ap (λ (n : FileName). n.kind) e in omega (arith, k)
+
+  -- another snapshot stays
+  other : (t : Snapshot) → SnapshotHolds t x → SnapshotHolds t y
+  other t h = record {
+    values = h.values;
+    body = none.others (snapshot_data t.number) (λ own. let gone = absent (snapshot_data t.number) own in let there = h.body in cc) ∙ h.body;
+    checkpoint = none.others (snapshot_checkpoint t.number) (λ own. let gone = absent (snapshot_checkpoint t.number) own in let there = h.checkpoint in cc) ∙ h.checkpoint;
+  }
+
+  -- the same ones count
+  gate : (n : FileName) → is_snapshot_checkpoint n ≡ true → is_open (get y n) ≡ is_open (get x n)
+  gate n asked = ⊎_elim (λ (e : n ≡ snapshot_checkpoint number). ap (λ q. is_open (get y q)) e ∙ none.closed ∙ sym (ap (λ q. is_open (get x q)) e ∙ ap is_open (absent (snapshot_checkpoint number) (inr refl))))
+      (λ (apart : n ≡ snapshot_checkpoint number → ⊥). ap is_open (none.others n (λ own. ⊎_elim (λ (e : n ≡ snapshot_data number).
+      let nine = ap (λ (q : FileName). q.kind) (snapshot_named n asked) in
+      let eight = ap (λ (q : FileName). q.kind) e in
+      omega (arith, nine, eight)) (λ (e : n ≡ snapshot_checkpoint number). apart e) own))) (name_is n (snapshot_checkpoint number))
+
+  same_counted : counted_snapshots y ≡ counted_snapshots x
+  same_counted = same_names (counted_snapshots y) (counted_snapshots x) (counted_ascend is_snapshot_checkpoint y) (counted_ascend is_snapshot_checkpoint x)
+      (λ n m. let a = counted_asked is_snapshot_checkpoint y n m in is_counted is_snapshot_checkpoint x n a (sym (gate n a) ∙ counted_open is_snapshot_checkpoint y n m))
+      (λ n m. let a = counted_asked is_snapshot_checkpoint x n m in is_counted is_snapshot_checkpoint y n a (gate n a ∙ counted_open is_snapshot_checkpoint x n m))
+
+  pub unsaved_newest : (o : Option Snapshot) → NewestIs o x → NewestIs o y
+  unsaved_newest None is = same_counted ∙ is
+  unsaved_newest (Some t) is = record { older = is.older; last = same_counted ∙ is.last; holds = other t is.holds }
+
+  pub unsaved_known : (memory : Contents) (known : List KnownVolume) (tenure fence : ℕ) → HoldsKnown memory known tenure fence x → HoldsKnown memory known tenure fence y
+  unsaved_known memory known tenure fence has = record {
+    points = has.points;
+    held = record {
+      parts = has.held.parts;
+      holds = record {
+        volumes = volumes_as x y (λ q low high. none.others q (λ own. let k = of_kind q own in omega (arith, k, high))) has.held.parts.volumes has.held.holds.volumes;
+        newest = unsaved_newest has.held.parts.newest has.held.holds.newest;
+        log = log_as x y (λ q low high. none.others q (λ own. let k = of_kind q own in omega (arith, k, high))) has.held.parts.entries has.held.holds.log;
+      };
+      points_are = has.held.points_are;
+      tenure_is = has.held.tenure_is;
+      fence_is = has.held.fence_is;
     };
-    points_are = has.held.points_are;
-    tenure_is = has.held.tenure_is;
-    fence_is = has.held.fence_is;
-  };
-  volumes = has.volumes;
-  there = has.there;
-}
-  where
-    kind : (q : FileName) → IsOfSnapshot number q → 8 ≤ q.kind
-    kind q (inl e) = let k = ap (λ (n : FileName). n.kind) e in omega (arith, k)
-    kind q (inr e) = let k = ap (λ (n : FileName). n.kind) e in omega (arith, k)
-
-    -- another snapshot stays
-    other : (t : Snapshot) → SnapshotHolds t x → SnapshotHolds t y
-    other t h = record {
-      values = h.values;
-      body = none.others (snapshot_data t.number) (λ own. let gone = absent (snapshot_data t.number) own in let there = h.body in cc) ∙ h.body;
-      checkpoint = none.others (snapshot_checkpoint t.number) (λ own. let gone = absent (snapshot_checkpoint t.number) own in let there = h.checkpoint in cc) ∙ h.checkpoint;
-    }
-
-    -- the same ones count
-    gate : (n : FileName) → is_snapshot_checkpoint n ≡ true → is_open (get y n) ≡ is_open (get x n)
-    gate n asked = ⊎_elim (λ (e : n ≡ snapshot_checkpoint number). ap (λ q. is_open (get y q)) e ∙ none.closed ∙ sym (ap (λ q. is_open (get x q)) e ∙ ap is_open (absent (snapshot_checkpoint number) (inr refl))))
-        (λ (apart : n ≡ snapshot_checkpoint number → ⊥). ap is_open (none.others n (λ own. ⊎_elim (λ (e : n ≡ snapshot_data number).
-        let nine = ap (λ (q : FileName). q.kind) (snapshot_named n asked) in
-        let eight = ap (λ (q : FileName). q.kind) e in
-        omega (arith, nine, eight)) (λ (e : n ≡ snapshot_checkpoint number). apart e) own))) (name_is n (snapshot_checkpoint number))
-
-    names : counted_snapshots y ≡ counted_snapshots x
-    names = same_names (counted_snapshots y) (counted_snapshots x) (counted_ascend is_snapshot_checkpoint y) (counted_ascend is_snapshot_checkpoint x)
-        (λ n m. let a = counted_asked is_snapshot_checkpoint y n m in is_counted is_snapshot_checkpoint x n a (sym (gate n a) ∙ counted_open is_snapshot_checkpoint y n m))
-        (λ n m. let a = counted_asked is_snapshot_checkpoint x n m in is_counted is_snapshot_checkpoint y n a (gate n a ∙ counted_open is_snapshot_checkpoint x n m))
-
-    newest : (o : Option Snapshot) → NewestIs o x → NewestIs o y
-    newest None is = names ∙ is
-    newest (Some t) is = record { older = is.older; last = names ∙ is.last; holds = other t is.holds }
+    volumes = has.volumes;
+    there = has.there;
+  }
 
 -- ---- a log that is cut, and older snapshots that are taken away
 

@@ -1,2 +1,4 @@
+pub mod NextNumbers
 pub mod FilesLemmas
 pub mod StepLemmas
+pub mod LogCounts

@@ -8,6 +8,7 @@ use Rattle.m3_model.specs.Contents.{Contents}
 use Rattle.m3_model.specs.Members.{IsIn}
 use Rattle.m3_model.proofs.MemberLemmas.{map-IsIn, IsIn-map}
 use Rattle.m3_outside.specs.declared.disk_err.DiskErr.{DiskErr}
+use Rattle.m3_outside.specs.declared.disk_err.DiskErr.TheVariants.{Memory, Failed as DiskFailed}
 use Rattle.m3_outside.specs.declared.file_name.FileName.{FileName}
 use Rattle.m3_outside.specs.DiskState.{DiskState, Told, EachImage, StepOf, Elapses, Becomes, IsLawful}
 use Rattle.m3_outside.specs.DiskCalls.{LeavesFiles}
@@ -96,7 +97,7 @@ module _ (s : Snapshot) (F : Type 0) (a b c : DiskState) (lawful : IsLawful b) (
 
   pub save_none : (memory : Contents) (known : List KnownVolume) (tenure fence : ℕ) → c.tells ≡ b.tells → EachImage a (HoldsKnown memory known tenure fence) → (b.tells ≡ true → (z : Files) → c.images z → StepOf (SavedNone s.number) b.images z)
       → EachImage c (HoldsKnown memory known tenure fence)
-  save_none memory known tenure fence same each steps = kept_as b c same (λ told x y image none has. unsaved_known memory known tenure fence x y has s.number (absent_in told x image) none) steps (left_known F a b leaves each)
+  save_none memory known tenure fence same each steps = kept_as b c same (λ told x y image none has. unsaved_known x y s.number (absent_in told x image) none memory known tenure fence has) steps (left_known F a b leaves each)
 
 -- ---- a log that is cut
 
@@ -229,3 +230,8 @@ number_of first log is = ap (λ (l : LogEnd). l.number) is
 
 pub at_least : (first : ℕ) (log : LogEnd) → log ≡ record { number = first; at = 0; clean = true } → first ≤ log.number
 at_least first log is = let same = number_of first log is in omega (arith, same)
+
+-- an error that is no fault is want of memory
+pub wanted_else : {X Y : Type 0} (r : Result X DiskErr) (q : Result Y DiskErr) (e : DiskErr) → r ≡ Err e → q ≡ Err e → (IsErrOf q DiskFailed → ⊥) → IsErrOf r Memory
+wanted_else r q Memory was same fine = was
+wanted_else r q DiskFailed was same fine = absurd (fine same)

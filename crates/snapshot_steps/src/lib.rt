@@ -3,12 +3,14 @@
 #![tactic(auto)]
 
 mod clearing;
+mod counts;
 mod cutting;
 mod saving;
 mod segment;
 mod snapshot;
 
 pub use clearing::clear_snapshots;
+pub use counts::Counts;
 pub use cutting::cut_log;
 pub use saving::save_snapshot;
 pub use segment::begin_segment;

@@ -9,7 +9,7 @@ ghost use Rattle.commit_log.specs.Contents as contents;
 ghost use Rattle.commit_log.specs.Contents.{numbers};
 ghost use Rattle.commit_log.specs.LogEnd.{LogEnd, Stands};
 ghost use Rattle.shard_files.specs.Keeps.{Keeps};
-ghost use Rattle.shard_files.specs.Parts.{KnownVolume};
+ghost use Rattle.shard_files.specs.Parts.{KnownVolume, IsNewestNumber};
 ghost use Rattle.shard_files.specs.Steps as steps;
 ghost use Rattle.shard_files.specs.Steps.{next_snapshot};
 ghost use Rattle.volume_steps.specs.Known.{HoldsKnown, HaveContent};
@@ -96,6 +96,7 @@ pub fn save_snapshot<D: Disk>(
 
     ensures saved { (memory : Contents) (known : List KnownVolume) → EachImage (D.state disk.old) (HoldsKnown memory known tenure fence) → AreIn memory points → IfOk result (λ n. EachImage (D.state disk.new) (HoldsSaved (snapshot_of n tenure fence first points) memory known tenure fence)) }
     ensures memory { (memory : Contents) (known : List KnownVolume) (t f : ℕ) → EachImage (D.state disk.old) (HoldsKnown memory known t f) → IsErrOf result WantOfMemory → EachImage (D.state disk.new) (HoldsKnown memory known t f) }
+    ensures newest { (D.state disk.old).tells ≡ true → IsErrOf result WantOfMemory → (n : ℕ) → IsNewestNumber n (D.state disk.old).files → IsNewestNumber n (D.state disk.new).files }
     ensures segments { (D.state disk.old).tells ≡ true → numbers (D.state disk.new).files ≡ numbers (D.state disk.old).files }
     ensures log_stands { (log : LogEnd) → Stands log (D.state disk.old) → Stands log (D.state disk.new) }
     ensures tells { (D.state disk.new).tells ≡ (D.state disk.old).tells }

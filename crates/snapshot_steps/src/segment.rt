@@ -1,15 +1,16 @@
 ghost use Rattle.std.specs.Prelude.{◌≡◌, ◌<◌, ℕ, true, List, IfOk, IsErr, IsErrOf, OnOk};
 ghost use Rattle.m3_model.specs.Contents.{Contents};
-ghost use Rattle.m3_model.specs.declared.limits.TheConstants.{NUMBER_END};
+ghost use Rattle.m3_model.specs.declared.limits.TheConstants.{NUMBER_END, SEGMENT_BYTES};
 ghost use Rattle.m3_outside.specs.Causes.{CountsFaults};
 ghost use Rattle.m3_outside.specs.DiskState.{DiskState, EachImage, Elapses, Becomes};
-ghost use Rattle.m3_outside.specs.Files.{IsPresent};
+ghost use Rattle.m3_outside.specs.Files.{IsPresent, files_with_zeros};
 ghost use Rattle.m3_outside.specs.declared.disk_err.DiskErr.TheVariants.{Failed as DiskFailed, Memory as WantOfMemory};
 ghost use Rattle.commit_log.specs.Contents.{next_after, numbers};
 ghost use Rattle.commit_log.specs.LogEnd.{LogEnd, Stands};
 ghost use Rattle.commit_log.specs.Segment.{segment};
 ghost use Rattle.shard_files.specs.Keeps.{Keeps};
 ghost use Rattle.shard_files.specs.Parts.{KnownVolume};
+ghost use Rattle.shard_files.specs.Steps.{next_snapshot};
 ghost use Rattle.volume_steps.specs.Known.{HoldsKnown, HaveContent};
 
 use commit_log::{Log, list_segments};
@@ -29,6 +30,8 @@ pub fn begin_segment<D: Disk>(alloc: Global, disk: &mut D, log: &mut Log) -> Res
     ensures same { IsErr result → log.new ≡ log.old }
     ensures stands { OnOk result (Stands log.new (D.state disk.new)) }
     ensures there { (D.state disk.old).tells ≡ true → IfOk result (λ n. IsPresent (segment n) (D.state disk.new).files) }
+    ensures made { (D.state disk.old).tells ≡ true → IfOk result (λ n. (D.state disk.new).files ≡ files_with_zeros (segment n) SEGMENT_BYTES (D.state disk.old).files) }
+    ensures snapshots { (D.state disk.old).tells ≡ true → next_snapshot (D.state disk.new).files ≡ next_snapshot (D.state disk.old).files }
     ensures unchanged { (D.state disk.old).tells ≡ true → IsErrOf result WantOfMemory → Becomes (λ files. files) (D.state disk.old) (D.state disk.new) }
 
     // A stop at any moment leaves all that is to be kept, the tenure and the fence.

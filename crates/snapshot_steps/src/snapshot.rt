@@ -7,10 +7,13 @@ ghost use Rattle.commit_log.specs.Contents.{next_after, numbers};
 ghost use Rattle.commit_log.specs.LogEnd.{LogEnd, Stands};
 ghost use Rattle.shard_files.specs.Keeps.{Keeps};
 ghost use Rattle.shard_files.specs.Parts.{KnownVolume, counted_snapshots, snapshot_checkpoint};
+ghost use Rattle.shard_files.specs.Steps.{next_snapshot};
 ghost use Rattle.volume_steps.specs.Known.{HoldsKnown, HaveContent};
+ghost use Rattle.snapshot_steps.specs.Counts.{AreCounted};
 ghost use Rattle.snapshot_steps.specs.Saved.{AreIn, AreSaveable, HoldsSaved, snapshot_of};
 
 use crate::clearing::clear_snapshots;
+use crate::counts::Counts;
 use crate::cutting::cut_log;
 use crate::saving::save_snapshot;
 use crate::segment::begin_segment;
@@ -19,9 +22,10 @@ use m3_model::{Point, Seq};
 use m3_outside::{Disk, DiskErr};
 use std::alloc::Global;
 
-/// Takes a snapshot of what is in memory, and gives its number: begins a fresh segment as the log's end, saves, takes away all
-/// other segments, and then all other snapshots that count. The points are just those in memory, the tenure and the fence those of
-/// the files.
+/// Takes a snapshot of what is in memory, and gives its number, one above those of all snapshots of which a file is there: begins a
+/// fresh segment as the log's end, saves, takes away all other segments, and then all other snapshots that count. The points are
+/// just those in memory, the tenure and the fence those of the files. What was counted of the log and of its snapshots is then
+/// counted of what is left.
 ///
 /// # Errors
 ///
@@ -30,6 +34,7 @@ pub fn take_snapshot<D: Disk>(
     alloc: Global,
     disk: &mut D,
     log: &mut Log,
+    counts: &mut Counts,
     tenure: u64,
     fence: u64,
     points: Seq<Point>,
@@ -38,6 +43,8 @@ pub fn take_snapshot<D: Disk>(
 
     // A stop at any moment leaves all that is to be kept, the tenure and the fence.
     ensures any_moment { (kept memory : Contents) (known : List KnownVolume) → EachImage (D.state disk.old) (HoldsKnown memory known tenure fence) → AreIn memory points → HaveContent memory known kept → (D.state disk.old).tells ≡ true → Elapses (Keeps kept) (D.state disk.old) (D.state disk.new) }
+
+    ensures next { (D.state disk.old).tells ≡ true → IfOk result (λ n. n ≡ next_snapshot (D.state disk.old).files) }
 
     // The newest snapshot has all that is in memory, and no other one counts.
     ensures saved { (memory : Contents) (known : List KnownVolume) → EachImage (D.state disk.old) (HoldsKnown memory known tenure fence) → AreIn memory points → IfOk result (λ n. EachImage (D.state disk.new) (HoldsSaved (snapshot_of n tenure fence log.new.number points) memory known tenure fence)) }
@@ -50,12 +57,15 @@ pub fn take_snapshot<D: Disk>(
     ensures stands { OnOk result (Stands log.new (D.state disk.new)) }
     ensures memory { (memory : Contents) (known : List KnownVolume) → EachImage (D.state disk.old) (HoldsKnown memory known tenure fence) → AreIn memory points → IsErrOf result WantOfMemory → EachImage (D.state disk.new) (HoldsKnown memory known tenure fence) }
     ensures log_stands { IsErrOf result WantOfMemory → Stands log.old (D.state disk.old) → Stands log.new (D.state disk.new) }
+    ensures counted { (memory : Contents) (known : List KnownVolume) → EachImage (D.state disk.old) (HoldsKnown memory known tenure fence) → AreIn memory points → (D.state disk.old).tells ≡ true → ¬ (IsErrOf result DiskFailed) → AreCounted log.old counts.old.missing counts.old.snapshot (D.state disk.old).files → AreCounted log.new counts.new.missing counts.new.snapshot (D.state disk.new).files }
     ensures tells { (D.state disk.new).tells ≡ (D.state disk.old).tells }
     ensures faults { CountsFaults (IsErrOf result DiskFailed) (D.state disk.old).faults (D.state disk.new).faults }
 {
     let first = begin_segment(alloc, disk, log)?;
     let number = save_snapshot(alloc, disk, tenure, fence, first, points)?;
+    counts.snapshot = number;
     cut_log(alloc, disk, first)?;
+    counts.missing = first;
     clear_snapshots(alloc, disk, number)?;
     Ok(number)
 }

@@ -128,7 +128,7 @@ fn put<D: Disk>(
 
 fn read<D: Disk>(
     alloc: Global,
-    machine: &Machine<D>,
+    machine: &mut Machine<D>,
     rules: &Rules,
     version: u64,
     to: u64,
@@ -184,7 +184,7 @@ fn written<D: Disk>(
 
 fn found<D: Disk>(
     alloc: Global,
-    machine: &Machine<D>,
+    machine: &mut Machine<D>,
     asked: Asked,
 ) -> Result<&'static str, Memory> {
     let rules = rules_of(alloc, asked.moment, [20, 10, 5, 20])?;
@@ -200,7 +200,7 @@ fn answers<D: Disk>(
     let mut machine = Machine::new(alloc, disk);
     bring(&mut machine, asked);
     let written = written(alloc, &mut machine, asked)?;
-    let found = found(alloc, &machine, asked)?;
+    let found = found(alloc, &mut machine, asked)?;
     Ok((written, found, machine.report().fence))
 }
 
@@ -291,7 +291,7 @@ fn has_taken(series: &Seq<Series>, first: bool, second: bool) -> bool {
 
 fn reads_taken<D: Disk>(
     alloc: Global,
-    machine: &Machine<D>,
+    machine: &mut Machine<D>,
     rules: &Rules,
     first: bool,
     second: bool,

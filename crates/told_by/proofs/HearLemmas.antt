@@ -118,6 +118,7 @@ module _ (start : Option MetaState) (past : List Event) (Old New : ℕ → Event
 
   reason_on : (Kind : StepCall → Type 0) (n s : ℕ) (why : Reason) → HearsReason Old Kind n s why → HearsReason New Kind n s why
   reason_on Kind n s reason.Memory h = h
+  reason_on Kind n s (reason.Corrupt damage) h = (h.0, step_on Kind n s (reply.Refused (reason.Corrupt damage)) h.1)
   reason_on Kind n s why h = (h.0, h.1, happens_on (event.Step n s h.0 (reply.Refused why)) h.2)
 
   refused_on : (Reached : Placement → ℕ → Type 0) (name : List ℕ) (s : ℕ) (Kind : StepCall → Type 0) (why : Reason) → HearsRefused past Old Reached name s Kind why → HearsRefused past New Reached name s Kind why
@@ -140,7 +141,7 @@ module _ (start : Option MetaState) (past : List Event) (Old New : ℕ → Event
   hears_on a (answer.Found series short) h = found_on short h
   hears_on a (answer.Consistency got needed reasons s) h = too_few_on got needed reasons s h
   hears_on a (answer.Outcomes outcomes) h = record { messages = h.messages; in_order = h.in_order; each = outcomes_on h.messages outcomes h.each }
-  hears_on a (answer.Swept done failed) h = λ x m. reason_on IsSweepCall x.0 x.1 x.2 (h x m)
+  hears_on a (answer.Swept done failed) h = record { counted = λ x m. step_on (IsSweepCall a) x.0 x.1 (reply.Count x.2) (h.counted x m); refused = λ x m. reason_on (IsSweepCall a) x.0 x.1 x.2 (h.refused x m) }
   hears_on a (answer.Peers got needed reasons s) h = λ x m. reason_on IsStreamCall x.0 s x.1 (h x m)
   hears_on a (answer.Repaired shards) h = λ x m y k. reason_on IsRepairCall y.0 x.shard y.1 (h x m y k)
   hears_on a (answer.Status now replicas version) h = status_on now version replicas h

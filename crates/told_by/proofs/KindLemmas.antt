@@ -79,7 +79,7 @@ module _ (start : Option MetaState) (turns : List Turn) (events : List Event) (a
   not_first (inl some) none e there = omega arith
   not_first (inr no_more) none e there = omega (arith, at_within (events ++ more) 0 e there, length-append events more, ap length no_more)
 
-  taken : (i : ℕ) → take (length events + i) (events ++ more) ≡ events ++ take i more
+  pub taken : (i : ℕ) → take (length events + i) (events ++ more) ≡ events ++ take i more
   taken i = take_past events more i
     where
       take_past : {X : Type 0} (xs ys : List X) (i : ℕ) → take (length xs + i) (xs ++ ys) ≡ xs ++ take i ys

@@ -22,3 +22,4 @@ pub mod ContentLemmas
 pub mod FoundLemmas
 pub mod PageLemmas
 pub mod PrintedLemmas
+pub mod StepLemmas

@@ -232,11 +232,11 @@ IsStreamCall (call.Page from) = ⊤
 IsStreamCall _ = ⊥
 
 -- what an upkeep line asks of each replica
-abbrev pub IsSweepCall : StepCall → Type 0
-IsSweepCall (call.Tick rules) = ⊤
-IsSweepCall (call.Flush rules) = ⊤
-IsSweepCall call.Snapshot = ⊤
-IsSweepCall _ = ⊥
+abbrev pub IsSweepCall : Act → StepCall → Type 0
+IsSweepCall act.Tick (call.Tick rules) = ⊤
+IsSweepCall act.Flush (call.Flush rules) = ⊤
+IsSweepCall act.Snapshot call.Snapshot = ⊤
+IsSweepCall _ _ = ⊥
 
 -- what a repair asks of each replica
 abbrev pub IsRepairCall : StepCall → Type 0
@@ -248,7 +248,13 @@ IsRepairCall _ = ⊥
 -- the reason is the answer of the slot's step of this kind, or memory was wanted
 abbrev pub HearsReason : (ℕ → Event → Type 0) → (StepCall → Type 0) → ℕ → ℕ → Reason → Type 0
 HearsReason Here Kind node shard reason.Memory = ⊤
+HearsReason Here Kind node shard (reason.Corrupt damage) = IsShown damage × HasStep Here Kind node shard (reply.Refused (reason.Corrupt damage))
 HearsReason Here Kind node shard why = HasStep Here Kind node shard (reply.Refused why)
+
+-- each count of a sweep is the answer of the slot's step, and so is each reason but for want of memory
+pub record HearsSwept (Here : ℕ → Event → Type 0) (Kind : StepCall → Type 0) (done : List (ℕ × ℕ × ℕ)) (failed : List (ℕ × ℕ × Reason)) : Type 0 where
+  pub counted : (x : ℕ × ℕ × ℕ) → IsIn done x → HasStep Here Kind x.0 x.1 (reply.Count x.2)
+  pub refused : (x : ℕ × ℕ × Reason) → IsIn failed x → HearsReason Here Kind x.0 x.1 x.2
 
 -- a bootstrap that was answered ok began each slot that it covers, but for closed ones and ones that the node doesn't own
 abbrev pub IsBegun : StepReply → Type 0
@@ -298,7 +304,7 @@ HearsBy start past Here p a (answer.Acks nodes) = HearsAcks start Here p nodes
 HearsBy start past Here p a (answer.Found series short) = HearsFound start Here p short
 HearsBy start past Here p a (answer.Consistency got needed reasons shard) = HearsTooFew start Here p got needed reasons shard
 HearsBy start past Here p a (answer.Outcomes outcomes) = HearsDelivered start Here p outcomes
-HearsBy start past Here p a (answer.Swept done failed) = (x : ℕ × ℕ × Reason) → IsIn failed x → HearsReason Here IsSweepCall x.0 x.1 x.2
+HearsBy start past Here p a (answer.Swept done failed) = HearsSwept Here (IsSweepCall a) done failed
 HearsBy start past Here p a (answer.Peers got needed reasons shard) = (x : ℕ × Reason) → IsIn reasons x → HearsReason Here IsStreamCall x.0 shard x.1
 HearsBy start past Here p a (answer.Repaired shards) = (x : RepairLine) → IsIn shards x → (y : ℕ × Reason) → IsIn x.failed y → HearsReason Here IsRepairCall y.0 x.shard y.1
 HearsBy start past Here p a (answer.Status now replicas version) = HearsStatus past Here now version replicas

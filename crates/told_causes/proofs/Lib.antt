@@ -10,6 +10,7 @@ pub mod WaitLemmas
 pub mod BootLemmas
 pub mod SampleLemmas
 pub mod RunLemmas
+pub mod SweepLemmas
 pub mod AloneLemmas
 pub mod StoodLemmas
 pub mod NodeLemmas

@@ -40,8 +40,8 @@ more = event.Ask (asked.Step 0 0 (call.Tick rules)) ∷ event.Step 0 0 (call.Tic
 none : {X : Type 0} → ⊥ → X
 none h = absurd h
 
-heard : (x : ℕ × ℕ × Reason) → IsIn ((0, 0, reason.Boot) ∷ []) x → HearsReason (InStretch events 2 4) IsSweepCall x.0 x.1 x.2
-heard x (inl same) = subst (λ (y : ℕ × ℕ × Reason). HearsReason (InStretch events 2 4) IsSweepCall y.0 y.1 y.2) same (call.Tick rules, tt, (3, (omega arith, omega arith, refl)))
+heard : (x : ℕ × ℕ × Reason) → IsIn ((0, 0, reason.Boot) ∷ []) x → HearsReason (InStretch events 2 4) (IsSweepCall act.Tick) x.0 x.1 x.2
+heard x (inl same) = subst (λ (y : ℕ × ℕ × Reason). HearsReason (InStretch events 2 4) (IsSweepCall act.Tick) y.0 y.1 y.2) same (call.Tick rules, tt, (3, (omega arith, omega arith, refl)))
 heard x (inr nothing) = absurd nothing
 
 tick_line : PlainLine (Some found) [] opening act.Tick swept more
@@ -49,7 +49,7 @@ tick_line = record {
   makes = record {
     makes = makes_each (Some found) [] opening act.Tick swept more (λ past. refl, (λ past. tt, tt));
     restarts = restarts_none opening act.Tick swept [] more (none, (none, tt));
-    hears = heard;
+    hears = record { counted = λ x m. absurd m; refused = heard };
   };
   plain = record { no_acks = λ nodes e. cc; not_unmet = λ h. h; no_found = refl; no_rules = refl; no_seed = refl };
   opened = inl (omega arith);

@@ -5,4 +5,5 @@ pub mod Deliveries
 pub mod Boot
 pub mod Sample
 pub mod Running
+pub mod Sweeps
 pub mod Nodes

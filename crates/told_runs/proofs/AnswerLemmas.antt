@@ -8,6 +8,7 @@ use Rattle.m3_model.specs.declared.act.Act.{Act}
 use Rattle.m3_model.specs.declared.act.Act.TheVariants as act
 use Rattle.m3_model.specs.declared.answer.Answer.{Answer}
 use Rattle.m3_model.specs.declared.answer.Answer.TheVariants as answer
+use Rattle.m3_model.specs.declared.placement.Placement.{Placement}
 use Rattle.m3_model.specs.declared.reason.Reason.{Reason}
 use Rattle.m3_model.specs.declared.reason.Reason.TheVariants as reason
 use Rattle.m3_model.specs.declared.rules.MetaState.{MetaState}
@@ -24,10 +25,12 @@ use Rattle.transcripts.specs.Caused.{Caused, CausedAt, HadBefore, IsDueBy, IsOwn
 use Rattle.transcripts.specs.Deliveries.{LateMessage}
 use Rattle.transcripts.specs.Faults.{Damaged, Failing, Fault, Taking}
 use Rattle.transcripts.specs.Levels.{MissesLevel}
-use Rattle.transcripts.specs.Placements.{printed}
+use Rattle.transcripts.specs.Placements.{MayStand, printed}
 use Rattle.transcripts.specs.Record.{Record, TurnPlace, IsTurnPlace}
-use Rattle.transcripts.proofs.MoreFaults.{AreAmong, different_both, own_more}
-use Rattle.told_by.specs.Hears.{InStretch, IsRestartCall}
+use Rattle.transcripts.specs.Sweeps.{IsSwept, IsSweptOver}
+use Rattle.transcripts.proofs.MoreFaults.{AreAmong, different_both, failed_more, own_more, step_more}
+use Rattle.transcripts.proofs.SweepLemmas.{entry_slot, failed_entry}
+use Rattle.told_by.specs.Hears.{HearsBy, HearsSwept, InStretch, IsRestartCall, IsSweepCall}
 use Rattle.told_by.specs.Openings.{opening_length}
 use Rattle.told_by.specs.Told.{ToldBy}
 use Rattle.told_by.proofs.LineLemmas.{line_below}
@@ -36,22 +39,25 @@ use Rattle.told_causes.specs.Deliveries.{IsKnownDelivery}
 use Rattle.told_causes.specs.Faults.{fault_of, faults_told}
 use Rattle.told_causes.specs.Nodes.{AreReached, NamesReplica}
 use Rattle.told_causes.specs.Standing.{HaltsAlone}
+use Rattle.told_causes.specs.Sweeps.{IsKnownSweep, IsSweepAct}
 use Rattle.told_causes.proofs.CallLemmas.{acks_said}
 use Rattle.told_causes.proofs.DeliverLemmas.{outcomes_said}
 use Rattle.told_causes.proofs.FaultLemmas.{faults_different, faults_steps}
 use Rattle.told_causes.proofs.HaltLemmas.{take_cut}
 use Rattle.told_causes.proofs.LevelLemmas.{fetch_said, match_said, too_few_said}
 use Rattle.told_causes.proofs.NodeLemmas.{node_answers}
+use Rattle.told_causes.proofs.SweepLemmas.{sweeps_said}
 use Rattle.told_moves.specs.Order.{IsInOrder}
 use Rattle.told_runs.specs.Answers.{AreAnswered, Delivers, HearsOf, IsAnswered, IsDecidedBy, IsOfKind}
 use Rattle.told_runs.specs.Bounds.{IsBounded}
 use Rattle.told_runs.proofs.BoundLemmas.{full_by_many}
 use Rattle.told_runs.proofs.MemberLemmas.{had_before}
 
--- What is known of the calls and the deliveries of a run.
+-- What is known of the calls, the deliveries and the sweeps of a run.
 pub record AreKnown (tells : Bool) (start : Option MetaState) (turns : List Turn) (events : List Event) (told : ToldBy start turns events) : Type 0 where
   pub calls : (p : TurnPlace) → IsTurnPlace turns p → IsTrue (is_call p.turn.act) → printed p.turn.answer ≡ None → IsKnownCall tells start turns events told p
   pub deliveries : (p : TurnPlace) → IsTurnPlace turns p → p.turn.act ≡ act.Deliver → printed p.turn.answer ≡ None → IsKnownDelivery tells start turns events told p
+  pub sweeps : (p : TurnPlace) → IsTurnPlace turns p → IsSweepAct p.turn.act → printed p.turn.answer ≡ None → (place : Placement) → MayStand start p place → IsKnownSweep tells start turns events told p place
 
 module _ {tells : Bool} (taking : List Fault) (start : Option MetaState) (turns : List Turn) (events : List Event) (legal : Legal tells events) (told : ToldBy start turns events) (order : IsInOrder start turns events told) (halts : HaltsAlone turns) (known : AreKnown tells start turns events told) where
   abbrev told_faults : List Fault
@@ -89,10 +95,25 @@ module _ {tells : Bool} (taking : List Fault) (start : Option MetaState) (turns 
   of_level : (p : TurnPlace) → IsTurnPlace turns p → (a : Act) → p.turn.act ≡ a → IsTrue (is_call a) → (got needed : ℕ) (reasons : List (ℕ × Reason)) (shard : ℕ) → p.turn.answer ≡ answer.Consistency got needed reasons shard → MissesLevel tells told_faults start p got needed reasons shard
   of_level p at a acts calls got needed reasons shard answers = too_few_said start turns events told p (call_known p at a (answer.Consistency got needed reasons shard) acts answers calls refl) got needed reasons shard answers
 
+  -- a sweep over the members of a placement
+  of_sweep : (p : TurnPlace) → IsTurnPlace turns p → (a : Act) (done : List (ℕ × ℕ × ℕ)) (failed : List (ℕ × ℕ × Reason)) → p.turn.act ≡ a → p.turn.answer ≡ answer.Swept done failed → IsSweepAct a → IsSweptOver start p done failed → IsSwept tells all_faults start p done failed
+  of_sweep p at a done failed acts answers sweeps over =
+      let hears : HearsSwept (Within events told.spans p) (IsSweepCall p.turn.act) done failed =
+      subst (λ b. HearsBy start (take ((told.spans).from p) events) (Within events told.spans p) p p.turn.act b) answers ((told.tells).hears p at) in
+      let k = known.sweeps p at (subst IsSweepAct (sym acts) sweeps) (ap printed answers) over.place over.stands in
+      record {
+        over = over;
+        refused = λ x m.
+            let e = failed_entry over.entries x (subst (λ xs. IsIn xs x) over.failed_are m) in
+            let among = ((over.members).each x.0 x.1).0 (entry_slot over.entries e.entry x.0 x.1 e.among e.node_is e.shard_is) in
+            failed_more tells told_faults all_faults told_among start p over.place x.1 x.0 x.2 (sweeps_said start turns events told p over.place k x.1 x.0 among x.2 (hears.refused x m));
+      }
+
   -- the answer is the act's own
   own_by : (p : TurnPlace) → IsTurnPlace turns p → (a : Act) (b : Answer) → p.turn.act ≡ a → p.turn.answer ≡ b → (messages : List LateMessage) → HearsOf start (Within events told.spans p) p messages b → IsOfKind taking start p a b
       → IsOwn tells all_faults start messages p a b
   own_by p at (act.Init rf shards seed nodes) (answer.Placed place version) acts answers messages h kind = kind
+  own_by p at (act.Init rf shards seed nodes) (answer.Group shard) acts answers messages h kind = kind
   own_by p at (act.Init rf shards seed nodes) (answer.Disk name shard) acts answers messages h kind = own_more tells taking all_faults taking_among start messages p (act.Init rf shards seed nodes) (answer.Disk name shard) kind
   own_by p at (act.Namespace name block past future retention) answer.Done acts answers messages h kind = tt
   own_by p at (act.Now now) answer.Done acts answers messages h kind = tt
@@ -105,6 +126,11 @@ module _ {tells : Bool} (taking : List Fault) (start : Option MetaState) (turns 
   own_by p at (act.Bootstrap node asked) (answer.Available available place version) acts answers messages h kind = kind
   own_by p at (act.Bootstrap node asked) (answer.Disk name shard) acts answers messages h kind = of_node p at (act.Bootstrap node asked) (answer.Disk name shard) acts answers refl shard refl messages
   own_by p at (act.Bootstrap node asked) (answer.Corrupt name shard damage) acts answers messages h kind = of_node p at (act.Bootstrap node asked) (answer.Corrupt name shard damage) acts answers refl shard refl messages
+  own_by p at (act.Add node group) b acts answers messages h kind = step_more taking all_faults taking_among start p (act.Add node group) b kind
+  own_by p at (act.Drain node) b acts answers messages h kind = step_more taking all_faults taking_among start p (act.Drain node) b kind
+  own_by p at (act.Cancel node) b acts answers messages h kind = step_more taking all_faults taking_among start p (act.Cancel node) b kind
+  own_by p at (act.Remove node) b acts answers messages h kind = step_more taking all_faults taking_among start p (act.Remove node) b kind
+  own_by p at (act.Replace node by group) b acts answers messages h kind = step_more taking all_faults taking_among start p (act.Replace node by group) b kind
   own_by p at (act.Write ns id t v level version) (answer.Acks nodes) acts answers messages h kind =
       acks_said start turns events legal told p at halts (call_known p at (act.Write ns id t v level version) (answer.Acks nodes) acts answers refl refl).named ns id t v level version nodes acts answers
   own_by p at (act.Write ns id t v level version) (answer.Consistency got needed reasons shard) acts answers messages h kind =
@@ -119,6 +145,10 @@ module _ {tells : Bool} (taking : List Fault) (start : Option MetaState) (turns 
       own_more tells told_faults all_faults told_among start messages p (act.Match ns wanted from to level version) (answer.Found series short) (match_said start turns events told p call ns wanted from to level version series short acts answers)
   own_by p at (act.Match ns wanted from to level version) (answer.Consistency got needed reasons shard) acts answers messages h kind =
       own_more tells told_faults all_faults told_among start messages p (act.Match ns wanted from to level version) (answer.Consistency got needed reasons shard) (of_level p at (act.Match ns wanted from to level version) acts refl got needed reasons shard answers)
+  own_by p at act.Tick (answer.Swept done failed) acts answers messages h kind = of_sweep p at act.Tick done failed acts answers tt kind
+  own_by p at act.Flush (answer.Swept done failed) acts answers messages h kind = of_sweep p at act.Flush done failed acts answers tt kind
+  own_by p at act.Snapshot (answer.Swept done failed) acts answers messages h kind = of_sweep p at act.Snapshot done failed acts answers tt kind
+  own_by p at act.Status (answer.Status now lines version) acts answers messages h kind = kind
   own_by p at _ _ acts answers messages h kind = absurd kind
 
   due_by : (p : TurnPlace) → IsTurnPlace turns p → (messages : List LateMessage) → Delivers start events told.spans p messages → (o : Option Answer) → IsDecidedBy taking start p o → IsDueBy tells all_faults start messages p o

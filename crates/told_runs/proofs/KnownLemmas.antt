@@ -1,7 +1,8 @@
--- What is known of each call of a run and of each delivery: nodes have one name, slots had a replica, and moves explain their reasons.
+-- What is known of each call of a run, of each delivery and of each sweep: nodes have one name, slots had a replica, and moves explain their reasons.
 use Rattle.std.proofs.Common.{◌≡◌, ◌≤◌, ◌<◌, ℕ, true, List, ◌∷◌, ◌++◌, take, length, refl, sym, ap, ◌∙◌, subst, inl, inr, arith, append_assoc, Bool}
 use Rattle.std.specs.Prelude.{◌⊎◌, Some, None, Option, IsTrue, slice_get}
 use Rattle.m3_model.specs.Calls.{is_call}
+use Rattle.m3_model.specs.Members.{IsIn}
 use Rattle.m3_model.specs.declared.act.Act.{Act}
 use Rattle.m3_model.specs.declared.act.Act.TheVariants as act
 use Rattle.m3_model.specs.declared.placement.Instance.{Instance}
@@ -10,6 +11,7 @@ use Rattle.m3_model.specs.declared.reason.Reason.{Reason}
 use Rattle.m3_model.specs.declared.reason.Reason.TheVariants as reason
 use Rattle.m3_model.specs.declared.rules.MetaState.{MetaState}
 use Rattle.m3_model.specs.declared.turn.Turn.{Turn}
+use Rattle.placement_core.specs.Shards.{nodes_of, shard_at}
 use Rattle.cluster_core.specs.Legal.{Legal}
 use Rattle.cluster_core.specs.Lists.{At}
 use Rattle.cluster_core.specs.declared.event.Event.{Event}
@@ -22,7 +24,7 @@ use Rattle.transcripts.specs.Calls.{Call, call_of}
 use Rattle.transcripts.specs.Deliveries.{IsBeside, IsLateMessage, LateMessage, shard_of_message}
 use Rattle.transcripts.specs.Fates.{OfNode}
 use Rattle.transcripts.specs.Faults.{Fault}
-use Rattle.transcripts.specs.Placements.{IsCounted, has_replica, placement_after, printed, start_placement}
+use Rattle.transcripts.specs.Placements.{IsCounted, MayStand, has_replica, placement_after, printed, start_placement}
 use Rattle.transcripts.specs.Reasons.{MayFail}
 use Rattle.transcripts.specs.Record.{TurnPlace, IsTurnPlace, inner_turns}
 use Rattle.told_by.specs.Hears.{HearsLate, IsHeard, IsLatePut, IsNamedBy, IsOwnCall}
@@ -33,12 +35,13 @@ use Rattle.told_causes.specs.Calls.{IsExplainedAt, IsExplained, IsKnownCall, IsN
 use Rattle.told_causes.specs.Deliveries.{IsKnownDelivery}
 use Rattle.told_causes.specs.Faults.{faults_told}
 use Rattle.told_causes.specs.Standing.{HaltsAlone}
+use Rattle.told_causes.specs.Sweeps.{IsKnownSweep, IsSweepAct}
 use Rattle.told_causes.proofs.WaitLemmas.{member_at}
 use Rattle.told_moves.specs.Moves.{IsAtVersion, IsPlaced, IsQuiet, IsRefusedAt, NotOwnedIsSaid, StaleIsSaid}
 use Rattle.told_moves.specs.Order.{IsInOrder, OpensWithin}
 use Rattle.told_moves.proofs.TenureLemmas.{member_named, name_everywhere}
 use Rattle.told_runs.proofs.AnswerLemmas.{AreKnown}
-use Rattle.told_runs.proofs.MemberLemmas.{counted_member, was_there}
+use Rattle.told_runs.proofs.MemberLemmas.{counted_member, listed_member, was_there}
 use Rattle.told_runs.proofs.UsedLemmas.{IsKnownPlace, used_known}
 
 module _ {tells : Bool} (start : Option MetaState) (turns : List Turn) (events : List Event) (legal : Legal tells events) (told : ToldBy start turns events) (order : IsInOrder start turns events told) (halts : HaltsAlone turns) (opens : tells ≡ true → OpensWithin start events)
@@ -150,6 +153,22 @@ module _ {tells : Bool} (start : Option MetaState) (turns : List Turn) (events :
           (steady, call_explained place shard node slot steady why h);
     }
 
+    -- ---- sweeps
+
+    swept_slot : (place : Placement) → MayStand start p place → (shard node : ℕ) → IsIn (nodes_of (shard_at place shard)) node → IsSlotAt place shard node
+    swept_slot place stands shard node among = record { known = used_known start turns events legal told order p at quiet.prints_none None place stands; member = listed_member place shard node among }
+
+    pub sweep_known : IsSweepAct p.turn.act → (place : Placement) → MayStand start p place → IsKnownSweep tells start turns events told p place
+    sweep_known sweeps place stands = record {
+      legal = legal;
+      in_run = at;
+      sweeps = sweeps;
+      explained = λ shard node among.
+          let slot = swept_slot place stands shard node among in
+          let steady = steady_at place shard node slot in
+          (steady, λ is. known_member is place shard node slot steady.name steady.everywhere);
+    }
+
     -- ---- late messages
 
     -- a late message's write is a turn of the run, not after this one
@@ -219,8 +238,16 @@ module _ {tells : Bool} (start : Option MetaState) (turns : List Turn) (events :
   deliver_quiet : (p : TurnPlace) → p.turn.act ≡ act.Deliver → printed p.turn.answer ≡ None → IsQuiet p
   deliver_quiet p delivers prints = record { begins_none = λ h. subst IsBootAct delivers h; prints_none = prints }
 
+  sweep_quiet : (p : TurnPlace) → IsSweepAct p.turn.act → printed p.turn.answer ≡ None → IsQuiet p
+  sweep_quiet p sweeps prints = record { begins_none = begins p.turn.act sweeps; prints_none = prints }
+    where
+      begins : (a : Act) → IsSweepAct a → IsBootAct a → ⊥
+      begins (act.Bootstrap node asked) s h = s
+      begins _ s h = h
+
   pub are_known : ((q : TurnPlace) → IsTurnPlace turns q → IsTrue (is_call q.turn.act) → printed q.turn.answer ≡ None) → AreKnown tells start turns events told
   are_known silent = record {
     calls = λ p at calls prints. call_known p at (calls_quiet p calls prints) calls;
     deliveries = λ p at delivers prints. delivery_known p at (deliver_quiet p delivers prints) silent delivers;
+    sweeps = λ p at sweeps prints place stands. sweep_known p at (sweep_quiet p sweeps prints) sweeps place stands;
   }

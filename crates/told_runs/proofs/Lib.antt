@@ -15,3 +15,4 @@ pub mod BesideToldLemmas
 pub mod BesideServedLemmas
 pub mod BrokenLemmas
 pub mod CountedLemmas
+pub mod StepLemmas

@@ -32,7 +32,7 @@ use Rattle.transcripts.specs.Faults.{Fault, Taking}
 use Rattle.transcripts.specs.Moves.{IsLeftFence}
 use Rattle.transcripts.specs.Placements.{has_replica}
 use Rattle.transcripts.specs.Record.{Record, TurnPlace, IsLastTurnPlace, IsTurnPlace, line_of, lists_of}
-use Rattle.transcripts.proofs.MoreFaults.{AreAmong, different_both}
+use Rattle.transcripts.proofs.MoreFaults.{AreAmong, different_both, step_more}
 use Rattle.transcripts.proofs.PlaceLemmas.{at_push}
 use Rattle.told_by.specs.Hears.{InStretch}
 use Rattle.told_by.specs.Lines.{ClockLine, InitLine, PlainLine, ReadLine, WriteLine, place_after}
@@ -58,6 +58,11 @@ use Rattle.told_runs.specs.Lines.{Adds, IsServedAfresh, IsServedAtFirst, IsOneTu
 -- an answer is decided so also where more disks couldn't be taken
 kind_more : (taking more : List Fault) → AreAmong taking more → (start : Option MetaState) (p : TurnPlace) (a : Act) (b : Answer) → IsOfKind taking start p a b → IsOfKind more start p a b
 kind_more taking more among start p (act.Init rf shards seed nodes) (answer.Disk name shard) h = (h.0, h.1, h.2, among _ h.3)
+kind_more taking more among start p (act.Add node group) b h = step_more taking more among start p (act.Add node group) b h
+kind_more taking more among start p (act.Drain node) b h = step_more taking more among start p (act.Drain node) b h
+kind_more taking more among start p (act.Cancel node) b h = step_more taking more among start p (act.Cancel node) b h
+kind_more taking more among start p (act.Remove node) b h = step_more taking more among start p (act.Remove node) b h
+kind_more taking more among start p (act.Replace node by group) b h = step_more taking more among start p (act.Replace node by group) b h
 kind_more taking more among start p _ _ h = h
 
 decided_more : (taking more : List Fault) → AreAmong taking more → (start : Option MetaState) (p : TurnPlace) (o : Option Answer) → IsDecidedBy taking start p o → IsDecidedBy more start p o

@@ -4,8 +4,10 @@ use Rattle.std.specs.Prelude.{◌⊎◌, ⊤, Some, None, Option}
 use Rattle.std.specs.Option.{option_or}
 use Rattle.std.proofs.lemmas.Bool.{cases_lt}
 use Rattle.m3_model.specs.Members.{IsIn}
+use Rattle.m3_model.proofs.MemberLemmas.{IsIn-map}
 use Rattle.m3_model.specs.declared.act.Act.{Act}
 use Rattle.m3_model.specs.declared.act.Act.TheVariants as act
+use Rattle.m3_model.specs.declared.placement.Assignment.{Assignment}
 use Rattle.m3_model.specs.declared.placement.Placement.{Placement}
 use Rattle.m3_model.specs.declared.reason.Damage.{Damage as Harm}
 use Rattle.m3_model.specs.declared.reason.Reason.TheVariants as reason
@@ -13,7 +15,7 @@ use Rattle.m3_model.specs.declared.replica.Standing.{Standing}
 use Rattle.m3_model.specs.declared.replica.Standing.TheVariants as standing
 use Rattle.m3_model.specs.declared.rules.MetaState.{MetaState}
 use Rattle.m3_model.specs.declared.turn.Turn.{Turn}
-use Rattle.placement_core.specs.Shards.{is_available, shard_at}
+use Rattle.placement_core.specs.Shards.{is_available, nodes_of, shard_at}
 use Rattle.placement_core.proofs.HolderLemmas.{chosen_node}
 use Rattle.cluster_core.specs.Earlier.{HasTenure, GivesTenure, place_after}
 use Rattle.cluster_core.specs.Legal.{Legal}
@@ -56,6 +58,10 @@ use Rattle.told_moves.proofs.AskLemmas.{begin_asked}
 
 pub counted_member : (place : Placement) (s n : ℕ) → IsCounted place s n → has_replica (Some place) s n ≡ true
 counted_member place s n m = let a = chosen_node is_available (shard_at place s) n m in assigned_member place s n a.0 a.1 a.2
+
+-- a node that has the shard has a replica of it
+pub listed_member : (place : Placement) (s n : ℕ) → IsIn (nodes_of (shard_at place s)) n → has_replica (Some place) s n ≡ true
+listed_member place s n m = let a = IsIn-map (λ (x : Assignment). x.node) (shard_at place s) n m in assigned_member place s n a.0 a.1 a.2
 
 -- A Place before an event gives the slot a replica.
 pub record HasMember (events : List Event) (i n s : ℕ) : Type 0 where

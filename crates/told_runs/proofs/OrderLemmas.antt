@@ -25,7 +25,7 @@ use Rattle.cluster_core.proofs.TraceLemmas.{lawful_place}
 use Rattle.transcripts.specs.Caused.{EndsInto, IsMade}
 use Rattle.transcripts.specs.Faults.{Fault}
 use Rattle.transcripts.specs.Placements.{MayStand, placement_after, placement_at, printed, start_placement}
-use Rattle.transcripts.specs.Record.{AreSomeOf, InnerTurn, TurnPlace, IsTurnPlace, inner_turns}
+use Rattle.transcripts.specs.Record.{AreSomeOf, InnerTurn, TurnPlace, IsTurnPlace, inner_turns, lists_of}
 use Rattle.transcripts.proofs.PlacementLemmas.{after_from}
 use Rattle.told_by.specs.Makes.{IsAssigned}
 use Rattle.told_by.specs.Openings.{sets_seed}
@@ -33,7 +33,7 @@ use Rattle.told_by.specs.Told.{ToldBy}
 use Rattle.told_by.proofs.LeaveLemmas.{place_there}
 use Rattle.told_by.proofs.LineLemmas.{line_below}
 use Rattle.told_by.proofs.PrintedLemmas.{greatest_so_far, one_place, placements_stand}
-use Rattle.told_by.proofs.TurnLemmas.{earlier_line, place_in}
+use Rattle.told_by.proofs.TurnLemmas.{at_cut, earlier_line, place_in}
 use Rattle.told_causes.specs.Boot.{GivesNone, HasOneTurn, IsPrintedIn}
 use Rattle.told_causes.proofs.AloneLemmas.{lines_before}
 use Rattle.told_causes.proofs.StoodLemmas.{in_line}
@@ -78,13 +78,19 @@ record IsEndOfMoves (start : Option MetaState) (p : TurnPlace) (place : Placemen
   pairs : List (ℕ × ℕ)
   next : IsAvailable before pairs place
 
--- whoever prints a placement is an `init`, ended moves into it, or prints one that was made
-prints_by : (taking : List Fault) (start : Option MetaState) (p : TurnPlace) (a : Act) (b : Answer) (place : Placement) → IsOfKind taking start p a b → printed b ≡ Some place → (sets_seed a b ≡ true) ⊎ (IsEndOfMoves start p place ⊎ IsMade start p place)
+-- whoever prints a placement is an `init`, is the only turn of its line, ended moves into it, or prints one that was made
+prints_by : (taking : List Fault) (start : Option MetaState) (p : TurnPlace) (a : Act) (b : Answer) (place : Placement) → IsOfKind taking start p a b → printed b ≡ Some place
+    → (sets_seed a b ≡ true) ⊎ ((lists_of p.line ≡ (p.turn ∷ []) ∷ []) ⊎ (IsEndOfMoves start p place ⊎ IsMade start p place))
 prints_by taking start p (act.Init rf shards seed nodes) (answer.Placed next version) place kind prints = inl refl
-prints_by taking start p (act.Bootstrap node asked) (answer.Available [] next version) place kind prints = inr (inr (subst (IsMade start p) (sym kind.left ∙ some_same next place prints) kind.made))
+prints_by taking start p (act.Bootstrap node asked) (answer.Available [] next version) place kind prints = inr (inr (inr (subst (IsMade start p) (sym kind.left ∙ some_same next place prints) kind.made)))
 prints_by taking start p (act.Bootstrap node asked) (answer.Available (x ∷ available) next version) place kind prints =
     let pairs = map (λ (y : ℕ × List ℕ). (y.0, (kind.left).node)) (x ∷ available) in
-    inr (inl (record { before = kind.before; stands = kind.stands; pairs = pairs; next = subst (IsAvailable kind.before pairs) (some_same next place prints) (kind.left).next }))
+    inr (inr (inl (record { before = kind.before; stands = kind.stands; pairs = pairs; next = subst (IsAvailable kind.before pairs) (some_same next place prints) (kind.left).next })))
+prints_by taking start p (act.Add node group) (answer.Placed next version) place kind prints = inr (inl kind.0)
+prints_by taking start p (act.Drain node) (answer.Placed next version) place kind prints = inr (inl kind.0)
+prints_by taking start p (act.Cancel node) (answer.Placed next version) place kind prints = inr (inl kind.0)
+prints_by taking start p (act.Remove node) (answer.Placed next version) place kind prints = inr (inl kind.0)
+prints_by taking start p (act.Replace node by group) (answer.Placed next version) place kind prints = inr (inl kind.0)
 prints_by taking start p _ (answer.Placed next version) place kind prints = absurd kind
 prints_by taking start p _ (answer.Available available next version) place kind prints = absurd kind
 prints_by taking start p _ _ place kind prints = absurd (let bad : None ≡ Some place = prints in cc)
@@ -101,6 +107,7 @@ end_by taking start p _ _ place kind is = absurd is
 
 sets_by : (taking : List Fault) (start : Option MetaState) (p : TurnPlace) (a : Act) (b : Answer) (place : Placement) → IsOfKind taking start p a b → IsInitAct a → printed b ≡ Some place → sets_seed a b ≡ true
 sets_by taking start p (act.Init rf shards seed nodes) (answer.Placed next version) place kind is prints = refl
+sets_by taking start p (act.Init rf shards seed nodes) (answer.Group shard) place kind is prints = absurd (let bad : None ≡ Some place = prints in cc)
 sets_by taking start p (act.Init rf shards seed nodes) (answer.Disk name shard) place kind is prints = absurd (let bad : None ≡ Some place = prints in cc)
 sets_by taking start p (act.Init rf shards seed nodes) _ place kind is prints = absurd kind
 sets_by taking start p _ b place kind is prints = absurd is
@@ -152,13 +159,20 @@ module _ {tells : Bool} (taking : List Fault) (start : Option MetaState) (turns 
         | inl silent ↦ absurd (let bad : None ≡ Some place = sym silent ∙ prints in cc)
         | inr kind ↦ elim (prints_by taking start p p.turn.act p.turn.answer place kind prints) as (λ _. IsEndedBy place) [
           | inl sets ↦ let only = ((told.tells).init.inits p at sets).alone in absurd (many (only.0, p.turn, only.1, only.2))
-          | inr other ↦ elim other as (λ _. IsEndedBy place) [
-            | inl moves ↦ record { ender = p; in_run = at; moves = moves }
-            | inr made ↦ elim made as (λ _. IsEndedBy place) [ inl base ↦ absurd (by_base base) | inr t ↦ by_turn t.0 t.1 t.2 ]
+          | inr unset ↦ elim unset as (λ _. IsEndedBy place) [
+            | inl only ↦ absurd (many (by_only only))
+            | inr other ↦ elim other as (λ _. IsEndedBy place) [
+              | inl moves ↦ record { ender = p; in_run = at; moves = moves }
+              | inr made ↦ elim made as (λ _. IsEndedBy place) [ inl base ↦ absurd (by_base base) | inr t ↦ by_turn t.0 t.1 t.2 ]
+            ]
           ]
         ]
       ]
     where
+      -- the turn isn't the only one of its line
+      by_only : lists_of p.line ≡ (p.turn ∷ []) ∷ [] → HasOneTurn turns (length p.lines)
+      by_only only = (p.line, p.turn, subst (λ ls. At ls (length p.lines) p.line) (sym at.in_run) (at_cut p.lines p.line at.after), only)
+
       -- it isn't one from before the line
       by_base : placement_at start p ≡ Some place → ⊥
       by_base base =

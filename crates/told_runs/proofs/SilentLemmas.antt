@@ -1,12 +1,13 @@
 -- Calls print no placement, whatever they are answered.
 use Rattle.std.proofs.Common.{◌≡◌, ℕ, Bool, true, false, List, refl, sym, ap, ◌∙◌, inl, inr}
-use Rattle.std.specs.Prelude.{Some, None, Option, option_map}
+use Rattle.std.specs.Prelude.{Some, None, Option, option_map, not, ◌&&◌, nat_le, length}
 use Rattle.std.specs.Option.{option_or}
 use Rattle.m3_model.specs.Calls.{is_call}
 use Rattle.m3_model.specs.declared.act.Act.{Act}
 use Rattle.m3_model.specs.declared.act.Act.TheVariants as act
 use Rattle.m3_model.specs.declared.answer.Answer.{Answer}
 use Rattle.m3_model.specs.declared.answer.Answer.TheVariants as answer
+use Rattle.m3_model.specs.declared.limits.TheConstants.{MOST_NODES, MOST_VERSIONS}
 use Rattle.m3_model.specs.declared.placement.Placement.{Placement}
 use Rattle.m3_model.specs.declared.rules.MetaState.{MetaState}
 use Rattle.m3_model.specs.declared.rules.Rules.{Rules}
@@ -16,7 +17,8 @@ use Rattle.transcripts.specs.Caused.{refusal_after}
 use Rattle.transcripts.specs.Faults.{Fault}
 use Rattle.transcripts.specs.Placements.{printed}
 use Rattle.transcripts.specs.Record.{TurnPlace}
-use Rattle.transcripts.specs.Refusals.{answer_if, is_out_of_order, limit_reached, lowered_moment, missing_name, refusal_by, wrong_state}
+use Rattle.placement_acts.specs.Acts.{answer_if, is_known, is_step_act, versions_due}
+use Rattle.transcripts.specs.Refusals.{is_out_of_order, kept_versions, limit_reached, lowered_moment, missing_name, names_reached, refusal_by, wrong_state}
 use Rattle.told_causes.proofs.RefusalLemmas.{or_cases}
 use Rattle.told_runs.specs.Answers.{IsAnswered, IsDecidedBy, IsOfKind}
 
@@ -28,9 +30,22 @@ unknown_silent : (o : Option (List ℕ)) (r : Answer) → option_map (λ name. a
 unknown_silent None r e = cc
 unknown_silent (Some name) r e = ap printed (sym (some_same (answer.Unknown name) r e))
 
-limit_silent : (spaces : List Space) (a : Act) (r : Answer) → limit_reached spaces a ≡ Some r → printed r ≡ None
-limit_silent spaces (act.Namespace name block past future retention) r e = if_silent _ _ r refl e
-limit_silent spaces _ r e = cc
+names_silent : (place : Option Placement) (name : List ℕ) (r : Answer) → names_reached place name ≡ Some r → printed r ≡ None
+names_silent None name r e = cc
+names_silent (Some place) name r e = if_silent (not (is_known name place) && nat_le MOST_NODES (length place.instances)) (answer.Limit MOST_NODES) r refl e
+
+versions_silent : (kept : ℕ) (a : Act) (r : Answer) → versions_due kept a ≡ Some r → printed r ≡ None
+versions_silent kept a r e = if_silent (is_step_act a && nat_le MOST_VERSIONS kept) (answer.Limit MOST_VERSIONS) r refl e
+
+-- a limit of names comes before that of versions
+both_silent : (place : Option Placement) (name : List ℕ) (kept : ℕ) (a : Act) (r : Answer) → option_or (names_reached place name) (versions_due kept a) ≡ Some r → printed r ≡ None
+both_silent place name kept a r e = elim (or_cases (names_reached place name) (versions_due kept a) r e) as (λ _. printed r ≡ None) [ inl names ↦ names_silent place name r names | inr versions ↦ versions_silent kept a r versions ]
+
+limit_silent : (place : Option Placement) (versions : List ℕ) (spaces : List Space) (a : Act) (r : Answer) → limit_reached place versions spaces a ≡ Some r → printed r ≡ None
+limit_silent place versions spaces (act.Namespace name block past future retention) r e = if_silent _ _ r refl e
+limit_silent place versions spaces (act.Add node group) r e = both_silent place node (kept_versions place versions) (act.Add node group) r e
+limit_silent place versions spaces (act.Replace node by group) r e = both_silent place by (kept_versions place versions) (act.Replace node by group) r e
+limit_silent place versions spaces a r e = versions_silent (kept_versions place versions) a r e
 
 moment_silent : (moment : ℕ) (a : Act) (r : Answer) → lowered_moment moment a ≡ Some r → printed r ≡ None
 moment_silent moment (act.Now now) r e = if_silent _ _ r refl e
@@ -48,12 +63,12 @@ refusal_silent place versions rules stopped a r e =
     let order = answer_if (is_out_of_order place rules.spaces a) answer.Order in
     let name = option_map (λ n. answer.Unknown n) (missing_name place versions rules.spaces a) in
     let last = option_or (lowered_moment rules.now a) (wrong_state stopped a) in
-    elim (or_cases order (option_or name (option_or (limit_reached rules.spaces a) last)) r e) as (λ _. printed r ≡ None) [
+    elim (or_cases order (option_or name (option_or (limit_reached place versions rules.spaces a) last)) r e) as (λ _. printed r ≡ None) [
       | inl is ↦ if_silent (is_out_of_order place rules.spaces a) answer.Order r refl is
-      | inr rest ↦ elim (or_cases name (option_or (limit_reached rules.spaces a) last) r rest) as (λ _. printed r ≡ None) [
+      | inr rest ↦ elim (or_cases name (option_or (limit_reached place versions rules.spaces a) last) r rest) as (λ _. printed r ≡ None) [
         | inl is ↦ unknown_silent (missing_name place versions rules.spaces a) r is
-        | inr other ↦ elim (or_cases (limit_reached rules.spaces a) last r other) as (λ _. printed r ≡ None) [
-          | inl is ↦ limit_silent rules.spaces a r is
+        | inr other ↦ elim (or_cases (limit_reached place versions rules.spaces a) last r other) as (λ _. printed r ≡ None) [
+          | inl is ↦ limit_silent place versions rules.spaces a r is
           | inr end ↦ elim (or_cases (lowered_moment rules.now a) (wrong_state stopped a) r end) as (λ _. printed r ≡ None) [ inl is ↦ moment_silent rules.now a r is | inr is ↦ state_silent stopped a r is ]
         ]
       ]
@@ -75,6 +90,15 @@ module _ (taking : List Fault) (start : Option MetaState) (p : TurnPlace) where
   by_kind act.Deliver b calls kind = cc
   by_kind (act.Stop node) b calls kind = cc
   by_kind (act.Restart node pick) b calls kind = cc
+  by_kind (act.Add node group) b calls kind = cc
+  by_kind (act.Drain node) b calls kind = cc
+  by_kind (act.Cancel node) b calls kind = cc
+  by_kind (act.Remove node) b calls kind = cc
+  by_kind (act.Replace node by group) b calls kind = cc
+  by_kind act.Tick b calls kind = cc
+  by_kind act.Flush b calls kind = cc
+  by_kind act.Snapshot b calls kind = cc
+  by_kind act.Status b calls kind = cc
   by_kind _ _ calls kind = absurd kind
 
   by_refusal : (o : Option Answer) → ((r : Answer) → o ≡ Some r → printed r ≡ None) → is_call p.turn.act ≡ true → IsDecidedBy taking start p o → printed p.turn.answer ≡ None

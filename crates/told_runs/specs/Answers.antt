@@ -11,11 +11,13 @@ use Rattle.m3_model.specs.declared.limits.TheConstants.{MOST_EVENTS, MOST_REQUES
 use Rattle.m3_model.specs.declared.rules.MetaState.{MetaState}
 use Rattle.m3_model.specs.declared.turn.Turn.{Turn}
 use Rattle.placement_plan.specs.First.{IsInitial}
+use Rattle.placement_acts.specs.Acts.{IsInTheWay}
 use Rattle.cluster_core.specs.declared.event.Event.{Event}
-use Rattle.transcripts.specs.Caused.{IsBootstrapped, IsRefusedWhole, IsUnmade, refusal_after}
+use Rattle.transcripts.specs.Caused.{IsBootstrapped, IsRefusedWhole, IsStepOf, IsUnmade, refusal_after}
 use Rattle.transcripts.specs.Deliveries.{LateMessage, IsLateBefore, IsSameMessage, IsSamePlace}
 use Rattle.transcripts.specs.Faults.{AreDifferent, Fault, Taking}
 use Rattle.transcripts.specs.Record.{InnerTurn, TurnPlace, IsAfter, IsTurnPlace}
+use Rattle.transcripts.specs.Sweeps.{IsStatus, IsSweptOver}
 use Rattle.told_by.specs.Hears.{HearsOutcomes, InStretch}
 use Rattle.told_by.specs.Spans.{Spans}
 use Rattle.told_by.specs.Told.{ToldBy}
@@ -23,6 +25,7 @@ use Rattle.told_by.specs.Told.{ToldBy}
 -- an answer of the act's own kind, with what no event says of it
 abbrev pub IsOfKind : List Fault → Option MetaState → TurnPlace → Act → Answer → Type 0
 IsOfKind taking start p (act.Init rf shards seed nodes) (answer.Placed place version) = IsInitial rf shards nodes place × (version ≡ place.version)
+IsOfKind taking start p (act.Init rf shards seed nodes) (answer.Group shard) = IsInTheWay None (act.Init rf shards seed nodes) (answer.Group shard)
 IsOfKind taking start p (act.Init rf shards seed nodes) (answer.Disk name shard) = IsUnmade taking p nodes shards name shard
 IsOfKind taking start p (act.Namespace name block past future retention) answer.Done = ⊤
 IsOfKind taking start p (act.Now now) answer.Done = ⊤
@@ -34,12 +37,21 @@ IsOfKind taking start p (act.Restart node pick) (answer.Disk name shard) = ⊤
 IsOfKind taking start p (act.Bootstrap node asked) (answer.Available available place version) = IsBootstrapped start p node asked available place version
 IsOfKind taking start p (act.Bootstrap node asked) (answer.Disk name shard) = ⊤
 IsOfKind taking start p (act.Bootstrap node asked) (answer.Corrupt name shard damage) = ⊤
+IsOfKind taking start p (act.Add node group) b = IsStepOf taking start p (act.Add node group) b
+IsOfKind taking start p (act.Drain node) b = IsStepOf taking start p (act.Drain node) b
+IsOfKind taking start p (act.Cancel node) b = IsStepOf taking start p (act.Cancel node) b
+IsOfKind taking start p (act.Remove node) b = IsStepOf taking start p (act.Remove node) b
+IsOfKind taking start p (act.Replace node by group) b = IsStepOf taking start p (act.Replace node by group) b
 IsOfKind taking start p (act.Write ns id t v level version) (answer.Acks acks) = ⊤
 IsOfKind taking start p (act.Write ns id t v level version) (answer.Consistency got needed reasons shard) = ⊤
 IsOfKind taking start p (act.Fetch ns id from to level version) (answer.Found series short) = ⊤
 IsOfKind taking start p (act.Fetch ns id from to level version) (answer.Consistency got needed reasons shard) = ⊤
 IsOfKind taking start p (act.Match ns wanted from to level version) (answer.Found series short) = ⊤
 IsOfKind taking start p (act.Match ns wanted from to level version) (answer.Consistency got needed reasons shard) = ⊤
+IsOfKind taking start p act.Tick (answer.Swept done failed) = IsSweptOver start p done failed
+IsOfKind taking start p act.Flush (answer.Swept done failed) = IsSweptOver start p done failed
+IsOfKind taking start p act.Snapshot (answer.Swept done failed) = IsSweptOver start p done failed
+IsOfKind taking start p act.Status (answer.Status now lines version) = IsStatus start p now lines version
 IsOfKind taking start p _ _ = ⊥
 
 -- the refusal that is due, or an answer of the act's own kind where none is due

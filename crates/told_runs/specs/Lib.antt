@@ -7,3 +7,4 @@ pub mod LateSample
 pub mod BesideSample
 pub mod Broken
 pub mod Counted
+pub mod Steps

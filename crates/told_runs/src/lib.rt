@@ -6,4 +6,5 @@ pub mod lines;
 
 pub use lines::{
     broken_lines_are_refused, broken_sides_are_refused, lines_serve, served_line_by_line,
+    steps_serve,
 };

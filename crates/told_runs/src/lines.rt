@@ -3,6 +3,7 @@ ghost use Rattle.std.specs.Prelude.{Bool};
 ghost use Rattle.told_runs.specs.BesideSample.{LeavingAcks, PlacedForNothing};
 ghost use Rattle.told_runs.specs.Broken.{PlacesBeside, DeliversAgain, IsNeverServed, TakesElsewhere, UndueOrder};
 ghost use Rattle.told_runs.specs.Lines.{IsServedAfresh, IsServedAtFirst, IsServedLineByLine, KindServes};
+ghost use Rattle.told_runs.specs.Steps.{RefusedStepsServe, StepsServe, UntakenStepsServe};
 ghost use Rattle.told_by.specs.Lines.{ClockLine, InitLine, PlainLine, ReadLine, WriteLine};
 
 /// A run is served line by line: it is so before its first line, with nothing or with the state that it found, and each
@@ -38,4 +39,13 @@ pub fn broken_lines_are_refused()
 pub fn broken_sides_are_refused()
     ensures leaving { LeavingAcks }
     ensures placed { PlacedForNothing }
+{}
+
+/// A line that is to make a placement leaves a told run told and served: where it prints the one that its act leads to, and
+/// adds no more than makes it; where its act leads nowhere, for the refusal that is due or want of memory; and where the disk
+/// of a slot that the placement gives its first replica couldn't be taken. In the last two it adds nothing.
+pub fn steps_serve()
+    ensures made { (tells : Bool) → StepsServe tells }
+    ensures refused { (tells : Bool) → RefusedStepsServe tells }
+    ensures untaken { (tells : Bool) → UntakenStepsServe tells }
 {}

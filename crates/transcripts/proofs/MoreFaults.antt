@@ -12,13 +12,14 @@ use Rattle.m3_model.specs.declared.placement.Placement.{Placement}
 use Rattle.m3_model.specs.declared.reason.Reason.{Reason}
 use Rattle.m3_model.specs.declared.reason.Reason.TheVariants as reason
 use Rattle.m3_model.specs.declared.rules.MetaState.{MetaState}
-use Rattle.transcripts.specs.Caused.{CausedAt, IsDueBy, IsOwn, refusal_after}
+use Rattle.transcripts.specs.Caused.{CausedAt, IsDueBy, IsOwn, IsStepOf, refusal_after}
 use Rattle.transcripts.specs.Deliveries.{AreOutcomes, LateMessage, MayComeOf}
 use Rattle.transcripts.specs.Fates.{IsStoppedAt}
 use Rattle.transcripts.specs.Faults.{AreDifferent, Fault, IsClosedByFault}
 use Rattle.transcripts.specs.Levels.{AreSilent, IsFoundFor, MissesLevel}
 use Rattle.transcripts.specs.Reasons.{MayFail, MayRefuse}
 use Rattle.transcripts.specs.Record.{Record, TurnPlace}
+use Rattle.transcripts.specs.Sweeps.{IsSwept}
 
 -- all faults of one list are of the other
 abbrev pub AreAmong : List Fault → List Fault → Type 0
@@ -41,7 +42,7 @@ pub down_more : (faults more : List Fault) → AreAmong faults more → (start :
 down_more faults more among start p place shard node (inl stopped) = inl stopped
 down_more faults more among start p place shard node (inr closed) = inr (closed_more faults more among start p place shard node closed)
 
-failed_more : (tells : Bool) (faults more : List Fault) → AreAmong faults more → (start : Option MetaState) (p : TurnPlace) (place : Placement) (shard node : ℕ) (why : Reason) → MayFail tells faults start p place shard node why → MayFail tells more start p place shard node why
+pub failed_more : (tells : Bool) (faults more : List Fault) → AreAmong faults more → (start : Option MetaState) (p : TurnPlace) (place : Placement) (shard node : ℕ) (why : Reason) → MayFail tells faults start p place shard node why → MayFail tells more start p place shard node why
 failed_more tells faults more among start p place shard node reason.Down h = down_more faults more among start p place shard node h
 failed_more tells faults more among start p place shard node reason.Boot h = h
 failed_more tells faults more among start p place shard node reason.NotOwned h = h
@@ -108,8 +109,19 @@ outcomes_more tells faults more among start p (m ∷ messages) (outcome ∷ outc
 outcomes_more tells faults more among start p [] (outcome ∷ outcomes) h = absurd h
 outcomes_more tells faults more among start p (m ∷ messages) [] h = absurd h
 
+-- a step's answer is one also where more disks couldn't be taken
+pub step_more : (faults more : List Fault) → AreAmong faults more → (start : Option MetaState) (p : TurnPlace) (a : Act) (b : Answer) → IsStepOf faults start p a b → IsStepOf more start p a b
+step_more faults more among start p a (answer.Disk name shard) h =
+    let slot = h.2 in
+    (h.0, h.1, record { node = slot.node; named = slot.named; member = slot.member; is_new = slot.is_new; untaken = among _ slot.untaken })
+step_more faults more among start p a _ h = h
+
+swept_more : (tells : Bool) (faults more : List Fault) → AreAmong faults more → (start : Option MetaState) (p : TurnPlace) (done : List (ℕ × ℕ × ℕ)) (failed : List (ℕ × ℕ × Reason)) → IsSwept tells faults start p done failed → IsSwept tells more start p done failed
+swept_more tells faults more among start p done failed h = record { over = h.over; refused = λ x m. failed_more tells faults more among start p (h.over).place x.1 x.0 x.2 (h.refused x m) }
+
 pub own_more : (tells : Bool) (faults more : List Fault) → AreAmong faults more → (start : Option MetaState) (messages : List LateMessage) (p : TurnPlace) (a : Act) (b : Answer) → IsOwn tells faults start messages p a b → IsOwn tells more start messages p a b
 own_more tells faults more among start messages p (act.Init rf shards seed nodes) (answer.Placed place version) h = h
+own_more tells faults more among start messages p (act.Init rf shards seed nodes) (answer.Group shard) h = h
 own_more tells faults more among start messages p (act.Init rf shards seed nodes) (answer.Disk name shard) h = (h.0, h.1, h.2, among _ h.3)
 own_more tells faults more among start messages p (act.Namespace name block past future retention) answer.Done h = tt
 own_more tells faults more among start messages p (act.Now now) answer.Done h = tt
@@ -121,12 +133,21 @@ own_more tells faults more among start messages p (act.Restart node pick) (answe
 own_more tells faults more among start messages p (act.Bootstrap node asked) (answer.Available available place version) h = h
 own_more tells faults more among start messages p (act.Bootstrap node asked) (answer.Disk name shard) h = (h.0, h.1, (h.2.0, h.2.1, h.2.2, among _ h.2.3))
 own_more tells faults more among start messages p (act.Bootstrap node asked) (answer.Corrupt name shard damage) h = (h.0, h.1, (h.2.0, h.2.1, h.2.2, among _ h.2.3), h.3)
+own_more tells faults more among start messages p (act.Add node group) b h = step_more faults more among start p (act.Add node group) b h
+own_more tells faults more among start messages p (act.Drain node) b h = step_more faults more among start p (act.Drain node) b h
+own_more tells faults more among start messages p (act.Cancel node) b h = step_more faults more among start p (act.Cancel node) b h
+own_more tells faults more among start messages p (act.Remove node) b h = step_more faults more among start p (act.Remove node) b h
+own_more tells faults more among start messages p (act.Replace node by group) b h = step_more faults more among start p (act.Replace node by group) b h
 own_more tells faults more among start messages p (act.Write ns id t v level version) (answer.Acks acks) h = h
 own_more tells faults more among start messages p (act.Write ns id t v level version) (answer.Consistency got needed reasons shard) h = missed_more tells faults more among start p got needed reasons shard h
 own_more tells faults more among start messages p (act.Fetch ns id from to level version) (answer.Found series short) h = found_more tells faults more among start p (Some id) level version short h
 own_more tells faults more among start messages p (act.Fetch ns id from to level version) (answer.Consistency got needed reasons shard) h = missed_more tells faults more among start p got needed reasons shard h
 own_more tells faults more among start messages p (act.Match ns wanted from to level version) (answer.Found series short) h = found_more tells faults more among start p None level version short h
 own_more tells faults more among start messages p (act.Match ns wanted from to level version) (answer.Consistency got needed reasons shard) h = missed_more tells faults more among start p got needed reasons shard h
+own_more tells faults more among start messages p act.Tick (answer.Swept done failed) h = swept_more tells faults more among start p done failed h
+own_more tells faults more among start messages p act.Flush (answer.Swept done failed) h = swept_more tells faults more among start p done failed h
+own_more tells faults more among start messages p act.Snapshot (answer.Swept done failed) h = swept_more tells faults more among start p done failed h
+own_more tells faults more among start messages p act.Status (answer.Status now lines version) h = h
 own_more tells faults more among start messages p _ _ h = absurd h
 
 due_more : (tells : Bool) (faults more : List Fault) → AreAmong faults more → (start : Option MetaState) (messages : List LateMessage) (p : TurnPlace) (refusal : Option Answer) → IsDueBy tells faults start messages p refusal → IsDueBy tells more start messages p refusal

@@ -5,7 +5,6 @@ use Rattle.m3_model.specs.Ascends.{Ascends}
 use Rattle.m3_model.specs.Members.{IsIn}
 use Rattle.m3_model.specs.declared.limits.TheConstants.{MOST_EVENTS, MOST_REQUEST_EVENTS}
 use Rattle.m3_model.specs.declared.placement.Placement.{Placement}
-use Rattle.m3_model.specs.declared.reason.Reason.{Reason}
 use Rattle.m3_model.specs.declared.rules.MetaState.{MetaState}
 use Rattle.m3_model.specs.declared.act.Act.{Act}
 use Rattle.m3_model.specs.declared.act.Act.TheVariants as act
@@ -18,15 +17,17 @@ use Rattle.m3_model.specs.declared.turn.Reply.TheVariants as reply
 use Rattle.m3_model.specs.declared.turn.Turn.{Turn}
 use Rattle.placement_plan.specs.First.{IsInitial}
 use Rattle.placement_plan.specs.Plans.{AreJoining, IsAvailable}
+use Rattle.placement_acts.specs.Acts.{IsInTheWay, Plans}
 use Rattle.transcripts.specs.Deliveries.{LateMessage, IsDelivered, IsSameMessage, IsSamePlace}
 use Rattle.transcripts.specs.Fates.{is_stopped, OfNode}
 use Rattle.transcripts.specs.Faults.{Fault, AreDifferent, IsUntaken, HasFailed, IsDamaged}
 use Rattle.transcripts.specs.Levels.{IsAcked, MissesLevel, IsFoundFor}
 use Rattle.transcripts.specs.Placements.{placement_after, placement_at, placements, start_placement, HadReplica, MayStand, has_replica}
 use Rattle.transcripts.specs.Reasons.{IsShown}
-use Rattle.transcripts.specs.Record.{Record, Life, InnerTurn, TurnPlace, IsTurnPlace, IsAfter, acts_of, inner_turns}
-use Rattle.transcripts.specs.Refusals.{refusal_by}
+use Rattle.transcripts.specs.Record.{Record, Life, InnerTurn, TurnPlace, IsTurnPlace, IsAfter, acts_of, inner_turns, lists_of}
+use Rattle.transcripts.specs.Refusals.{kept_versions, refusal_by}
 use Rattle.transcripts.specs.Rules.{rules_at}
+use Rattle.transcripts.specs.Sweeps.{IsStatus, IsSwept}
 use Rattle.transcripts.specs.Waiting.{is_covering}
 
 -- ---- answers that are the act's own
@@ -60,6 +61,23 @@ NamesNode nodes name node = (group : List ℕ) × (slice_get nodes node ≡ Some
 -- the disk of one of the shards that `init` asks for couldn't be taken, on the node of this name
 abbrev pub IsUnmade : List Fault → TurnPlace → List (List ℕ × List ℕ) → ℕ → List ℕ → ℕ → Type 0
 IsUnmade faults p nodes shards name shard = (node : ℕ) × NamesNode nodes name node × (shard < shards) × IsUntaken faults p shard node
+
+-- the disk of a slot that the placement gives a replica, and that had none before, couldn't be taken; the placement calls its node so
+pub record IsUnmadeIn (faults : List Fault) (start : Option MetaState) (p : TurnPlace) (place : Placement) (name : List ℕ) (shard : ℕ) : Type 0 where
+  pub node : ℕ
+  pub named : OfNode place node (λ own. own ≡ name)
+  pub member : IsTrue (has_replica (Some place) shard node)
+  pub is_new : ¬ HadReplica start (inner_turns p.lines) shard node
+  pub untaken : IsUntaken faults p shard node
+
+-- A step from the placement before the line of an act, which is the only one of its line: the next placement and its version are printed; or what is in the way of
+-- it is named; or a slot of it whose disk couldn't be taken.
+abbrev pub IsStepOf : List Fault → Option MetaState → TurnPlace → Act → Answer → Type 0
+IsStepOf faults start p a (answer.Placed next version) = (lists_of p.line ≡ (p.turn ∷ []) ∷ []) × Plans (placement_at start p) a next × (version ≡ next.version)
+IsStepOf faults start p a (answer.Busy name shard) = IsInTheWay (placement_at start p) a (answer.Busy name shard)
+IsStepOf faults start p a (answer.Group shard) = IsInTheWay (placement_at start p) a (answer.Group shard)
+IsStepOf faults start p a (answer.Disk name shard) = (next : Placement) × Plans (placement_at start p) a next × IsUnmadeIn faults start p next name shard
+IsStepOf faults start p a _ = ⊥
 
 -- the moves of these shards to the bootstrap's node end: it covers them and is joining them, and they stand by number
 pub record EndsMoves (before : Placement) (name : List ℕ) (asked : Option ℕ) (available : List (ℕ × List ℕ)) (place : Placement) : Type 0 where
@@ -95,6 +113,7 @@ pub record IsBootstrapped (start : Option MetaState) (p : TurnPlace) (name : Lis
 -- the answer is the act's own: ok, or too few replicas answered; what a read finds is said by what it keeps
 abbrev pub IsOwn : Bool → List Fault → Option MetaState → List LateMessage → TurnPlace → Act → Answer → Type 0
 IsOwn tells faults start messages p (act.Init rf shards seed nodes) (answer.Placed place version) = IsInitial rf shards nodes place × (version ≡ place.version)
+IsOwn tells faults start messages p (act.Init rf shards seed nodes) (answer.Group shard) = IsInTheWay None (act.Init rf shards seed nodes) (answer.Group shard)
 IsOwn tells faults start messages p (act.Init rf shards seed nodes) (answer.Disk name shard) = IsUnmade faults p nodes shards name shard
 IsOwn tells faults start messages p (act.Namespace name block past future retention) answer.Done = ⊤
 IsOwn tells faults start messages p (act.Now now) answer.Done = ⊤
@@ -106,12 +125,21 @@ IsOwn tells faults start messages p (act.Restart node pick) (answer.Disk name sh
 IsOwn tells faults start messages p (act.Bootstrap node asked) (answer.Available available place version) = IsBootstrapped start p node asked available place version
 IsOwn tells faults start messages p (act.Bootstrap node asked) (answer.Disk name shard) = (name ≡ node) × IsTrue (is_covering shard asked) × OnDisk faults start p (IsMemberBefore start p shard) name shard
 IsOwn tells faults start messages p (act.Bootstrap node asked) (answer.Corrupt name shard damage) = (name ≡ node) × IsTrue (is_covering shard asked) × InFiles faults start p (IsMemberBefore start p shard) name shard × IsShown damage
+IsOwn tells faults start messages p (act.Add node group) b = IsStepOf faults start p (act.Add node group) b
+IsOwn tells faults start messages p (act.Drain node) b = IsStepOf faults start p (act.Drain node) b
+IsOwn tells faults start messages p (act.Cancel node) b = IsStepOf faults start p (act.Cancel node) b
+IsOwn tells faults start messages p (act.Remove node) b = IsStepOf faults start p (act.Remove node) b
+IsOwn tells faults start messages p (act.Replace node by group) b = IsStepOf faults start p (act.Replace node by group) b
 IsOwn tells faults start messages p (act.Write ns id t v level version) (answer.Acks acks) = IsAcked start p id level version acks
 IsOwn tells faults start messages p (act.Write ns id t v level version) (answer.Consistency got needed reasons shard) = MissesLevel tells faults start p got needed reasons shard
 IsOwn tells faults start messages p (act.Fetch ns id from to level version) (answer.Found series short) = IsFoundFor tells faults start p (Some id) level version short
 IsOwn tells faults start messages p (act.Fetch ns id from to level version) (answer.Consistency got needed reasons shard) = MissesLevel tells faults start p got needed reasons shard
 IsOwn tells faults start messages p (act.Match ns wanted from to level version) (answer.Found series short) = IsFoundFor tells faults start p None level version short
 IsOwn tells faults start messages p (act.Match ns wanted from to level version) (answer.Consistency got needed reasons shard) = MissesLevel tells faults start p got needed reasons shard
+IsOwn tells faults start messages p act.Tick (answer.Swept done failed) = IsSwept tells faults start p done failed
+IsOwn tells faults start messages p act.Flush (answer.Swept done failed) = IsSwept tells faults start p done failed
+IsOwn tells faults start messages p act.Snapshot (answer.Swept done failed) = IsSwept tells faults start p done failed
+IsOwn tells faults start messages p act.Status (answer.Status now lines version) = IsStatus start p now lines version
 IsOwn tells faults start messages p _ _ = ⊥
 
 -- ---- answers that are due
@@ -121,10 +149,17 @@ abbrev pub IsDueBy : Bool → List Fault → Option MetaState → List LateMessa
 IsDueBy tells faults start messages p (Some refusal) = p.turn.answer ≡ refusal
 IsDueBy tells faults start messages p None = IsOwn tells faults start messages p p.turn.act p.turn.answer
 
+-- the versions of all placements from the start on
+abbrev pub versions_after : Option MetaState → List InnerTurn → List ℕ
+versions_after start turns = map (λ place. place.version) (placements start turns)
+
+-- how many versions are kept after these turns, where the placement stands
+abbrev pub kept_after : Option MetaState → List InnerTurn → Placement → ℕ
+kept_after start turns place = kept_versions (Some place) (versions_after start turns)
+
 -- the refusal that is due after these turns, if one is
 abbrev pub refusal_after : Option MetaState → TurnPlace → List InnerTurn → Option Answer
-refusal_after start p turns =
-    refusal_by (placement_after (start_placement start) turns) (map (λ place. place.version) (placements start turns)) (rules_at start p) (is_stopped (inner_turns p.lines)) p.turn.act
+refusal_after start p turns = refusal_by (placement_after (start_placement start) turns) (versions_after start turns) (rules_at start p) (is_stopped (inner_turns p.lines)) p.turn.act
 
 -- the answer is the one that is due after some turns after which it may have been given
 abbrev pub IsDue : Bool → List Fault → Option MetaState → List LateMessage → TurnPlace → Type 0

@@ -11,6 +11,7 @@ pub mod Reasons
 pub mod Levels
 pub mod Moves
 pub mod Deliveries
+pub mod Sweeps
 pub mod Joined
 pub mod Kept
 pub mod Caused

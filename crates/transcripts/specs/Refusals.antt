@@ -1,5 +1,5 @@
 -- What the turns before an act refuse it for: its place among the lines, a name, a limit, a moment.
-use Rattle.std.specs.Prelude.{ℕ, List, length, Option, Some, None, option_map, Bool, true, false, if◌then◌else◌, not, is_some, nat_eq, nat_le, nat_lt, ◌∷◌, [], decimal}
+use Rattle.std.specs.Prelude.{ℕ, suc, ◌-◌, List, length, Option, Some, None, option_map, option_and_then, Bool, true, false, if◌then◌else◌, not, is_some, nat_eq, nat_le, nat_lt, ◌∷◌, [], decimal}
 use Rattle.std.specs.List.{list_any}
 use Rattle.std.specs.Option.{option_map_or, option_or}
 use Rattle.m3_model.specs.Rules.{namespace_place}
@@ -13,10 +13,7 @@ use Rattle.m3_model.specs.declared.act.Act.TheVariants as act
 use Rattle.m3_model.specs.declared.act.Fate.{Fate}
 use Rattle.m3_model.specs.declared.answer.Answer.{Answer}
 use Rattle.m3_model.specs.declared.answer.Answer.TheVariants as answer
-
--- this answer, where the test holds
-abbrev pub answer_if : Bool → Answer → Option Answer
-answer_if test a = if test then Some a else None
+use Rattle.placement_acts.specs.Acts.{answer_if, names_due, versions_due}
 
 -- a name that the act is to make is there already
 abbrev pub is_taken : Placement → List Space → Act → Bool
@@ -72,10 +69,22 @@ missing_name place versions spaces (act.Remove node) = missing_node place node
 missing_name place versions spaces (act.Replace node by group) = missing_node place node
 missing_name place versions spaces _ = None
 
--- the limit that an act would pass
-abbrev pub limit_reached : List Space → Act → Option Answer
-limit_reached spaces (act.Namespace name block past future retention) = answer_if (nat_le MOST_NAMESPACES (length spaces)) (answer.Limit MOST_NAMESPACES)
-limit_reached spaces _ = None
+-- the name of a node is new, and as many are known as may be
+abbrev pub names_reached : Option Placement → List ℕ → Option Answer
+names_reached place name = option_and_then (λ p. names_due p name) place
+
+-- How many versions are kept, of these that were printed, one more than once perhaps: all from that of the first placement, which the run opened with or made,
+-- to that of the one that stands.
+abbrev pub kept_versions : Option Placement → List ℕ → ℕ
+kept_versions (Some place) (first ∷ versions) = suc place.version - first
+kept_versions _ _ = 0
+
+-- the limit that an act would pass: of namespaces, of names of nodes, or else of versions
+abbrev pub limit_reached : Option Placement → List ℕ → List Space → Act → Option Answer
+limit_reached place versions spaces (act.Namespace name block past future retention) = answer_if (nat_le MOST_NAMESPACES (length spaces)) (answer.Limit MOST_NAMESPACES)
+limit_reached place versions spaces (act.Add node group) = option_or (names_reached place node) (versions_due (kept_versions place versions) (act.Add node group))
+limit_reached place versions spaces (act.Replace node by group) = option_or (names_reached place by) (versions_due (kept_versions place versions) (act.Replace node by group))
+limit_reached place versions spaces a = versions_due (kept_versions place versions) a
 
 -- the moment, where an act would lower it
 abbrev pub lowered_moment : ℕ → Act → Option Answer
@@ -89,9 +98,9 @@ wrong_state stopped (act.Bootstrap node shard) = answer_if (stopped node) (answe
 wrong_state stopped (act.Restart node pick) = answer_if (not (stopped node)) (answer.State node)
 wrong_state stopped _ = None
 
--- the first refusal that the turns before decide, by the placement that stands, the versions that are kept, the rules and the stopped nodes: out of order, unknown, limit, clock, state
+-- the first refusal that the turns before decide, by the placement that stands, the versions that were printed, the rules and the stopped nodes: out of order, unknown, limit, clock, state
 abbrev pub refusal_by : Option Placement → List ℕ → Rules → (List ℕ → Bool) → Act → Option Answer
 refusal_by place versions rules stopped a =
     option_or (answer_if (is_out_of_order place rules.spaces a) answer.Order)
     (option_or (option_map (λ name. answer.Unknown name) (missing_name place versions rules.spaces a))
-    (option_or (limit_reached rules.spaces a) (option_or (lowered_moment rules.now a) (wrong_state stopped a))))
+    (option_or (limit_reached place versions rules.spaces a) (option_or (lowered_moment rules.now a) (wrong_state stopped a))))

@@ -1,8 +1,8 @@
-mod JoinedLemmas
-mod AnswerLemmas
-mod PickedLemmas
-mod RetainLemmas
+pub mod JoinedLemmas
+pub mod AnswerLemmas
+pub mod PickedLemmas
+pub mod RetainLemmas
 pub mod VolumeLemmas
-mod KnownLemmas
-mod ReadLemmas
-mod BlockLemmas
+pub mod KnownLemmas
+pub mod ReadLemmas
+pub mod BlockLemmas

@@ -5,7 +5,7 @@ use Rattle.first_cluster.specs.Depots.{depot_by}
 use Rattle.first_cluster.specs.First.{opening_of}
 use Rattle.first_cluster.specs.Lending.{AreOpened, IsUnopened, MayNotOpen}
 use Rattle.first_cluster.specs.Slots.{slots_in}
-use Rattle.first_cluster.proofs.FirstLemmas.{at_first_moment, few_enough, few_spaces, first_out, first_ready, refused_by, slots_few}
+use Rattle.first_cluster.proofs.FirstLemmas.{at_first_moment, few_enough, few_spaces, first_out, first_ready, refused_by, sized_spaces, slots_few}
 use Rattle.first_cluster.proofs.GiveAll.{returned_none}
 use Rattle.first_cluster.proofs.PlacedSlots.{few_slots, few_starts, node_low, slots_same, tenure_first}
 use Rattle.first_cluster.proofs.first.first_members.Goals as goal
@@ -33,6 +33,9 @@ returns-in-Err-Disk-clause-refused g c =
 
 pub invariant_of-members-clause-few : goal.invariant_of-members-clause-few
 invariant_of-members-clause-few g c = few_spaces c.in-Ok.plan.state.rules c.in-Ok.ensures.rules
+
+pub invariant_of-members-clause-sizes : goal.invariant_of-members-clause-sizes
+invariant_of-members-clause-sizes g c = sized_spaces c.in-Ok.plan.state.rules c.in-Ok.ensures.rules
 
 pub invariant_of-members-clause-moment : goal.invariant_of-members-clause-moment
 invariant_of-members-clause-moment g c = at_first_moment c.in-Ok.plan.state.rules c.in-Ok.ensures.rules

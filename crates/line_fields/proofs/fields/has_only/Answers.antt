@@ -4,12 +4,14 @@ use Rattle.json.specs.Value.{members_view}
 use Rattle.serde_json.specs.Data.{no_members}
 use Rattle.line_parse.specs.Contents.{members_data}
 use Rattle.line_fields.specs.Fields.{has_only, keys_within}
-use Rattle.line_fields.proofs.Keys.{keys_within-members_data, all_and_none}
+use Rattle.line_fields.proofs.Keys.{keys_within-members_data, all_of_texts, all_and_none}
 use Rattle.line_fields.proofs.fields.has_only.Goals as goal
 
 pub returns-in-Some : goal.returns-in-Some
 unfolding has_only
 returns-in-Some c =
     let members = c.in-Some.members.now in
+    let keys = map (λ one. one.now) c.args.allowed.now in
     let object = sym c.as_object.ensures ∙ ap (option_map (λ m. members_data (members_view m.now) no_members)) c.in-Some.is in
-    c.are_allowed.ensures ∙ sym (ap (λ o. option_map_or (keys_within (map (λ one. one.now) c.args.allowed.now)) o false) object ∙ keys_within-members_data c.args.allowed.now members no_members ∙ all_and_none _)
+    c.are_allowed.ensures ∙ all_of_texts c.args.allowed.now members
+    ∙ sym (ap (λ o. option_map_or (keys_within keys) o false) object ∙ keys_within-members_data keys members no_members ∙ all_and_none _)

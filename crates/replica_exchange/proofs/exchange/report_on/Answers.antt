@@ -27,7 +27,7 @@ returns-clause-answered g c =
     let e = c.report-report.ensures in inr (record {
       said = Ok c.report-report.result;
       step = e.step;
-      promised = record { ok = (e.standing, e.fence, e.held, e.limit, e.counts); never_refused = tt; stays = refl };
+      promised = record { ok = (e.standing, e.fence, e.held, e.limit); volumes = e.volumes; segments = e.segments; snapshot = e.snapshot; not_open = e.not_open; never_refused = tt; stays = refl };
       first = refl;
       adds = (both g c).adds;
       told = refl;

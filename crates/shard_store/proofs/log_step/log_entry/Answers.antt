@@ -3,7 +3,7 @@ use Rattle.std.specs.Prelude.{⊤, IsErr, IsErrOf}
 use Rattle.m3_outside.specs.Causes.{CountsFaults}
 use Rattle.m3_outside.specs.declared.disk_err.DiskErr.TheVariants.{Failed as DiskFailed}
 use Rattle.shard_files.specs.LogSteps.{gain_in}
-use Rattle.shard_store.proofs.LogStepLemmas.{err_is, brings_nothing, brings_fault, brings_all, after_nothing, steps_after_nothing}
+use Rattle.shard_store.proofs.LogStepLemmas.{err_is, err_to, brings_nothing, brings_fault, brings_all, after_nothing, steps_after_nothing}
 use Rattle.shard_open.proofs.Counts.{counts_both, counts_for}
 use Rattle.shard_store.proofs.log_step.log_entry.Goals as goal
 
@@ -29,4 +29,13 @@ returns-clause-brings g c e is =
     (counts_for (IsErr c.append_entry.result) ⊥ _ _ (λ none. absurd none) (counts_both _ _ _ _ _ c.ready_entry.ensures.faults c.append_entry.ensures.faults))
 
 pub returns-clause-kept : goal.returns-clause-kept
-returns-clause-kept g c e is memory tenure fence kept = c.in_ok-append_entry.ensures.kept e is memory tenure fence (c.ready_entry.ensures.kept memory tenure fence kept)
+returns-clause-kept g c e is memory known tenure fence kept = c.in_ok-append_entry.ensures.kept e is memory known tenure fence (c.ready_entry.ensures.kept memory known tenure fence kept)
+
+pub returns-clause-counts : goal.returns-clause-counts
+returns-clause-counts g c = λ tells fine missing snapshot has.
+    c.in_ok-append_entry.ensures.counts (c.ready_entry.ensures.tells ∙ tells) missing snapshot (c.ready_entry.ensures.counts tells (λ f. let was = c.in_ok-ready_entry.was in let bad = f in cc) missing snapshot has)
+
+pub returns-in_err-ready_entry-clause-counts : goal.returns-in_err-ready_entry-clause-counts
+returns-in_err-ready_entry-clause-counts g c = λ tells fine.
+    let why = c.in_err-ready_entry.field-0.0 in
+    c.ready_entry.ensures.counts tells (λ f. fine (err_to c.from_residual.result c.ready_entry.result why DiskFailed (err_is c.from_residual.result why c.from_residual.ensures) c.in_err-ready_entry.was f))

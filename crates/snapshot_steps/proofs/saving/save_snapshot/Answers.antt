@@ -1,9 +1,12 @@
-use Rattle.std.proofs.Common.{◌∙◌, ap}
+use Rattle.std.proofs.Common.{◌∙◌, ap, sym, subst}
 use Rattle.m3_outside.specs.declared.disk_err.DiskErr.TheVariants.{Memory}
 use Rattle.commit_log.specs.Contents.{numbers}
 use Rattle.commit_log.proofs.Begin.{stands_stays}
+use Rattle.shard_files.specs.Parts.{IsNewestNumber}
 use Rattle.volume_steps.proofs.RemovalLemmas.{left_moment}
 use Rattle.snapshot_steps.specs.Saved.{snapshot_of}
+use Rattle.snapshot_steps.proofs.FilesLemmas.{unsaved_newest}
+use Rattle.snapshot_steps.proofs.LogCounts.{newest_by}
 use Rattle.snapshot_steps.proofs.StepLemmas.{save_moment, save_known, save_none, save_segments, save_stands, next_is_new, err_is, err_to}
 use Rattle.snapshot_steps.proofs.saving.save_snapshot.Goals as goal
 
@@ -49,3 +52,16 @@ returns-clause-segments g c tells =
 pub returns-clause-log_stands : goal.returns-clause-log_stands
 returns-clause-log_stands g c log stands =
     save_stands (snapshot_of c.in_ok-number.number c.args.tenure c.args.fence c.args.first c.args.points) log (g.D.Disk.state c.next_number.new.disk) (g.D.Disk.state c.save.new.disk) c.save.ensures.tells c.save.ensures.files c.save.ensures.any_moment (stands_stays log _ (g.D.Disk.state c.args.disk.now) (g.D.Disk.state c.next_number.new.disk) c.next_number.ensures.leaves stands)
+
+pub returns-in_err-number-clause-newest : goal.returns-in_err-number-clause-newest
+returns-in_err-number-clause-newest g c tells wanted n is = subst (IsNewestNumber n) (sym (c.next_number.ensures.leaves.files tells)) is
+
+pub returns-in_err-save-clause-newest : goal.returns-in_err-save-clause-newest
+returns-in_err-save-clause-newest g c tells wanted n is =
+    let told = c.next_number.ensures.leaves.proceeds.tells ∙ tells in
+    let why = c.in_err-save.field-0.0 in
+    newest_by (g.D.Disk.state c.next_number.new.disk).files (g.D.Disk.state c.save.new.disk).files
+    (unsaved_newest (g.D.Disk.state c.next_number.new.disk).files (g.D.Disk.state c.save.new.disk).files c.in_ok-number.number
+    (next_is_new c.in_ok-number.number (g.D.Disk.state c.args.disk.now) (g.D.Disk.state c.next_number.new.disk) _ c.next_number.ensures.leaves c.in_ok-number.ensures.ok told)
+    (c.save.ensures.not_there told (err_to c.save.result c.from_residual-in_err-save.result why Memory c.in_err-save.was (err_is c.from_residual-in_err-save.result why c.from_residual-in_err-save.ensures) wanted)))
+    n (subst (IsNewestNumber n) (sym (c.next_number.ensures.leaves.files tells)) is)

@@ -1,8 +1,12 @@
-use Rattle.std.proofs.Common.{◌∙◌}
+use Rattle.std.proofs.Common.{◌∙◌, ap}
 use Rattle.m3_outside.specs.declared.disk_err.DiskErr.TheVariants.{Memory}
+use Rattle.m3_outside.specs.Files.{files_with_zeros}
 use Rattle.m3_outside.proofs.Moments.{becomes_both, becomes_stays}
+use Rattle.commit_log.specs.Segment.{segment}
 use Rattle.commit_log.proofs.Begin.{stands_stays}
 use Rattle.volume_steps.proofs.RemovalLemmas.{left_moment, left_known}
+use Rattle.shard_files.specs.Steps.{next_snapshot}
+use Rattle.snapshot_steps.proofs.NextNumbers.{begun_next}
 use Rattle.snapshot_steps.proofs.StepLemmas.{then_keeps, begin_moment, begin_known, err_is, err_to, same_stands}
 use Rattle.snapshot_steps.proofs.segment.begin_segment.Goals as goal
 
@@ -44,3 +48,17 @@ returns-clause-any_moment g c kept memory known tenure fence each have tells =
 pub returns-clause-known : goal.returns-clause-known
 returns-clause-known g c memory known tenure fence each =
     begin_known c.in_ok-segments.segments.next (g.D.Disk.state c.list_segments.new.disk) (g.D.Disk.state c.begin.new.disk) ((g.met.D.Disk g.world.𝓛 g.world.𝓜 g.world.𝓡 ((λ s x. x), (λ x. x), (λ x. x), (λ x. x))).lawful c.list_segments.new.disk) c.in_ok-segments.ensures.fresh memory known tenure fence c.begin.ensures.tells c.begin.ensures.any_moment (left_known _ (g.D.Disk.state c.args.disk.now) (g.D.Disk.state c.list_segments.new.disk) c.list_segments.ensures.leaves each)
+
+pub returns-in_err-segments-clause-snapshots : goal.returns-in_err-segments-clause-snapshots
+returns-in_err-segments-clause-snapshots g c tells = ap next_snapshot (c.list_segments.ensures.leaves.files tells)
+
+pub returns-in_err-log-clause-snapshots : goal.returns-in_err-log-clause-snapshots
+returns-in_err-log-clause-snapshots g c tells =
+    begun_next c.in_ok-segments.segments.next (g.D.Disk.state c.list_segments.new.disk) (g.D.Disk.state c.begin.new.disk) (c.begin.ensures.files (c.list_segments.ensures.leaves.proceeds.tells ∙ tells)) ∙ ap next_snapshot (c.list_segments.ensures.leaves.files tells)
+
+pub returns-clause-snapshots : goal.returns-clause-snapshots
+returns-clause-snapshots g c tells =
+    begun_next c.in_ok-segments.segments.next (g.D.Disk.state c.list_segments.new.disk) (g.D.Disk.state c.begin.new.disk) (c.begin.ensures.files (c.list_segments.ensures.leaves.proceeds.tells ∙ tells)) ∙ ap next_snapshot (c.list_segments.ensures.leaves.files tells)
+
+pub returns-clause-made : goal.returns-clause-made
+returns-clause-made g c tells = (c.in_ok-log.ensures.made (c.list_segments.ensures.leaves.proceeds.tells ∙ tells)).files ∙ ap (files_with_zeros (segment c.in_ok-segments.segments.next) 65536) (c.list_segments.ensures.leaves.files tells)

@@ -1,20 +1,43 @@
-use Rattle.std.proofs.Common.{◌≡◌, ℕ, Some, get_or, sym, subst}
-use Rattle.std.specs.Prelude.{IsSome, slice_get}
-use Rattle.std.specs.BTreeSet.{contains}
-use Rattle.std.proofs.lemmas.Option.{slice_get-get_or}
+use Rattle.std.proofs.Common.{◌<◌, ◌≤◌, length, sym, subst, arith}
+use Rattle.std.specs.Prelude.{IsSome}
 use Rattle.series_slots.specs.SeriesKeys.{series_of}
 use Rattle.series_slots.specs.Points.{slot_at}
 use Rattle.series_slots.specs.Places.{Places, slots_of}
-use Rattle.block_buffer.specs.Timed.{time_cmp}
-use Rattle.block_buffer.proofs.TimedLemmas.{numbered}
-use Rattle.block_buffer.proofs.FirstLemmas.{slot_place}
+use Rattle.block_buffer.proofs.EntryLemmas.{entry_at}
+use Rattle.block_buffer.proofs.FirstLemmas.{slot_place, none_yet, first_more, none_of_all, first_of_all}
 use Rattle.block_buffer.proofs.all_series.AllSeries.first.Goals as goal
+
+pub loop-place-init : goal.loop-place-init
+loop-place-init c = none_yet c.args.self.now c.args.ns c.args.low
+
+pub first_at-requires : goal.first_at-requires
+first_at-requires c =
+    let below = c.loop-place-test.true in
+    let end = c.len-place-end.ensures in
+    let at = entry_at c.args.self.now c.loop-place.place (subst (λ (ps : Places). c.loop-place.place < length ps) c.self.view_is (omega (arith, below, end))) in
+    (at.0, record { slots = at.1; entry = at.2 })
+
+pub loop-place-preserved : goal.loop-place-preserved
+loop-place-preserved c =
+    let below = c.loop-place-test.true in
+    let end = c.len-place-end.ensures in
+    let at = entry_at c.args.self.now c.loop-place.place (subst (λ (ps : Places). c.loop-place.place < length ps) c.self.view_is (omega (arith, below, end))) in
+    first_more c.args.self.now c.args.ns c.args.low c.loop-place.place c.loop-place.first c.first_at.result c.earlier-first.result c.loop-place.invariant c.earlier-first.ensures.one c.earlier-first.ensures.first
+    c.earlier-first.ensures.second at.0 (record { slots = at.1; entry = at.2 }) c.first_at.ensures.none c.first_at.ensures.some
+
+pub returns-clause-none : goal.returns-clause-none
+returns-clause-none c e =
+    let past = c.loop-place-test.false in
+    let end = c.len-place-end.ensures in
+    none_of_all c.args.self.now c.args.ns c.args.low c.loop-place.place (subst (λ (ps : Places). length ps ≤ c.loop-place.place) c.self.view_is (omega (arith, past, end))) c.loop-place.first e c.loop-place.invariant
+
+pub returns-clause-some : goal.returns-clause-some
+returns-clause-some c =
+    let past = c.loop-place-test.false in
+    let end = c.len-place-end.ensures in
+    first_of_all c.args.self.now c.args.ns c.args.low c.loop-place.place (subst (λ (ps : Places). length ps ≤ c.loop-place.place) c.self.view_is (omega (arith, past, end))) c.loop-place.first c.loop-place.invariant
 
 pub returns-clause-small : goal.returns-clause-small
 returns-clause-small c k h =
-    let es : Places = c.self.inside.placed in
-    let at = slot_place es k (subst (λ (ps : Places). IsSome (slot_at (slots_of ps) k)) (sym c.self.view_is) h) in
-    let n : ℕ = get_or c.self.inside.numbers at.place 0 in
-    let number : slice_get c.self.inside.numbers at.place ≡ Some n =
-    slice_get-get_or c.self.inside.numbers at.place 0 (numbered es c.self.inside.numbers (contains time_cmp c.self.inside.times) at.place (series_of k, at.slots) c.self.invariant.0 at.entry) in
-    c.self.invariant.0.small (k.ns, k.t, n) (c.self.invariant.0.listed at.place n k.t (series_of k) at.slots number at.entry at.slot)
+    let at = slot_place c.self.inside.placed k (subst (λ (ps : Places). IsSome (slot_at (slots_of ps) k)) (sym c.self.view_is) h) in
+    c.self.invariant.0 at.place (series_of k, at.slots) at.entry k.t at.slot

@@ -1,16 +1,14 @@
-use Rattle.std.proofs.Common.{◌≡◌, ℕ, List, Bool, true, false, length, get_or, Some, refl, ap, sym, subst, ◌∙◌}
-use Rattle.std.specs.Prelude.{Option, IsSome, MatchOption, slice_get, swap_remove}
+use Rattle.std.proofs.Common.{◌≡◌, Bool, true, false, length, Some, refl, ap, sym, subst, ◌∙◌}
+use Rattle.std.specs.Prelude.{Option, IsSome, MatchOption, slice_get}
 use Rattle.std.specs.FinMap.{entries}
-use Rattle.std.specs.BTreeSet.{contains}
-use Rattle.std.proofs.lemmas.Option.{slice_get-get_or}
 use Rattle.series_slots.specs.declared.series_key.SeriesKey.{SeriesKey}
 use Rattle.series_slots.specs.SeriesKeys.{key_at}
 use Rattle.series_slots.specs.Slots.{Slots}
 use Rattle.series_slots.specs.Points.{slot_at}
 use Rattle.series_slots.specs.Places.{Places, slots_of}
-use Rattle.block_buffer.specs.Timed.{time_cmp, IsTimed, SpacesBelow, HasNoSlots, HasSlots}
+use Rattle.block_buffer.specs.AllSeries.{TimesFit, SpacesBelow, HasNoSlots, HasSlots}
 use Rattle.block_buffer.proofs.SetLemmas.{slot_found, some_slot, left_same, left_empty}
-use Rattle.block_buffer.proofs.TimedLemmas.{numbered, timed_left, spaces_left}
+use Rattle.block_buffer.proofs.EntryLemmas.{times_left, spaces_left}
 use Rattle.block_buffer.proofs.all_series.AllSeries.leave.Goals as goal
 
 off_on : (b : Bool) → b ≡ false → b ≡ true → ⊥
@@ -29,29 +27,15 @@ returns-then-not-is_vacant-clause-left c s at =
           (subst IsSome (sym (slot_found (slots_of es) s at.slots t.0 (c.is_vacant.ensures.found s at.slots there))) t.1);
     }
 
-pub swap_remove-requires : goal.swap_remove-requires
-swap_remove-requires c =
-    let es : Places = c.self.inside.placed in
-    let s : SeriesKey = c.requires.0 in
-    let v : Slots = c.requires.1.slots in
-    let there : slice_get es c.args.place ≡ Some (s, v) = subst (λ (ps : Places). slice_get ps c.args.place ≡ Some (s, v)) (sym c.self.view_is) c.requires.1.entry in
-    numbered es c.self.inside.numbers (contains time_cmp c.self.inside.times) c.args.place (s, v) c.self.invariant.0 there
-
 pub invariant_of-self : goal.invariant_of-self
 invariant_of-self c =
     let es : Places = c.self.inside.placed in
     let s : SeriesKey = c.requires.0 in
     let v : Slots = c.requires.1.slots in
     let there : slice_get es c.args.place ≡ Some (s, v) = subst (λ (ps : Places). slice_get ps c.args.place ≡ Some (s, v)) (sym c.self.view_is) c.requires.1.entry in
-    let numbers : List ℕ = c.self.inside.numbers in
-    let n : ℕ = get_or numbers c.args.place 0 in
-    let number : slice_get numbers c.args.place ≡ Some n = slice_get-get_or numbers c.args.place 0 (numbered es numbers (contains time_cmp c.self.inside.times) c.args.place (s, v) c.self.invariant.0 there) in
-    let none : length (entries v) ≡ 0 = (c.is_vacant.ensures.vacant s v there).0 c.if-not-is_vacant.false in
     let done = c.remove.ensures.removed s v there in (
-      subst (λ (ps : Places). IsTimed ps c.swap_remove.new.self (contains time_cmp c.self.inside.times)) (sym done.placed)
-          (subst (λ (ns : List ℕ). IsTimed (swap_remove es c.args.place (s, v)) ns (contains time_cmp c.self.inside.times)) (sym (c.swap_remove.ensures n number))
-          (timed_left es numbers (contains time_cmp c.self.inside.times) c.self.invariant.0 c.args.place s v there n number none)),
-      subst (λ (ps : Places). SpacesBelow c.self.inside.spaces ps) (sym done.placed) (spaces_left c.self.inside.spaces es c.args.place s v there c.self.invariant.1),
+      subst TimesFit (sym done.placed) (times_left es c.args.place s v there c.self.invariant.0),
+      subst (SpacesBelow c.self.inside.spaces) (sym done.placed) (spaces_left c.self.inside.spaces es c.args.place s v there c.self.invariant.1),
       c.self.invariant.2,
     )
 

@@ -1,6 +1,5 @@
-use Rattle.std.proofs.Common.{◌≡◌, Some, cond, ap, ap₂, sym, subst, ◌∙◌, rules, w64}
+use Rattle.std.proofs.Common.{◌≡◌, ◌<◌, ◌^◌, Some, cond, ap, ap₂, sym, subst, ◌∙◌, rules, w64}
 use Rattle.std.specs.Prelude.{Option, ℤ, FitsSigned, slice_get}
-use Rattle.std.specs.BTreeSet.{contains}
 use Rattle.std.specs.Ordering.{eq_by_cmp}
 use Rattle.std.proofs.lemmas.Int.{to_z-of_z}
 use Rattle.m3_model.specs.Contents.{higher, is_higher}
@@ -10,9 +9,9 @@ use Rattle.series_slots.specs.SeriesKeys.{key_at}
 use Rattle.series_slots.specs.Slots.{Slots, settled, value_at}
 use Rattle.series_slots.specs.Points.{slot_at, value_of}
 use Rattle.series_slots.specs.Places.{Places, slots_of}
-use Rattle.block_buffer.specs.Timed.{time_cmp, IsTimed, SpacesBelow}
+use Rattle.block_buffer.specs.AllSeries.{TimesFit, SpacesBelow}
 use Rattle.block_buffer.proofs.SetLemmas.{put_slot, slot_found}
-use Rattle.block_buffer.proofs.TimedLemmas.{timed_still, spaces_set}
+use Rattle.block_buffer.proofs.EntryLemmas.{times_inserted, spaces_set}
 use Rattle.block_buffer.proofs.all_series.AllSeries.raise.Goals as goal
 
 pub invariant_of-self : goal.invariant_of-self
@@ -21,10 +20,10 @@ invariant_of-self c =
     let s : SeriesKey = c.requires.0 in
     let v : Slots = c.requires.1.slots in
     let there : slice_get es c.args.place ≡ Some (s, v) = subst (λ (ps : Places). slice_get ps c.args.place ≡ Some (s, v)) (sym c.self.view_is) c.requires.1.entry in
+    let short : c.args.t < 2 ^ 64 = search rules in
     let done = c.raise.ensures.raised s v there in (
-      subst (λ (ps : Places). IsTimed ps c.self.inside.numbers (contains time_cmp c.self.inside.times)) (sym done.placed)
-          (timed_still es c.self.inside.numbers (contains time_cmp c.self.inside.times) c.self.invariant.0 c.args.place s v there c.args.t _ c.requires.1.slot),
-      subst (λ (ps : Places). SpacesBelow c.self.inside.spaces ps) (sym done.placed) (spaces_set c.self.inside.spaces es c.args.place s v _ there c.self.invariant.1),
+      subst TimesFit (sym done.placed) (times_inserted es c.args.place s v c.args.t _ there short c.self.invariant.0),
+      subst (SpacesBelow c.self.inside.spaces) (sym done.placed) (spaces_set c.self.inside.spaces es c.args.place s v _ there c.self.invariant.1),
       c.self.invariant.2,
     )
 

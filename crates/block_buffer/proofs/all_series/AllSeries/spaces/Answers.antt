@@ -9,4 +9,4 @@ use Rattle.block_buffer.proofs.all_series.AllSeries.spaces.Goals as goal
 pub returns-clause-below : goal.returns-clause-below
 returns-clause-below c k h =
     let at = slot_place c.self.inside.placed k (subst (λ (ps : Places). IsSome (slot_at (slots_of ps) k)) (sym c.self.view_is) h) in
-    c.self.invariant.1 at.place (series_of k) at.slots at.entry
+    c.self.invariant.1 at.place (series_of k, at.slots) at.entry

@@ -1,15 +1,13 @@
-use Rattle.std.proofs.Common.{◌≡◌, ℕ, Some, None, false, cond, ap, sym, subst, ◌∙◌}
+use Rattle.std.proofs.Common.{◌≡◌, Some, None, ap, sym, subst, ◌∙◌}
 use Rattle.std.specs.Prelude.{slice_get}
 use Rattle.std.specs.FinMap as finite
-use Rattle.std.specs.BTreeMap.{is_at}
-use Rattle.std.specs.BTreeSet.{contains}
 use Rattle.series_slots.specs.declared.series_key.SeriesKey.{SeriesKey}
 use Rattle.series_slots.specs.SeriesKeys.{key_at}
 use Rattle.series_slots.specs.Slots.{Slots}
 use Rattle.series_slots.specs.Places.{Places}
-use Rattle.block_buffer.specs.Timed.{time_cmp, IsTimed, SpacesBelow, IsSlotSet}
+use Rattle.block_buffer.specs.AllSeries.{TimesFit, SpacesBelow, IsSlotSet}
 use Rattle.block_buffer.proofs.SetLemmas.{take_slot}
-use Rattle.block_buffer.proofs.TimedLemmas.{Time, timed_fewer, spaces_set, set_here}
+use Rattle.block_buffer.proofs.EntryLemmas.{times_removed, spaces_set, set_here}
 use Rattle.block_buffer.proofs.all_series.AllSeries.take_slot.Goals as goal
 
 pub invariant_of-self : goal.invariant_of-self
@@ -18,14 +16,9 @@ invariant_of-self c =
     let s : SeriesKey = c.requires.0 in
     let v : Slots = c.requires.1.slots in
     let there : slice_get es c.args.place ≡ Some (s, v) = subst (λ (ps : Places). slice_get ps c.args.place ≡ Some (s, v)) (sym c.self.view_is) c.requires.1.entry in
-    let n : ℕ = c.number_of.result in
-    let space : c.space_at.result ≡ s.ns = c.space_at.ensures s (record { slots = v; entry = there }) in
-    let after : (q : Time) → contains time_cmp c.remove.new.self q ≡ cond (is_at (time_cmp (s.ns, c.args.t, n)) q) false (contains time_cmp c.self.inside.times q) =
-    subst (λ (ns : ℕ). (q : Time) → contains time_cmp c.remove.new.self q ≡ cond (is_at (time_cmp (ns, c.args.t, n)) q) false (contains time_cmp c.self.inside.times q)) space c.remove.ensures.updates.0 in
     let done = c.take.ensures s v there in (
-      subst (λ (ps : Places). IsTimed ps c.self.inside.numbers (contains time_cmp c.remove.new.self)) (sym done.placed)
-          (timed_fewer es c.self.inside.numbers (contains time_cmp c.self.inside.times) c.self.invariant.0 c.number_of.ensures.distinct c.args.place n s v c.number_of.ensures.number there c.args.t (contains time_cmp c.remove.new.self) after),
-      subst (λ (ps : Places). SpacesBelow c.self.inside.spaces ps) (sym done.placed) (spaces_set c.self.inside.spaces es c.args.place s v _ there c.self.invariant.1),
+      subst TimesFit (sym done.placed) (times_removed es c.args.place s v c.args.t there c.self.invariant.0),
+      subst (SpacesBelow c.self.inside.spaces) (sym done.placed) (spaces_set c.self.inside.spaces es c.args.place s v _ there c.self.invariant.1),
       c.self.invariant.2,
     )
 

@@ -8,4 +8,4 @@ use Rattle.block_buffer.proofs.buffer.Buffer.block.Goals as goal
 
 pub returns : goal.returns
 returns c =
-    subst (λ (h : Held). IfOk c.range_by_time.result (λ rows. (wanted : List Matcher) → IsRangeOf h.points (pick.Match c.args.ns wanted) c.args.start (c.args.start + c.args.size) rows)) c.self.view_is c.range_by_time.ensures
+    subst (λ (h : Held). IfOk c.range_of_space.result (λ rows. (wanted : List Matcher) → IsRangeOf h.points (pick.Match c.args.ns wanted) c.args.start (c.args.start + c.args.size) rows)) c.self.view_is c.range_of_space.ensures

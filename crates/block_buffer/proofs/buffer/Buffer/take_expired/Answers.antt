@@ -1,16 +1,45 @@
-use Rattle.std.proofs.Common.{◌≡◌, ap, ◌∙◌, arith}
-use Rattle.std.specs.FinMap as finite
-use Rattle.series_slots.specs.Points.{slot_at, points_of}
+use Rattle.std.proofs.Common.{◌≡◌, None, refl, ap, subst, ◌∙◌, true}
+use Rattle.m3_model.specs.declared.point.Key.{Key}
+use Rattle.m3_model.specs.Contents.{Contents}
+use Rattle.series_slots.specs.SeriesKeys.{key_at}
+use Rattle.series_slots.specs.Points.{points_of}
 use Rattle.series_slots.specs.Places.{slots_of}
-use Rattle.block_buffer.specs.Held.{Held}
-use Rattle.block_buffer.proofs.ContentLemmas.{value_some}
-use Rattle.block_buffer.proofs.TakenLemmas.{value_in}
+use Rattle.block_buffer.specs.Held.{Held, has_expired}
+use Rattle.block_buffer.specs.Room.{room_key}
+use Rattle.block_buffer.specs.Taken.{HasNone}
+use Rattle.block_buffer.proofs.ContentLemmas.{only_taken}
+use Rattle.block_buffer.proofs.RoomLemmas.{none_stands, only_values, only_of}
+use Rattle.block_buffer.proofs.TakenLemmas.{none_stands_of, taken_at, taken_from}
 use Rattle.block_buffer.proofs.buffer.Buffer.take_expired.Goals as goal
 
-pub returns-clause-none : goal.returns-clause-none
-returns-clause-none c e k v stands p =
+pub take_spot-requires : goal.take_spot-requires
+take_spot-requires c = let spot = c.in_ok-spot.ensures.some in (spot.series, spot.stands, spot.value)
+
+pub invariant_of-self : goal.invariant_of-self
+invariant_of-self c =
+    let none : room_key c.self.inside.sought c.self.inside.room ≡ None = ap (λ (h : Held). h.room) (c.self.view_is ∙ c.release.ensures) in
+    let only = only_of c.self.inside.sought c.self.inside.room c.self.inside.all none c.self.invariant.1 in
+    let spot = c.in_ok-spot.ensures.some in
+    let taken = c.take_spot.ensures spot.series spot.stands in (
+      none_stands c.self.inside.sought c.self.inside.room c.self.inside.sought c.take_spot.new.self none,
+      only_values c.self.inside.sought c.self.inside.sought c.self.inside.room c.take_spot.new.self none
+          (only_taken c.self.inside.all c.take_spot.new.self (key_at spot.series c.in_ok-spot.spot.t) only taken.set),
+    )
+
+pub returns-in_err-spot-clause-none : goal.returns-in_err-spot-clause-none
+returns-in_err-spot-clause-none c e =
     let was : points_of (slots_of c.self.inside.all) ≡ c.args.self.now.points = ap (λ (h : Held). h.points) (c.self.view_is ∙ c.release.ensures) in
-    let here = value_in c.self.inside.all k v (ap (λ m. finite.get m k) was ∙ stands) in
-    let below = c.spaces-space-end.ensures.below k (value_some (slot_at (slots_of c.self.inside.all) k) v here) in
-    let end = c.loop-space-test.false in
-    c.loop-space.invariant.none k v stands (omega (arith, below, end), p)
+    let leaves : Key → Type 0 = λ k. has_expired c.args.rules.now k ≡ true in
+    subst (λ (m : Contents). HasNone m leaves) was (none_stands_of c.self.inside.all leaves (c.in_err-spot.ensures.none refl))
+
+pub returns-clause-taken : goal.returns-clause-taken
+returns-clause-taken c =
+    let was : points_of (slots_of c.self.inside.all) ≡ c.args.self.now.points = ap (λ (h : Held). h.points) (c.self.view_is ∙ c.release.ensures) in
+    let none : room_key c.self.inside.sought c.self.inside.room ≡ None = ap (λ (h : Held). h.room) (c.self.view_is ∙ c.release.ensures) in
+    let only = only_of c.self.inside.sought c.self.inside.room c.self.inside.all none c.self.invariant.1 in
+    let leaves : Key → Type 0 = λ k. has_expired c.args.rules.now k ≡ true in
+    let spot = c.in_ok-spot.ensures.some in
+    let taken = c.take_spot.ensures spot.series spot.stands in
+    taken_from (points_of (slots_of c.self.inside.all)) c.args.self.now.points (points_of (slots_of c.take_spot.new.self)) leaves _ was
+    (taken_at c.self.inside.all c.take_spot.new.self leaves c.in_ok-spot.spot.place c.in_ok-spot.spot.t spot.series _ spot.holds
+    (only_taken c.self.inside.all c.take_spot.new.self (key_at spot.series c.in_ok-spot.spot.t) only taken.set) taken)

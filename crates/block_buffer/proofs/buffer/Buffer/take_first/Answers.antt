@@ -7,10 +7,11 @@ use Rattle.series_slots.specs.Points.{points_of}
 use Rattle.series_slots.specs.Places.{slots_of}
 use Rattle.block_buffer.specs.Held.{Held}
 use Rattle.block_buffer.specs.Room.{room_key}
+use Rattle.block_buffer.specs.Spots.{IsKeyWithin}
 use Rattle.block_buffer.specs.Taken.{HasNone, IsEarliest}
 use Rattle.block_buffer.proofs.ContentLemmas.{only_taken}
 use Rattle.block_buffer.proofs.RoomLemmas.{none_stands, only_values, only_of}
-use Rattle.block_buffer.proofs.TakenLemmas.{InRange, none_in_range, late_in_range, earliest, taken_at, taken_from, first_in_range}
+use Rattle.block_buffer.proofs.TakenLemmas.{none_in_range, late_in_range, earliest, taken_at, taken_from, first_in_range}
 use Rattle.block_buffer.proofs.buffer.Buffer.take_first.Goals as goal
 
 pub invariant_of-self : goal.invariant_of-self
@@ -26,12 +27,12 @@ invariant_of-self c =
 pub returns-in_err-spot-clause-none : goal.returns-in_err-spot-clause-none
 returns-in_err-spot-clause-none c e =
     let was : points_of (slots_of c.self.inside.all) ≡ c.args.self.now.points = ap (λ (h : Held). h.points) (c.self.view_is ∙ c.release.ensures) in
-    subst (λ (m : Contents). HasNone m (InRange c.args.ns c.args.low c.args.high)) was (none_in_range c.self.inside.all c.args.ns c.args.low c.args.high (c.in_err-spot.ensures.none refl))
+    subst (λ (m : Contents). HasNone m (IsKeyWithin c.args.ns c.args.low c.args.high)) was (none_in_range c.self.inside.all c.args.ns c.args.low c.args.high (c.in_err-spot.ensures.none refl))
 
 pub returns-then-high-spot-clause-none : goal.returns-then-high-spot-clause-none
 returns-then-high-spot-clause-none c e =
     let was : points_of (slots_of c.self.inside.all) ≡ c.args.self.now.points = ap (λ (h : Held). h.points) (c.self.view_is ∙ c.release.ensures) in
-    subst (λ (m : Contents). HasNone m (InRange c.args.ns c.args.low c.args.high)) was (late_in_range c.self.inside.all c.args.ns c.args.low c.args.high c.in_ok-spot.spot.place c.in_ok-spot.spot.t c.in_ok-spot.spot.v c.in_ok-spot.ensures.some c.if-high-spot.true)
+    subst (λ (m : Contents). HasNone m (IsKeyWithin c.args.ns c.args.low c.args.high)) was (late_in_range c.self.inside.all c.args.ns c.args.low c.args.high c.in_ok-spot.spot.place c.in_ok-spot.spot.t c.in_ok-spot.spot.v c.in_ok-spot.ensures.some c.if-high-spot.true)
 
 pub returns-clause-taken : goal.returns-clause-taken
 returns-clause-taken c =
@@ -41,8 +42,8 @@ returns-clause-taken c =
     let first = c.in_ok-spot.ensures.some in
     let fits : FitsSigned w64 c.in_ok-spot.spot.v = search rules in
     let set = c.take-gone.ensures.taken first.series first.stands in
-    taken_from (points_of (slots_of c.self.inside.all)) c.args.self.now.points (points_of (slots_of c.take-gone.new.self)) (InRange c.args.ns c.args.low c.args.high) _ was
-    (taken_at c.self.inside.all c.take-gone.new.self (InRange c.args.ns c.args.low c.args.high) c.in_ok-spot.spot.place c.in_ok-spot.spot.t first.series _
+    taken_from (points_of (slots_of c.self.inside.all)) c.args.self.now.points (points_of (slots_of c.take-gone.new.self)) (IsKeyWithin c.args.ns c.args.low c.args.high) _ was
+    (taken_at c.self.inside.all c.take-gone.new.self (IsKeyWithin c.args.ns c.args.low c.args.high) c.in_ok-spot.spot.place c.in_ok-spot.spot.t first.series _
     (first_in_range c.self.inside.all c.args.ns c.args.low c.args.high c.in_ok-spot.spot.place c.in_ok-spot.spot.t c.in_ok-spot.spot.v first (let late = c.if-high-spot.false in omega (arith, late)))
     (only_taken c.self.inside.all c.take-gone.new.self (key_at first.series c.in_ok-spot.spot.t) only set)
     (record { time = refl; value = first.value ∙ ap Some (sym (to_z-of_z w64 c.in_ok-spot.spot.v fits)); set = set; left = c.take-gone.ensures.left first.series first.stands }))

@@ -1,5 +1,5 @@
 use Rattle.std.proofs.Common.{sym, ◌∙◌}
-use Rattle.series_slots.proofs.MapLemmas.{get_of}
+use Rattle.replica_calls.proofs.MapLemmas.{get_of}
 use Rattle.replica_calls.specs.Slots.{slot_cmp}
 use Rattle.replica_calls.proofs.replicas.Replicas.get.Goals as goal
 

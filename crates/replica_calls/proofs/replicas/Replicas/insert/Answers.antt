@@ -1,7 +1,7 @@
 use Rattle.std.proofs.Common.{◌≡◌, ap, ◌∙◌, true}
 use Rattle.std.specs.FinMap as finite
 use Rattle.std.specs.FinMap.{is_sorted, from_sorted}
-use Rattle.series_slots.proofs.MapLemmas.{sorted_of, inserted}
+use Rattle.replica_calls.proofs.MapLemmas.{sorted_of, inserted}
 use Rattle.replica_calls.specs.Slots.{slot_cmp}
 use Rattle.replica_calls.proofs.SlotLemmas.{slot_cmp_total, slot_cmp-IsAntisymmetric}
 use Rattle.replica_calls.proofs.TrackLemmas.{first_is, is_first_member, tracked_insert, tracked_same}

@@ -1,7 +1,7 @@
 use Rattle.std.proofs.Common.{◌≡◌, sym, ap, ◌∙◌, true}
 use Rattle.std.specs.FinMap as finite
 use Rattle.std.specs.FinMap.{is_sorted, from_sorted}
-use Rattle.series_slots.proofs.MapLemmas.{sorted_of, get_of, removed}
+use Rattle.replica_calls.proofs.MapLemmas.{sorted_of, get_of, removed}
 use Rattle.replica_calls.specs.Slots.{slot_cmp}
 use Rattle.replica_calls.proofs.SlotLemmas.{slot_cmp_total, slot_cmp-IsAntisymmetric}
 use Rattle.replica_calls.proofs.TrackLemmas.{tracked_remove}

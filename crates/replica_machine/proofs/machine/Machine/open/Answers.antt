@@ -1,8 +1,14 @@
-use Rattle.std.proofs.Common.{◌≡◌, ap, ◌∙◌, sym, subst, refl}
+use Rattle.std.proofs.Common.{◌≡◌, ap, ◌∙◌, sym, subst, refl, true, map}
+use Rattle.m3_model.specs.Contents.{content_of}
 use Rattle.cluster_core.specs.Refusals.{closed}
 use Rattle.m3_outside.specs.DiskState.{Told, EachImage}
 use Rattle.shard_files.specs.Once.{HeldOnce}
 use Rattle.commit_log.specs.LogEnd.{NoneFrom}
+use Rattle.m3_outside.specs.Files.{Files}
+use Rattle.shard_store.specs.Loads.{known_of, AreOpened}
+use Rattle.shard_store.specs.Loaded.{Loaded}
+use Rattle.shard_store.specs.Openings.{beside_volumes}
+use Rattle.replica_machine.specs.Boots.{AreBesideVolumes}
 use Rattle.replica_machine.specs.declared.machine.Began.{Began}
 use Rattle.replica_machine.proofs.BootLemmas.{BeginLeft, begin_left_of, open_done}
 use Rattle.replica_machine.proofs.PartLemmas.{store_closed, store_shut, closed_moved}
@@ -49,6 +55,10 @@ returns-in-Err-clause-step g c = (failed g c).step
 pub invariant_of-self-2 : goal.invariant_of-self-2
 invariant_of-self-2 g c = ap (λ s. s.open_) c.in_default.ensures.ok
 
+-- of what was loaded, what no volume has is in memory
+beside : (loaded : Loaded) (files : Files) → AreOpened loaded.volumes files → AreBesideVolumes loaded.points (beside_volumes loaded) files
+beside loaded files are = record { known = map known_of loaded.volumes; are = are; is = refl }
+
 pub returns-clause-began : goal.returns-clause-began
 returns-clause-began g c =
     let inside = c.self.inside in
@@ -57,7 +67,7 @@ returns-clause-began g c =
     let image = ((g.met.D.Disk g.world.𝓛 g.world.𝓜 g.world.𝓡 ((λ s x. x), (λ x. x), (λ x. x), (λ x. x))).lawful c.args.self.now.disk).read_is_image in
     let done =
     open_done g.D.Disk.state inside.standing inside.tenure inside.begun c.args.self.now inside.store c.open_store.new.store c.self.view_is c.args.tenure began tt c.requires.boot c.requires.high loaded.points loaded.tenure loaded.fence c.requires.not_higher
-    c.requires.held c.requires.only image c.in_default.ensures.ok c.in_default.ensures.disk c.present_fence-fence.ensures refl in
+    c.requires.held c.requires.only image (beside_volumes loaded) c.in_default.ensures.ok (subst (λ d. (g.D.Disk.state d).tells ≡ true → c.open_store.new.store.content ≡ content_of loaded.points) (ap (λ m. m.disk) c.self.view_is) c.in_default.ensures.content) (λ told. beside loaded (g.D.Disk.state c.args.self.now.disk).files (c.requires.volumes told)) c.in_default.ensures.disk c.present_fence-fence.ensures refl in
     done.from
 
 pub returns-clause-disk : goal.returns-clause-disk
@@ -68,7 +78,7 @@ returns-clause-disk g c =
     let image = ((g.met.D.Disk g.world.𝓛 g.world.𝓜 g.world.𝓡 ((λ s x. x), (λ x. x), (λ x. x), (λ x. x))).lawful c.args.self.now.disk).read_is_image in
     let done =
     open_done g.D.Disk.state inside.standing inside.tenure inside.begun c.args.self.now inside.store c.open_store.new.store c.self.view_is c.args.tenure began tt c.requires.boot c.requires.high loaded.points loaded.tenure loaded.fence c.requires.not_higher
-    c.requires.held c.requires.only image c.in_default.ensures.ok c.in_default.ensures.disk c.present_fence-fence.ensures refl in
+    c.requires.held c.requires.only image (beside_volumes loaded) c.in_default.ensures.ok (subst (λ d. (g.D.Disk.state d).tells ≡ true → c.open_store.new.store.content ≡ content_of loaded.points) (ap (λ m. m.disk) c.self.view_is) c.in_default.ensures.content) (λ told. beside loaded (g.D.Disk.state c.args.self.now.disk).files (c.requires.volumes told)) c.in_default.ensures.disk c.present_fence-fence.ensures refl in
     done.disk
 
 pub returns-clause-step : goal.returns-clause-step
@@ -79,5 +89,5 @@ returns-clause-step g c =
     let image = ((g.met.D.Disk g.world.𝓛 g.world.𝓜 g.world.𝓡 ((λ s x. x), (λ x. x), (λ x. x), (λ x. x))).lawful c.args.self.now.disk).read_is_image in
     let done =
     open_done g.D.Disk.state inside.standing inside.tenure inside.begun c.args.self.now inside.store c.open_store.new.store c.self.view_is c.args.tenure began tt c.requires.boot c.requires.high loaded.points loaded.tenure loaded.fence c.requires.not_higher
-    c.requires.held c.requires.only image c.in_default.ensures.ok c.in_default.ensures.disk c.present_fence-fence.ensures refl in
+    c.requires.held c.requires.only image (beside_volumes loaded) c.in_default.ensures.ok (subst (λ d. (g.D.Disk.state d).tells ≡ true → c.open_store.new.store.content ≡ content_of loaded.points) (ap (λ m. m.disk) c.self.view_is) c.in_default.ensures.content) (λ told. beside loaded (g.D.Disk.state c.args.self.now.disk).files (c.requires.volumes told)) c.in_default.ensures.disk c.present_fence-fence.ensures refl in
     done.step

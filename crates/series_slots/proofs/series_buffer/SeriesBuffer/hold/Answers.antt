@@ -1,14 +1,21 @@
-use Rattle.std.proofs.Common.{None}
-use Rattle.std.specs.Cmp.{nat_cmp_total}
-use Rattle.std.specs.FinMap.{nat_cmp-IsAntisymmetric}
+use Rattle.std.proofs.Common.{◌≡◌, true, subst, sym, ap, ◌∙◌, None}
+use Rattle.std.specs.FinMap.{is_sorted, from_sorted}
 use Rattle.std.specs.Ordering.{nat_cmp}
-use Rattle.series_slots.proofs.MapLemmas.{sorted_of, inserted}
+use Rattle.series_slots.specs.SlotPlaces.{SlotList}
+use Rattle.series_slots.proofs.SlotLemmas.{set_mapped, insert_mapped}
 use Rattle.series_slots.proofs.series_buffer.SeriesBuffer.hold.Goals as goal
 
-pub invariant_of-self-2 : goal.invariant_of-self-2
-invariant_of-self-2 c = sorted_of nat_cmp c.insert.new.self.entries c.insert.ensures.ordered
+pub invariant_of-self : goal.invariant_of-self
+invariant_of-self c = (set_mapped c.self.inside.slots.items c.in-Ok.place c.args.t None c.self.invariant c.in-Ok.ensures.there).sorted
 
-pub returns-clause-ok : goal.returns-clause-ok
-returns-clause-ok c =
-    rw (← c.self.view_is) (inserted nat_cmp nat_cmp_total nat_cmp-IsAntisymmetric c.self.inside.slots.entries c.insert.new.self.entries c.args.t None c.self.invariant
-    (sorted_of nat_cmp c.insert.new.self.entries c.insert.ensures.ordered) c.in_ok-insert.ensures.updates.0)
+pub invariant_of-self-in-Continue-1 : goal.invariant_of-self-in-Continue-1
+invariant_of-self-in-Continue-1 c =
+    subst (λ (xs : SlotList). is_sorted nat_cmp xs ≡ true) (sym c.in_ok-insert-in-Err.ensures.items) (insert_mapped c.self.inside.slots.items c.in-Err.place c.args.t None c.self.invariant c.in-Err.ensures.absent).sorted
+
+pub returns-in-Ok-clause-ok : goal.returns-in-Ok-clause-ok
+returns-in-Ok-clause-ok c = rw (← c.self.view_is) (set_mapped c.self.inside.slots.items c.in-Ok.place c.args.t None c.self.invariant c.in-Ok.ensures.there).mapped
+
+pub returns-in_ok-insert-in-Err-clause-ok : goal.returns-in_ok-insert-in-Err-clause-ok
+returns-in_ok-insert-in-Err-clause-ok c =
+    rw (← c.self.view_is) (ap (λ (xs : SlotList). from_sorted {R = nat_cmp} xs) c.in_ok-insert-in-Err.ensures.items
+    ∙ (insert_mapped c.self.inside.slots.items c.in-Err.place c.args.t None c.self.invariant c.in-Err.ensures.absent).mapped)

@@ -1,5 +1,5 @@
 use Rattle.std.proofs.Common.{subst}
-use Rattle.m3_model.specs.NotYet.{IsServed}
+use Rattle.served_acts.specs.NotYet.{IsServed}
 use Rattle.first_cluster.specs.Depots.{depot_by}
 use Rattle.served_cluster.proofs.TrackLemmas.{tracks_on}
 use Rattle.served_cluster.proofs.cluster.Cluster.serve.Goals as goal

@@ -1,13 +1,15 @@
 use Rattle.std.proofs.Common.{max, ◌++◌, List, ℕ, ◌∙◌, ap, sym, arith}
 use Rattle.wire_bytes.specs.Entries.{tenure_entry}
-use Rattle.m3_outside.specs.declared.disk_err.DiskErr.TheVariants.{Memory}
+use Rattle.m3_outside.specs.declared.disk_err.DiskErr.TheVariants.{Memory, Failed as DiskFailed}
 use Rattle.shard_files.specs.Gains.{a_tenure}
 use Rattle.shard_files.specs.declared.entries.LogEntry.TheVariants as entry
-use Rattle.shard_store.proofs.LogStepLemmas.{err_is, memory_else, brings_none, brings_there, brings_as, kept_for}
+use Rattle.shard_store.specs.Listed.{known_in}
+use Rattle.shard_store.proofs.CountedLemmas.{counted_on}
+use Rattle.shard_store.proofs.LogStepLemmas.{err_is, memory_else, brings_none, brings_there, brings_as, kept_for, err_to}
 use Rattle.shard_store.proofs.opened.Opened.begin.Goals as goal
 
 pub returns-then-tenure-self-clause-disk : goal.returns-then-tenure-self-clause-disk
-returns-then-tenure-self-clause-disk g c = brings_there (a_tenure c.args.tenure) tt c.args.self.now.held.points c.args.self.now.tenure c.args.self.now.fence (g.D.Disk.state c.args.disk.now) c.requires.kept.exact (λ p m. m) (omega (arith, c.if-tenure-self.true)) (omega (arith, c.if-tenure-self.true, c.requires.kept.order))
+returns-then-tenure-self-clause-disk g c = brings_there (a_tenure c.args.tenure) tt c.args.self.now.held.points (known_in c.args.self.now.volumes.items) c.args.self.now.tenure c.args.self.now.fence (g.D.Disk.state c.args.disk.now) c.requires.kept.exact (λ p m. m) (omega (arith, c.if-tenure-self.true)) (omega (arith, c.if-tenure-self.true, c.requires.kept.order))
 
 pub returns-in_err-put_tenure-clause-disk : goal.returns-in_err-put_tenure-clause-disk
 returns-in_err-put_tenure-clause-disk g c = brings_none (a_tenure c.args.tenure) c.from_residual.result (g.D.Disk.state c.args.disk.now) (err_is c.from_residual.result Memory c.from_residual.ensures)
@@ -27,13 +29,32 @@ returns-clause-disk g c =
 
 pub returns-clause-kept : goal.returns-clause-kept
 returns-clause-kept g c = λ fine.
-    kept_for c.log_entry.new.log _ (max c.args.self.now.tenure c.args.tenure) (max c.args.self.now.fence c.args.tenure) _ _ (g.D.Disk.state c.log_entry.new.disk) (omega (arith, c.if-tenure-self.false)) (sym c.max-self.ensures)
-    (c.in_ok-log_entry.ensures.kept (entry.Tenure c.args.tenure) (record { within = c.ranges.tenure.fits; is = c.deref.ensures.value ∙ c.in_ok-put_tenure.ensures.ok ∙ ap (λ (l : List ℕ). l ++ tenure_entry c.args.tenure) c.clear.ensures.items }) c.args.self.now.held c.args.self.now.tenure c.args.self.now.fence c.requires.kept)
+    kept_for c.log_entry.new.log _ _ (max c.args.self.now.tenure c.args.tenure) (max c.args.self.now.fence c.args.tenure) _ _ (g.D.Disk.state c.log_entry.new.disk) (omega (arith, c.if-tenure-self.false)) (sym c.max-self.ensures)
+    (c.in_ok-log_entry.ensures.kept (entry.Tenure c.args.tenure) (record { within = c.ranges.tenure.fits; is = c.deref.ensures.value ∙ c.in_ok-put_tenure.ensures.ok ∙ ap (λ (l : List ℕ). l ++ tenure_entry c.args.tenure) c.clear.ensures.items }) c.args.self.now.held (known_in c.args.self.now.volumes.items) c.args.self.now.tenure c.args.self.now.fence c.requires.kept)
 
 pub returns-then-tenure-self-clause-ok : goal.returns-then-tenure-self-clause-ok
 returns-then-tenure-self-clause-ok g c = (omega (arith, c.if-tenure-self.true), omega (arith, c.if-tenure-self.true, c.requires.kept.order))
 
 pub returns-in_err-log_entry-clause-kept : goal.returns-in_err-log_entry-clause-kept
 returns-in_err-log_entry-clause-kept g c = λ fine.
-    c.log_entry.ensures.memory c.args.self.now.held c.args.self.now.tenure c.args.self.now.fence c.requires.kept
+    c.log_entry.ensures.memory c.args.self.now.held (known_in c.args.self.now.volumes.items) c.args.self.now.tenure c.args.self.now.fence c.requires.kept
     (memory_else c.log_entry.result c.from_residual-in_err-log_entry.result c.in_err-log_entry.field-0.0 c.in_err-log_entry.was (err_is c.from_residual-in_err-log_entry.result c.in_err-log_entry.field-0.0 c.from_residual-in_err-log_entry.ensures) fine)
+
+pub returns-then-tenure-self-clause-counted : goal.returns-then-tenure-self-clause-counted
+returns-then-tenure-self-clause-counted g c = λ fine has. has
+
+pub returns-in_err-put_tenure-clause-counted : goal.returns-in_err-put_tenure-clause-counted
+returns-in_err-put_tenure-clause-counted g c = λ fine has. has
+
+pub returns-in_err-log_entry-clause-counted : goal.returns-in_err-log_entry-clause-counted
+returns-in_err-log_entry-clause-counted g c = λ fine.
+    let s = c.args.self.now in
+    let why = c.in_err-log_entry.field-0.0 in
+    counted_on s.log c.log_entry.new.log s.counts.missing s.counts.snapshot (g.D.Disk.state c.args.disk.now) (g.D.Disk.state c.log_entry.new.disk) (returns-in_err-log_entry-clause-disk g c).tells
+    (λ tells. c.log_entry.ensures.counts tells (λ f. fine (err_to c.from_residual-in_err-log_entry.result c.log_entry.result why DiskFailed (err_is c.from_residual-in_err-log_entry.result why c.from_residual-in_err-log_entry.ensures) c.in_err-log_entry.was f)))
+
+pub returns-clause-counted : goal.returns-clause-counted
+returns-clause-counted g c = λ fine.
+    let s = c.args.self.now in
+    counted_on s.log c.log_entry.new.log s.counts.missing s.counts.snapshot (g.D.Disk.state c.args.disk.now) (g.D.Disk.state c.log_entry.new.disk) (returns-clause-disk g c).tells
+    (λ tells. c.log_entry.ensures.counts tells (λ f. let was = c.in_ok-log_entry.was in let bad = f in cc))

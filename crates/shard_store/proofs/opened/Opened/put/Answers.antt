@@ -1,14 +1,18 @@
 use Rattle.std.proofs.Common.{◌++◌, [], ◌∷◌, List, ℕ, max, ◌∙◌, ap, sym, refl, subst, arith}
 use Rattle.std.specs.Prelude.{⊤, IsErr, IsErrOf}
 use Rattle.wire_bytes.specs.Entries.{points_entry}
-use Rattle.m3_model.specs.Contents.{key_of}
+use Rattle.m3_model.specs.Contents.{key_of, raised}
 use Rattle.std.specs.Prelude.{Some}
 use Rattle.m3_outside.specs.Causes.{CountsFaults}
 use Rattle.m3_outside.specs.declared.disk_err.DiskErr.TheVariants.{Memory, Failed as DiskFailed}
 use Rattle.block_buffer.specs.Held.{Held as InMemory}
 use Rattle.shard_files.specs.Gains.{a_point}
 use Rattle.shard_files.specs.declared.entries.LogEntry.TheVariants as entry
-use Rattle.shard_store.specs.Stores.{IsKeptOn}
+use Rattle.shard_store.specs.Stores.{IsKeptOn, joined_with}
+use Rattle.shard_files.specs.FilesHold.{volume_points}
+use Rattle.shard_store.proofs.PointLemmas.{joined_raised}
+use Rattle.shard_store.specs.Listed.{known_in}
+use Rattle.shard_store.proofs.CountedLemmas.{counted_on}
 use Rattle.shard_store.proofs.LogStepLemmas.{one_bounded, err_is, brings_none, brings_nothing, brings_fault, brings_all, after_nothing, steps_after_nothing, kept_for, memory_put}
 use Rattle.shard_open.proofs.Counts.{counts_both, counts_for}
 use Rattle.shard_store.proofs.opened.Opened.put.Goals as goal
@@ -47,7 +51,36 @@ returns-clause-kept g c = λ fine.
     let memory = c.args.self.now.held in
     let tenure = c.args.self.now.tenure in
     let fence = c.args.self.now.fence in
+    let known = known_in c.args.self.now.volumes.items in
     let is = memory_put memory c.room.new.self c.put.new.self c.args.point.now (Some (key_of c.args.point.now)) c.requires.kept.at_rest c.in_ok-room.ensures.ok c.put.ensures in
-    subst (λ (m : InMemory). IsKeptOn c.append_entry.new.log m tenure fence (g.D.Disk.state c.append_entry.new.disk)) is
-    (kept_for c.append_entry.new.log _ (max tenure 0) (max fence 0) tenure fence (g.D.Disk.state c.append_entry.new.disk) (omega arith) (omega arith)
-    (c.in_ok-append_entry.ensures.kept (entry.Points (c.args.point.now ∷ [])) (record { within = one_bounded c.args.point.now c.requires.bounded; is = c.deref.ensures.value ∙ c.in_ok-put_points.ensures.ok ∙ ap (λ (l : List ℕ). l ++ points_entry (c.args.point.now ∷ [])) c.clear.ensures.items }) memory tenure fence (c.ready_entry.ensures.kept memory tenure fence c.requires.kept)))
+    subst (λ (m : InMemory). IsKeptOn c.append_entry.new.log m known tenure fence (g.D.Disk.state c.append_entry.new.disk)) is
+    (kept_for c.append_entry.new.log _ known (max tenure 0) (max fence 0) tenure fence (g.D.Disk.state c.append_entry.new.disk) (omega arith) (omega arith)
+    (c.in_ok-append_entry.ensures.kept (entry.Points (c.args.point.now ∷ [])) (record { within = one_bounded c.args.point.now c.requires.bounded; is = c.deref.ensures.value ∙ c.in_ok-put_points.ensures.ok ∙ ap (λ (l : List ℕ). l ++ points_entry (c.args.point.now ∷ [])) c.clear.ensures.items }) memory known tenure fence (c.ready_entry.ensures.kept memory known tenure fence c.requires.kept)))
+
+pub returns-clause-content : goal.returns-clause-content
+returns-clause-content g c =
+    let ks = known_in c.args.self.now.volumes.items in
+    let p = c.args.point.now in
+    ap (λ (m : InMemory). joined_with m.points ks) c.put.ensures ∙ ap (λ (m : InMemory). joined_with (raised m.points p) ks) c.in_ok-room.ensures.ok ∙ joined_raised c.args.self.now.held.points p (volume_points ks)
+
+pub returns-in_err-put_points-clause-counted : goal.returns-in_err-put_points-clause-counted
+returns-in_err-put_points-clause-counted g c = λ fine has. has
+
+pub returns-in_err-room-clause-counted : goal.returns-in_err-room-clause-counted
+returns-in_err-room-clause-counted g c = λ fine has. has
+
+pub returns-in-Err-clause-counted : goal.returns-in-Err-clause-counted
+returns-in-Err-clause-counted g c = λ fine.
+    let s = c.args.self.now in
+    counted_on s.log c.ready_entry.new.log s.counts.missing s.counts.snapshot (g.D.Disk.state c.args.disk.now) (g.D.Disk.state c.ready_entry.new.disk) c.ready_entry.ensures.tells (λ tells. c.ready_entry.ensures.counts tells (λ f. fine (sym c.in-Err.is ∙ f)))
+
+pub returns-in_err-append_entry-clause-counted : goal.returns-in_err-append_entry-clause-counted
+returns-in_err-append_entry-clause-counted g c = λ fine. absurd (fine (err_is c.from_residual-in_err-append_entry.result DiskFailed c.from_residual-in_err-append_entry.ensures))
+
+pub returns-clause-counted : goal.returns-clause-counted
+returns-clause-counted g c = λ fine has.
+    let s = c.args.self.now in
+    let a = g.D.Disk.state c.args.disk.now in
+    let b = g.D.Disk.state c.ready_entry.new.disk in
+    counted_on c.ready_entry.new.log c.append_entry.new.log s.counts.missing s.counts.snapshot b (g.D.Disk.state c.append_entry.new.disk) c.append_entry.ensures.tells c.in_ok-append_entry.ensures.counts
+    (counted_on s.log c.ready_entry.new.log s.counts.missing s.counts.snapshot a b c.ready_entry.ensures.tells (λ tells. c.ready_entry.ensures.counts tells (λ f. let is = c.in_default.is in let bad = f in cc)) has)

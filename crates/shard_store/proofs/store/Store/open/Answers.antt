@@ -1,22 +1,28 @@
-use Rattle.std.proofs.Common.{◌≡◌, List, None, ap, refl, sym, subst, ◌∙◌}
-use Rattle.m3_model.specs.Contents.{content_of}
-use Rattle.m3_model.specs.declared.point.Point.{Point}
+use Rattle.std.proofs.Common.{◌≡◌, ◌+◌, List, length, map, arith, ap, refl, sym, subst, ◌∙◌}
 use Rattle.std.specs.Prelude.{IsErrOf}
-use Rattle.m3_outside.specs.DiskState.{EachImage}
+use Rattle.m3_outside.specs.DiskState.{EachImage, Told}
 use Rattle.m3_outside.specs.declared.disk_err.DiskErr.{DiskErr}
 use Rattle.m3_outside.specs.declared.disk_err.DiskErr.TheVariants.{Memory, Failed as DiskFailed}
 use Rattle.shard_files.specs.Gains.{Brings, nothing}
 use Rattle.std.specs.Prelude.{⊤, Err, Option, Result}
 use Rattle.shard_store.specs.declared.opened.Opened.{Opened}
-use Rattle.shard_store.specs.StoreParts.{IsKept}
-use Rattle.shard_store.specs.Stores.{HoldsOpened}
+use Rattle.commit_log.specs.Contents.{numbers}
+use Rattle.shard_files.specs.Parts.{IsNewestNumber, KnownVolume}
+use Rattle.shard_files.specs.FilesHold.{volume_points}
+use Rattle.shard_open.specs.Loads.{known_of}
+use Rattle.volume_steps.specs.Known.{HoldsKnown}
+use Rattle.shard_store.specs.Listed.{known_in}
+use Rattle.shard_store.specs.StoreParts.{IsKept, content_in}
+use Rattle.shard_store.specs.Stores.{joined_with}
+use Rattle.snapshot_steps.proofs.LogCounts.{few_segments}
+use Rattle.shard_store.proofs.PointLemmas.{settled_joins}
 use Rattle.block_buffer.specs.Held.{Held as InMemory}
-use Rattle.shard_store.proofs.LogStepLemmas.{err_is, brings_none, brings_nothing, brings_nothing_more, only_held, err_to}
+use Rattle.shard_store.proofs.LogStepLemmas.{err_is, brings_none, brings_nothing, brings_nothing_more, only_held, volumes_among, err_to}
 use Rattle.shard_open.proofs.Counts.{counts_for}
 use Rattle.shard_store.proofs.store.Store.open.Goals as goal
 
-pub returns-in_err-held-clause-disk : goal.returns-in_err-held-clause-disk
-returns-in_err-held-clause-disk g c = brings_none nothing c.from_residual.result (g.D.Disk.state c.args.self.now.disk) (err_is c.from_residual.result Memory c.from_residual.ensures)
+pub returns-in_err-taken-clause-disk : goal.returns-in_err-taken-clause-disk
+returns-in_err-taken-clause-disk g c = brings_none nothing c.from_residual.result (g.D.Disk.state c.args.self.now.disk) (err_is c.from_residual.result Memory c.from_residual.ensures)
 
 pub returns-in-Err-clause-disk : goal.returns-in-Err-clause-disk
 returns-in-Err-clause-disk g c =
@@ -27,14 +33,30 @@ returns-in-Err-clause-disk g c =
 
 pub invariant_of-self-2 : goal.invariant_of-self-2
 invariant_of-self-2 g c =
-    let memory = c.in_ok-held.held in
+    let memory = c.in_ok-taken.taken.0 in
+    let known = known_in c.in_ok-taken.taken.1.items in
     let loaded = c.args.loaded.now in
-    let is : memory ≡ record { points = content_of loaded.points; room = None } = c.in_ok-held.ensures ∙ ap (λ (ps : List Point). let m : InMemory = record { points = content_of ps; room = None } in m) c.as_slice.ensures in
-    subst (λ (o : Option Opened). IsKept o (g.D.Disk.state c.begin_log.new.disk)) (sym c.replace.ensures.after)
-    (c.in-Ok.ensures.kept memory loaded.tenure loaded.fence (ap (λ (m : InMemory). m.room) is) c.requires.order
-    (subst (λ d. EachImage (g.D.Disk.state d) (HoldsOpened memory.points loaded.tenure loaded.fence)) (sym (ap (λ s. s.disk) c.self.view_is))
-    (subst (λ (m : InMemory). EachImage (g.D.Disk.state c.args.self.now.disk) (HoldsOpened m.points loaded.tenure loaded.fence)) (sym is)
-    (only_held loaded.points loaded.tenure loaded.fence (g.D.Disk.state c.args.self.now.disk) c.requires.held c.requires.only))))
+    let is = c.in_ok-taken.ensures.held in
+    let disk = sym (ap (λ s. s.disk) c.self.view_is) in
+    subst (λ (o : Option Opened). IsKept o (g.D.Disk.state c.begin_log.new.disk)) (sym c.replace.ensures.after) (
+      c.in-Ok.ensures.kept memory known loaded.tenure loaded.fence (ap (λ (m : InMemory). m.room) is) c.requires.order
+          (subst (λ d. EachImage (g.D.Disk.state d) (HoldsKnown memory.points known loaded.tenure loaded.fence)) disk
+          (subst (λ (ks : List KnownVolume). EachImage (g.D.Disk.state c.args.self.now.disk) (HoldsKnown memory.points ks loaded.tenure loaded.fence)) (sym c.in_ok-taken.ensures.volumes)
+          (subst (λ (m : InMemory). EachImage (g.D.Disk.state c.args.self.now.disk) (HoldsKnown m.points (map known_of loaded.volumes) loaded.tenure loaded.fence)) (sym is)
+          (only_held loaded.points (map known_of loaded.volumes) loaded.tenure loaded.fence (g.D.Disk.state c.args.self.now.disk) c.requires.held c.requires.volumes c.requires.only)))),
+      c.in-Ok.ensures.counted _ loaded.snapshot (subst (λ d. Told (g.D.Disk.state d) (λ files. (length (numbers files) + c.saturating_sub.result ≡ loaded.next_segment) × IsNewestNumber loaded.snapshot files)) disk
+          (λ tells.
+          let few = few_segments loaded.next_segment (g.D.Disk.state c.args.self.now.disk).files (c.requires.fresh tells) in
+          let count = c.requires.segments tells in
+          (omega (arith, few, count, c.saturating_sub.ensures), c.requires.snapshot tells))),
+    )
+
+pub returns-clause-content : goal.returns-clause-content
+returns-clause-content g c tells =
+    let loaded = c.args.loaded.now in
+    let known = map known_of loaded.volumes in
+    let among = volumes_among loaded.points known loaded.tenure loaded.fence (g.D.Disk.state c.args.self.now.disk).files (c.requires.held tells) (c.requires.volumes tells) in
+    ap content_in c.replace.ensures.after ∙ (λ i. joined_with (c.in_ok-taken.ensures.held i).points (c.in_ok-taken.ensures.volumes i)) ∙ settled_joins loaded.points (volume_points known) among
 
 pub returns-clause-disk : goal.returns-clause-disk
 returns-clause-disk g c =

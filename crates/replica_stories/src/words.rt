@@ -1,0 +1,213 @@
+//! Words, and what a replica does for each.
+use crate::replica::Replica;
+use crate::tells::{tell_all, tell_fault, tell_kind, tell_reason};
+use disk_stories::{number, part, small, text};
+use m3_model::{Memory, Point, Reason, Seq, Series, Standing, Text};
+use m3_outside::{Disk, FileName};
+use replica_machine::Began;
+use std::alloc::Global;
+
+// The point `0,hello,100,5`: its namespace, its identifier, its time and its value.
+fn point(alloc: Global, words: &str) -> Result<Point, Memory> {
+    Ok(Point {
+        ns: small(part(words, ',', 0)),
+        id: Text::from_str(alloc, part(words, ',', 1))?,
+        t: number(part(words, ',', 2)),
+        v: part(words, ',', 3).parse::<i64>().unwrap_or(0),
+    })
+}
+
+// Tells why it was refused.
+fn refused(alloc: Global, reason: &Reason, full: bool, out: &mut String) -> Result<bool, Memory> {
+    tell_reason(alloc, reason, full, out)?;
+    Ok(false)
+}
+
+// Tells a count.
+fn counted(alloc: Global, said: Result<u64, Reason>, out: &mut String) -> Result<bool, Memory> {
+    match said {
+        Ok(count) => {
+            write!(out, "{count}")?;
+            Ok(true)
+        }
+        Err(reason) => refused(alloc, &reason, false, out),
+    }
+}
+
+// Tells nothing where it was done.
+fn done(alloc: Global, said: Result<(), Reason>, out: &mut String) -> Result<bool, Memory> {
+    match said {
+        Ok(()) => Ok(true),
+        Err(reason) => refused(alloc, &reason, false, out),
+    }
+}
+
+// Tells the fence and how many points the files have.
+fn began(
+    alloc: Global,
+    said: Result<Began, Reason>,
+    full: bool,
+    out: &mut String,
+) -> Result<bool, Memory> {
+    match said {
+        Ok(began) => {
+            write!(out, "{} of {}", began.fence, began.points.len())?;
+            Ok(true)
+        }
+        Err(reason) => refused(alloc, &reason, full, out),
+    }
+}
+
+// Tells the points.
+fn found(
+    alloc: Global,
+    said: Result<Seq<Series>, Reason>,
+    out: &mut String,
+) -> Result<bool, Memory> {
+    match said {
+        Ok(all) => {
+            tell_all(&all, out)?;
+            Ok(true)
+        }
+        Err(reason) => refused(alloc, &reason, false, out),
+    }
+}
+
+// `b1` begins with the tenure 1, and `d1` tells the digests of damage, too.
+fn begin<D: Disk>(
+    replica: &mut Replica<D>,
+    tenure: u64,
+    full: bool,
+    out: &mut String,
+) -> Result<bool, Memory> {
+    let said = replica.boot(tenure);
+    began(replica.alloc, said, full, out)
+}
+
+// `p0,hello,100,5` puts a point.
+fn put<D: Disk>(replica: &mut Replica<D>, words: &str, out: &mut String) -> Result<bool, Memory> {
+    let point = point(replica.alloc, words)?;
+    let said = replica.put(&point);
+    done(replica.alloc, said, out)
+}
+
+// `r0,100,200` reads the points of a namespace from 100 on and below 200.
+fn read<D: Disk>(replica: &mut Replica<D>, words: &str, out: &mut String) -> Result<bool, Memory> {
+    let ns = small(part(words, ',', 0));
+    let from = number(part(words, ',', 1));
+    let said = replica.read(ns, from, number(part(words, ',', 2)));
+    found(replica.alloc, said, out)
+}
+
+// `n` tells how many volumes count, and how many points are in memory.
+fn report<D: Disk>(replica: &Replica<D>, out: &mut String) -> Result<bool, Memory> {
+    let report = replica.report();
+    write!(out, "{} {}", report.volumes, report.buffered)?;
+    Ok(report.standing == Standing::Open)
+}
+
+fn flush<D: Disk>(replica: &mut Replica<D>, out: &mut String) -> Result<bool, Memory> {
+    let said = replica.flush();
+    counted(replica.alloc, said, out)
+}
+
+fn tick<D: Disk>(replica: &mut Replica<D>, out: &mut String) -> Result<bool, Memory> {
+    let said = replica.tick();
+    counted(replica.alloc, said, out)
+}
+
+// `s` takes a snapshot, and tells its number.
+fn snapshot<D: Disk>(replica: &mut Replica<D>, out: &mut String) -> Result<bool, Memory> {
+    let said = replica.snapshot();
+    counted(replica.alloc, said, out)
+}
+
+// `z85` stops the process, the pick says what is left, and it starts again.
+fn restart<D: Disk>(replica: &mut Replica<D>, pick: u64, out: &mut String) -> Result<bool, Memory> {
+    let said = replica.restart(pick);
+    done(replica.alloc, said, out)
+}
+
+// `t1000` makes the moment this one.
+fn set_moment<D: Disk>(replica: &mut Replica<D>, now: u64) -> Result<bool, Memory> {
+    replica.set_moment(now);
+    Ok(true)
+}
+
+// Does what a word says that leaves the replica on its disk.
+fn act<D: Disk>(replica: &mut Replica<D>, word: &str, out: &mut String) -> Result<bool, Memory> {
+    match word.as_bytes() {
+        [b't', rest @ ..] => set_moment(replica, number(text(rest))),
+        [b'b', rest @ ..] => begin(replica, number(text(rest)), false, out),
+        [b'd', rest @ ..] => begin(replica, number(text(rest)), true, out),
+        [b'p', rest @ ..] => put(replica, text(rest), out),
+        [b'r', rest @ ..] => read(replica, text(rest), out),
+        [b'z', rest @ ..] => restart(replica, number(text(rest)), out),
+        [b'f'] => flush(replica, out),
+        [b'x'] => tick(replica, out),
+        [b's'] => snapshot(replica, out),
+        [b'n'] => report(replica, out),
+        _ => Ok(false),
+    }
+}
+
+// How many of these files are of this kind.
+fn count_kind(names: &[FileName], kind: u8) -> usize {
+    names.iter().filter(|name| name.kind == kind).count()
+}
+
+// Tells how many segments there are, and how many files of snapshots and of their checkpoints.
+fn tell_counts(names: &[FileName], out: &mut String) -> Result<(), Memory> {
+    for kind in [0, 8, 9] {
+        write!(out, " {}", count_kind(names, kind))?;
+    }
+    Ok(())
+}
+
+// Tells those counts, or the checkpoints of volumes, of a disk.
+fn tell_files<D: Disk>(disk: &mut D, counts: bool, out: &mut String) -> Result<bool, Memory> {
+    match disk.list() {
+        Ok(names) => {
+            if counts {
+                tell_counts(names.as_slice(), out)?;
+            } else {
+                tell_kind(names.as_slice(), 7, out)?;
+            }
+            Ok(true)
+        }
+        Err(why) => {
+            tell_fault(why, out)?;
+            Ok(false)
+        }
+    }
+}
+
+// `l` tells the checkpoints of volumes, and `c` how many segments there are, and how many files of snapshots and of their
+// checkpoints. The replica stands at Boot then.
+fn list<D: Disk>(
+    replica: Replica<D>,
+    counts: bool,
+    out: &mut String,
+) -> Result<(Replica<D>, bool), Memory> {
+    let alloc = replica.alloc;
+    let (mut disk, rules) = replica.into_parts();
+    let went = tell_files(&mut disk, counts, out)?;
+    Ok((Replica::new(alloc, disk, rules), went))
+}
+
+/// Has the replica do what the word says, and writes into the text what it answers. Says whether it did.
+pub fn say<D: Disk>(
+    replica: Replica<D>,
+    word: &str,
+    out: &mut String,
+) -> Result<(Replica<D>, bool), Memory> {
+    match word.as_bytes() {
+        [b'l'] => list(replica, false, out),
+        [b'c'] => list(replica, true, out),
+        _ => {
+            let mut replica = replica;
+            let went = act(&mut replica, word, out)?;
+            Ok((replica, went))
+        }
+    }
+}

@@ -1,0 +1,12 @@
+use Rattle.std.proofs.Common.{ap, ◌∙◌, rules}
+use Rattle.std.specs.Prelude.{filter}
+use Rattle.volume_bytes.specs.declared.heads.Head.{Head}
+use Rattle.volume_bytes.specs.Heads.{head_of}
+use Rattle.volume_points.specs.Known.{is_head_of}
+use Rattle.volume_points.proofs.RetainLemmas.{filtered}
+use Rattle.shard_store.proofs.flush.older.Goals as goal
+
+pub returns-clause-ok : goal.returns-clause-ok
+returns-clause-ok c =
+    let test = λ (h : Head). is_head_of c.args.ns c.args.start c.args.size (head_of h) in
+    filtered _ test _ (λ x b g k. search rules) c.in_ok-found.found.items c.retain.new.self.items c.retain.ensures.filtered ∙ ap (filter test) c.in_ok-found.ensures.ok

@@ -1,0 +1,7 @@
+use Rattle.shard_store.specs.Listed.{known_in}
+use Rattle.shard_store.proofs.LossLemmas.{Losing}
+use Rattle.shard_store.proofs.opened.Opened.lost.Given as goal
+
+-- so much was lost in the namespaces so far
+abbrev pub invariant-loop-place : goal.invariant-loop-place
+invariant-loop-place g l = Losing l.rules (known_in l.self.volumes.items) l.self.held.points l.place l.lost (g.D.Disk.state l.fn.disk) (g.D.Disk.state l.disk)

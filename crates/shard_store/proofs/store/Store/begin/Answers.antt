@@ -1,0 +1,17 @@
+use Rattle.std.proofs.Common.{◌≡◌, Option, Some, ap, sym, subst, ◌∙◌}
+use Rattle.std.specs.Option.{option_copied_mut}
+use Rattle.shard_store.specs.StoreParts.{IsKept}
+use Rattle.shard_store.specs.declared.opened.Opened.{Opened}
+use Rattle.shard_store.proofs.CountedLemmas.{open_or_closed}
+use Rattle.shard_store.proofs.store.Store.begin.Goals as goal
+
+pub begin-said-requires-clause-kept : goal.begin-said-requires-clause-kept
+begin-said-requires-clause-kept g c κs within =
+    let some : c.self.inside.opened ≡ Some c.unwrap-opened.result.now = sym c.as_mut.ensures.value ∙ ap option_copied_mut c.unwrap-opened.ensures in
+    (subst (λ (o : Option Opened). IsKept o (g.D.Disk.state c.self.inside.disk)) some c.self.invariant).0
+
+pub invariant_of-self : goal.invariant_of-self
+invariant_of-self g c =
+    let some : c.self.inside.opened ≡ Some c.unwrap-opened.result.now = sym c.as_mut.ensures.value ∙ ap option_copied_mut c.unwrap-opened.ensures in
+    let kept = subst (λ (o : Option Opened). IsKept o (g.D.Disk.state c.self.inside.disk)) some c.self.invariant in
+    open_or_closed c.begin-said.result c.begin-said.new.self c.close_after.new.opened (g.D.Disk.state c.begin-said.new.disk) c.close_after.ensures.closed c.close_after.ensures.stays c.begin-said.ensures.kept (λ fine. c.begin-said.ensures.counted fine kept.1)

@@ -1,0 +1,6 @@
+use Rattle.std.proofs.Common.{◌≡◌, take}
+use Rattle.wire_bytes.specs.Volumes.{count_of}
+use Rattle.shard_store.proofs.tick.count.Given as goal
+
+abbrev pub invariant-loop-one : goal.invariant-loop-one
+invariant-loop-one l = l.count ≡ count_of (take l.one-index l.series)

@@ -1,0 +1,13 @@
+use Rattle.std.proofs.Common.{not, rules}
+use Rattle.wire_bytes.specs.Volumes.{VolumeHead}
+use Rattle.volume_bytes.specs.declared.heads.Head.{Head}
+use Rattle.volume_bytes.specs.Heads.{head_of}
+use Rattle.volume_points.proofs.RetainLemmas.{filtered}
+use Rattle.shard_store.specs.Ticks.{is_outlived}
+use Rattle.shard_store.proofs.VolumeLists.{some_heads}
+use Rattle.shard_store.proofs.tick.staying.Goals as goal
+
+pub returns-clause-ok : goal.returns-clause-ok
+returns-clause-ok c =
+    let test : VolumeHead → _ = λ v. not (is_outlived c.args.rules.now v) in
+    some_heads test c.args.listed.now c.in_ok-found.found.items c.retain.new.self.items c.in_ok-found.ensures.ok (filtered _ (λ (h : Head). test (head_of h)) _ (λ x b g k. search rules) c.in_ok-found.found.items c.retain.new.self.items c.retain.ensures.filtered)

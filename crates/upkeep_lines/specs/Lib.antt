@@ -1,0 +1,3 @@
+pub mod Upkeep
+pub use Rattle.node_calls.specs.Halts
+pub use Rattle.node_calls.specs.Nodes
