@@ -199,7 +199,7 @@ ROWS = {
     "repair": Row({}, {}),
     "status": Row({}, {}),
 }
-LATER = ("add", "drain", "cancel", "remove", "replace", "tick", "flush", "snapshot", "repair", "status")
+LATER = ("add", "drain", "cancel", "remove", "replace", "repair")
 LATER_WHATEVER_ELSE = ("par",)
 
 

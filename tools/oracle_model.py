@@ -11,7 +11,12 @@ from oracle_lines import Refused, Request, read_line, tags_of
 
 MOST_NAMESPACES = 8
 MOST_LATE_WRITES = 4096
+SEGMENT_BYTES = 65536
+FIRST_BYTES = 14
+WRITE_BYTES = 27
 Point = tuple[str, str, int]
+Points = dict[Point, int]
+Block = tuple[str, int]
 
 
 def murmur(data: bytes, seed: int) -> int:
@@ -40,15 +45,86 @@ class Namespace:
     future: int
     retention: int
 
+    def start(self, at: int) -> int:
+        """Where the block of a time begins."""
+        return at - at % self.block
+
+    def has_expired(self, at: int, now: int) -> bool:
+        return at + self.retention <= now
+
+
+def raise_point(points: Points, point: Point, value: int) -> None:
+    points[point] = max(value, points.get(point, value))
+
+
+def joined(*all_points: Points) -> Points:
+    join: Points = {}
+    for points in all_points:
+        for point, value in points.items():
+            raise_point(join, point, value)
+    return join
+
 
 @dataclass
 class Replica:
-    """A node's replica of a shard: whether it serves, and the greatest value of each point that it took."""
+    """A node's replica of a shard: whether it serves, what it has in memory, and on its disk: volumes by namespace and start,
+    the newest snapshot's number, and what that snapshot and the log have, of which the last segment is filled so far."""
     is_open: bool = True
-    points: dict[Point, int] = field(default_factory=dict)
+    memory: Points = field(default_factory=dict)
+    volumes: dict[Block, Points] = field(default_factory=dict)
+    log: Points = field(default_factory=dict)
+    segments: int = 1
+    filled: int = FIRST_BYTES
+    snapshots: int = 0
 
     def take(self, point: Point, value: int) -> None:
-        self.points[point] = max(value, self.points.get(point, value))
+        size = WRITE_BYTES + len(point[1].encode())
+        if self.filled + size > SEGMENT_BYTES:
+            self.begin_segment()
+        self.filled += size
+        raise_point(self.log, point, value)
+        raise_point(self.memory, point, value)
+
+    def begin_segment(self) -> None:
+        self.segments, self.filled = self.segments + 1, 0
+
+    def content(self) -> Points:
+        return joined(self.memory, *self.volumes.values())
+
+    def load(self) -> None:
+        """What the files have, of which no volume has it so, is in memory again."""
+        kept = joined(self.log, *self.volumes.values())
+        self.memory = {it: value for it, value in kept.items() if not any(that.get(it) == value for that in self.volumes.values())}
+        self.begin_segment()
+        self.is_open = True
+
+    def flush(self, spaces: dict[str, Namespace], now: int) -> int:
+        """Writes a volume for each block that has ended and has points in memory; says how many."""
+        ended: dict[Block, Points] = {}
+        for (ns, identifier, at), value in self.memory.items():
+            space = spaces[ns]
+            if space.start(at) + space.block + space.past <= now:
+                ended.setdefault((ns, space.start(at)), {})[ns, identifier, at] = value
+        for block, points in ended.items():
+            self.volumes[block] = joined(points, self.volumes.get(block, {}))
+            self.memory = {it: value for it, value in self.memory.items() if it not in points}
+        return len(ended)
+
+    def tick(self, spaces: dict[str, Namespace], now: int) -> int:
+        """Drops what has expired; says how many points it has no more."""
+        before = len(self.content())
+        self.memory = {it: value for it, value in self.memory.items() if not spaces[it[0]].has_expired(it[2], now)}
+        self.volumes = {(ns, start): points for (ns, start), points in self.volumes.items()
+                        if not spaces[ns].has_expired(start + spaces[ns].block, now)}
+        return before - len(self.content())
+
+
+    def snapshot(self, _spaces: dict[str, Namespace], _now: int) -> int:
+        """Saves what is in memory, in place of the log and older snapshots; says the snapshot's number."""
+        self.log = dict(self.memory)
+        self.segments, self.filled = 1, 0
+        self.snapshots += 1
+        return self.snapshots
 
 
 @dataclass
@@ -129,6 +205,9 @@ class Cluster:
             self.replicas[shard][node].take(point, value)
         return reason
 
+    def copies(self, call: int, node: str) -> int:
+        return 2 if self.fates.get((call, node)) == "twice" else 1
+
     def is_cut(self, call: int, node: str) -> bool:
         return self.fates.get((call, node)) in ("lose", "late")
 
@@ -142,7 +221,8 @@ class Cluster:
                 if self.fates[call, node] == "late" and len(self.late) < MOST_LATE_WRITES:
                     self.late.append(LateWrite(node, shard, point, value))
             else:
-                reasons[node] = self.put(node, shard, point, value)
+                for _ in range(self.copies(call, node)):
+                    reasons[node] = self.put(node, shard, point, value)
         self.demand_level(shard, request.get("level", "majority"), reasons)
         return {"acks": answered(reasons)}
 
@@ -164,24 +244,25 @@ class Cluster:
     def read(self, request: Request, call: int, shards: Iterable[int], picks: Any) -> Request:
         """The join of what each replica that answers has of the picked series."""
         level = request.get("level", "majority")
-        joined, short = Replica(), False
+        found: Points = {}
+        short = False
         for shard in shards:
             reasons = {it: "cut" if self.is_cut(call, it) else self.standing(it, shard) for it in self.names()}
             self.demand_level(shard, level, reasons)
             short |= len(answered(reasons)) < self.majority()
             for node in answered(reasons):
-                for point, value in self.replicas[shard][node].points.items():
+                for point, value in self.replicas[shard][node].content().items():
                     if self.is_asked(request, point) and picks(point[1]):
-                        joined.take(point, value)
+                        raise_point(found, point, value)
         series: dict[str, list] = {}
-        for (_, identifier, at), value in sorted(joined.points.items(), key=lambda it: (it[0][1].encode(), it[0][2])):
+        for (_, identifier, at), value in sorted(found.items(), key=lambda it: (it[0][1].encode(), it[0][2])):
             series.setdefault(identifier, []).append([at, value])
         return {"series": [{"id": it, "points": points} for it, points in series.items()],
                 "short": short and level == "unstrict"}
 
     def is_asked(self, request: Request, point: Point) -> bool:
         ns, _, at = point
-        return ns == request["ns"] and request["from"] <= at < request["to"] and at + self.namespaces[ns].retention > self.now
+        return ns == request["ns"] and request["from"] <= at < request["to"] and not self.namespaces[ns].has_expired(at, self.now)
 
     # ---- the other lines
 
@@ -234,13 +315,52 @@ class Cluster:
         if node in self.stopped:
             raise Refused("state", node=node)
         for shard in shards:
-            self.replicas[shard][node].is_open = True
+            if not self.replicas[shard][node].is_open:
+                self.replicas[shard][node].load()
         return {"available": [], **self.placed()}
+
+    # ---- upkeep
+
+    def members(self) -> list[tuple[str, int]]:
+        return [(node, shard) for shard in range(len(self.replicas)) for node in self.names()]
+
+    def sweep(self, work: Any) -> Request:
+        done, failed = [], []
+        for node, shard in self.members():
+            reason = self.standing(node, shard)
+            if reason:
+                failed.append([node, shard, reason])
+            else:
+                done.append([node, shard, work(self.replicas[shard][node], self.namespaces, self.now)])
+        return {"done": done, "failed": failed}
+
+    def tick(self, _: Request) -> Request:
+        return self.sweep(Replica.tick)
+
+    def flush(self, _: Request) -> Request:
+        return self.sweep(Replica.flush)
+
+    def snapshot(self, _: Request) -> Request:
+        return self.sweep(Replica.snapshot)
+
+    def report(self, node: str, shard: int) -> Request:
+        replica = self.replicas[shard][node]
+        reason = self.standing(node, shard)
+        fence, buffered, segments, snapshot, volumes = 0, 0, 0, 0, 0
+        if reason is None:
+            fence, buffered, segments, volumes = 1, len(replica.memory), replica.segments, len(replica.volumes)
+            snapshot = replica.snapshots
+        return {"node": node, "shard": shard, "state": "available", "standing": reason or "open", "fence": fence,
+                "buffered": buffered, "segments": segments, "snapshot": snapshot, "volumes": volumes}
+
+    def status(self, _: Request) -> Request:
+        return {"now": self.now, "replicas": [self.report(*member) for member in self.members()], "version": 1}
 
 
 CALLS = {"write": Cluster.write, "fetch": Cluster.fetch, "match": Cluster.match}
 ACTS = {"init": Cluster.init, "namespace": Cluster.namespace, "now": Cluster.set_now, "fates": Cluster.set_fates,
-        "deliver": Cluster.deliver, "stop": Cluster.stop, "restart": Cluster.restart, "bootstrap": Cluster.bootstrap}
+        "deliver": Cluster.deliver, "stop": Cluster.stop, "restart": Cluster.restart, "bootstrap": Cluster.bootstrap,
+        "tick": Cluster.tick, "flush": Cluster.flush, "snapshot": Cluster.snapshot, "status": Cluster.status}
 
 
 def answered(reasons: dict[str, str | None]) -> list[str]:

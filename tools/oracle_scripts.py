@@ -88,10 +88,11 @@ class Script:
         return min(max(at, 0), 2**62 - 1)
 
     def advance(self) -> Request:
-        space = self.dice.choice(self.spaces)
-        retention = self.windows.get(space, {"retention": 0})["retention"]
-        expiry = self.dice.choice(self.times) + retention
-        steps = [self.now, self.now + 1, self.now + 1, self.now + self.dice.randint(0, 20), self.now - 1, expiry]
+        window = self.windows.get(self.dice.choice(self.spaces), {"block": 1, "past": 0, "retention": 0})
+        used = self.dice.choice(self.times)
+        end = used - used % window["block"] + window["block"]
+        edges = [used + window["retention"], end + window["past"], end + window["retention"]]
+        steps = [self.now, self.now + 1, self.now + 1, self.now + self.dice.randint(0, 20), self.now - 1, *edges, self.dice.choice(edges) - 1]
         moment = max(self.dice.choice(steps), 0)
         if self.dice.random() < 0.01:
             moment = 2**62 - 1
@@ -136,16 +137,18 @@ class Script:
 
     def request(self) -> Request:
         draw = self.dice.random()
-        if draw < 0.60:
+        if draw < 0.52:
             return self.call()
-        if draw < 0.70:
+        if draw < 0.62:
             return self.advance()
-        if draw < 0.80:
+        if draw < 0.70:
             return self.fates()
-        if draw < 0.85:
+        if draw < 0.74:
             return {"op": "deliver"}
-        if draw < 0.96:
+        if draw < 0.84:
             return self.node_line()
+        if draw < 0.96:
+            return {"op": self.dice.choice(["tick", "flush", "flush", "snapshot", "status", "status"])}
         return self.init() if draw < 0.97 else self.namespace(self.dice.choice(SPACES))
 
     # ---- spoilt lines
@@ -266,6 +269,53 @@ def partly_back() -> list[bytes]:
     return [init, SPACE % b"m", *(WRITE % at for at in range(9)), *away, *(line for one in back for line in (one, *reads)), *again]
 
 
+STATUS = b'{"op":"status"}'
+
+
+def full_segments() -> list[bytes]:
+    """Logs filled to the last byte of a segment, and not quite; nodes that start again begin another one."""
+    init = b'{"op":"init","rf":1,"shards":1,"seed":0,"nodes":[["a","g"]]}'
+    level = b'{"op":"write","ns":"m","id":"%s","t":0,"v":1,"level":"one"}'
+    again = [b'{"op":"%s","node":"a"}' % op for op in (b"stop", b"restart")] + [STATUS, b'{"op":"bootstrap","node":"a"}', STATUS]
+    most = [level % (b"%03d" % at + b"z" * 509) for at in range(121)]  # 14 and 121 times 539 bytes, of 65,536
+    last = [level % (b"z" * size) for size in (276, 1)]  # 303 bytes just fill it
+    more = [level % (b"z" * 277), STATUS, *most[:120], STATUS, level % (b"y" * 512), STATUS]
+    return [init, SPACE % b"m", STATUS, *most, STATUS, last[0], STATUS, last[1], STATUS, *again, *most, STATUS, *more, *again, *again]
+
+
+def cut_logs() -> list[bytes]:
+    """Logs of some segments, cut by snapshots, also where little or nothing is in memory; what was dropped or flushed before stays so."""
+    init = b'{"op":"init","rf":3,"shards":1,"seed":0,"nodes":[["a","g"],["b","h"],["c","i"]]}'
+    space = b'{"op":"namespace","name":"m","block":10,"past":5,"future":5,"retention":20}'
+    write = b'{"op":"write","ns":"m","id":"%s","t":%d,"v":%d}'
+    read = b'{"op":"match","ns":"m","where":[],"from":0,"to":99,"level":"one"}'
+    tick, flush, snapshot = b'{"op":"tick"}', b'{"op":"flush"}', b'{"op":"snapshot"}'
+    away = [b'{"op":"%s","node":"b"}' % op for op in (b"stop", b"restart")]
+    again = [away[0], snapshot, STATUS, away[1], snapshot, STATUS, b'{"op":"bootstrap","node":"b"}', STATUS, read]
+    lines = [init, space, snapshot, STATUS, *again]
+    for moment in range(0, 60, 3):
+        lines += [b'{"op":"now","now":%d}' % moment, *(write % (b"%02d" % at + b"z" * 509, moment, at) for at in range(moment % 7 * 20))]
+        lines += [(flush, tick, snapshot)[moment // 3 % 3], STATUS, write % (b"y", moment, moment), snapshot, *again, tick, flush, STATUS, read]
+    return lines
+
+
+def upkeep_again() -> list[bytes]:
+    """What ticks dropped is in memory again once a node starts again: flushes and ticks count it anew. Others are without it."""
+    init = b'{"op":"init","rf":3,"shards":1,"seed":0,"nodes":[["a","g"],["b","h"],["c","i"]]}'
+    space = b'{"op":"namespace","name":"m","block":10,"past":5,"future":5,"retention":20}'
+    write = b'{"op":"write","ns":"m","id":"x%d","t":%d,"v":%d}'
+    read = b'{"op":"match","ns":"m","where":[],"from":0,"to":99,"level":"one"}'
+    tick, flush = b'{"op":"tick"}', b'{"op":"flush"}'
+    each = [it for op in (flush, tick) for it in (op, STATUS, read)]
+    again = [b'{"op":"%s","node":"b"}' % op for op in (b"stop", b"restart", b"bootstrap")]
+    lines = [init, space, STATUS, *each]
+    for moment in range(0, 48, 2):
+        lines += [b'{"op":"now","now":%d}' % moment, write % (moment % 3, moment, moment), write % (0, max(moment - 4, 0), 99), *each]
+        if moment % 6 == 0:
+            lines += [*again, STATUS, *each, again[0], tick, STATUS, again[1], flush, STATUS, again[2], STATUS]
+    return lines
+
+
 BASES: list[Request] = [
     {"op": "init", "rf": 1, "shards": 1, "seed": 0, "nodes": [["a", "g"]]},
     {"op": "namespace", "name": "m", "block": 9, "past": 8, "future": 8, "retention": 9},
@@ -314,7 +364,7 @@ def raw_lines() -> list[bytes]:
 
 
 FIXED = [too_many_late, too_many_spaces, deep_lines, long_lines, partly_back, edge_lines,
-         all_ids, raw_lines]
+         all_ids, raw_lines, full_segments, upkeep_again, cut_logs]
 
 
 def script(number: int) -> bytes:

@@ -16,14 +16,14 @@ use Rattle.cluster_members.specs.declared.members.Members.{Members}
 use Rattle.cluster_tracks.specs.Numbers.{numbers_by}
 use Rattle.cluster_tracks.specs.Tracks.{Tracks}
 use Rattle.cluster_tracks.specs.Acts.{Does, IsServedBy, OnMembers, next_call}
-use Rattle.cluster_tracks.specs.Lines.{BootstrapsAreTracked, DeliveriesAreTracked, EachMember, FatesAreTracked, FetchesAreTracked, FlushesAreTracked, InitsAreTracked, IsLeft, IsTrackedLine, LinesAreTracked, MatchesAreTracked, MomentsAreTracked, NamespacesAreTracked, OrdersAreTracked, RestartsAreTracked, StatusIsTracked, StopsAreTracked, TicksAreTracked, WritesAreTracked}
+use Rattle.cluster_tracks.specs.Lines.{BootstrapsAreTracked, DeliveriesAreTracked, EachMember, FatesAreTracked, FetchesAreTracked, FlushesAreTracked, InitsAreTracked, IsLeft, IsTrackedLine, LinesAreTracked, MatchesAreTracked, MomentsAreTracked, NamespacesAreTracked, OrdersAreTracked, RestartsAreTracked, SnapshotsAreTracked, StatusIsTracked, StopsAreTracked, TicksAreTracked, WritesAreTracked}
 use Rattle.cluster_tracks.proofs.BootstrapLemmas.{bootstraps_are_tracked}
 use Rattle.cluster_tracks.proofs.DeliveryLemmas.{deliveries_are_tracked}
 use Rattle.cluster_tracks.proofs.HaltLemmas.{restarts_are_tracked, stops_are_tracked}
 use Rattle.cluster_tracks.proofs.InitLemmas.{inits_are_tracked, orders_are_tracked}
 use Rattle.cluster_tracks.proofs.ReadLemmas.{fetches_are_tracked, matches_are_tracked}
 use Rattle.cluster_tracks.proofs.SettingLemmas.{fates_are_tracked, moments_are_tracked, namespaces_are_tracked}
-use Rattle.cluster_tracks.proofs.UpkeepLemmas.{flushes_are_tracked, status_is_tracked, ticks_are_tracked}
+use Rattle.cluster_tracks.proofs.UpkeepLemmas.{flushes_are_tracked, snapshots_are_tracked, status_is_tracked, ticks_are_tracked}
 use Rattle.cluster_tracks.proofs.WriteLemmas.{writes_are_tracked}
 
 -- the lines of each act of a cluster that stands
@@ -40,6 +40,7 @@ record ActsAreTracked {D : Type 0} {G : Ghosts D} (state : D → DiskState) (m :
   pub bootstrap : BootstrapsAreTracked state m
   pub tick : TicksAreTracked state m
   pub flush : FlushesAreTracked state m
+  pub snapshot : SnapshotsAreTracked state m
   pub status : StatusIsTracked state m
 
 module _ {D : Type 0} {G : Ghosts D} (state : D → DiskState) where
@@ -57,6 +58,7 @@ module _ {D : Type 0} {G : Ghosts D} (state : D → DiskState) where
   by_act m each (act.Bootstrap node asked) served other = each.bootstrap node asked
   by_act m each act.Tick served other = each.tick
   by_act m each act.Flush served other = each.flush
+  by_act m each act.Snapshot served other = each.snapshot
   by_act m each act.Status served other = each.status
   by_act m each (act.Init rf shards seed nodes) served other = absurd (other tt)
   by_act m each _ served other = absurd served
@@ -108,6 +110,7 @@ module _ {D : Type 0} {G : Ghosts D} (state : D → DiskState) where
       by (act.Bootstrap node asked) it did = other (act.Bootstrap node asked) (λ no. no) it did
       by act.Tick it did = other act.Tick (λ no. no) it did
       by act.Flush it did = other act.Flush (λ no. no) it did
+      by act.Snapshot it did = other act.Snapshot (λ no. no) it did
       by act.Status it did = other act.Status (λ no. no) it did
       by _ it did = absurd it
 
@@ -126,5 +129,6 @@ lines_are_tracked state lawful old =
       bootstrap = bootstraps_are_tracked state lawful m;
       tick = ticks_are_tracked state lawful m;
       flush = flushes_are_tracked state lawful m;
+      snapshot = snapshots_are_tracked state lawful m;
       status = status_is_tracked state lawful m;
     }) (orders_are_tracked state old) (inits_are_tracked state lawful old)

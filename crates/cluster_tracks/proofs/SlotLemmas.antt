@@ -168,5 +168,6 @@ acts_keep_slots state m id (act.Restart node by) b g h = restarted_so state m g 
 acts_keep_slots state m id (act.Bootstrap node asked) b g h = bootstrapped_so state m g node asked b h
 acts_keep_slots state m id act.Tick b g h = swept_so state m g (call.Tick m.net.state.rules) b h
 acts_keep_slots state m id act.Flush b g h = swept_so state m g (call.Flush m.net.state.rules) b h
+acts_keep_slots state m id act.Snapshot b g h = swept_so state m g call.Snapshot b h
 acts_keep_slots state m id act.Status b g h = told_so state m g b h
 acts_keep_slots state m id _ b g h = absurd h

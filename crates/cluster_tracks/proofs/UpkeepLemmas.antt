@@ -22,7 +22,7 @@ use Rattle.upkeep_lines.specs.Upkeep.{IsUpkeepAct, sweep_call}
 use Rattle.upkeep_lines.proofs.StatusLemmas.{status_tells}
 use Rattle.upkeep_lines.proofs.SweptLemmas.{swept_tells}
 use Rattle.upkeep_lines.proofs.UpkeepLemmas.{upkeep_is_due}
-use Rattle.cluster_tracks.specs.Lines.{FlushesAreTracked, IsLeft, MayGoOn, StatusIsTracked, TicksAreTracked}
+use Rattle.cluster_tracks.specs.Lines.{FlushesAreTracked, IsLeft, MayGoOn, SnapshotsAreTracked, StatusIsTracked, TicksAreTracked}
 use Rattle.cluster_tracks.proofs.NodeLemmas.{IsTracked, full_on, halted_on, so, wanted_on}
 use Rattle.cluster_tracks.proofs.SharedLemmas.{have_left}
 
@@ -52,6 +52,9 @@ ticks_are_tracked state lawful m tells first now turns calls b g go left did = s
 
 pub flushes_are_tracked : {D : Type 0} {G : Ghosts D} (state : D → DiskState) → ((d : D) → IsLawful (state d)) → (m : Members D G) → FlushesAreTracked state m
 flushes_are_tracked state lawful m tells first now turns calls b g go left did = swept_on state lawful m tells first now turns calls go act.Flush tt (λ o. o) (call.Flush m.net.state.rules) refl b g left did
+
+pub snapshots_are_tracked : {D : Type 0} {G : Ghosts D} (state : D → DiskState) → ((d : D) → IsLawful (state d)) → (m : Members D G) → SnapshotsAreTracked state m
+snapshots_are_tracked state lawful m tells first now turns calls b g go left did = swept_on state lawful m tells first now turns calls go act.Snapshot tt (λ o. o) call.Snapshot refl b g left did
 
 pub status_is_tracked : {D : Type 0} {G : Ghosts D} (state : D → DiskState) → ((d : D) → IsLawful (state d)) → (m : Members D G) → StatusIsTracked state m
 status_is_tracked state lawful m tells first now turns calls b g go left did = told_on state lawful m tells first now turns calls go b g left did

@@ -47,6 +47,7 @@ Does state id m (act.Restart node pick) answered g = IsRestarted state m node an
 Does state id m (act.Bootstrap node shard) answered g = IsBootstrapped state m node shard answered g
 Does state id m act.Tick answered g = IsSwept state (call.Tick m.net.state.rules) m answered g
 Does state id m act.Flush answered g = IsSwept state (call.Flush m.net.state.rules) m answered g
+Does state id m act.Snapshot answered g = IsSwept state call.Snapshot m answered g
 Does state id m act.Status answered g = IsTold state m answered g
 Does state id m _ answered g = ⊥
 

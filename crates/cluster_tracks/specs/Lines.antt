@@ -84,6 +84,9 @@ TicksAreTracked state m = IsTrackedLine state m act.Tick
 abbrev pub FlushesAreTracked : {D : Type 0} {G : Ghosts D} → (D → DiskState) → Members D G → Type 0
 FlushesAreTracked state m = IsTrackedLine state m act.Flush
 
+abbrev pub SnapshotsAreTracked : {D : Type 0} {G : Ghosts D} → (D → DiskState) → Members D G → Type 0
+SnapshotsAreTracked state m = IsTrackedLine state m act.Snapshot
+
 abbrev pub StatusIsTracked : {D : Type 0} {G : Ghosts D} → (D → DiskState) → Members D G → Type 0
 StatusIsTracked state m = IsTrackedLine state m act.Status
 

@@ -1,5 +1,5 @@
 //! The lines of a run tracked one after the other.
-ghost use Rattle.cluster_tracks.specs.Lines.{BootstrapsAreTracked, DeliveriesAreTracked, FatesAreTracked, FetchesAreTracked, FlushesAreTracked, InitsAreTracked, LinesAreTracked, MatchesAreTracked, MomentsAreTracked, NamespacesAreTracked, OrdersAreTracked, RestartsAreTracked, StatusIsTracked, StopsAreTracked, TicksAreTracked, WritesAreTracked};
+ghost use Rattle.cluster_tracks.specs.Lines.{BootstrapsAreTracked, DeliveriesAreTracked, FatesAreTracked, FetchesAreTracked, FlushesAreTracked, InitsAreTracked, LinesAreTracked, MatchesAreTracked, MomentsAreTracked, NamespacesAreTracked, OrdersAreTracked, RestartsAreTracked, SnapshotsAreTracked, StatusIsTracked, StopsAreTracked, TicksAreTracked, WritesAreTracked};
 ghost use Rattle.cluster_tracks.specs.Slots.{ActsKeepSlots};
 
 use cluster_members::Members;
@@ -32,10 +32,11 @@ pub fn nodes_are_tracked<D: Disk>(members: &Members<D>)
     ensures bootstrap { BootstrapsAreTracked D.state members.now }
 {}
 
-/// Those that go over all replicas: ticks, flushes, and how they stand.
+/// Those that go over all replicas: ticks, flushes, snapshots, and how they stand.
 pub fn upkeep_is_tracked<D: Disk>(members: &Members<D>)
     ensures tick { TicksAreTracked D.state members.now }
     ensures flush { FlushesAreTracked D.state members.now }
+    ensures snapshot { SnapshotsAreTracked D.state members.now }
     ensures status { StatusIsTracked D.state members.now }
 {}
 

@@ -7,7 +7,10 @@ use Rattle.m3_model.specs.declared.reason.Damage.{Damage}
 use Rattle.m3_model.specs.declared.reason.Reason.{Reason}
 use Rattle.m3_model.specs.declared.reason.Reason.TheVariants as reason
 use Rattle.m3_model.specs.declared.replica.Report.{Report}
+use Rattle.m3_model.specs.declared.replica.Standing.{Standing}
+use Rattle.m3_model.specs.declared.replica.Standing.TheVariants as standing
 use Rattle.m3_outside.specs.DiskState.{DiskState}
+use Rattle.cluster_core.specs.Refusals.{shut}
 use Rattle.cluster_core.specs.declared.event.Event.{Event}
 use Rattle.cluster_core.specs.declared.event.Event.TheVariants as event
 use Rattle.cluster_core.specs.declared.event.StepCall.{StepCall}
@@ -15,10 +18,10 @@ use Rattle.cluster_core.specs.declared.event.StepCall.TheVariants as call
 use Rattle.cluster_core.specs.declared.event.StepReply.{StepReply}
 use Rattle.cluster_core.specs.declared.event.StepReply.TheVariants as reply
 use Rattle.replica_machine.specs.Damages.{IsFileDamage}
-use Rattle.replica_machine.specs.Machines.{MachineState}
+use Rattle.replica_machine.specs.Machines.{IsOwn, IsRefusedFor, MachineState, refusal}
 use Rattle.replica_machine.specs.Steps.{reply_by}
 use Rattle.replica_exchange.specs.MachineCalls.{HasRoom, Promise, AddsStep, result_of}
-use Rattle.replica_exchange.specs.Promises.{Reports}
+use Rattle.replica_exchange.specs.Promises.{Reports, Saves}
 use Rattle.replica_exchange.proofs.ExchangeLemmas.{exchanged, exchanged_alone}
 use Rattle.replica_exchange.specs.declared.call_err.CallErr.{CallErr}
 use Rattle.replica_exchange.specs.declared.call_err.CallErr.TheVariants as call_err
@@ -61,6 +64,23 @@ module _ {D : Type 0} (state : D → DiskState) (slot : Slot) (c : StepCall) (Pr
       never : (said : Result ℕ Reason) → result_of (λ n. n) said ≡ Err call_err.Full → ⊥
       never (Ok n) e = cc
       never (Err why) e = cc
+
+-- ---- saved
+
+-- want of memory and a fault are no damage
+own_is_no_damage : (why : Reason) → IsOwn why → (damage : Damage) → why ≡ reason.Corrupt damage → ⊥
+own_is_no_damage why (inl is) damage e = let same : reason.Memory ≡ reason.Corrupt damage = sym is ∙ e in cc
+own_is_no_damage why (inr is) damage e = let same : reason.Disk ≡ reason.Corrupt damage = sym is ∙ e in cc
+
+refused_no_damage : (s : Standing) (said : Result ℕ Reason) → IsRefusedFor (shut s) said → (damage : Damage) → IsErrOf said (reason.Corrupt damage) → ⊥
+refused_no_damage standing.Open (Err why) h damage is = let same : why ≡ reason.Corrupt damage = cc in own_is_no_damage why h damage same
+refused_no_damage standing.Down (Err why) h damage is = cc
+refused_no_damage standing.Boot (Err why) h damage is = cc
+refused_no_damage s (Ok n) h damage is = cc
+
+-- a machine that saves reads no file, so it finds no damage
+pub saves_form : {D : Type 0} (state : D → DiskState) (said : Result ℕ Reason) (a b : MachineState D) → Saves state call.Snapshot said a b → (damage : Damage) → IsErrOf said (reason.Corrupt damage) → IsFileDamage damage
+saves_form state said a b promised damage is = absurd (refused_no_damage a.standing said promised.refused damage is)
 
 -- ---- reported
 

@@ -27,6 +27,7 @@ use Rattle.cluster_upkeep.specs.declared.sweeps.Job.TheVariants as job
 abbrev pub call_by : Job → Rules → StepCall
 call_by job.Tick rules = call.Tick rules
 call_by job.Flush rules = call.Flush rules
+call_by job.Snapshot rules = call.Snapshot
 
 -- the replica of the slot was asked, and said so; damage is that of a file
 pub record HasSaid {D : Type 0} (state : D → DiskState) (slot : Slot) (c : StepCall) (said : Result ℕ Reason) (old new : Tracked D) : Type 0 where

@@ -1,4 +1,5 @@
-//! What is done from time to time on a cluster that stands: each of its replicas ticks or flushes, or says how it stands.
+//! What is done from time to time on a cluster that stands: each of its replicas ticks, flushes or saves what it
+//! has in memory, or says how it stands.
 #![tactic(auto)]
 
 mod findings;
@@ -7,4 +8,4 @@ mod rows;
 pub mod sweeps;
 
 pub use reports::status;
-pub use sweeps::{flush, tick};
+pub use sweeps::{flush, snapshot, tick};

@@ -27,6 +27,7 @@ use std::alloc::Global;
 pub(crate) enum Job {
     Tick,
     Flush,
+    Snapshot,
 }
 
 // Has the replica at the slot, which is there, take away what has expired.
@@ -58,6 +59,19 @@ fn flush_one<D: Disk>(replicas: &mut Replicas<D>, slot: Slot, rules: &Rules) -> 
     }
 }
 
+// Has it save what is in memory.
+fn snapshot_one<D: Disk>(replicas: &mut Replicas<D>, slot: Slot) -> Result<u64, Reason>
+    requires there { finite.get replicas.old.members slot ≢ None }
+    requires room { HasRoom 2 replicas.old.events }
+    ensures { HasSaid D.state slot call.Snapshot result replicas.old replicas.new }
+{
+    match replicas.snapshot(slot) {
+        Ok(number) => Ok(number),
+        Err(CallErr::Refused(why)) => Err(why),
+        Err(CallErr::Full) => unreachable!(),
+    }
+}
+
 // Has it do the job.
 fn run_one<D: Disk>(
     replicas: &mut Replicas<D>,
@@ -74,6 +88,7 @@ fn run_one<D: Disk>(
     match job {
         Job::Tick => tick_one(replicas, slot, rules),
         Job::Flush => flush_one(replicas, slot, rules),
+        Job::Snapshot => snapshot_one(replicas, slot),
     }
 }
 
@@ -148,4 +163,16 @@ pub fn flush<D: Disk>(members: &mut Members<D>, alloc: Global) -> Answer
     ensures same_slots { HaveSameSlots members.old.net.replicas members.new.net.replicas }
 {
     sweep(members, alloc, Job::Flush)
+}
+
+/// Each replica of the placement saves what it has in memory as a snapshot, which takes the place of older ones and of its log: this
+/// is one segment without chunks then. `Swept` says of each, by shard and then by the name of its node, the number of its snapshot, or why
+/// it refused. `Memory` and `Full` are as in `tick`.
+pub fn snapshot<D: Disk>(members: &mut Members<D>, alloc: Global) -> Answer
+    requires ready { IsReady members.old.net.state members.old.net.replicas members.old.net.bag }
+    ensures swept { IsSwept D.state call.Snapshot members.old result members.new }
+    ensures ready { IsReady members.new.net.state members.new.net.replicas members.new.net.bag }
+    ensures same_slots { HaveSameSlots members.old.net.replicas members.new.net.replicas }
+{
+    sweep(members, alloc, Job::Snapshot)
 }

@@ -158,6 +158,18 @@ fn set_fates(alloc: Global, list: &str) -> Result<Act, Memory>
     })
 }
 
+// Upkeep: `k` ticks, `l` flushes and `u` asks how all replicas stand. Any other word is a call.
+fn upkeep(alloc: Global, word: &[u8]) -> Result<Act, Memory>
+    ensures { IfOk result MayAsk }
+{
+    match word {
+        [b'k'] => Ok(Act::Tick),
+        [b'l'] => Ok(Act::Flush),
+        [b'u'] => Ok(Act::Status),
+        other => call(alloc, other),
+    }
+}
+
 /// What a word asks for.
 pub fn act_of(alloc: Global, word: &str) -> Result<Act, Memory>
     ensures { IfOk result MayAsk }
@@ -172,6 +184,6 @@ pub fn act_of(alloc: Global, word: &str) -> Result<Act, Memory>
         [b's', node] => stop(alloc, *node),
         [b'b', node, pick @ ..] => restart(alloc, *node, text(pick)),
         [b'o', node, shard @ ..] => bootstrap(alloc, *node, text(shard)),
-        other => call(alloc, other),
+        other => upkeep(alloc, other),
     }
 }

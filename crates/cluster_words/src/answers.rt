@@ -1,6 +1,6 @@
 //! Answers as texts.
 use crate::words::letter_of;
-use m3_model::{Answer, Memory, Placement, Reason, Reply, Series};
+use m3_model::{Answer, Memory, Placement, Reason, Reply, Series, Standing, StatusLine};
 
 /// The letter of a node by its number.
 pub fn letter_of_node(node: u8) -> char {
@@ -95,6 +95,49 @@ fn spell_outcomes(out: &mut String, outcomes: &[(u8, u32, Option<Reason>)]) -> R
     Ok(())
 }
 
+/// The nodes that did what was asked, with how much they did, and those that refused, with their reasons: `a1b0/c-`.
+pub fn spell_swept(
+    out: &mut String,
+    done: &[(u8, u32, u64)],
+    failed: &[(u8, u32, Reason)],
+) -> Result<(), Memory> {
+    for (node, _, count) in done {
+        let letter = letter_of_node(*node);
+        write!(out, "{letter}{count}")?;
+    }
+    out.push('/')?;
+    for (node, _, reason) in failed {
+        out.push(letter_of_node(*node))?;
+        out.push(letter_of_reason(reason))?;
+    }
+    Ok(())
+}
+
+/// How a replica stands: of an open one its points in memory, its segments and its volumes, as `5.1.2`.
+pub fn spell_standing(
+    out: &mut String,
+    standing: Standing,
+    numbers: (u64, u64, u64),
+) -> Result<(), Memory> {
+    let (buffered, segments, volumes) = numbers;
+    match standing {
+        Standing::Open => write!(out, "{buffered}.{segments}.{volumes}")?,
+        Standing::Boot => out.push('^')?,
+        Standing::Down => out.push('-')?,
+    }
+    Ok(())
+}
+
+/// Each node with how its replica stands: `a5.1.2b-c^`.
+pub fn spell_status(out: &mut String, lines: &[StatusLine]) -> Result<(), Memory> {
+    for line in lines {
+        out.push(letter_of_node(line.node))?;
+        let numbers = (line.buffered, line.segments, line.volumes);
+        spell_standing(out, line.standing, numbers)?;
+    }
+    Ok(())
+}
+
 // Answers that refuse a request as a whole.
 fn spell_other(out: &mut String, answer: &Answer) -> Result<(), Memory> {
     match answer {
@@ -126,6 +169,8 @@ pub fn spell(out: &mut String, answer: &Answer) -> Result<(), Memory> {
         Answer::Acks { acks } => spell_nodes(out, acks.as_slice())?,
         Answer::Found { series, short } => spell_found(out, series.as_slice(), *short)?,
         Answer::Outcomes { outcomes } => spell_outcomes(out, outcomes.as_slice())?,
+        Answer::Swept { done, failed } => spell_swept(out, done.as_slice(), failed.as_slice())?,
+        Answer::Status { replicas, .. } => spell_status(out, replicas.as_slice())?,
         Answer::Consistency {
             got,
             needed,

@@ -10,7 +10,8 @@ pub mod words;
 pub use acts::act_of;
 pub use answers::{
     letter_of_node, letter_of_reason, spell, spell_found, spell_placement, spell_reply,
+    spell_standing, spell_status, spell_swept,
 };
 pub use lists::{fates, one_matcher, three_nodes};
-pub use scripts::{Dice, script};
+pub use scripts::{Dice, script, upkeep_script};
 pub use words::{identifier, letter_of, name, number, read_level, text, value, write_level};

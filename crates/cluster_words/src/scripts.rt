@@ -162,6 +162,31 @@ fn add_odd(script: &mut String, dice: &mut Dice) -> Result<(), Memory> {
     Ok(())
 }
 
+// The next moment, less than so much later.
+fn add_moment(
+    script: &mut String,
+    dice: &mut Dice,
+    guess: &mut Guess,
+    within: u64,
+) -> Result<(), Memory>
+    requires { 1 ≤ within }
+{
+    guess.now = guess.now.saturating_add(dice.roll(within));
+    let now = guess.now;
+    write!(script, "t{now}")?;
+    Ok(())
+}
+
+// A tick, a flush, a status, or a moment at which more blocks have ended.
+fn add_upkeep(script: &mut String, dice: &mut Dice, guess: &mut Guess) -> Result<(), Memory> {
+    match dice.roll(8) {
+        0 | 1 => Ok(script.push('k')?),
+        2 | 3 | 4 => Ok(script.push('l')?),
+        5 => Ok(script.push('u')?),
+        _ => add_moment(script, dice, guess, 30),
+    }
+}
+
 fn all_run(nodes: &[u8; 3]) -> bool {
     nodes.iter().all(|node| *node == 0)
 }
@@ -177,12 +202,7 @@ fn add_word(script: &mut String, dice: &mut Dice, guess: &mut Guess) -> Result<(
         60..=65 => add_match(script, dice, guess.now),
         66..=71 => add_fates(script, dice),
         72..=76 => Ok(script.push('d')?),
-        77..=82 => {
-            guess.now = guess.now.saturating_add(dice.roll(12));
-            let now = guess.now;
-            write!(script, "t{now}")?;
-            Ok(())
-        }
+        77..=82 => add_moment(script, dice, guess, 12),
         83..=97 => add_node(script, dice, guess),
         _ => add_odd(script, dice),
     }
@@ -190,6 +210,16 @@ fn add_word(script: &mut String, dice: &mut Dice, guess: &mut Guess) -> Result<(
 
 /// So many words behind those that make a cluster with two namespaces at moment 100.
 pub fn script(alloc: Global, seed: u64, words: u64) -> Result<String, Memory> {
+    mixed(alloc, seed, words, 0)
+}
+
+/// The same, with ticks, flushes and status among them.
+pub fn upkeep_script(alloc: Global, seed: u64, words: u64) -> Result<String, Memory> {
+    mixed(alloc, seed, words, 10)
+}
+
+// Of a hundred words so many are of upkeep.
+fn mixed(alloc: Global, seed: u64, words: u64, upkeep: u64) -> Result<String, Memory> {
     let mut dice = Dice::new(seed);
     let mut guess = Guess {
         now: 100,
@@ -199,7 +229,11 @@ pub fn script(alloc: Global, seed: u64, words: u64) -> Result<String, Memory> {
     write!(script, "i{} nm nn t100", dice.roll(2) + 1)?;
     for _ in 0..words {
         script.push(' ')?;
-        add_word(&mut script, &mut dice, &mut guess)?;
+        if upkeep > 0 && dice.roll(100) < upkeep {
+            add_upkeep(&mut script, &mut dice, &mut guess)?;
+        } else {
+            add_word(&mut script, &mut dice, &mut guess)?;
+        }
     }
     Ok(script)
 }

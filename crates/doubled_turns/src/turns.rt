@@ -1,11 +1,12 @@
 //! What words add to the events once the cluster answered them, and what they are to be answered as far as the double tells that.
 use crate::sessions::{deliver, read, write};
+use crate::sweeps::{status, sweep};
 use cluster_core::{Asked, Event};
 use cluster_members::Members;
 use cluster_words::{letter_of_node, spell_placement};
 use m3_model::{Act, Duplicate, Matcher, Memory, Pick, Point, ReadLevel, Rules, Seq, Text};
 use m3_outside::Disk;
-use replica_doubles::{Change, Double, Range};
+use replica_doubles::{Change, Double, Job, Range};
 use replica_exchange::Slot;
 use session_net::Net;
 use std::alloc::Global;
@@ -315,6 +316,23 @@ fn keep_change<D: Disk>(
             begin_node(double, members, node_of(node), *shard, own)
         }
         Act::Stop { node } if is_made => stop_node(double, slots, node_of(node), own),
+        Act::Tick => sweep(
+            alloc,
+            double,
+            slots,
+            Job::Tick,
+            &members.net.state.rules,
+            own,
+        ),
+        Act::Flush => sweep(
+            alloc,
+            double,
+            slots,
+            Job::Flush,
+            &members.net.state.rules,
+            own,
+        ),
+        Act::Status => status(double, slots, own),
         Act::Now { .. } | Act::Namespace { .. } if told == "ok" => {
             keep_rules(alloc, double, &members.net.state.rules, own)
         }

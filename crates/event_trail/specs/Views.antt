@@ -21,6 +21,7 @@ call_of (calls.Read client number rules version pick from to) = call.Read client
 call_of (calls.Fence version) = call.Fence version
 call_of (calls.Tick rules) = call.Tick rules.value
 call_of (calls.Flush rules) = call.Flush rules.value
+call_of calls.Snapshot = call.Snapshot
 call_of calls.Report = call.Report
 call_of calls.Stop = call.Stop
 call_of calls.Restart = call.Restart

@@ -24,6 +24,7 @@ enum CallParts {
     Fence(u64),
     Tick(Snapshot<Rules>),
     Flush(Snapshot<Rules>),
+    Snapshot,
     Report,
     Stop,
     Restart,
@@ -113,6 +114,15 @@ impl CallView {
     {
         CallView {
             parts: CallParts::Flush(Snapshot::of(rules)),
+        }
+    }
+
+    /// The call that saves what is in memory.
+    pub fn snapshot() -> CallView
+        ensures { result ≡ call.Snapshot }
+    {
+        CallView {
+            parts: CallParts::Snapshot,
         }
     }
 

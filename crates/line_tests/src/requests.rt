@@ -12,11 +12,11 @@ form {}
 form {"op":7}
 form {"op":null}
 form {"op":"frob"}
-later {"op":"tick"}
+ok {"op":"tick"}
 later {"op":"par"}
 later {"op":"par","clients":"x","now":0}
 form {"op":"tick","op":"frob"}
-later {"op":"frob","op":"status"}
+ok {"op":"frob","op":"status"}
 form {"op":"tick"} x
 form {"op":"par","x":"\ud800"}
 later {"op":"par","x":"\ud800\udc00"}"#;
@@ -236,17 +236,17 @@ form {"op":"replace","node":"a","by":"d","by":null,"group":"g4"}
 form {"op":"replace","node":"a","by":"d","group":"g4","x":0}"#;
 
 // Lines of tick, flush, snapshot, repair and status, each with its outcome before it.
-const UPKEEP: &str = r#"later {"op":"tick"}
+const UPKEEP: &str = r#"ok {"op":"tick"}
 form {"op":"tick","now":0}
 form {"op":"tick","":null}
-later {"op":"flush"}
+ok {"op":"flush"}
 form {"op":"flush","x":1}
 form {"op":"flush","node":"a"}
-later { "op" : "snapshot" }
+ok { "op" : "snapshot" }
 form {"op":"snapshot","shard":0}
 later {"\u006fp":"re\u0070air"}
 form {"op":"repair","shard":0}
-later {"op":"frob","op":"status"}
+ok {"op":"frob","op":"status"}
 form {"op":"status","node":"a"}
 form {"op":"status","Op":"status"}
 form {"op":"Status"}
@@ -315,7 +315,7 @@ fn rows(rt: HostRuntime) {
 fn bytes(rt: HostRuntime) {
     let table: [(&[u8], &str); 9] = [
         (b"", "form"),
-        (b"{\"op\":\"tick\"}\r", "later"),
+        (b"{\"op\":\"tick\"}\r", "ok"),
         (b"\xef\xbb\xbf{\"op\":\"tick\"}", "form"),
         (b"{\"op\":\"par\",\"x\":\"\xff\"}", "form"),
         (b"{\"op\":\"par\",\"\xff\":1}", "form"),

@@ -57,7 +57,11 @@ pub fn is_put_off(act: &Act) -> bool
         | Act::Deliver
         | Act::Stop { .. }
         | Act::Restart { .. }
-        | Act::Bootstrap { .. } => false,
+        | Act::Bootstrap { .. }
+        | Act::Tick
+        | Act::Flush
+        | Act::Snapshot
+        | Act::Status => false,
         _ => true,
     }
 }

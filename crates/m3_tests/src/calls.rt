@@ -1,7 +1,7 @@
 // In which order a run reads and writes, and how much at a time.
 ghost use Rattle.std.specs.Prelude.{None};
 
-use crate::script::{INIT, NAMESPACE, PLACED};
+use line_runs::{INIT, NAMESPACE, PLACED};
 use m3_outside::{Failed, MemSink, Sink, Source};
 use m3_program::Status;
 use m3_program::run::run;

@@ -1,30 +1,12 @@
 // Runs over disks of which one fails, and what is given back.
-ghost use Rattle.std.specs.Prelude.{◌≡◌, IfOk};
-ghost use Rattle.m3_outside.specs.Slots.{Out};
-ghost use Rattle.m3_outside.specs.declared.slot.Slot.{Slot as AtSlot};
-ghost use Rattle.mem_disk.specs.Slots.{held_of};
-
-use crate::lines::told;
 use crate::nodes::FAILED_AT_ONCE;
-use crate::script::{INIT, NAMESPACE, PLACED, ended_over};
+use line_runs::{INIT, NAMESPACE, OF_C, PLACED, disks_with, ended_over, told};
 use m3_model::Memory;
-use m3_outside::{Disk, Disks, Slot};
+use m3_outside::{Disk, Disks};
 use m3_program::Status;
 use mem_disk::{MemDisk, MemDisks};
 use std::alloc::Global;
 use std::test::Fail;
-
-// Where the disk of node c lies for the one shard.
-const OF_C: Slot = Slot { node: 2, shard: 0 };
-
-// Disks that never fail, but for that of node c.
-fn disks_with(alloc: Global, disk: MemDisk) -> Result<MemDisks, Memory>
-    ensures { IfOk result (λ d. (slot : AtSlot) → ¬ (held_of d slot ≡ Out)) }
-{
-    let mut disks = MemDisks::new(alloc)?;
-    let _ = disks.put(OF_C, disk);
-    Ok(disks)
-}
 
 #[test]
 fn disk_that_fails_at_once(rt: HostRuntime) -> Result<(), Fail> {

@@ -14,8 +14,6 @@ mod messages;
 #[cfg(test)]
 mod nodes;
 #[cfg(test)]
-mod script;
-#[cfg(test)]
 mod statuses;
 #[cfg(test)]
 mod stories;

@@ -1,38 +1,15 @@
 // What lines are answered with.
 use crate::messages::{LATE, LEVELS, LOST, NUMBERED, OUTLASTING, STOPS};
 use crate::nodes::{OUTAGE, RESTARTS, UNSTARTED};
-use crate::script::{INIT, NAMESPACE, PLACED, ended};
 use crate::stories::{
     BEFORE_INIT, EXPIRY, FETCH_RETURNS_WRITE, HIGHER_VALUE_STAYS, INITS, MATCHES, NAMESPACES,
     RANGES, REFUSALS, WINDOW,
 };
+use line_runs::{INIT, NAMESPACE, PLACED, ended, told};
 use m3_program::Status;
 use std::alloc::Global;
 use std::process::Abort;
 use std::test::Fail;
-
-/// The lines of a story, and the replies that it tells of, behind these first ones.
-pub fn told(
-    alloc: Global,
-    input: &str,
-    output: &str,
-    story: &str,
-) -> Result<(String, String), Fail> {
-    let mut requests = String::from_str(alloc, input)?;
-    let mut replies = String::from_str(alloc, output)?;
-    let mut is_request = true;
-    for line in story.lines() {
-        if is_request {
-            requests.push_str(line)?;
-            requests.push('\n')?;
-        } else if line != "-" {
-            replies.push_str(line)?;
-            replies.push('\n')?;
-        }
-        is_request = !is_request;
-    }
-    Ok((requests, replies))
-}
 
 // A run over the lines of the story answers as it tells.
 fn answers(

@@ -1,5 +1,5 @@
 // How runs end.
-use crate::script::{INIT, PLACED, ended};
+use line_runs::{INIT, PLACED, ended};
 use m3_program::Status;
 use std::test::Fail;
 

@@ -150,7 +150,7 @@ pub const REFUSALS: &str = r#"{"op":"now","now":100}
 {"code":4,"error":"unknown","name":"x","ok":false}
 {"op":"fetch","ns":"x","id":"hello","from":0,"to":1}
 {"code":4,"error":"unknown","name":"x","ok":false}
-{"op":"tick"}
+{"op":"repair"}
 {"code":16,"error":"later","ok":false}
 {"op":"write","ns":"m","id":"hello","t":100,"v":1,"version":1}
 {"code":16,"error":"later","ok":false}

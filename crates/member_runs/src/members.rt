@@ -8,6 +8,7 @@ ghost use Rattle.node_calls.specs.Halts.{AreManned};
 ghost use Rattle.member_runs.specs.Ready.{IsReadyCluster};
 
 use cluster_members::{Members, Range};
+use cluster_upkeep::{flush, status, tick};
 use cluster_words::{act_of, spell, three_nodes};
 use first_cluster::first_members;
 use m3_model::{Act, Answer, Memory, Space, Text};
@@ -53,7 +54,7 @@ fn restart_node<D: Disk>(members: &mut Members<D>, node: Text, pick: u64) -> Ans
     }
 }
 
-// Changes the rules, the fates or the nodes, or delivers late messages.
+// Changes the rules, the fates or the nodes, delivers late messages, or goes over all replicas.
 fn change<D: Disk>(alloc: Global, members: &mut Members<D>, act: Act) -> Answer
     requires limits { MeetsLimits act }
     requires ready { IsReadyCluster members.old }
@@ -82,6 +83,9 @@ fn change<D: Disk>(alloc: Global, members: &mut Members<D>, act: Act) -> Answer
         Act::Deliver => deliver(members, alloc),
         Act::Stop { node } => stop_node(members, node),
         Act::Restart { node, pick } => restart_node(members, node, pick),
+        Act::Tick => tick(members, alloc),
+        Act::Flush => flush(members, alloc),
+        Act::Status => status(members, alloc),
         _ => Answer::Later,
     }
 }

@@ -12,7 +12,7 @@ ghost use Rattle.event_book.specs.Lists.{most_entries};
 ghost use Rattle.event_trail.specs.Trails.{IsLegalOver, IsLawfulOver};
 ghost use Rattle.replica_exchange.specs.MachineCalls.{HasRoom};
 ghost use Rattle.replica_exchange.specs.Exchanges.{seen_in, IsNothing, HasAdded};
-ghost use Rattle.replica_exchange.specs.Promises.{Begins, Puts, Reads, Flushes, Ticks, Fences, Stops, Restarts, Reports};
+ghost use Rattle.replica_exchange.specs.Promises.{Begins, Puts, Reads, Flushes, Ticks, Saves, Fences, Stops, Restarts, Reports};
 ghost use Rattle.replica_calls.specs.Calls.{first_member, AreMembersOf, MayCall, MayTell, IsNoStep};
 
 use event_book::Full;
@@ -21,7 +21,7 @@ use m3_model::{Pick, Point, Reason, Report, Rules, Seq, Series};
 use m3_outside::Disk;
 use replica_exchange::{
     CallErr, CallId, Machine, Member, Slot, boot_on, fence_on, flush_on, put_on, read_on,
-    report_on, restart_on, stop_on, tick_on,
+    report_on, restart_on, snapshot_on, stop_on, tick_on,
 };
 use std::alloc::Global;
 use std::collections::BTreeMap;
@@ -244,6 +244,22 @@ impl<D: Disk> Replicas<D> {
     {
         match self.map.get_mut(&slot) {
             Some(member) => tick_on(member, &mut self.trail, slot, rules),
+            None => Err(CallErr::Refused(Reason::NotOwned)),
+        }
+    }
+
+    /// Has the replica at the slot save what is in memory as a snapshot, and answers the snapshot's number. The replica's log is then one
+    /// segment without chunks.
+    ///
+    /// # Errors
+    ///
+    /// The replica's reason. `NotOwned` where the slot has no replica, or `Full` where the list has no room for two events: these change
+    /// nothing.
+    pub fn snapshot(&mut self, slot: Slot) -> Result<u64, CallErr>
+        ensures { MayCall D.state slot call.Snapshot (λ n. reply.Count n) (Saves D.state) (λ n. n) result self.old self.new }
+    {
+        match self.map.get_mut(&slot) {
+            Some(member) => snapshot_on(member, &mut self.trail, slot),
             None => Err(CallErr::Refused(Reason::NotOwned)),
         }
     }

@@ -1,7 +1,8 @@
 //! A double of a cluster's replicas: machines over equal disks, and the list of events that calls of them make. A cluster doesn't tell
 //! each reply of its replicas, and of its list only how long it is. The double of a replica, which is called as that is, gives the same
 //! replies, and all of them are seen.
-ghost use Rattle.std.specs.Prelude.{◌≡◌, IsTrue};
+ghost use Rattle.std.specs.Prelude.{◌≡◌, ◌<◌, IsTrue};
+ghost use Rattle.std.specs.List.{All};
 ghost use Rattle.m3_model.specs.Reads.{space_picked};
 ghost use Rattle.wire_bytes.specs.Entries.{IsBounded};
 
@@ -9,7 +10,7 @@ use crate::heard::Heard;
 use cluster_core::{Asked, Event, StepCall, StepReply};
 use cluster_words::letter_of_reason;
 use m3_model::limits::{MOST_ID_BYTES, MOST_NAMESPACES, TIME_END};
-use m3_model::{Duplicate, Memory, Pick, Point, Reason, Rules};
+use m3_model::{Duplicate, Memory, Pick, Point, Reason, Report, Rules};
 use m3_outside::Disk;
 use net_plan::LateWrite;
 use replica_exchange::Slot;
@@ -41,6 +42,13 @@ pub enum Change {
     Begin { tenure: u64 },
     Stop,
     Restart { pick: u64 },
+}
+
+/// What all replicas are asked for from time to time.
+#[derive(Clone, Copy)]
+pub enum Job {
+    Tick,
+    Flush,
 }
 
 #[derive(Drop)]
@@ -138,6 +146,30 @@ fn call_of_change(change: Change) -> StepCall {
         Change::Stop => StepCall::Stop,
         Change::Restart { .. } => StepCall::Restart,
     }
+}
+
+fn count_or(said: Result<u64, Reason>) -> StepReply {
+    match said {
+        Ok(n) => StepReply::Count { n },
+        Err(reason) => StepReply::Refused { reason },
+    }
+}
+
+fn run_on<D: Disk>(machine: &mut Machine<D>, job: Job, rules: &Rules) -> StepReply
+    requires sizes { All (λ space. 0 < space.block) rules.now.spaces }
+{
+    match job {
+        Job::Tick => count_or(machine.tick(rules)),
+        Job::Flush => count_or(machine.flush(rules)),
+    }
+}
+
+fn call_of_job(alloc: Global, job: Job, rules: &Rules) -> Result<StepCall, Memory> {
+    let rules = rules.copy(alloc)?;
+    Ok(match job {
+        Job::Tick => StepCall::Tick { rules },
+        Job::Flush => StepCall::Flush { rules },
+    })
 }
 
 fn put_call(
@@ -268,6 +300,56 @@ impl<D: Disk> Double<D> {
             None => no_reply(),
         };
         self.answer(slot, call_of_change(change), reply)
+    }
+
+    /// Has the replica at the slot do the job, with such events.
+    pub fn run(&mut self, alloc: Global, slot: Slot, job: Job, rules: &Rules) -> Result<(), Memory>
+        requires sizes { All (λ space. 0 < space.block) rules.now.spaces }
+    {
+        self.ask(slot, call_of_job(alloc, job, rules)?)?;
+        let call = call_of_job(alloc, job, rules)?;
+        let reply = match self.machines.get_mut(place_of(slot)) {
+            Some(machine) => run_on(machine, job, rules),
+            None => no_reply(),
+        };
+        self.answer(slot, call, reply)
+    }
+
+    /// The replica at the slot reports, which nobody asks for: its step alone comes to the events.
+    pub fn report(&mut self, slot: Slot) -> Result<(), Memory> {
+        let reply = match self.machines.get(place_of(slot)) {
+            Some(machine) => StepReply::Told {
+                report: machine.report(),
+            },
+            None => no_reply(),
+        };
+        self.answer(slot, StepCall::Report, reply)
+    }
+
+    /// What the last step counted, if it did.
+    pub fn counted(&self) -> Option<u64> {
+        match self.events.as_slice().last() {
+            Some(
+                Event::Step {
+                    reply: StepReply::Count { n },
+                    ..
+                },
+            ) => Some(*n),
+            _ => None,
+        }
+    }
+
+    /// What the last step reported, if it did.
+    pub fn reported(&self) -> Option<Report> {
+        match self.events.as_slice().last() {
+            Some(
+                Event::Step {
+                    reply: StepReply::Told { report },
+                    ..
+                },
+            ) => Some(*report),
+            _ => None,
+        }
     }
 
     /// The letter of the reason for which the last step was refused, if it was.

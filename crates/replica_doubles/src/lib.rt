@@ -4,5 +4,5 @@
 pub mod doubles;
 pub mod heard;
 
-pub use doubles::{Change, Double, NODES, Range, Sending, space_of};
+pub use doubles::{Change, Double, Job, NODES, Range, Sending, space_of};
 pub use heard::Heard;

@@ -21,7 +21,7 @@ use Rattle.commit_log.specs.Contents.{numbers}
 use Rattle.shard_files.specs.Gains.{a_point, a_fence, a_tenure}
 use Rattle.shard_files.specs.Keeps.{HoldContent, Rearranges}
 use Rattle.shard_files.specs.FilesHold.{IsSound}
-use Rattle.shard_files.specs.Parts.{IsNewestNumber, counted_volumes}
+use Rattle.shard_files.specs.Parts.{IsNewestNumber, KnownVolume, VolumesAre, counted_volumes}
 use Rattle.cluster_core.specs.Rows.{open_fence}
 use Rattle.cluster_core.specs.declared.event.StepCall.{StepCall}
 use Rattle.replica_machine.specs.Boots.{BeganFrom, BeganAgain, MayBeUnowned, IsRefused, IsBootReason}
@@ -29,7 +29,7 @@ use Rattle.replica_machine.specs.Damages.{IsDamageOf, IsFileDamage}
 use Rattle.replica_machine.specs.Machines.{MachineState, shut_machine, refusal, IsOwn, IsRefusedFor, IsLiveAnswer}
 use Rattle.replica_machine.specs.Reading.{IsRefusedReading}
 use Rattle.replica_machine.specs.Steps.{BringsTo, RestartsTo}
-use Rattle.replica_machine.specs.Upkeep.{IsFlushed, IsPartFlushed, IsTicked}
+use Rattle.replica_machine.specs.Upkeep.{IsFlushed, IsPartFlushed, IsSaved, IsTicked}
 use Rattle.replica_machine.specs.declared.machine.Began.{Began}
 
 module _ {D : Type 0} (state : D → DiskState) where
@@ -100,6 +100,15 @@ module _ {D : Type 0} (state : D → DiskState) where
     pub refused : IsRefusedReading state (refusal old c) old said
     pub form : (damage : Damage) → IsErrOf said (reason.Corrupt damage) → IsFileDamage damage
     pub disk : Rearranges (without old.content (has_expired rules)) (IsErrOf said reason.Disk) (state old.disk) (state new.disk)
+
+  -- It saves what is in memory as a snapshot, answers its number, and keeps all that it had. A fault closes it.
+  pub record Saves (c : StepCall) (said : Result ℕ Reason) (old new : MachineState D) : Type 0 where
+    pub ok : IfOk said (IsSaved state old new)
+    pub volumes : (state old.disk).tells ≡ true → ¬ (IsErrOf said reason.Disk) → (known : List KnownVolume) → VolumesAre known (state old.disk).files → VolumesAre known (state new.disk).files
+    pub err : IfErr said (IsRefused old new)
+    pub plain : refusal old c ≢ None → new ≡ old
+    pub refused : IsRefusedFor (refusal old c) said
+    pub disk : Rearranges old.content (IsErrOf said reason.Disk) (state old.disk) (state new.disk)
 
   -- it is closed, over the same disk
   pub record Stops (c : StepCall) (said : Result ⊤ Reason) (old new : MachineState D) : Type 0 where

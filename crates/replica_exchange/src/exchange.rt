@@ -11,7 +11,7 @@ ghost use Rattle.cluster_core.specs.declared.event.StepReply.TheVariants as repl
 ghost use Rattle.event_trail.specs.Trails.{IsLawfulOver};
 ghost use Rattle.replica_exchange.specs.MachineCalls.{IsMemberOf, HasRoom, AddsStep, MayAnswerBy, MayAnswer, IsAnswer, OtherReplicasStay};
 ghost use Rattle.replica_exchange.specs.Exchanges.{ask_of};
-ghost use Rattle.replica_exchange.specs.Promises.{Begins, Puts, Reads, Flushes, Ticks, Fences, Stops, Restarts, Reports};
+ghost use Rattle.replica_exchange.specs.Promises.{Begins, Puts, Reads, Flushes, Ticks, Saves, Fences, Stops, Restarts, Reports};
 
 use crate::call_err::CallErr;
 use crate::call_id::CallId;
@@ -220,6 +220,35 @@ pub fn tick_on<D: Disk>(
     let call = CallView::tick(rules);
     ask(trail, slot, &call);
     let said = member.machine.tick(rules);
+    let reply = count_view(&said);
+    answer(trail, slot, &call, &reply);
+    count_of(said)
+}
+
+/// Has the machine save what is in memory as a snapshot, and adds an Ask and the step. Answers the snapshot's number; its log is then one
+/// segment without chunks.
+///
+/// # Errors
+///
+/// The machine's reason. `Full` where the list has no room for two events: this changes nothing.
+pub fn snapshot_on<D: Disk>(
+    member: &mut Member<D>,
+    trail: &mut Trail<D>,
+    slot: Slot,
+) -> Result<u64, CallErr>
+    requires is { IsMemberOf D.state slot trail.old member.old }
+    requires opened { 2 ≤ length trail.old }
+    ensures is { IsMemberOf D.state slot trail.new member.new }
+    ensures others { OtherReplicasStay slot trail.old trail.new }
+    ensures opened { 2 ≤ length trail.new }
+    ensures answered { MayAnswer D.state slot call.Snapshot (λ n. reply.Count n) (Saves D.state) (λ n. n) result member.old trail.old member.new trail.new }
+{
+    if !trail.has_room(2) {
+        return Err(CallErr::Full);
+    }
+    let call = CallView::snapshot();
+    ask(trail, slot, &call);
+    let said = member.machine.snapshot();
     let reply = count_view(&said);
     answer(trail, slot, &call, &reply);
     count_of(said)

@@ -14,8 +14,14 @@ use json::Writer;
 use m3_model::{Instance, Series};
 use std::alloc::{AllocError, Global};
 
-// Room for a reply to a write.
+// Room for a reply to a write, or for one to a read that has no series.
 const ROOM: usize = 128;
+
+// Room for a series of few points.
+const SERIES_ROOM: usize = 64;
+
+// Of so many series the room is taken at once.
+const FIRST_SERIES: usize = 64;
 
 fn write_acks(acks: &[u8], instances: &[Instance], out: &mut Writer) -> Result<(), AllocError>
     ensures tokens { OnOk result (out.new.tokens ≡ out.old.tokens ++ tokens_of (object_of (acks_fields instances.now acks.now))) }
@@ -63,6 +69,13 @@ pub fn acks_text(alloc: Global, instances: &[Instance], acks: &[u8]) -> Result<S
     Ok(text_of(out))
 }
 
+// Room for a reply to a read of these series, if they are few and short.
+fn room_for(series: &[Series]) -> usize
+    ensures { ROOM ≤ result }
+{
+    ROOM + SERIES_ROOM * series.len().min(FIRST_SERIES)
+}
+
 /// These series were read.
 pub fn found_text(
     alloc: Global,
@@ -73,7 +86,7 @@ pub fn found_text(
     ensures text { IfOk result (λ text. string_bytes text ≡ compact_text (object_of (found_fields series.now short))) }
     ensures reads_back { IfOk result (λ text. depth (object_of (found_fields series.now short)) ≤ max_depth → read (string_bytes text) ≡ Some (object_of (found_fields series.now short))) }
 {
-    let mut out = Writer::new(Vec::with_capacity(alloc, ROOM)?);
+    let mut out = Writer::new(Vec::with_capacity(alloc, room_for(series))?);
     write_found(series, short, instances, &mut out)?;
     Ok(text_of(out))
 }

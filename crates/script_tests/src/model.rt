@@ -218,6 +218,46 @@ impl Model {
         }
     }
 
+    // Whether each replica is named once: those that did it run, and of the others there is a reason.
+    fn is_swept(&self, answer: &str) -> bool {
+        let (done, failed) = answer.split_once('/').unwrap_or(("", "?"));
+        let all = self.shards.saturating_mul(3);
+        let mut named: u64 = 0;
+        for node in done.bytes() {
+            if !node.is_ascii_digit() {
+                named = named.saturating_add(1);
+                if !self.runs(node) {
+                    return false;
+                }
+            }
+        }
+        let reasons = failed
+            .bytes()
+            .filter(|letter| b"-^~".contains(letter))
+            .count() as u64;
+        failed.bytes().all(|letter| b"abc-^~".contains(&letter))
+            && failed.len() as u64 == reasons.saturating_mul(2)
+            && named.saturating_add(reasons) == all
+    }
+
+    // Whether each replica is named once, and none of a node that is stopped is open or waits.
+    fn is_status(&self, answer: &str) -> bool {
+        let mut named: u64 = 0;
+        let mut node = b'?';
+        for letter in answer.bytes() {
+            match letter {
+                b'a' | b'b' | b'c' => {
+                    named = named.saturating_add(1);
+                    node = letter;
+                }
+                b'-' => {}
+                b'^' | b'.' | b'0'..=b'9' if self.runs(node) => {}
+                _ => return false,
+            }
+        }
+        named == self.shards.saturating_mul(3)
+    }
+
     // A moment, fates, or late writes.
     fn is_other(&mut self, word: &[u8], answer: &str) -> bool {
         match word {
@@ -226,6 +266,8 @@ impl Model {
                 answer == "ok"
             }
             [b'd'] => answer.bytes().all(|letter| b"abc+<>-^~".contains(&letter)),
+            [b'k' | b'l'] => self.is_swept(answer),
+            [b'u'] => self.is_status(answer),
             _ => answer == "ok",
         }
     }

@@ -1,21 +1,26 @@
 //! Random scripts, over disks that fail now and then.
 use crate::model::first_wrong;
 use cluster_runs::run;
-use cluster_words::script;
+use cluster_words::{script, upkeep_script};
 use m3_model::Memory;
 use m3_outside::Disks;
 use std::alloc::Global;
 use std::test::Fail;
 use test_disks::failing_disks;
 
-// What is wrong with the answers to the script of this seed.
-fn tell_script(alloc: Global, seed: u64, out: &mut String) -> Result<(), Memory> {
-    let words = script(alloc, seed, 200)?;
+// What is wrong with the answers to the script of this seed, in which so often a read has to find an acknowledged point.
+fn tell_script(
+    alloc: Global,
+    seed: u64,
+    words: String,
+    least: u64,
+    out: &mut String,
+) -> Result<(), Memory> {
     let mut answers = String::new(alloc);
     let mut disks = failing_disks(alloc, seed)?;
     run(alloc, &mut disks, words.as_str(), &mut answers)?;
     write!(out, "{seed}:")?;
-    first_wrong(alloc, words.as_str(), answers.as_str(), 30, out)?;
+    first_wrong(alloc, words.as_str(), answers.as_str(), least, out)?;
     if disks.faults() < 2 {
         out.push_str("few faults")?;
     }
@@ -25,7 +30,16 @@ fn tell_script(alloc: Global, seed: u64, out: &mut String) -> Result<(), Memory>
 
 fn tell_scripts(alloc: Global, seeds: &[u64], out: &mut String) -> Result<(), Memory> {
     for seed in seeds {
-        tell_script(alloc, *seed, out)?;
+        let words = script(alloc, *seed, 200)?;
+        tell_script(alloc, *seed, words, 30, out)?;
+    }
+    Ok(())
+}
+
+fn tell_upkeep_scripts(alloc: Global, seeds: &[u64], out: &mut String) -> Result<(), Memory> {
+    for seed in seeds {
+        let words = upkeep_script(alloc, *seed, 400)?;
+        tell_script(alloc, *seed, words, 30, out)?;
     }
     Ok(())
 }
@@ -43,6 +57,14 @@ fn other_scripts_are_answered_rightly(rt: HostRuntime) -> Result<(), Fail> {
     let mut out = String::new(rt.alloc());
     tell_scripts(rt.alloc(), &[5, 6, 7, 8], &mut out)?;
     assert_eq!(rt; out.as_str(), "5:\n6:\n7:\n8:\n");
+    Ok(())
+}
+
+#[test]
+fn scripts_with_upkeep_are_answered_rightly(rt: HostRuntime) -> Result<(), Fail> {
+    let mut out = String::new(rt.alloc());
+    tell_upkeep_scripts(rt.alloc(), &[1, 2, 3, 4, 5, 6], &mut out)?;
+    assert_eq!(rt; out.as_str(), "1:\n2:\n3:\n4:\n5:\n6:\n");
     Ok(())
 }
 
@@ -77,7 +99,15 @@ i1 nm nn t100 sa sa ba ba|v1[abc]:ok:ok:ok:ok:=a:~a0:ok|
 i1 nm nn t100 sa sa|v1[abc]:ok:ok:ok:ok:ok|sa ok
 i1 nm nn t100 ba|v1[abc]:ok:ok:ok:ok|ba ok
 i1 nm nn t100 sa oa|v1[abc]:ok:ok:ok:ok:v1[abc]|oa v1[abc]
-i1 nm nn t100 oa1|v1[abc]:ok:ok:ok:v1[abc]|oa1 v1[abc]";
+i1 nm nn t100 oa1|v1[abc]:ok:ok:ok:v1[abc]|oa1 v1[abc]
+i1 nm nn t100 sa l k u|v1[abc]:ok:ok:ok:ok:b0c12/a-:b0/a-c~:a-b0.1.0c-|
+i1 nm nn t100 sa l|v1[abc]:ok:ok:ok:ok:a0b0c0/|l a0b0c0/
+i1 nm nn t100 k|v1[abc]:ok:ok:ok:a0b0/|k a0b0/
+i1 nm nn t100 k|v1[abc]:ok:ok:ok:a0b0/cx|k a0b0/cx
+i2 nm nn t100 k|v1[abc][abc]:ok:ok:ok:a0b0c0/|k a0b0c0/
+i1 nm nn t100 wmuM100=5 l k rmuM|v1[abc]:ok:ok:ok:abc:a1b1c1/:a1b1c1/:.|rmuM .
+i1 nm nn t100 sa u|v1[abc]:ok:ok:ok:ok:a^b0.1.0c0.1.0|u a^b0.1.0c0.1.0
+i1 nm nn t100 u|v1[abc]:ok:ok:ok:a0.1.0c0.1.0|u a0.1.0c0.1.0";
 
 // The first answer of a row that the model refuses.
 fn tell_rows(alloc: Global, rows: &str, out: &mut String) -> Result<(), Memory> {

@@ -29,6 +29,10 @@ IsServedAct act.Deliver = ⊤
 IsServedAct (act.Stop node) = ⊤
 IsServedAct (act.Restart node pick) = ⊤
 IsServedAct (act.Bootstrap node shard) = ⊤
+IsServedAct act.Tick = ⊤
+IsServedAct act.Flush = ⊤
+IsServedAct act.Snapshot = ⊤
+IsServedAct act.Status = ⊤
 IsServedAct _ = ⊥
 
 -- one act of such a kind

@@ -25,7 +25,7 @@ ghost use Rattle.served_cluster.specs.Acts.{Answers, Serves, is_init, sets_fates
 ghost use Rattle.served_cluster.specs.Owned.{AreReady, MayServe, TracksTurns, place_of};
 
 use cluster_members::{Members, Range};
-use cluster_upkeep::{flush, status, tick};
+use cluster_upkeep::{flush, snapshot, status, tick};
 use first_cluster::{first_members, give_all};
 use m3_model::{Act, Answer, Fate, Placement, Reply, Request, Seq, Space, Text};
 use m3_outside::{Disk, Disks};
@@ -126,6 +126,7 @@ fn make_change<D: Disk>(members: &mut Members<D>, alloc: Global, act: Act) -> An
         Act::Bootstrap { node, shard } => bootstrap(members, alloc, node, shard),
         Act::Tick => tick(members, alloc),
         Act::Flush => flush(members, alloc),
+        Act::Snapshot => snapshot(members, alloc),
         Act::Status => status(members, alloc),
         _ => unreachable!(),
     }

@@ -84,6 +84,36 @@ fn fuses_are_told(rt: HostRuntime) -> Result<(), Fail> {
     Ok(())
 }
 
+// The disk fails in `init`, in the write, in the flush, in the flush once the volume counts, or not before it is restarted. What was
+// acknowledged is flushed then, where no volume has it, and c has it in each case.
+const BURNT_FLUSH: &str = "i1 nm t100 wmuA119=5 t170 l sc bc oc l sa sb rmuO
+v1[abc]:ok:ok:2/3c-:ok:a1b1/c-:ok:ok:v1[abc]:a0b0c0/:ok:ok:.:|1:001-----
+v1[abc]:ok:ok:2/3c~:ok:a1b1/c-:ok:ok:v1[abc]:a0b0c0/:ok:ok:.:|1:001-----
+v1[abc]:ok:ok:abc:ok:a1b1/c~:ok:ok:v1[abc]:a0b0c1/:ok:ok:u119=5,.:|1:001-----
+v1[abc]:ok:ok:abc:ok:a1b1/c~:ok:ok:v1[abc]:a0b0c0/:ok:ok:u119=5,.:|1:001-----
+v1[abc]:ok:ok:abc:ok:a1b1c1/:ok:ok:v1[abc]:a0b0c0/:ok:ok:u119=5,.:|0:000-----";
+
+// It fails in `init`, in the first write, in the second one, in the flush, in the tick or not before it is restarted. What has expired
+// is counted once more then, from the volume or from the log.
+const BURNT_TICK: &str = "i1 nm t100 wmuA119=5 wmuA140=6 t170 l t180 k sc bc oc k sa sb rmuO
+v1[abc]:ok:ok:2/3c-:2/3c-:ok:a1b1/c-:ok:a1b1/c-:ok:ok:v1[abc]:a0b0c0/:ok:ok:.:|1:001-----
+v1[abc]:ok:ok:2/3c~:2/3c-:ok:a1b1/c-:ok:a1b1/c-:ok:ok:v1[abc]:a0b0c0/:ok:ok:.:|1:001-----
+v1[abc]:ok:ok:abc:2/3c~:ok:a1b1/c-:ok:a1b1/c-:ok:ok:v1[abc]:a0b0c1/:ok:ok:.:|1:001-----
+v1[abc]:ok:ok:abc:abc:ok:a1b1/c~:ok:a1b1/c-:ok:ok:v1[abc]:a0b0c1/:ok:ok:u140=6,.:|1:001-----
+v1[abc]:ok:ok:abc:abc:ok:a1b1c1/:ok:a1b1/c~:ok:ok:v1[abc]:a0b0c1/:ok:ok:u140=6,.:|1:001-----
+v1[abc]:ok:ok:abc:abc:ok:a1b1c1/:ok:a1b1c1/:ok:ok:v1[abc]:a0b0c1/:ok:ok:u140=6,.:|0:000-----";
+
+#[test]
+fn fuses_of_upkeep_are_told(rt: HostRuntime) -> Result<(), Fail> {
+    for story in [BURNT_FLUSH, BURNT_TICK] {
+        let (words, _) = story.split_once('\n').expect(&rt, "lines");
+        let mut lines = String::from_str(rt.alloc(), words)?;
+        by_fuse(rt.alloc(), words, &mut lines)?;
+        assert_eq!(rt; lines.as_str(), story);
+    }
+    Ok(())
+}
+
 // One call of the disk fails: in `init`, in the first write, in the second one, in the restart, in the bootstrap, or none does.
 const FAILED: &str = "i1 nm t100 wmuA100=5 wmuA101=6 sc bc oc rmuA rmuM
 v1[abc]:ok:ok:2/3c-:2/3c-:ok:ok:v1[abc]:u100=5,101=6,.:u100=5,101=6,.:|1:001-----

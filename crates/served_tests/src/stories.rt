@@ -59,6 +59,22 @@ const NODES: &str =
 i1 nm t100 wmuA100=5 wmyM101=6 sa sb sc ba7 bb255 bc rmuO wmuO100=9 oa ob oc0 rmuA wmuA100=6 rmuA rmyA|v1[abc]:ok:ok:abc:abc:ok:ok:ok:ok:ok:ok:0/1a^b^c^:0/1a^b^c^:v1[abc]:v1[abc]:v1[abc]:u100=5,.:abc:u100=6,.:y101=6,.:
 i1 nm t100 sa wmuM100=5 ba oa sb rmuM rmuA sc rmuO|v1[abc]:ok:ok:ok:bc:ok:v1[abc]:ok:u100=5,.:2/3b-:ok:.:";
 
+// Ticks, flushes and status: before `init`; of a block of m, which is flushed at 170 and goes at 180; of nodes that are away and come
+// back; and of two shards, where x is in the first and u in the second.
+const UPKEEP: &str = "k l u i1 k l u|order:order:order:v1[abc]:a0b0c0/:a0b0c0/:a0.1.0b0.1.0c0.1.0:
+i1 nm t100 wmuA119=5 wmuA101=6 wmuA121=7 l u t169 l t170 l u rmuA t178 rmuA t179 rmuA k t180 k u rmuA t181 rmuA k u|v1[abc]:ok:ok:abc:abc:abc:a0b0c0/:a3.1.0b3.1.0c3.1.0:ok:a0b0c0/:ok:a1b1c1/:a1.1.1b1.1.1c1.1.1:u119=5,121=7,.:ok:u119=5,121=7,.:ok:u121=7,.:a0b0c0/:ok:a2b2c2/:a1.1.0b1.1.0c1.1.0:u121=7,.:ok:.:a1b1c1/:a0.1.0b0.1.0c0.1.0:
+i1 nm t100 wmuA119=5 sa sb bb t170 l k u ba oa ob l u rmuA|v1[abc]:ok:ok:abc:ok:ok:ok:ok:c1/a-b^:c0/a-b^:a-b^c0.1.1:ok:v1[abc]:v1[abc]:a1b1c0/:a0.2.1b0.2.1c0.1.1:u119=5,.:
+i1 nm t100 wmuA119=5 t170 l t180 k sa ba oa u rmuA l u k u|v1[abc]:ok:ok:abc:ok:a1b1c1/:ok:a1b1c1/:ok:ok:v1[abc]:a1.2.0b0.1.0c0.1.0:.:a1b0c0/:a0.2.1b0.1.0c0.1.0:a1b0c0/:a0.2.0b0.1.0c0.1.0:
+i2 nm t100 wmuA119=5 wmxA118=6 wmxA119=7 u sb t170 l u qm=M rmuM|v1[abc][abc]:ok:ok:abc:abc:abc:a2.1.0b2.1.0c2.1.0a1.1.0b1.1.0c1.1.0:ok:ok:a1c1a1c1/b-b-:a0.1.1b-c0.1.1a0.1.1b-c0.1.1:x118=6,119=7,.:u119=5,.:";
+
+#[test]
+fn upkeep_is_told(rt: HostRuntime) -> Result<(), Fail> {
+    let mut out = String::new(rt.alloc());
+    tell_rows(rt.alloc(), UPKEEP, &mut out)?;
+    assert_eq!(rt; out.as_str().trim_end(), UPKEEP);
+    Ok(())
+}
+
 #[test]
 fn rules_are_told(rt: HostRuntime) -> Result<(), Fail> {
     let mut out = String::new(rt.alloc());

@@ -5,7 +5,7 @@ ghost use Rattle.member_runs.specs.Ready.{IsReadyCluster};
 
 use cluster_core::{Event, StepCall, StepReply};
 use cluster_members::Members;
-use cluster_words::{Dice, act_of, script};
+use cluster_words::{Dice, act_of, script, upkeep_script};
 use doubled_turns::{keep, open};
 use legal_events::any_legal;
 use m3_model::{Memory, Reason, Seq};
@@ -183,8 +183,32 @@ fn has_each_kind(events: &[Event]) -> bool {
     seen == [true; 4]
 }
 
+// How many volumes flushes wrote.
+fn volumes_written(events: &[Event]) -> u64 {
+    let mut all: u64 = 0;
+    for event in events {
+        if let Event::Step {
+            call: StepCall::Flush { .. },
+            reply: StepReply::Count { n },
+            ..
+        } = event
+        {
+            all = all.saturating_add(*n);
+        }
+    }
+    all
+}
+
 // Whether the double's list is legal, and long enough.
-fn tell_list(alloc: Global, double: &mut Double<MemDisk>, out: &mut String) -> Result<(), Memory> {
+fn tell_list(
+    alloc: Global,
+    double: &mut Double<MemDisk>,
+    volumes: u64,
+    out: &mut String,
+) -> Result<(), Memory> {
+    if volumes_written(double.events.as_slice()) < volumes {
+        out.push_str("few volumes ")?;
+    }
     if double.events.len() < 500 || !has_each_kind(double.events.as_slice()) {
         out.push_str("few ")?;
     }
@@ -200,13 +224,14 @@ fn tell_double(
     seed: u64,
     shards: u32,
     words: &str,
+    volumes: u64,
     out: &mut String,
 ) -> Result<(), Memory>
     requires some { 1 ≤ shards }
     requires few { shards ≤ 2 }
 {
     run_beside(alloc, double, seed, shards, words, out)?;
-    tell_list(alloc, double, out)
+    tell_list(alloc, double, volumes, out)
 }
 
 // A script begins with `i1` or `i2`.
@@ -217,12 +242,19 @@ fn shards_of(head: &str) -> u32
     if head == "i1" { 1 } else { 2 }
 }
 
-fn tell_script(alloc: Global, seed: u64, script: &str, out: &mut String) -> Result<(), Memory> {
+// At least so many volumes have to be written.
+fn tell_script(
+    alloc: Global,
+    seed: u64,
+    script: &str,
+    volumes: u64,
+    out: &mut String,
+) -> Result<(), Memory> {
     let (head, words) = script.split_once(' ').unwrap_or(("", ""));
     let shards = shards_of(head);
     let machines = machines_over(alloc, seed, shards)?;
     let mut double = Double::new(alloc, machines);
-    let told = tell_double(alloc, &mut double, seed, shards, words, out);
+    let told = tell_double(alloc, &mut double, seed, shards, words, volumes, out);
     drop(double);
     told
 }
@@ -230,7 +262,14 @@ fn tell_script(alloc: Global, seed: u64, script: &str, out: &mut String) -> Resu
 fn tell_seed(alloc: Global, seed: u64, out: &mut String) -> Result<(), Memory> {
     let script = script(alloc, seed, 200)?;
     write!(out, "{seed}:")?;
-    tell_script(alloc, seed, script.as_str(), out)?;
+    tell_script(alloc, seed, script.as_str(), 0, out)?;
+    Ok(out.push('\n')?)
+}
+
+fn tell_upkeep(alloc: Global, seed: u64, out: &mut String) -> Result<(), Memory> {
+    let script = upkeep_script(alloc, seed, 300)?;
+    write!(out, "{seed}:")?;
+    tell_script(alloc, seed, script.as_str(), 3, out)?;
     Ok(out.push('\n')?)
 }
 
@@ -245,6 +284,16 @@ fn tell_seeds(alloc: Global, seeds: &[u64], out: &mut String) -> Result<(), Memo
 fn lists_are_legal(rt: HostRuntime) -> Result<(), Fail> {
     let mut out = String::new(rt.alloc());
     tell_seeds(rt.alloc(), &[1, 2, 3, 4], &mut out)?;
+    assert_eq!(rt; out.as_str(), "1:true\n2:true\n3:true\n4:true\n");
+    Ok(())
+}
+
+#[test]
+fn lists_with_upkeep_are_legal(rt: HostRuntime) -> Result<(), Fail> {
+    let mut out = String::new(rt.alloc());
+    for seed in [1, 2, 3, 4] {
+        tell_upkeep(rt.alloc(), seed, &mut out)?;
+    }
     assert_eq!(rt; out.as_str(), "1:true\n2:true\n3:true\n4:true\n");
     Ok(())
 }

@@ -2,14 +2,6 @@
 #![tactic(auto)]
 
 #[cfg(test)]
-mod costs;
-#[cfg(test)]
-mod day;
-#[cfg(test)]
-mod plain_points;
-#[cfg(test)]
 mod stops;
 #[cfg(test)]
 mod stories;
-#[cfg(test)]
-mod watched_disk;

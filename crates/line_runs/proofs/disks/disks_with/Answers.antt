@@ -5,7 +5,7 @@ use Rattle.m3_outside.specs.declared.slot.Slot.{Slot}
 use Rattle.m3_outside.specs.Slots.{Held, Unused, Here, Out}
 use Rattle.mem_disk.specs.declared.disk.MemDisk.{MemDisk}
 use Rattle.mem_disk.specs.Slots.{held_of}
-use Rattle.m3_tests.proofs.disks.disks_with.Goals as goal
+use Rattle.line_runs.proofs.disks.disks_with.Goals as goal
 
 abbrev of_c : Slot
 of_c = record { node = 2; shard = 0 }

@@ -1,0 +1,8 @@
+//! Runs over lines in memory, for tests: the lines and replies that scripts begin with, stories of lines, and disks of which one fails.
+#![tactic(auto)]
+
+pub mod disks;
+pub mod script;
+
+pub use disks::{OF_C, disks_with};
+pub use script::{INIT, NAMESPACE, PLACED, ended, ended_over, told};
