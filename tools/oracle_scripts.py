@@ -122,8 +122,8 @@ class Script:
         items = {}
         for _ in range(self.dice.choice([0, 2, 4, 8, 16, 32])):
             node = self.dice.choice(self.nodes * 20 + NAMES)
-            place = (self.dice.choice([0] * 9 + [1, 8]), self.dice.choice([0, 1, 2, 3, 4, 5, 9]), node)
-            items[place] = [*place, self.dice.choice(["lose", "lose", "late", "late", "twice"])]
+            key = (self.dice.choice([0] * 9 + [1, 8]), self.dice.choice([0, 1, 2, 3, 4, 5, 9]), node)
+            items[key] = [*key, self.dice.choice(["lose", "lose", "late", "late", "twice"])]
         return {"op": "fates", "list": list(items.values())}
 
     def node_line(self) -> Request:

@@ -34,7 +34,7 @@ use Rattle.told_by.specs.Hears.{IsBegun}
 use Rattle.told_by.specs.Makes.{IsAssigned}
 use Rattle.transcripts.specs.Reasons.{IsShown}
 use Rattle.transcripts.specs.Waiting.{is_covering}
-use Rattle.node_calls.specs.Begins.{ArePassed, AreBegun, Assigned, Begun, IsPassed, IsUnbegun, IsUnowned, assigned_at, assigned_below, assigned_by, begin_at, tenure_in}
+use Rattle.node_calls.specs.Begins.{ArePassed, AreBegun, Assigned, Begun, IsPassed, IsUnbegun, IsTenureUnowned, assigned_at, assigned_below, assigned_by, begin_at, tenure_in}
 use Rattle.node_calls.proofs.BeginLemmas.{tenure_any}
 use Rattle.node_calls.proofs.ListLemmas.{IsIn-flat}
 
@@ -145,7 +145,7 @@ module _ {D : Type 0} (state : D → DiskState) (members : MemberMap D) (node : 
     pub k : ℕ
     pub next : j ≡ suc k
     pub asked : At more k (ask_of n s (call.Begin tenure))
-    pub unowned : IsUnowned state members (slot_at n s) (past ++ take k more) tenure
+    pub unowned : IsTenureUnowned state members (slot_at n s) (past ++ take k more) tenure
 
   first_refused : (past rest : List Event) (b : Begun) (n s tenure : ℕ) → IsPassed state members (slot_at node (b.assigned).shard) past (b.assigned).tenure b.reply → event.Step node (b.assigned).shard (call.Begin (b.assigned).tenure) b.reply ≡ event.Step n s (call.Begin tenure) not_owned
       → IsRefusedBy past (begin_at node b ++ rest) n s tenure 1
@@ -158,8 +158,8 @@ module _ {D : Type 0} (state : D → DiskState) (members : MemberMap D) (node : 
         k = 0;
         next = refl;
         asked = λ i. Some (ask_of (node_is i) (shard_is i) (call.Begin (tenure_is i)));
-        unowned = subst (λ es. IsUnowned state members (slot_at n s) es tenure) (sym (append-nil past)) (subst (λ t. IsUnowned state members (slot_at n s) past t) tenure_is
-            (subst (λ k. IsUnowned state members (slot_at k s) past (b.assigned).tenure) node_is (subst (λ t. IsUnowned state members (slot_at node t) past (b.assigned).tenure) shard_is (subst (IsPassed state members (slot_at node (b.assigned).shard) past (b.assigned).tenure) reply_is passed))));
+        unowned = subst (λ es. IsTenureUnowned state members (slot_at n s) es tenure) (sym (append-nil past)) (subst (λ t. IsTenureUnowned state members (slot_at n s) past t) tenure_is
+            (subst (λ k. IsTenureUnowned state members (slot_at k s) past (b.assigned).tenure) node_is (subst (λ t. IsTenureUnowned state members (slot_at node t) past (b.assigned).tenure) shard_is (subst (IsPassed state members (slot_at node (b.assigned).shard) past (b.assigned).tenure) reply_is passed))));
       }
 
   pub passed_at : (past : List Event) (begun : List Begun) → ArePassed state members node past begun → (n s tenure j : ℕ) → At (flat_map (begin_at node) begun) j (event.Step n s (call.Begin tenure) not_owned) → IsRefusedBy past (flat_map (begin_at node) begun) n s tenure j
@@ -172,7 +172,7 @@ module _ {D : Type 0} (state : D → DiskState) (members : MemberMap D) (node : 
         k = suc (suc rest.k);
         next = ap (λ i. suc (suc i)) rest.next;
         asked = rest.asked;
-        unowned = subst (λ es. IsUnowned state members (slot_at n s) es tenure) (append_assoc past (begin_at node b) (take rest.k (flat_map (begin_at node) begun))) rest.unowned;
+        unowned = subst (λ es. IsTenureUnowned state members (slot_at n s) es tenure) (append_assoc past (begin_at node b) (take rest.k (flat_map (begin_at node) begun))) rest.unowned;
       }
 
   -- each answer that is passed over is one that a bootstrap may hear

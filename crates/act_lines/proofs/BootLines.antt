@@ -32,7 +32,7 @@ use Rattle.session_net.specs.Ready.{IsReady}
 use Rattle.session_net.specs.Runs.{Ran, slot_at}
 use Rattle.session_net.proofs.ReadyLemmas.{AreQuiet, IsQuiet}
 use Rattle.told_by.specs.Hears.{HearsBy, InStretch}
-use Rattle.told_by.specs.Lines.{IsPlain, MayChange, PlainLine, PrintsPlace, place_after}
+use Rattle.told_by.specs.Lines.{IsPlain, MayChange, PlainLine, PrintsPlace, position_after}
 use Rattle.told_by.specs.Makes.{IsCoveredSlot, MayMake}
 use Rattle.told_by.proofs.LeaveLemmas.{place_there}
 use Rattle.told_by.proofs.OneLemmas.{among_back}
@@ -45,23 +45,23 @@ use Rattle.transcripts.specs.Caused.{acts_in}
 use Rattle.transcripts.specs.Deliveries.{LateMessage}
 use Rattle.transcripts.specs.Fates.{OfNode, is_stopped}
 use Rattle.transcripts.specs.Placements.{later_placement, printed, start_placement}
-use Rattle.transcripts.specs.Record.{Record, TurnPlace, inner_turns, joined, line_of, lists_of}
+use Rattle.transcripts.specs.Record.{Record, TurnPosition, inner_turns, joined, line_of, lists_of}
 use Rattle.transcripts.specs.Waiting.{is_covering}
 use Rattle.call_lines.specs.Laws.{IsNotRefused}
-use Rattle.call_lines.specs.Left.{IsLeftBy, WereDelivered}
+use Rattle.call_lines.specs.Left.{NetIsLeftBy, WereDelivered}
 use Rattle.call_lines.proofs.ServeLemmas.{delivered_so}
 use Rattle.cluster_members.specs.declared.members.Members.{Members}
 use Rattle.node_calls.specs.Nodes.{KeepsButBoots, MayBoot}
 use Rattle.node_calls.proofs.BeginLemmas.{tenure_node}
 use Rattle.node_calls.proofs.RunLemmas.{ready_still}
 use Rattle.act_lines.specs.Quiet.{KeepsStops}
-use Rattle.act_lines.specs.Stands.{Stands}
+use Rattle.act_lines.specs.Stands.{ClusterStands}
 use Rattle.act_lines.specs.Stays.{HaveNoPlace, IsNoPlace}
 use Rattle.act_lines.proofs.GrowLemmas.{last_before, last_still}
 use Rattle.act_lines.proofs.StandLemmas.{flags_stay, stands_on}
 use Rattle.act_lines.specs.Keeps.{BeginsGiven}
 use Rattle.act_lines.specs.Nodes.{LeavesBegun}
-use Rattle.act_lines.specs.Opens.{IsGivenNow, MayBegin}
+use Rattle.act_lines.specs.Opens.{IsGivenNow, MayOpenSlots}
 use Rattle.act_lines.proofs.BootLemmas.{IsBeginHere, IsCovered, IsRefusedBy, covered_assigned}
 use Rattle.act_lines.proofs.OpenLemmas.{begins_on, given_tenure, opens_next}
 use Rattle.act_lines.proofs.NodeStands.{named_last, of_name, stopped_so}
@@ -72,7 +72,7 @@ module _ (node : ℕ) (asked : Option ℕ) (place : Placement) where
   here_no_place : (e : Event) → IsBeginHere node asked place e → IsNoPlace e
   here_no_place e h = elim h.is as (λ _. IsNoPlace e) [ inl is ↦ subst IsNoPlace (sym is) tt | inr is ↦ subst IsNoPlace (sym is.1) tt ]
 
-  here_changes : (p : TurnPlace) (past : List Event) (e : Event) → IsBeginHere node asked place e → MayChange p past e
+  here_changes : (p : TurnPosition) (past : List Event) (e : Event) → IsBeginHere node asked place e → MayChange p past e
   here_changes p past e h = elim h.is as (λ _. MayChange p past e) [ inl is ↦ subst (MayChange p past) (sym is) tt | inr is ↦ subst (MayChange p past) (sym is.1) tt ]
 
   here_quiet : (e : Event) → IsBeginHere node asked place e → IsQuiet e
@@ -95,10 +95,10 @@ pub record IsBootAnswer (place : Placement) (a : Act) (b : Answer) : Type 0 wher
   pub no_moves : (available : List (ℕ × List ℕ)) (shown : Placement) (version : ℕ) → b ≡ answer.Available available shown version → available ≡ []
   pub halts : KeepsStops a b
 
-module _ {D : Type 0} {G : Ghosts D} (state : D → DiskState) (tells : Bool) (start : Option MetaState) (turns : List Turn) (old new : Members D G) (stands : Stands start turns old) (may : MayBegin state tells start old.net.replicas) (name : List ℕ) (asked : Option ℕ) (boot : MayBoot old name asked)
+module _ {D : Type 0} {G : Ghosts D} (state : D → DiskState) (tells : Bool) (start : Option MetaState) (turns : List Turn) (old new : Members D G) (stands : ClusterStands start turns old) (may : MayOpenSlots state tells start old.net.replicas) (name : List ℕ) (asked : Option ℕ) (boot : MayBoot old name asked)
     (b : Answer) (answers : IsBootAnswer old.net.state.place (act.Bootstrap name asked) b) (more : List Event) (ran : Ran state old.net.replicas more new.net.replicas) (each : (e : Event) → IsIn more e → IsBeginHere boot.runs.node asked old.net.state.place e)
     (few : length more ≤ 2 * length old.net.state.place.shards) (unowned : (n s tenure j : ℕ) → At more j (event.Step n s (call.Begin tenure) (reply.Refused reason.NotOwned)) → IsRefusedBy state old.net.replicas.members boot.runs.node old.net.replicas.events more n s tenure j) (keeps : KeepsButBoots old new)
-    (left : IsLeftBy start (turns ++ line_of (act.Bootstrap name asked) b ∷ []) new.net) where
+    (left : NetIsLeftBy start (turns ++ line_of (act.Bootstrap name asked) b ∷ []) new.net) where
   abbrev pub a : Act
   a = act.Bootstrap name asked
 
@@ -114,8 +114,8 @@ module _ {D : Type 0} {G : Ghosts D} (state : D → DiskState) (tells : Bool) (s
   abbrev pub whole : List Event
   whole = events ++ more
 
-  abbrev pub p : TurnPlace
-  p = place_after turns a b
+  abbrev pub p : TurnPosition
+  p = position_after turns a b
 
   no_place : HaveNoPlace more
   no_place e m = here_no_place node asked place e (each e m)
@@ -219,7 +219,7 @@ module _ {D : Type 0} {G : Ghosts D} (state : D → DiskState) (tells : Bool) (s
   answered (inl memory) none = inl memory
   answered (inr kind) none = inr (inr (inner_turns turns, record { others = []; some_of = tt; are = sym (append-nil (inner_turns turns)) }, subst (IsDecidedBy [] start p) (sym none) kind))
 
-  pub serves : HearsOf start (InStretch whole (length events) (length whole)) p [] b → (b ≡ answer.Memory) ⊎ IsOfKind [] start p a b → IsNotRefused start turns a b → (was : TurnPlace → List LateMessage) (past : List Record) → WereDelivered turns was → ServesOne tells [] [] was past start turns events a b more
+  pub serves : HearsOf start (InStretch whole (length events) (length whole)) p [] b → (b ≡ answer.Memory) ⊎ IsOfKind [] start p a b → IsNotRefused start turns a b → (was : TurnPosition → List LateMessage) (past : List Record) → WereDelivered turns was → ServesOne tells [] [] was past start turns events a b more
   serves heard kind none was past were = record {
     adds = in_order;
     opens = opens;
@@ -237,7 +237,7 @@ module _ {D : Type 0} {G : Ghosts D} (state : D → DiskState) (tells : Bool) (s
   ready_so =
       subst (λ st. IsReady st new.net.replicas new.net.bag) (sym keeps.keeps.state) (subst (IsReady old.net.state new.net.replicas) (sym keeps.keeps.bag) (ready_still state old.net.replicas new.net.replicas more ran old.net.state old.net.bag stands.ready quiet))
 
-  stands_so : Stands start (turns ++ line_of a b ∷ []) new
+  stands_so : ClusterStands start (turns ++ line_of a b ∷ []) new
   stands_so = stands_on state start turns old stands a b new (ap (λ (s : MetaState). s.place) keeps.keeps.state) more ran no_place
       (λ k s c r m. let h = here_step node asked place k s c r (each (event.Step k s c r) m) in
       stands.slots.all k s (inl (h.0, subst (λ n. HasTenure events n s h.0) (sym h.1) (given_tenure events node s h.0 (place, stands.ready.place, covered_assigned node asked place s h.0 h.3)))))

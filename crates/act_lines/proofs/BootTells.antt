@@ -30,7 +30,7 @@ use Rattle.session_net.specs.Messages.{exchange}
 use Rattle.session_net.specs.Runs.{slot_at}
 use Rattle.session_net.proofs.RunLemmas.{ran_nothing}
 use Rattle.told_by.specs.Hears.{Happens, HearsBy, HearsRefused, InStretch, IsJoinCall, IsMember}
-use Rattle.told_by.specs.Lines.{place_after}
+use Rattle.told_by.specs.Lines.{position_after}
 use Rattle.told_by.specs.Makes.{IsAssigned}
 use Rattle.told_by.proofs.LineLemmas.{at_front, take_front}
 use Rattle.told_by.proofs.OneLemmas.{among_back}
@@ -43,15 +43,15 @@ use Rattle.call_lines.proofs.DeliverLemmas.{nothing_serves, nothing_tells}
 use Rattle.call_lines.proofs.MemberLemmas.{node_replica}
 use Rattle.call_lines.proofs.ServeLemmas.{delivered_so}
 use Rattle.cluster_members.specs.declared.members.Members.{Members}
-use Rattle.node_calls.specs.Begins.{Assigned, Begun, EndsBoots, IsUnowned, assigned_below, begin_at, tenure_in}
+use Rattle.node_calls.specs.Begins.{Assigned, Begun, EndsBoots, IsTenureUnowned, assigned_below, begin_at, tenure_in}
 use Rattle.node_calls.specs.Nodes.{IsHeldUp}
 use Rattle.node_calls.proofs.BeginLemmas.{begun_few, few_below, tenure_node}
 use Rattle.node_calls.proofs.ListLemmas.{flat-IsIn}
-use Rattle.act_lines.specs.Stands.{Stands}
+use Rattle.act_lines.specs.Stands.{ClusterStands}
 use Rattle.act_lines.proofs.GrowLemmas.{happens_in}
 use Rattle.act_lines.proofs.StandLemmas.{stands_still}
 use Rattle.act_lines.specs.Nodes.{AvailableTells, BootDamagedTells, BootFailedTells, BootWantedTells, LeavesBegun}
-use Rattle.act_lines.specs.Opens.{MayBegin}
+use Rattle.act_lines.specs.Opens.{MayOpenSlots}
 use Rattle.act_lines.proofs.BootLemmas.{IsCovered, IsRefusedBy, any_tenure, below_covered, begun_here, form_shown, passed_at, passed_begun, there_at, unbegun_covered, unbegun_here}
 use Rattle.act_lines.proofs.BootLines.{IsBootAnswer, leaves_begun}
 use Rattle.act_lines.proofs.HaltLemmas.{plain_so}
@@ -134,7 +134,7 @@ available_tells {D} {G} state old tells start turns new name asked available sho
 
 -- ---- one that is held up
 
-module _ {D : Type 0} {G : Ghosts D} (state : D → DiskState) (tells : Bool) (start : Option MetaState) (turns : List Turn) (old new : Members D G) (stands : Stands start turns old) (may : MayBegin state tells start old.net.replicas) (name : List ℕ) (asked : Option ℕ) (shard : ℕ) (why : Reason)
+module _ {D : Type 0} {G : Ghosts D} (state : D → DiskState) (tells : Bool) (start : Option MetaState) (turns : List Turn) (old new : Members D G) (stands : ClusterStands start turns old) (may : MayOpenSlots state tells start old.net.replicas) (name : List ℕ) (asked : Option ℕ) (shard : ℕ) (why : Reason)
     (h : IsHeldUp state old name asked shard why new) (b : Answer) (refusal : IsRefusal b) where
   abbrev pub place : Placement
   place = old.net.state.place
@@ -178,7 +178,7 @@ module _ {D : Type 0} {G : Ghosts D} (state : D → DiskState) (tells : Bool) (s
               k = r.k;
               next = r.next;
               asked = subst (λ es. At es r.k (ask_of k s (call.Begin tenure))) (sym h.refused.are) (at_append h.refused.before last r.k (ask_of k s (call.Begin tenure)) asked_there);
-              unowned = subst (λ es. IsUnowned state old.net.replicas.members (slot_at k s) (events ++ es) tenure) front_is r.unowned;
+              unowned = subst (λ es. IsTenureUnowned state old.net.replicas.members (slot_at k s) (events ++ es) tenure) front_is r.unowned;
             })
         | inr ge ↦ absurd (in_last (among_back h.refused.before last j e there ge))
       ]
@@ -206,8 +206,8 @@ module _ {D : Type 0} {G : Ghosts D} (state : D → DiskState) (tells : Bool) (s
         step = (call.Begin h.refused.tenure, tt, happens_in events h.begins step among);
       }
 
-  pub held_tells : HearsBy start events (InStretch whole (length events) (length whole)) (place_after turns (act.Bootstrap name asked) b) (act.Bootstrap name asked) b
-      → HearsOf start (InStretch whole (length events) (length whole)) (place_after turns (act.Bootstrap name asked) b) [] b → (b ≡ answer.Memory) ⊎ IsOfKind [] start (place_after turns (act.Bootstrap name asked) b) (act.Bootstrap name asked) b → LeavesBegun state tells start turns old (act.Bootstrap name asked) b new
+  pub held_tells : HearsBy start events (InStretch whole (length events) (length whole)) (position_after turns (act.Bootstrap name asked) b) (act.Bootstrap name asked) b
+      → HearsOf start (InStretch whole (length events) (length whole)) (position_after turns (act.Bootstrap name asked) b) [] b → (b ≡ answer.Memory) ⊎ IsOfKind [] start (position_after turns (act.Bootstrap name asked) b) (act.Bootstrap name asked) b → LeavesBegun state tells start turns old (act.Bootstrap name asked) b new
   held_tells hears heard kind =
       let answers = refusal_answer place name asked b refusal in
       leaves_begun state tells start turns old new stands may name asked h.may b answers.0 h.begins h.ran (unbegun_here node asked place state old.net.replicas shard why h.begins h.refused) few unowned h.keeps
@@ -227,7 +227,7 @@ boot_damaged_tells {D} {G} state old tells start turns new name node asked shard
 -- ---- one for which memory was wanted
 
 -- before any replica was asked
-nothing_begun : {D : Type 0} {G : Ghosts D} (state : D → DiskState) (tells : Bool) (start : Option MetaState) (turns : List Turn) (old : Members D G) (name : List ℕ) (asked : Option ℕ) → Stands start turns old → MayBegin state tells start old.net.replicas
+nothing_begun : {D : Type 0} {G : Ghosts D} (state : D → DiskState) (tells : Bool) (start : Option MetaState) (turns : List Turn) (old : Members D G) (name : List ℕ) (asked : Option ℕ) → ClusterStands start turns old → MayOpenSlots state tells start old.net.replicas
     → LeavesBegun state tells start turns old (act.Bootstrap name asked) answer.Memory old
 nothing_begun {D} {G} state tells start turns old name asked stands may =
     let a : Act = act.Bootstrap name asked in

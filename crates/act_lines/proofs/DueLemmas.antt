@@ -3,7 +3,7 @@ use Rattle.std.proofs.Common.{◌≡◌, ℕ, ◌<◌, ◌≤◌, List, length, 
 use Rattle.std.specs.Prelude.{Option, Some, None, option_map, is_some, nat_le, nat_lt, decimal}
 use Rattle.std.specs.Option.{option_or}
 use Rattle.std.proofs.lemmas.Bool.{le-leb, le-ltb, lt-leb, lt-ltb}
-use Rattle.m3_model.specs.Rules.{namespace_place}
+use Rattle.m3_model.specs.Rules.{namespace_position}
 use Rattle.m3_model.specs.declared.act.Act.{Act}
 use Rattle.m3_model.specs.declared.act.Act.TheVariants as act
 use Rattle.m3_model.specs.declared.answer.Answer.{Answer}
@@ -14,7 +14,7 @@ use Rattle.m3_model.specs.declared.rules.MetaState.{MetaState}
 use Rattle.m3_model.specs.declared.rules.Rules.{Rules}
 use Rattle.m3_model.specs.declared.turn.Turn.{Turn}
 use Rattle.placement_core.specs.NodeNames.{is_listed}
-use Rattle.told_by.specs.Lines.{place_after}
+use Rattle.told_by.specs.Lines.{position_after}
 use Rattle.told_moves.specs.Order.{IsInitAct}
 use Rattle.transcripts.specs.Fates.{is_stopped}
 use Rattle.transcripts.specs.Placements.{placements}
@@ -74,9 +74,9 @@ namespaces_are_due start turns place rules left name block past future retention
   free = λ new few. due false false None (ap is_some new) (lt-leb MOST_NAMESPACES (length rules.spaces) few) refl;
 }
   where
-    due : (taken many : Bool) (refusal : Option Answer) → is_some (namespace_place name rules.spaces) ≡ taken → nat_le MOST_NAMESPACES (length rules.spaces) ≡ many → space_refusal taken many ≡ refusal → IsDueNext start turns (act.Namespace name block past future retention) b refusal
+    due : (taken many : Bool) (refusal : Option Answer) → is_some (namespace_position name rules.spaces) ≡ taken → nat_le MOST_NAMESPACES (length rules.spaces) ≡ many → space_refusal taken many ≡ refusal → IsDueNext start turns (act.Namespace name block past future retention) b refusal
     due taken many refusal e f is = refused_by start turns (Some place) rules left (act.Namespace name block past future retention) b refusal
-        (λ versions. ap (λ o. option_or (cond (is_some (namespace_place name rules.spaces)) (Some answer.Order) None) o) (end_none (cond (nat_le MOST_NAMESPACES (length rules.spaces)) (Some (answer.Limit MOST_NAMESPACES)) None))
+        (λ versions. ap (λ o. option_or (cond (is_some (namespace_position name rules.spaces)) (Some answer.Order) None) o) (end_none (cond (nat_le MOST_NAMESPACES (length rules.spaces)) (Some (answer.Limit MOST_NAMESPACES)) None))
         ∙ ap₂ space_refusal e f ∙ is)
 
 pub moments_are_due : MomentsAreDue
@@ -95,7 +95,7 @@ abbrev call_refusal : List ℕ → Bool → Option Answer
 call_refusal ns there = option_or (option_map (λ name. answer.Unknown name) (option_or (cond there None (Some ns)) None)) None
 
 spaces_due : (start : Option MetaState) (turns : List Turn) (place : Placement) (rules : Rules) → HaveLeft start turns (Some place) rules → (ns : List ℕ) (a : Act) (b : Answer)
-    → ((versions : List ℕ) (stopped : List ℕ → Bool) → refusal_by (Some place) versions rules stopped a ≡ call_refusal ns (is_some (namespace_place ns rules.spaces))) → SpaceDue start turns rules ns a b
+    → ((versions : List ℕ) (stopped : List ℕ → Bool) → refusal_by (Some place) versions rules stopped a ≡ call_refusal ns (is_some (namespace_position ns rules.spaces))) → SpaceDue start turns rules ns a b
 spaces_due start turns place rules left ns a b is = record {
   unknown = λ none. refused_by start turns (Some place) rules left a b (Some (answer.Unknown ns)) (λ versions. is versions _ ∙ ap (λ o. call_refusal ns (is_some o)) none);
   free = λ k there. refused_by start turns (Some place) rules left a b None (λ versions. is versions _ ∙ ap (λ o. call_refusal ns (is_some o)) there);
@@ -180,4 +180,4 @@ bootstraps_are_due start turns place rules left name asked b = record {
 -- ---- placements
 
 pub steps_are_due : StepsAreDue
-steps_are_due start turns place rules left a b step = step_refusal start (place_after turns a b) (inner_turns turns) place left.place_is step
+steps_are_due start turns place rules left a b step = step_refusal start (position_after turns a b) (inner_turns turns) place left.place_is step

@@ -37,7 +37,7 @@ use Rattle.session_net.specs.Runs.{Ran, slot_at}
 use Rattle.session_net.proofs.ReadyLemmas.{AreQuiet, quiet_both}
 use Rattle.told_by.specs.Clocks.{sets_rules}
 use Rattle.told_by.specs.Hears.{AnySlot, HasStep, HearsBy, HearsRefused, InStretch, IsRestartCall}
-use Rattle.told_by.specs.Lines.{IsPlain, MayChange, PlainLine, place_after}
+use Rattle.told_by.specs.Lines.{IsPlain, MayChange, PlainLine, position_after}
 use Rattle.told_by.specs.Makes.{EndsRestart, IsNamedLast, MayAsk, MayHalt, MayMake}
 use Rattle.told_by.specs.Openings.{sets_seed}
 use Rattle.told_by.specs.Spans.{From}
@@ -47,10 +47,10 @@ use Rattle.told_by.proofs.OneLemmas.{among_back, at_back, back_at}
 use Rattle.told_runs.specs.Answers.{HearsOf, IsOfKind}
 use Rattle.transcripts.specs.Deliveries.{delivers_nothing}
 use Rattle.transcripts.specs.Fates.{is_stopped}
-use Rattle.transcripts.specs.Record.{TurnPlace, inner_turns, line_of}
+use Rattle.transcripts.specs.Record.{TurnPosition, inner_turns, line_of}
 use Rattle.call_lines.specs.Keeps.{SetsNothing}
 use Rattle.call_lines.specs.Laws.{IsCalm, LeavesLine}
-use Rattle.call_lines.specs.Left.{AreStoppedBy, IsLeftBy}
+use Rattle.call_lines.specs.Left.{AreStoppedBy, NetIsLeftBy}
 use Rattle.call_lines.proofs.KeepLemmas.{left_as_before}
 use Rattle.call_lines.proofs.ServeLemmas.{answered, delivered_so, serves_so}
 use Rattle.cluster_members.specs.declared.members.Members.{Members}
@@ -59,7 +59,7 @@ use Rattle.node_calls.specs.Nodes.{IsNode, IsUnstarted, KeepsButNodes}
 use Rattle.node_calls.proofs.ListLemmas.{IsIn-flat, filter_few, flat-IsIn, flat_long}
 use Rattle.node_calls.proofs.RunLemmas.{quiet_exchange, quiet_flat, ready_still, unrestarted_few, unrestarted_quiet}
 use Rattle.act_lines.specs.Quiet.{KeepsStops}
-use Rattle.act_lines.specs.Stands.{Stands}
+use Rattle.act_lines.specs.Stands.{ClusterStands}
 use Rattle.act_lines.specs.Stays.{HaveNoPlace, IsNoPlace}
 use Rattle.act_lines.proofs.GrowLemmas.{given_before, happens_in, last_before}
 use Rattle.act_lines.proofs.StandLemmas.{flags_stay, stands_on}
@@ -133,7 +133,7 @@ module _ (Kind : StepCall → Type 0) where
 abbrev pub MayAskFor : (StepCall → Type 0) → Option MetaState → List Turn → Act → Answer → List ℕ → Type 0
 MayAskFor Kind start turns a b name =
     (past : List Event) (k s : ℕ) (c : StepCall) → Kind c
-    → ((r : StepReply) → MayHalt past (place_after turns a b) name k s → MayMake start past (place_after turns a b) (event.Step k s c r)) × (MayHalt past (place_after turns a b) name k s → MayAsk start past (place_after turns a b) a (asked.Step k s c))
+    → ((r : StepReply) → MayHalt past (position_after turns a b) name k s → MayMake start past (position_after turns a b) (event.Step k s c r)) × (MayHalt past (position_after turns a b) name k s → MayAsk start past (position_after turns a b) a (asked.Step k s c))
 
 -- what the answer says is heard, and neither sets nor prints anything
 pub record IsHaltAnswer (a : Act) (b : Answer) : Type 0 where
@@ -142,7 +142,7 @@ pub record IsHaltAnswer (a : Act) (b : Answer) : Type 0 where
   pub quiet : IsTrue (delivers_nothing (line_of a b))
   pub no_boot : (available : List (ℕ × List ℕ)) (place : Placement) (version : ℕ) → b ≡ answer.Available available place version → ⊥
 
-module _ {D : Type 0} {G : Ghosts D} (state : D → DiskState) (start : Option MetaState) (turns : List Turn) (old new : Members D G) (stands : Stands start turns old) (name : List ℕ) (halted : Bool) (n : IsNode old name halted)
+module _ {D : Type 0} {G : Ghosts D} (state : D → DiskState) (start : Option MetaState) (turns : List Turn) (old new : Members D G) (stands : ClusterStands start turns old) (name : List ℕ) (halted : Bool) (n : IsNode old name halted)
     (a : Act) (b : Answer) (answers : IsHaltAnswer a b) (Kind : StepCall → Type 0) (of_kind : (c : StepCall) → Kind c → IsHaltCall c) (more : List Event) (ran : Ran state old.net.replicas more new.net.replicas) (halts : (e : Event) → IsIn more e → IsHaltOf Kind (slots_of_node n.node old.slots.items) e)
     (asks : MayAskFor Kind start turns a b name)
     (keeps : KeepsButNodes old new) where
@@ -152,8 +152,8 @@ module _ {D : Type 0} {G : Ghosts D} (state : D → DiskState) (start : Option M
   abbrev pub whole : List Event
   whole = events ++ more
 
-  abbrev pub p : TurnPlace
-  p = place_after turns a b
+  abbrev pub p : TurnPosition
+  p = position_after turns a b
 
   abbrev pub own_slots : List Slot
   own_slots = slots_of_node n.node old.slots.items
@@ -214,14 +214,14 @@ module _ {D : Type 0} {G : Ghosts D} (state : D → DiskState) (start : Option M
     delivered = delivered_so turns a b [] (λ m i. absurd i);
   }
 
-  pub left_so : new.net.bag ≡ old.net.bag → IsLeftBy start (turns ++ line_of a b ∷ []) new.net
+  pub left_so : new.net.bag ≡ old.net.bag → NetIsLeftBy start (turns ++ line_of a b ∷ []) new.net
   left_so bag = left_as_before old.net start turns new.net a b stands.left (record { state = keeps.state; fates = keeps.fates }) answers.sets answers.quiet bag
 
   ready_so : AreQuiet more → IsReady new.net.state new.net.replicas new.net.bag
   ready_so quiet =
       subst (λ st. IsReady st new.net.replicas new.net.bag) (sym keeps.state) (subst (IsReady old.net.state new.net.replicas) (sym keeps.bag) (ready_still state old.net.replicas new.net.replicas more ran old.net.state old.net.bag stands.ready quiet))
 
-  pub stands_so : AreQuiet more → AreStoppedBy (turns ++ line_of a b ∷ []) new.net.state.place new.stopped.items → Stands start (turns ++ line_of a b ∷ []) new
+  pub stands_so : AreQuiet more → AreStoppedBy (turns ++ line_of a b ∷ []) new.net.state.place new.stopped.items → ClusterStands start (turns ++ line_of a b ∷ []) new
   stands_so quiet stopped = stands_on state start turns old stands a b new (ap (λ (s : MetaState). s.place) keeps.state) more ran no_place
       (λ k s c r m. IsIn-filter (λ (x : Slot). nat_eq x.node n.node) old.slots.items (slot_at k s) (halt_step Kind own_slots k s c r (halts (event.Step k s c r) m))) keeps.slots (left_so keeps.bag) (ready_so quiet) stopped
 
@@ -264,7 +264,7 @@ IsStop c = c ≡ call.Stop
 
 stop_asks : (start : Option MetaState) (turns : List Turn) (name : List ℕ) → MayAskFor IsStop start turns (act.Stop name) answer.Done name
 stop_asks start turns name past k s c kind =
-    let p = place_after turns (act.Stop name) answer.Done in
+    let p = position_after turns (act.Stop name) answer.Done in
     (λ r may. subst (λ d. MayMake start past p (event.Step k s d r)) (sym kind) (may, refl), λ may. subst (λ d. MayAsk start past p (act.Stop name) (asked.Step k s d)) (sym kind) (may, refl))
 
 pub stopped_tells : {D : Type 0} {G : Ghosts D} (state : D → DiskState) (old : Members D G) → StoppedTells state old
@@ -301,7 +301,7 @@ IsRestart c = c ≡ call.Restart
 
 restart_asks : (start : Option MetaState) (turns : List Turn) (name : List ℕ) (pick : ℕ) (b : Answer) → is_stopped (inner_turns turns) name ≡ true → MayAskFor IsRestart start turns (act.Restart name pick) b name
 restart_asks start turns name pick b stopped past k s c kind =
-    let p = place_after turns (act.Restart name pick) b in
+    let p = position_after turns (act.Restart name pick) b in
     (λ r may. subst (λ d. MayMake start past p (event.Step k s d r)) (sym kind) (may, stopped), λ may. subst (λ d. MayAsk start past p (act.Restart name pick) (asked.Step k s d)) (sym kind) (may, stopped))
 
 pub restarted_tells : {D : Type 0} {G : Ghosts D} (state : D → DiskState) (old : Members D G) → RestartedTells state old
@@ -327,13 +327,13 @@ restarted_tells {D} {G} state old start turns new name pick stands h =
 
 refused_asks : (start : Option MetaState) (turns : List Turn) (name : List ℕ) (pick : ℕ) (b : Answer) → is_stopped (inner_turns turns) name ≡ true → (b ≡ answer.Done → ⊥) → MayAskFor IsHaltCall start turns (act.Restart name pick) b name
 refused_asks start turns name pick b stopped not past k s c kind =
-    let p = place_after turns (act.Restart name pick) b in
+    let p = position_after turns (act.Restart name pick) b in
     elim kind as (λ _. ((r : StepReply) → MayHalt past p name k s → MayMake start past p (event.Step k s c r)) × (MayHalt past p name k s → MayAsk start past p (act.Restart name pick) (asked.Step k s c))) [
       | inl stop ↦ (λ r may. subst (λ d. MayMake start past p (event.Step k s d r)) (sym stop) (may, stopped, not), λ may. subst (λ d. MayAsk start past p (act.Restart name pick) (asked.Step k s d)) (sym stop) (may, stopped, not))
       | inr restart ↦ (λ r may. subst (λ d. MayMake start past p (event.Step k s d r)) (sym restart) (may, stopped), λ may. subst (λ d. MayAsk start past p (act.Restart name pick) (asked.Step k s d)) (sym restart) (may, stopped))
     ]
 
-module _ {D : Type 0} {G : Ghosts D} (state : D → DiskState) (start : Option MetaState) (turns : List Turn) (old new : Members D G) (stands : Stands start turns old) (name : List ℕ) (pick shard : ℕ) (why : Reason) (h : IsUnstarted state old name shard why new)
+module _ {D : Type 0} {G : Ghosts D} (state : D → DiskState) (start : Option MetaState) (turns : List Turn) (old new : Members D G) (stands : ClusterStands start turns old) (name : List ℕ) (pick shard : ℕ) (why : Reason) (h : IsUnstarted state old name shard why new)
     (b : Answer) (answers : IsHaltAnswer (act.Restart name pick) b) (not_done : b ≡ answer.Done → ⊥) (halts_so : KeepsStops (act.Restart name pick) b) where
   abbrev pub slots : List Slot
   slots = slots_of_node h.was.node old.slots.items
@@ -355,7 +355,7 @@ module _ {D : Type 0} {G : Ghosts D} (state : D → DiskState) (start : Option M
 
   -- each restart is followed by a stop
   again : (i k s : ℕ) (r : StepReply) → length old.net.replicas.events ≤ i → At (old.net.replicas.events ++ came) i (event.Step k s call.Restart r)
-      → EndsRestart (From (length old.net.replicas.events)) (old.net.replicas.events ++ came) (λ _. place_after turns (act.Restart name pick) b) (place_after turns (act.Restart name pick) b) i k s
+      → EndsRestart (From (length old.net.replicas.events)) (old.net.replicas.events ++ came) (λ _. position_after turns (act.Restart name pick) b) (position_after turns (act.Restart name pick) b) i k s
   again i k s r le at =
       let events = old.net.replicas.events in
       let step : Event = event.Step k s call.Restart r in
@@ -364,18 +364,18 @@ module _ {D : Type 0} {G : Ghosts D} (state : D → DiskState) (start : Option M
       let slot = halt_step IsHaltCall slots k s call.Restart r (each step (at_in came back.0 step back.2)) in
       let stop : Event = event.Step k s call.Stop reply.Done in
       let there = in_at stops stop (flat-IsIn stop_at slots (slot_at k s) stop slot (inr (inl refl))) in
-      let place = back_at events came (length h.tried + there.0) stop (back_at h.tried stops there.0 stop there.1) in
+      let there_too = back_at events came (length h.tried + there.0) stop (back_at h.tried stops there.0 stop there.1) in
       let is = back.1 in
       let later : i < length events + (length h.tried + there.0) = omega (arith, is, in_tried) in
       let mine : length events ≤ length events + (length h.tried + there.0) = omega arith in
-      inr (record { stop = length events + (length h.tried + there.0); later = later; there = place; mine = mine; own = refl })
+      inr (record { stop = length events + (length h.tried + there.0); later = later; there = there_too; mine = mine; own = refl })
     where
       before : (j : ℕ) → At came j (event.Step k s call.Restart r) → j < length h.tried
       before j at = elim (cases_lt j (length h.tried)) as (λ _. j < length h.tried) [ inl lt ↦ lt | inr ge ↦ absurd (no_restart slots k s r (among_back h.tried stops j (event.Step k s call.Restart r) at ge)) ]
 
-  pub kept_line : HearsBy start old.net.replicas.events (InStretch (old.net.replicas.events ++ came) (length old.net.replicas.events) (length (old.net.replicas.events ++ came))) (place_after turns (act.Restart name pick) b) (act.Restart name pick) b
-      → HearsOf start (InStretch (old.net.replicas.events ++ came) (length old.net.replicas.events) (length (old.net.replicas.events ++ came))) (place_after turns (act.Restart name pick) b) [] b
-      → (b ≡ answer.Memory) ⊎ IsOfKind [] start (place_after turns (act.Restart name pick) b) (act.Restart name pick) b → LeavesStanding start turns old (act.Restart name pick) b new
+  pub kept_line : HearsBy start old.net.replicas.events (InStretch (old.net.replicas.events ++ came) (length old.net.replicas.events) (length (old.net.replicas.events ++ came))) (position_after turns (act.Restart name pick) b) (act.Restart name pick) b
+      → HearsOf start (InStretch (old.net.replicas.events ++ came) (length old.net.replicas.events) (length (old.net.replicas.events ++ came))) (position_after turns (act.Restart name pick) b) [] b
+      → (b ≡ answer.Memory) ⊎ IsOfKind [] start (position_after turns (act.Restart name pick) b) (act.Restart name pick) b → LeavesStanding start turns old (act.Restart name pick) b new
   kept_line hears heard kind = record {
     line = leaves state start turns old new stands name true h.was (act.Restart name pick) b answers IsHaltCall (λ c k. k) came h.stopped each asks h.keeps
         (line state start turns old new stands name true h.was (act.Restart name pick) b answers IsHaltCall (λ c k. k) came h.stopped each asks h.keeps hears again)

@@ -14,7 +14,7 @@ use Rattle.m3_model.specs.declared.placement.Placement.{Placement}
 use Rattle.m3_model.specs.declared.reason.Reason.TheVariants as reason
 use Rattle.m3_model.specs.declared.turn.Turn.{Turn}
 use Rattle.m3_outside.specs.Depots.{Depot, TellAll}
-use Rattle.m3_outside.specs.DiskState.{DiskState, IsLawful as IsLawfulDisk}
+use Rattle.m3_outside.specs.DiskState.{DiskState, IsLawfulDisk}
 use Rattle.m3_outside.specs.declared.disk.Disk.{Ghosts}
 use Rattle.placement_core.specs.Lawful.{IsLawful}
 use Rattle.placement_core.proofs.ListLemmas.{IsIn-from_Any}
@@ -42,7 +42,7 @@ use Rattle.first_cluster.proofs.BeginLemmas.{begins_long}
 use Rattle.first_cluster.proofs.FirstLemmas.{quiet_begins}
 use Rattle.first_cluster.proofs.PlacedSlots.{few_starts}
 use Rattle.told_by.specs.Hears.{HearsOpened, InStretch}
-use Rattle.told_by.specs.Lines.{AreSteps, InitLine, IsAskOrStep, place_after}
+use Rattle.told_by.specs.Lines.{AreSteps, InitLine, IsAskOrStep, position_after}
 use Rattle.told_by.specs.Makes.{IsAssigned, MayMake}
 use Rattle.told_runs.specs.Answers.{IsAnswered, IsDecidedBy, IsOfKind}
 use Rattle.told_runs.specs.Bounds.{writes_taken}
@@ -52,7 +52,7 @@ use Rattle.transcripts.specs.Deliveries.{LateMessage}
 use Rattle.transcripts.specs.Faults.{Fault}
 use Rattle.transcripts.specs.Fates.{OfNode, is_stopped}
 use Rattle.transcripts.specs.Placements.{placements}
-use Rattle.transcripts.specs.Record.{Record, TurnPlace, inner_turns, line_of}
+use Rattle.transcripts.specs.Record.{Record, TurnPosition, inner_turns, line_of}
 use Rattle.transcripts.specs.Refusals.{refusal_by}
 use Rattle.transcripts.specs.Rules.{rules_at, start_rules}
 use Rattle.call_lines.specs.Left.{WereDelivered}
@@ -74,15 +74,15 @@ places_kept was [] quiet = refl
 places_kept was (e ∷ more) quiet = ap (λ w. fold placed_after w more) (place_kept was e (quiet e (inl refl))) ∙ places_kept was more (λ x m. quiet x (inr m))
 
 -- no `init` is refused where no placement stands
-pub not_refused : (turns : List Turn) (rf shards seed : ℕ) (nodes : List (List ℕ × List ℕ)) (b : Answer) → NoneStands turns → refusal_after None (place_after turns (act.Init rf shards seed nodes) b) (inner_turns turns) ≡ None
+pub not_refused : (turns : List Turn) (rf shards seed : ℕ) (nodes : List (List ℕ × List ℕ)) (b : Answer) → NoneStands turns → refusal_after None (position_after turns (act.Init rf shards seed nodes) b) (inner_turns turns) ≡ None
 not_refused turns rf shards seed nodes b none =
-    ap (λ o. refusal_by o (map (λ place. place.version) (placements None (inner_turns turns))) (rules_at None (place_after turns (act.Init rf shards seed nodes) b)) (is_stopped (inner_turns turns)) (act.Init rf shards seed nodes)) (no_placement turns none)
+    ap (λ o. refusal_by o (map (λ place. place.version) (placements None (inner_turns turns))) (rules_at None (position_after turns (act.Init rf shards seed nodes) b)) (is_stopped (inner_turns turns)) (act.Init rf shards seed nodes)) (no_placement turns none)
 
 -- one that was answered so is decided
-pub decided : (turns : List Turn) (rf shards seed : ℕ) (nodes : List (List ℕ × List ℕ)) (b : Answer) (taking : List Fault) (end : ℕ) → NoneStands turns → IsOfKind taking None (place_after turns (act.Init rf shards seed nodes) b) (act.Init rf shards seed nodes) b
-    → IsAnswered taking None end (place_after turns (act.Init rf shards seed nodes) b)
+pub decided : (turns : List Turn) (rf shards seed : ℕ) (nodes : List (List ℕ × List ℕ)) (b : Answer) (taking : List Fault) (end : ℕ) → NoneStands turns → IsOfKind taking None (position_after turns (act.Init rf shards seed nodes) b) (act.Init rf shards seed nodes) b
+    → IsAnswered taking None end (position_after turns (act.Init rf shards seed nodes) b)
 decided turns rf shards seed nodes b taking end none kind =
-    let p = place_after turns (act.Init rf shards seed nodes) b in
+    let p = position_after turns (act.Init rf shards seed nodes) b in
     inr (inr (inner_turns turns, record { others = []; some_of = tt; are = sym (append-nil (inner_turns turns)) }, subst (IsDecidedBy taking None p) (sym (not_refused turns rf shards seed nodes b none)) kind))
 
 module _ {D : Type 0} {G : Ghosts D} (state : D → DiskState) (m : Members D G) (rf shards seed : ℕ) (nodes : List (List ℕ × List ℕ)) (old new : Depot D) (first : IsFirst state rf shards seed nodes old new m) (turns : List Turn) (none : NoneStands turns) where
@@ -95,8 +95,8 @@ module _ {D : Type 0} {G : Ghosts D} (state : D → DiskState) (m : Members D G)
   abbrev b : Answer
   b = answer.Placed place place.version
 
-  abbrev p : TurnPlace
-  p = place_after turns a b
+  abbrev p : TurnPosition
+  p = position_after turns a b
 
   abbrev said : Slot → Said
   said = first.opened.begun.said
@@ -238,7 +238,7 @@ module _ {D : Type 0} {G : Ghosts D} (state : D → DiskState) (m : Members D G)
         fence_of : (start : Start) (began : Began) → BeginsBare start (Ok began) → began.fence ≡ start.tenure
         fence_of start began h = (h.fence).0
 
-    serves_so : (was : TurnPlace → List LateMessage) (past : List Record) → WereDelivered turns was → ServesOne tells [] [] was past None turns [] a b all
+    serves_so : (was : TurnPosition → List LateMessage) (past : List Record) → WereDelivered turns was → ServesOne tells [] [] was past None turns [] a b all
     serves_so was past were = record {
       adds = in_order;
       opens = opens_so;

@@ -48,9 +48,9 @@ use Rattle.transcripts.specs.Fates.{Numbering, calls_in, client_acts, fate_in, f
 use Rattle.transcripts.specs.Placements.{later_placement, placement_after, printed, seed_after, seed_by, start_placement}
 use Rattle.transcripts.specs.Record.{InnerTurn, inner_turns, line_of}
 use Rattle.transcripts.specs.Rules.{rules_after, start_rules}
-use Rattle.call_lines.specs.Left.{AreStoppedBy, HoldsBack, IsLeftBy}
+use Rattle.call_lines.specs.Left.{AreStoppedBy, HoldsBack, NetIsLeftBy}
 use Rattle.call_lines.proofs.KeepLemmas.{numbering_next}
-use Rattle.act_lines.specs.Stands.{HasSlots, NoneStands, Stands}
+use Rattle.act_lines.specs.Stands.{HasSlots, NoneStands, ClusterStands}
 use Rattle.act_lines.proofs.QuietLemmas.{stops_next}
 use Rattle.act_lines.proofs.StandLemmas.{no_placement}
 use Rattle.act_lines.specs.Inits.{FirstStands}
@@ -74,7 +74,7 @@ delivers_all key = ap (λ o. unwrap_or o fate.Deliver) (get-empty fate_key_cmp k
 none_stays : {D : Type 0} (state : D → DiskState) (steps : List Step) (old new : Option (Member D)) → old ≡ None → IsStepped state steps old new → new ≡ None
 none_stays state steps old new none h = subst (λ o. IsStepped state steps o new) none h
 
--- what an event places, if it is a Place
+-- what an event positions, if it is a Place
 abbrev placed_in : Event → Option Placement
 placed_in (event.Place place done) = Some place
 placed_in _ = None
@@ -106,7 +106,7 @@ module _ {D : Type 0} {G : Ghosts D} (state : D → DiskState) (m : Members D G)
   fates_so : (numbering_after 0 longer).fates ≡ []
   fates_so = fates_by turns a b refl ∙ none.fates
 
-  left_so : IsLeftBy None longer m.net
+  left_so : NetIsLeftBy None longer m.net
   left_so = record {
     rules = rules_so;
     place = place_so;
@@ -209,7 +209,7 @@ module _ {D : Type 0} {G : Ghosts D} (state : D → DiskState) (m : Members D G)
   named : (n : ℕ) (own : Instance) → slice_get place.instances n ≡ Some own → IsNamedBy events n own.name
   named n own at i p done other there is = ap (λ (x : Instance). x.name) (at_same place.instances n other own (subst (λ (q : Placement). At q.instances n other) (place_at i p done there) is) at)
 
-  pub stands_so : Stands None longer m
+  pub stands_so : ClusterStands None longer m
   stands_so = record {
     left = left_so;
     ready = first_ready state m.net.state m.slots.items old new m.net.replicas m.net.bag first.lawful first.slots first.bag first.opened;

@@ -15,7 +15,7 @@ use Rattle.m3_model.proofs.MemberLemmas.{IsIn-append_cases}
 use Rattle.m3_outside.specs.declared.disk.Disk.{Ghosts}
 use Rattle.net_plan.specs.declared.late_write.LateWrite.{LateWrite}
 use Rattle.session_net.specs.declared.net.Net.{Net}
-use Rattle.told_by.proofs.LineLemmas.{place_stays}
+use Rattle.told_by.proofs.LineLemmas.{position_stays}
 use Rattle.told_by.proofs.RuleLemmas.{after_lines}
 use Rattle.told_by.proofs.TurnLemmas.{inner-append}
 use Rattle.transcripts.specs.Deliveries.{LateMessage, delivers_nothing}
@@ -25,7 +25,7 @@ use Rattle.transcripts.specs.Points.{point_of}
 use Rattle.transcripts.specs.Record.{inner_turns, line_of}
 use Rattle.transcripts.specs.Rules.{rules_after, rules_by, start_rules}
 use Rattle.call_lines.specs.Keeps.{FieldsStay}
-use Rattle.call_lines.specs.Left.{AreHeldBack, FareAsSet, IsHeldBack, IsLeftBy}
+use Rattle.call_lines.specs.Left.{AreHeldBack, FareAsSet, IsHeldBack, NetIsLeftBy}
 
 -- the turn sets neither the rules nor the seed nor the fates, delivers nothing, and prints this placement or none
 pub record SetsNoMore (place : Placement) (a : Act) (b : Answer) : Type 0 where
@@ -35,7 +35,7 @@ pub record SetsNoMore (place : Placement) (a : Act) (b : Answer) : Type 0 where
   pub fates : fates_set (request.One a) (reply.One b) ≡ None
   pub quiet : IsTrue (delivers_nothing (line_of a b))
 
--- behind an earlier place, one line more
+-- behind an earlier position, one line more
 drop_on : {X : Type 0} (k : ℕ) (xs : List X) (x y : X) → IsIn (drop k (xs ++ x ∷ [])) y → IsIn (drop k xs) y ⊎ (x ≡ y)
 drop_on zero xs x y i = elim (IsIn-append_cases xs (x ∷ []) y i) as (λ _. IsIn xs y ⊎ (x ≡ y)) [ inl before ↦ inl before | inr last ↦ elim last as (λ _. IsIn xs y ⊎ (x ≡ y)) [ inl same ↦ inr same | inr none ↦ absurd none ] ]
 drop_on (suc k) [] x y i = absurd (none_left k i)
@@ -45,7 +45,7 @@ drop_on (suc k) [] x y i = absurd (none_left k i)
     none_left (suc k) i = i
 drop_on (suc k) (z ∷ xs) x y i = drop_on k xs x y i
 
-module _ {D : Type 0} {G : Ghosts D} (start : Option MetaState) (turns : List Turn) (a : Act) (b : Answer) (old new : Net D G) (sets : SetsNoMore old.state.place a b) (left : IsLeftBy start turns old) (stay : FieldsStay old new) (bag : new.bag ≡ old.bag) where
+module _ {D : Type 0} {G : Ghosts D} (start : Option MetaState) (turns : List Turn) (a : Act) (b : Answer) (old new : Net D G) (sets : SetsNoMore old.state.place a b) (left : NetIsLeftBy start turns old) (stay : FieldsStay old new) (bag : new.bag ≡ old.bag) where
   abbrev pub longer : List Turn
   longer = turns ++ line_of a b ∷ []
 
@@ -67,17 +67,17 @@ module _ {D : Type 0} {G : Ghosts D} (start : Option MetaState) (turns : List Tu
 
   held_on : (message : LateMessage) (late : LateWrite) → IsHeldBack start turns message late → IsHeldBack start longer message late
   held_on message late h = record {
-    made = place_stays turns (line_of a b) message.place h.made;
+    made = position_stays turns (line_of a b) message.position h.made;
     is_late = (let was = h.is_late in record {
-      made = inl (place_stays turns (line_of a b) message.place h.made);
-      of_act = ap (λ (r : Rules). point_of r.spaces message.place.turn.act) rules_on ∙ was.of_act;
+      made = inl (position_stays turns (line_of a b) message.position h.made);
+      of_act = ap (λ (r : Rules). point_of r.spaces message.position.turn.act) rules_on ∙ was.of_act;
       was_sent = was.was_sent;
       call = was.call;
       of_call = was.of_call;
       may_use = was.may_use;
       member = was.member;
       late = was.late;
-      not_yet = λ line i. elim (drop_on (suc (length message.place.lines)) turns (line_of a b) line i) as (λ _. IsTrue (delivers_nothing line)) [
+      not_yet = λ line i. elim (drop_on (suc (length message.position.lines)) turns (line_of a b) line i) as (λ _. IsTrue (delivers_nothing line)) [
         | inl before ↦ was.not_yet line before
         | inr same ↦ subst (λ l. IsTrue (delivers_nothing l)) same sets.quiet
       ];
@@ -96,7 +96,7 @@ module _ {D : Type 0} {G : Ghosts D} (start : Option MetaState) (turns : List Tu
   all_held_on [] (late ∷ writes) h = absurd h
   all_held_on (message ∷ messages) [] h = absurd h
 
-  pub left_still : IsLeftBy start longer new
+  pub left_still : NetIsLeftBy start longer new
   left_still = record {
     rules = rules_on ∙ left.rules ∙ ap (λ s. s.rules) (sym stay.state);
     place = place_on ∙ ap (λ s. Some s.place) (sym stay.state);

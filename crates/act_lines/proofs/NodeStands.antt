@@ -29,7 +29,7 @@ use Rattle.cluster_members.proofs.NameLemmas.{NamedNode, node_found, same_node}
 use Rattle.node_calls.specs.Halts.{slots_of_node}
 use Rattle.node_calls.specs.Nodes.{IsNode}
 use Rattle.node_calls.proofs.ListLemmas.{set_elsewhere, set_here}
-use Rattle.act_lines.specs.Stands.{Stands}
+use Rattle.act_lines.specs.Stands.{ClusterStands}
 use Rattle.act_lines.proofs.QuietLemmas.{stops_next}
 
 -- ---- slots of a node
@@ -42,7 +42,7 @@ node_has node slots s i is = filter-IsIn (λ (x : Slot). nat_eq x.node node) slo
 
 -- ---- stopped nodes
 
-module _ {D : Type 0} {G : Ghosts D} (start : Option MetaState) (turns : List Turn) (m : Members D G) (stands : Stands start turns m) (name : List ℕ) (halted : Bool) (n : IsNode m name halted) where
+module _ {D : Type 0} {G : Ghosts D} (start : Option MetaState) (turns : List Turn) (m : Members D G) (stands : ClusterStands start turns m) (name : List ℕ) (halted : Bool) (n : IsNode m name halted) where
   abbrev pub place : Placement
   place = m.net.state.place
 

@@ -22,7 +22,7 @@ use Rattle.cluster_core.specs.declared.event.StepCall.TheVariants as call
 use Rattle.session_net.specs.Writes.{most_added, shard_of_point}
 use Rattle.session_net.specs.declared.net.Net.{Net}
 use Rattle.told_by.specs.Hears.{HearsBy, InStretch}
-use Rattle.told_by.specs.Lines.{PlainLine, place_after}
+use Rattle.told_by.specs.Lines.{PlainLine, position_after}
 use Rattle.told_by.specs.Clocks.{sets_rules}
 use Rattle.told_by.specs.Openings.{sets_seed}
 use Rattle.told_by.specs.Writes.{IsUnmetWrite}
@@ -31,7 +31,7 @@ use Rattle.transcripts.specs.Caused.{refusal_after}
 use Rattle.transcripts.specs.Deliveries.{LateMessage}
 use Rattle.transcripts.specs.Fates.{is_stopped}
 use Rattle.transcripts.specs.Placements.{placement_after, placements, printed, start_placement}
-use Rattle.transcripts.specs.Record.{TurnPlace, inner_turns}
+use Rattle.transcripts.specs.Record.{TurnPosition, inner_turns}
 use Rattle.transcripts.specs.Rules.{rules_after, start_rules}
 use Rattle.placement_acts.specs.Acts.{answer_if, is_known, is_step_act, versions_due}
 use Rattle.transcripts.specs.Refusals.{is_out_of_order, kept_versions, limit_reached, lowered_moment, missing_name, names_reached, refusal_by, wrong_state}
@@ -200,7 +200,7 @@ delivers_none_so (answer.Clock moment) h = tt
 delivers_none_so (answer.State node) h = tt
 delivers_none_so _ h = absurd h
 
-says_nothing : (start : Option MetaState) (Here : ℕ → Event → Type 0) (p : TurnPlace) (messages : List LateMessage) (b : Answer) → IsRefusal b → HearsOf start Here p messages b
+says_nothing : (start : Option MetaState) (Here : ℕ → Event → Type 0) (p : TurnPosition) (messages : List LateMessage) (b : Answer) → IsRefusal b → HearsOf start Here p messages b
 says_nothing start Here p messages answer.Order h = tt
 says_nothing start Here p messages (answer.Unknown unknown) h = tt
 says_nothing start Here p messages (answer.Limit limit) h = tt
@@ -208,7 +208,7 @@ says_nothing start Here p messages (answer.Clock moment) h = tt
 says_nothing start Here p messages (answer.State node) h = tt
 says_nothing start Here p messages _ h = absurd h
 
-hears_nothing : (start : Option MetaState) (events : List Event) (Here : ℕ → Event → Type 0) (p : TurnPlace) (a : Act) (b : Answer) → IsRefusal b → HearsBy start events Here p a b
+hears_nothing : (start : Option MetaState) (events : List Event) (Here : ℕ → Event → Type 0) (p : TurnPosition) (a : Act) (b : Answer) → IsRefusal b → HearsBy start events Here p a b
 hears_nothing start events Here p (act.Init rf shards seed nodes) answer.Order h = tt
 hears_nothing start events Here p (act.Init rf shards seed nodes) (answer.Unknown unknown) h = tt
 hears_nothing start events Here p (act.Init rf shards seed nodes) (answer.Limit limit) h = tt
@@ -243,7 +243,7 @@ refused_line start turns events a b h = record {
   makes = record {
     makes = λ i e le two at. absurd (none_behind events i e le at);
     restarts = λ i n s r le two at. absurd (none_behind events i (event.Step n s call.Restart r) le at);
-    hears = hears_nothing start events (InStretch (events ++ []) (length events) (length (events ++ []))) (place_after turns a b) a b h;
+    hears = hears_nothing start events (InStretch (events ++ []) (length events) (length (events ++ []))) (position_after turns a b) a b h;
   };
   plain = record { no_acks = gives_no_acks b h; not_unmet = not_unmet_so a b h; no_found = finds_nothing b h; no_rules = sets_none a b h; no_seed = seeds_none a b h };
   opened = inr refl;
@@ -253,8 +253,8 @@ refused_line start turns events a b h = record {
 }
 
 -- nothing came, the line is told, and its answer stands for itself
-served_nothing : (start : Option MetaState) (turns : List Turn) (events : List Event) (a : Act) (b : Answer) → PlainLine start turns events a b [] → ((Here : ℕ → Event → Type 0) → HearsOf start Here (place_after turns a b) [] b)
-    → IsAnswered [] start (length (events ++ [])) (place_after turns a b) → LeavesServed PlainLine start turns [] events a b events
+served_nothing : (start : Option MetaState) (turns : List Turn) (events : List Event) (a : Act) (b : Answer) → PlainLine start turns events a b [] → ((Here : ℕ → Event → Type 0) → HearsOf start Here (position_after turns a b) [] b)
+    → IsAnswered [] start (length (events ++ [])) (position_after turns a b) → LeavesServed PlainLine start turns [] events a b events
 served_nothing start turns events a b line says answered = record {
   more = [];
   grew = sym (append-nil events);
@@ -267,14 +267,14 @@ pub refused_tells : RefusedTells
 refused_tells start turns events a b due =
     let kind = refusal_kind (placement_after (start_placement start) (inner_turns turns)) (map (λ (place : Placement). place.version) (placements start (inner_turns turns))) (rules_after (start_rules start) (inner_turns turns)) (is_stopped (inner_turns turns)) a b due in
     record {
-      line = served_nothing start turns events a b (refused_line start turns events a b kind) (λ Here. says_nothing start Here (place_after turns a b) [] b kind)
+      line = served_nothing start turns events a b (refused_line start turns events a b kind) (λ Here. says_nothing start Here (position_after turns a b) [] b kind)
           (inr (inr (inner_turns turns, record { others = []; some_of = tt; are = sym (append-nil (inner_turns turns)) }, decided due)));
       sets_none = sets_none_so b kind;
       delivers_none = delivers_none_so b kind;
     }
   where
-    decided : IsDueNext start turns a b (Some b) → IsDecidedBy [] start (place_after turns a b) (refusal_after start (place_after turns a b) (inner_turns turns))
-    decided is = subst (IsDecidedBy [] start (place_after turns a b)) (sym is) refl
+    decided : IsDueNext start turns a b (Some b) → IsDecidedBy [] start (position_after turns a b) (refusal_after start (position_after turns a b) (inner_turns turns))
+    decided is = subst (IsDecidedBy [] start (position_after turns a b)) (sym is) refl
 
 -- ---- no room
 

@@ -51,11 +51,11 @@ use Rattle.told_moves.proofs.SlotLemmas.{Tries, tries_by}
 use Rattle.told_runs.specs.Lines.{OpensNext}
 use Rattle.transcripts.specs.Moves.{IsLeftFence}
 use Rattle.cluster_members.specs.declared.members.Members.{Members}
-use Rattle.node_calls.specs.Begins.{IsUnowned}
+use Rattle.node_calls.specs.Begins.{IsTenureUnowned}
 use Rattle.act_lines.specs.Stays.{HaveNoPlace}
 use Rattle.act_lines.proofs.GrowLemmas.{last_still, take_behind, take_in}
 use Rattle.act_lines.specs.Keeps.{BeginsGiven, BeginsStill}
-use Rattle.act_lines.specs.Opens.{IsGivenNow, IsLow, MayBegin}
+use Rattle.act_lines.specs.Opens.{IsGivenNow, IsLow, MayOpenSlots}
 
 -- ---- steps of a slot among events
 
@@ -178,7 +178,7 @@ given_tenure events n s tenure given = let there = place_there events given.0 gi
 
 -- ---- what came
 
-module _ {D : Type 0} (state : D → DiskState) (tells : Bool) (start : Option MetaState) (place : Placement) (old new : Tracked D) (last : last_place old.events ≡ Some place) (lawful : IsLawful place) (may : MayBegin state tells start old) (more : List Event) (ran : Ran state old more new) (no_place : HaveNoPlace more)
+module _ {D : Type 0} (state : D → DiskState) (tells : Bool) (start : Option MetaState) (place : Placement) (old new : Tracked D) (last : last_place old.events ≡ Some place) (lawful : IsLawful place) (may : MayOpenSlots state tells start old) (more : List Event) (ran : Ran state old more new) (no_place : HaveNoPlace more)
     (given : BeginsGiven old.events more) where
   abbrev pub events : List Event
   events = old.events
@@ -245,7 +245,7 @@ module _ {D : Type 0} (state : D → DiskState) (tells : Bool) (start : Option M
         ]
 
     -- and none is refused as not owned
-    first_owned : (past : List Event) → (replica n s past).begun ≡ [] → ((own : ℕ) → IsIn (replica n s past).tried own → own ≤ tenure) → IsUnowned state old.members (slot_at n s) past tenure → ⊥
+    first_owned : (past : List Event) → (replica n s past).begun ≡ [] → ((own : ℕ) → IsIn (replica n s past).tried own → own ≤ tenure) → IsTenureUnowned state old.members (slot_at n s) past tenure → ⊥
     first_owned past none each h =
         let same : h.was ≡ was = some_same h.was was (sym h.there ∙ there) in
         let first_is : (h.now.first) ≡ was.first = h.first ∙ ap (λ (m : Member D). m.first) same in
@@ -272,7 +272,7 @@ module _ {D : Type 0} (state : D → DiskState) (tells : Bool) (start : Option M
 
   -- each begin that came and was refused as not owned was so by its machine
   abbrev pub AreUnowned : Type 0
-  AreUnowned = (n s tenure j : ℕ) → At more j (event.Step n s (call.Begin tenure) (reply.Refused reason.NotOwned)) → (k : ℕ) × (j ≡ suc k) × At more k (ask_of n s (call.Begin tenure)) × IsUnowned state old.members (slot_at n s) (events ++ take k more) tenure
+  AreUnowned = (n s tenure j : ℕ) → At more j (event.Step n s (call.Begin tenure) (reply.Refused reason.NotOwned)) → (k : ℕ) × (j ≡ suc k) × At more k (ask_of n s (call.Begin tenure)) × IsTenureUnowned state old.members (slot_at n s) (events ++ take k more) tenure
 
   -- each begin that came is of a slot with a replica
   abbrev pub AreThere : Type 0
@@ -326,7 +326,7 @@ module _ {D : Type 0} (state : D → DiskState) (tells : Bool) (start : Option M
       by None is h = let clash : Some m ≡ None = sym at ∙ h in cc
       by (Some x) is h = let same : h.0 ≡ m = some_same h.0 m (sym h.1 ∙ at) in (x, is, ap (λ (y : Member D). y.first) (sym same) ∙ h.2, subst (λ (y : Member D). TakesSteps state (steps_of slot more) x.machine y.machine) same h.3)
 
-  pub begins_on : MayBegin state tells start new
+  pub begins_on : MayOpenSlots state tells start new
   begins_on = record {
     disks = may.disks;
     tell = may.tell;

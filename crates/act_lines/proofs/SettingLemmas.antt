@@ -30,7 +30,7 @@ use Rattle.replica_calls.specs.Calls.{Tracked}
 use Rattle.session_net.specs.Ready.{IsReady}
 use Rattle.told_by.specs.Clocks.{sets_rules}
 use Rattle.told_by.specs.Hears.{HearsBy, InStretch}
-use Rattle.told_by.specs.Lines.{AreSteps, IsAskOrStep, ClockLine, PlainLine, place_after}
+use Rattle.told_by.specs.Lines.{AreSteps, IsAskOrStep, ClockLine, PlainLine, position_after}
 use Rattle.told_by.specs.Makes.{MayAsk, MayMake}
 use Rattle.told_by.proofs.OneLemmas.{among_back}
 use Rattle.told_runs.specs.Answers.{IsOfKind}
@@ -39,7 +39,7 @@ use Rattle.transcripts.specs.Placements.{seed_after, seed_by}
 use Rattle.transcripts.specs.Record.{inner_turns, line_of}
 use Rattle.transcripts.specs.Rules.{rules_after, rules_by, start_rules}
 use Rattle.call_lines.specs.Laws.{IsCalm, LeavesServed}
-use Rattle.call_lines.specs.Left.{AreSlots, FareAsSet, HoldsBack, IsLeftBy}
+use Rattle.call_lines.specs.Left.{AreSlots, FareAsSet, HoldsBack, NetIsLeftBy}
 use Rattle.call_lines.proofs.DeliverLemmas.{none_behind, nothing_at, prints_none}
 use Rattle.call_lines.proofs.KeepLemmas.{holds_on, numbering_next, place_next, rules_next, seed_next}
 use Rattle.call_lines.proofs.ServeLemmas.{answered, delivered_so, serves_so}
@@ -49,7 +49,7 @@ use Rattle.cluster_members.proofs.ClockLemmas.{ready_ruled}
 use Rattle.act_lines.specs.Due.{HaveLeft, IsDueNext}
 use Rattle.act_lines.specs.Settings.{FatesTell, GoesOn, MovedTells, NamedTells}
 use Rattle.act_lines.specs.Quiet.{KeepsStops}
-use Rattle.act_lines.specs.Stands.{Stands}
+use Rattle.act_lines.specs.Stands.{ClusterStands}
 use Rattle.act_lines.specs.Stays.{IsNoPlace}
 use Rattle.act_lines.proofs.DueLemmas.{fates_are_due, moments_are_due, namespaces_are_due}
 use Rattle.act_lines.proofs.NameLemmas.{numbered_fate}
@@ -77,13 +77,13 @@ clock_no_step rules n s c r (inr (inl is)) = cc
 clock_no_step rules n s c r (inr (inr none)) = none
 
 module _ (start : Option MetaState) (turns : List Turn) (events : List Event) (a : Act) (rules : Rules) (sets : sets_rules a answer.Done ≡ true) (leaves : rules_by a answer.Done (rules_after (start_rules start) (inner_turns turns)) ≡ rules)
-    (asks : (past : List Event) → MayAsk start past (place_after turns a answer.Done) a (asked.Clock rules)) (hears : (Here : ℕ → Event → Type 0) → HearsBy start events Here (place_after turns a answer.Done) a answer.Done) (opened : 2 ≤ length events) where
+    (asks : (past : List Event) → MayAsk start past (position_after turns a answer.Done) a (asked.Clock rules)) (hears : (Here : ℕ → Event → Type 0) → HearsBy start events Here (position_after turns a answer.Done) a answer.Done) (opened : 2 ≤ length events) where
   abbrev more : List Event
   more = clock_events rules
 
-  made : (past : List Event) (e : Event) → IsIn more e → MayMake start past (place_after turns a answer.Done) e
-  made past e (inl is) = subst (MayMake start past (place_after turns a answer.Done)) is (asks past)
-  made past e (inr (inl is)) = subst (MayMake start past (place_after turns a answer.Done)) is tt
+  made : (past : List Event) (e : Event) → IsIn more e → MayMake start past (position_after turns a answer.Done) e
+  made past e (inl is) = subst (MayMake start past (position_after turns a answer.Done)) is (asks past)
+  made past e (inr (inl is)) = subst (MayMake start past (position_after turns a answer.Done)) is tt
   made past e (inr (inr none)) = absurd none
 
   calm_clock : (e : Event) → IsIn more e → IsCalm e
@@ -109,7 +109,7 @@ module _ (start : Option MetaState) (turns : List Turn) (events : List Event) (a
     adds = ap (λ (r : Rules). event.Ask (asked.Clock rules) ∷ event.Clock r ∷ []) (sym leaves);
   }
 
-  pub clock_served : (later : List Event) → later ≡ events ++ more → IsDueNext start turns a answer.Done None → IsOfKind [] start (place_after turns a answer.Done) a answer.Done → LeavesServed ClockLine start turns [] events a answer.Done later
+  pub clock_served : (later : List Event) → later ≡ events ++ more → IsDueNext start turns a answer.Done None → IsOfKind [] start (position_after turns a answer.Done) a answer.Done → LeavesServed ClockLine start turns [] events a answer.Done later
   clock_served later grew free kind = record {
     more = more;
     grew = grew;
@@ -119,8 +119,8 @@ module _ (start : Option MetaState) (turns : List Turn) (events : List Event) (a
   }
 
 -- the fields after it
-ruled_left : {D : Type 0} {G : Ghosts D} (state : D → DiskState) (start : Option MetaState) (turns : List Turn) (old new : Members D G) (a : Act) (rules : Rules) → IsLeftBy start turns old.net → SetsRules state rules old new → rules_by a answer.Done old.net.state.rules ≡ rules
-    → ((x : ℕ) → seed_by a answer.Done x ≡ x) → fates_set (request.One a) (reply.One answer.Done) ≡ None → IsLeftBy start (turns ++ line_of a answer.Done ∷ []) new.net
+ruled_left : {D : Type 0} {G : Ghosts D} (state : D → DiskState) (start : Option MetaState) (turns : List Turn) (old new : Members D G) (a : Act) (rules : Rules) → NetIsLeftBy start turns old.net → SetsRules state rules old new → rules_by a answer.Done old.net.state.rules ≡ rules
+    → ((x : ℕ) → seed_by a answer.Done x ≡ x) → fates_set (request.One a) (reply.One answer.Done) ≡ None → NetIsLeftBy start (turns ++ line_of a answer.Done ∷ []) new.net
 ruled_left {D} {G} state start turns old new a rules left set by seed fates =
     let is = set.state_is in
     let longer = turns ++ line_of a answer.Done ∷ [] in
@@ -138,7 +138,7 @@ ruled_left {D} {G} state start turns old new a rules left set by seed fates =
     fates_stay : (numbering_by (fates_set (request.One a) (reply.One answer.Done)) (calls_in (client_acts 0 (request.One a))) (numbering_after 0 turns)).fates ≡ (numbering_after 0 turns).fates
     fates_stay = ap (λ o. (numbering_by o (calls_in (client_acts 0 (request.One a))) (numbering_after 0 turns)).fates) fates
 
-module _ {D : Type 0} {G : Ghosts D} (state : D → DiskState) (start : Option MetaState) (turns : List Turn) (old new : Members D G) (stands : Stands start turns old) where
+module _ {D : Type 0} {G : Ghosts D} (state : D → DiskState) (start : Option MetaState) (turns : List Turn) (old new : Members D G) (stands : ClusterStands start turns old) where
   abbrev here : Option Placement
   here = Some old.net.state.place
 
@@ -146,8 +146,8 @@ module _ {D : Type 0} {G : Ghosts D} (state : D → DiskState) (start : Option M
   have_left = record { rules_are = (stands.left).rules; place_is = (stands.left).place }
 
   pub ruled : (a : Act) (rules : Rules) → SetsRules state rules old new → sets_rules a answer.Done ≡ true → rules_by a answer.Done old.net.state.rules ≡ rules
-      → ((past : List Event) (r : Rules) → rules_by a answer.Done (rules_after (start_rules start) (inner_turns turns)) ≡ r → MayAsk start past (place_after turns a answer.Done) a (asked.Clock r))
-      → ((Here : ℕ → Event → Type 0) → HearsBy start old.net.replicas.events Here (place_after turns a answer.Done) a answer.Done) → IsDueNext start turns a answer.Done None → IsOfKind [] start (place_after turns a answer.Done) a answer.Done
+      → ((past : List Event) (r : Rules) → rules_by a answer.Done (rules_after (start_rules start) (inner_turns turns)) ≡ r → MayAsk start past (position_after turns a answer.Done) a (asked.Clock r))
+      → ((Here : ℕ → Event → Type 0) → HearsBy start old.net.replicas.events Here (position_after turns a answer.Done) a answer.Done) → IsDueNext start turns a answer.Done None → IsOfKind [] start (position_after turns a answer.Done) a answer.Done
       → ((x : ℕ) → seed_by a answer.Done x ≡ x) → fates_set (request.One a) (reply.One answer.Done) ≡ None → KeepsStops a answer.Done → GoesOn ClockLine start turns old a answer.Done new
   ruled a rules set sets by asks hears free kind seed fates keeps =
       let leaves : rules_by a answer.Done (rules_after (start_rules start) (inner_turns turns)) ≡ rules = ap (rules_by a answer.Done) (stands.left).rules ∙ by in

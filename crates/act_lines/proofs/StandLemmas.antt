@@ -24,12 +24,12 @@ use Rattle.told_by.proofs.BrokenLemmas.{turn_among}
 use Rattle.told_by.proofs.TurnLemmas.{inner-append}
 use Rattle.transcripts.specs.Fates.{stopped_by}
 use Rattle.transcripts.specs.Placements.{later_placement, placement_after, printed}
-use Rattle.transcripts.specs.Record.{InnerTurn, IsTurnPlace, TurnPlace, inner_turns, line_of}
-use Rattle.call_lines.specs.Left.{AreSlots, AreStoppedBy, IsLeftBy}
+use Rattle.transcripts.specs.Record.{InnerTurn, IsTurnPosition, TurnPosition, inner_turns, line_of}
+use Rattle.call_lines.specs.Left.{AreSlots, AreStoppedBy, NetIsLeftBy}
 use Rattle.call_lines.proofs.KeepLemmas.{fates_on, left_as_before, rules_on}
 use Rattle.cluster_members.specs.declared.members.Members.{Members}
 use Rattle.act_lines.specs.Quiet.{KeepsStops}
-use Rattle.act_lines.specs.Stands.{HasSlots, NoneStands, Stands}
+use Rattle.act_lines.specs.Stands.{HasSlots, NoneStands, ClusterStands}
 use Rattle.act_lines.specs.Stays.{HaveNoPlace, NoneIsPlaced, StandsStill, StandsUnchanged, StaysUnmade}
 use Rattle.act_lines.proofs.GrowLemmas.{named_still, replica_before}
 use Rattle.act_lines.proofs.QuietLemmas.{delivers_nothing_so, flags_on, keeps_stops_so, sets_nothing_so, slots_on, stops_next}
@@ -43,7 +43,7 @@ none_printed (turn ∷ turns) none = ap (λ o. placement_after (later_placement 
 pub no_placement : (turns : List Turn) → NoneStands turns → placement_after None (inner_turns turns) ≡ None
 no_placement turns none = none_printed (inner_turns turns) none.prints
 
-pub printed_none : (turns : List Turn) → NoneStands turns → (q : TurnPlace) → IsTurnPlace turns q → printed q.turn.answer ≡ None
+pub printed_none : (turns : List Turn) → NoneStands turns → (q : TurnPosition) → IsTurnPosition turns q → printed q.turn.answer ≡ None
 printed_none turns none q at = none.prints q.turn (turn_among turns q at)
 
 pub none_is_placed : NoneIsPlaced
@@ -77,7 +77,7 @@ stands_unchanged m start turns a b stands sets delivers = record {
 -- ---- one line on
 
 -- where these events came, and the slots are still those that have a replica
-module _ {D : Type 0} {G : Ghosts D} (start : Option MetaState) (turns : List Turn) (old : Members D G) (stands : Stands start turns old) (a : Act) (b : Answer) (new : Members D G) (same_place : new.net.state.place ≡ old.net.state.place) (more : List Event)
+module _ {D : Type 0} {G : Ghosts D} (start : Option MetaState) (turns : List Turn) (old : Members D G) (stands : ClusterStands start turns old) (a : Act) (b : Answer) (new : Members D G) (same_place : new.net.state.place ≡ old.net.state.place) (more : List Event)
     (grew : new.net.replicas.events ≡ old.net.replicas.events ++ more) (no_place : HaveNoPlace more) (of_slots : (n s : ℕ) (c : StepCall) (r : StepReply) → IsIn more (event.Step n s c r) → IsIn old.slots.items (slot_at n s)) (slots : new.slots.items ≡ old.slots.items)
     (are : AreSlots new.slots.items new.net.replicas) where
   slots_grown : HasSlots new
@@ -97,7 +97,7 @@ module _ {D : Type 0} {G : Ghosts D} (start : Option MetaState) (turns : List Tu
       now_in : (s : Slot) → IsIn old.slots.items s → IsIn new.slots.items s
       now_in s i = subst (λ xs. IsIn xs s) (sym slots) i
 
-  pub stands_grown : IsLeftBy start (turns ++ line_of a b ∷ []) new.net → IsReady new.net.state new.net.replicas new.net.bag → AreStoppedBy (turns ++ line_of a b ∷ []) new.net.state.place new.stopped.items → Stands start (turns ++ line_of a b ∷ []) new
+  pub stands_grown : NetIsLeftBy start (turns ++ line_of a b ∷ []) new.net → IsReady new.net.state new.net.replicas new.net.bag → AreStoppedBy (turns ++ line_of a b ∷ []) new.net.state.place new.stopped.items → ClusterStands start (turns ++ line_of a b ∷ []) new
   stands_grown left ready stopped = record {
     left = left;
     ready = ready;
@@ -107,9 +107,9 @@ module _ {D : Type 0} {G : Ghosts D} (start : Option MetaState) (turns : List Tu
   }
 
 -- where its replicas took the steps among these events
-pub stands_on : {D : Type 0} {G : Ghosts D} (state : D → DiskState) (start : Option MetaState) (turns : List Turn) (old : Members D G) → Stands start turns old → (a : Act) (b : Answer) (new : Members D G) → new.net.state.place ≡ old.net.state.place
+pub stands_on : {D : Type 0} {G : Ghosts D} (state : D → DiskState) (start : Option MetaState) (turns : List Turn) (old : Members D G) → ClusterStands start turns old → (a : Act) (b : Answer) (new : Members D G) → new.net.state.place ≡ old.net.state.place
     → (more : List Event) → Ran state old.net.replicas more new.net.replicas → HaveNoPlace more → ((n s : ℕ) (c : StepCall) (r : StepReply) → IsIn more (event.Step n s c r) → IsIn old.slots.items (slot_at n s)) → new.slots.items ≡ old.slots.items
-    → IsLeftBy start (turns ++ line_of a b ∷ []) new.net → IsReady new.net.state new.net.replicas new.net.bag → AreStoppedBy (turns ++ line_of a b ∷ []) new.net.state.place new.stopped.items → Stands start (turns ++ line_of a b ∷ []) new
+    → NetIsLeftBy start (turns ++ line_of a b ∷ []) new.net → IsReady new.net.state new.net.replicas new.net.bag → AreStoppedBy (turns ++ line_of a b ∷ []) new.net.state.place new.stopped.items → ClusterStands start (turns ++ line_of a b ∷ []) new
 stands_on {D} {G} state start turns old stands a b new same_place more ran no_place of_slots slots left ready stopped =
     stands_grown start turns old stands a b new same_place more ran.grew no_place of_slots slots
     (subst (λ xs. AreSlots xs new.net.replicas) (sym slots) (slots_on state old.slots.items old.net.replicas new.net.replicas more ran stands.slots.are)) left ready stopped

@@ -18,7 +18,7 @@ use Rattle.told_runs.specs.Lines.{ServesOne}
 use Rattle.transcripts.specs.Caused.{NamesNode}
 use Rattle.transcripts.specs.Deliveries.{LateMessage}
 use Rattle.transcripts.specs.Faults.{Fault, Taking}
-use Rattle.transcripts.specs.Record.{Record, TurnPlace}
+use Rattle.transcripts.specs.Record.{Record, TurnPosition}
 use Rattle.call_lines.specs.Left.{WereDelivered}
 use Rattle.call_lines.proofs.ServeLemmas.{delivered_so}
 use Rattle.act_lines.specs.Stands.{NoneStands}
@@ -62,7 +62,7 @@ module _ (turns : List Turn) (rf shards seed : ℕ) (nodes : List (List ℕ × L
   }
 
   module _ (none : NoneStands turns) (node : ℕ) (named : NamesNode nodes name node) (low : shard < shards) where
-    serves_so : (tells : Bool) (was : TurnPlace → List LateMessage) (past : List Record) → WereDelivered turns was → ServesOne tells (untaken_at turns node shard ∷ []) [] was past None turns [] a b []
+    serves_so : (tells : Bool) (was : TurnPosition → List LateMessage) (past : List Record) → WereDelivered turns was → ServesOne tells (untaken_at turns node shard ∷ []) [] was past None turns [] a b []
     serves_so tells was past were = record {
       adds = record { lawful = λ i place done adds. absurd (nothing_at i _ adds.1); one = λ i place done adds. absurd (nothing_at i _ adds.1); ends = λ i n s r adds. absurd (nothing_at i _ adds.1) };
       opens = λ is. record { fenced = λ i n s tenure fence points adds. absurd (nothing_at i _ adds.1); owned = λ i n s tenure adds. absurd (nothing_at i _ adds.1) };

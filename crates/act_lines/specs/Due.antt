@@ -1,6 +1,6 @@
 -- Which refusal is due of an act in the next line: said of the rules, the placement and the stopped nodes that the turns left.
 use Rattle.std.specs.Prelude.{◌≡◌, ℕ, ℤ, ◌≤◌, ◌<◌, List, length, Option, Some, None, IsSome, Bool, true, false, slice_get, decimal}
-use Rattle.m3_model.specs.Rules.{namespace_place}
+use Rattle.m3_model.specs.Rules.{namespace_position}
 use Rattle.m3_model.specs.declared.act.Act.{Act}
 use Rattle.m3_model.specs.declared.act.Act.TheVariants as act
 use Rattle.m3_model.specs.declared.act.Fate.{Fate}
@@ -16,7 +16,7 @@ use Rattle.m3_model.specs.declared.rules.Rules.{Rules}
 use Rattle.m3_model.specs.declared.turn.Turn.{Turn}
 use Rattle.placement_acts.specs.Acts.{is_step_act, refusal_due}
 use Rattle.net_plan.specs.Fates.{Item}
-use Rattle.told_by.specs.Lines.{place_after}
+use Rattle.told_by.specs.Lines.{position_after}
 use Rattle.told_moves.specs.Order.{IsInitAct}
 use Rattle.transcripts.specs.Caused.{kept_after, refusal_after}
 use Rattle.transcripts.specs.Fates.{is_stopped}
@@ -28,7 +28,7 @@ use Rattle.cluster_members.specs.Names.{AreNumbered, first_missing, node_named}
 
 -- this refusal is due of the act in the next line, or none is
 abbrev pub IsDueNext : Option MetaState → List Turn → Act → Answer → Option Answer → Type 0
-IsDueNext start turns a b refusal = refusal_after start (place_after turns a b) (inner_turns turns) ≡ refusal
+IsDueNext start turns a b refusal = refusal_after start (position_after turns a b) (inner_turns turns) ≡ refusal
 
 -- the turns left these rules and this placement, or none
 pub record HaveLeft (start : Option MetaState) (turns : List Turn) (place : Option Placement) (rules : Rules) : Type 0 where
@@ -57,9 +57,9 @@ InitsAreDue = WhereLeft (λ start turns place rules. (a : Act) (b : Answer) → 
 
 -- of a namespace: its name, the limit, or nothing
 pub record NamespaceDue (start : Option MetaState) (turns : List Turn) (rules : Rules) (name : List ℕ) (block past future retention : ℕ) (b : Answer) : Type 0 where
-  pub taken : IsSome (namespace_place name rules.spaces) → IsDueNext start turns (act.Namespace name block past future retention) b (Some answer.Order)
-  pub limit : namespace_place name rules.spaces ≡ None → MOST_NAMESPACES ≤ length rules.spaces → IsDueNext start turns (act.Namespace name block past future retention) b (Some (answer.Limit MOST_NAMESPACES))
-  pub free : namespace_place name rules.spaces ≡ None → length rules.spaces < MOST_NAMESPACES → IsDueNext start turns (act.Namespace name block past future retention) b None
+  pub taken : IsSome (namespace_position name rules.spaces) → IsDueNext start turns (act.Namespace name block past future retention) b (Some answer.Order)
+  pub limit : namespace_position name rules.spaces ≡ None → MOST_NAMESPACES ≤ length rules.spaces → IsDueNext start turns (act.Namespace name block past future retention) b (Some (answer.Limit MOST_NAMESPACES))
+  pub free : namespace_position name rules.spaces ≡ None → length rules.spaces < MOST_NAMESPACES → IsDueNext start turns (act.Namespace name block past future retention) b None
 
 abbrev pub NamespacesAreDue : Type 0
 NamespacesAreDue = WhereLeft (λ start turns place rules. (name : List ℕ) (block past future retention : ℕ) (b : Answer) → NamespaceDue start turns rules name block past future retention b)
@@ -76,8 +76,8 @@ MomentsAreDue = WhereLeft (λ start turns place rules. (now : ℕ) (b : Answer) 
 
 -- of a call in this namespace: that it isn't there, or nothing
 pub record SpaceDue (start : Option MetaState) (turns : List Turn) (rules : Rules) (ns : List ℕ) (a : Act) (b : Answer) : Type 0 where
-  pub unknown : namespace_place ns rules.spaces ≡ None → IsDueNext start turns a b (Some (answer.Unknown ns))
-  pub free : (k : ℕ) → namespace_place ns rules.spaces ≡ Some k → IsDueNext start turns a b None
+  pub unknown : namespace_position ns rules.spaces ≡ None → IsDueNext start turns a b (Some (answer.Unknown ns))
+  pub free : (k : ℕ) → namespace_position ns rules.spaces ≡ Some k → IsDueNext start turns a b None
 
 -- of each call without a version
 pub record CallDue (start : Option MetaState) (turns : List Turn) (rules : Rules) : Type 0 where

@@ -11,21 +11,21 @@ use Rattle.m3_outside.specs.declared.disk.Disk.{Ghosts}
 use Rattle.cluster_core.specs.declared.event.Event.{Event}
 use Rattle.cluster_members.specs.declared.members.Members.{Members}
 use Rattle.first_cluster.specs.Bare.{AreBare}
-use Rattle.first_cluster.specs.First.{IsFirst, IsUntaken}
+use Rattle.first_cluster.specs.First.{IsFirst, IsDiskUntaken}
 use Rattle.told_by.specs.Lines.{InitLine, PlainLine}
 use Rattle.told_runs.specs.Lines.{ServesOne, delivered_on}
 use Rattle.transcripts.specs.Deliveries.{LateMessage}
 use Rattle.transcripts.specs.Faults.{Fault, Taking}
-use Rattle.transcripts.specs.Record.{Record, TurnPlace, line_of}
+use Rattle.transcripts.specs.Record.{Record, TurnPosition, line_of}
 use Rattle.call_lines.specs.Laws.{Kind}
 use Rattle.call_lines.specs.Left.{WereDelivered}
-use Rattle.act_lines.specs.Stands.{NoneStands, Stands}
+use Rattle.act_lines.specs.Stands.{NoneStands, ClusterStands}
 
 -- Where a run that found nothing had no events, these tell of a turn's line, and serve it, with these disks that couldn't be taken. It delivers nothing.
 pub record LeavesAnew (Line : Kind) (tells : Bool) (untaken : List Fault) (turns : List Turn) (a : Act) (b : Answer) (more : List Event) : Type 0 where
   pub line : Line None turns [] a b more
-  pub serves : (was : TurnPlace → List LateMessage) (past : List Record) → WereDelivered turns was → ServesOne tells untaken [] was past None turns [] a b more
-  pub delivered : (was : TurnPlace → List LateMessage) → WereDelivered turns was → WereDelivered (turns ++ line_of a b ∷ []) (delivered_on turns was (λ p. []))
+  pub serves : (was : TurnPosition → List LateMessage) (past : List Record) → WereDelivered turns was → ServesOne tells untaken [] was past None turns [] a b more
+  pub delivered : (was : TurnPosition → List LateMessage) → WereDelivered turns was → WereDelivered (turns ++ line_of a b ∷ []) (delivered_on turns was (λ p. []))
 
 -- so do the events of a first cluster of the `init` that made it; the disks are bare where they tell
 abbrev pub FirstTells : {D : Type 0} {G : Ghosts D} → (D → DiskState) → Members D G → Type 0
@@ -38,7 +38,7 @@ FirstTells {D} {G} state m =
 abbrev pub FirstStands : {D : Type 0} {G : Ghosts D} → (D → DiskState) → Members D G → Type 0
 FirstStands {D} {G} state m =
     (turns : List Turn) (rf shards seed : ℕ) (nodes : List (List ℕ × List ℕ)) (old new : Depot D) → NoneStands turns → IsFirst state rf shards seed nodes old new m
-    → Stands None (turns ++ line_of (act.Init rf shards seed nodes) (answer.Placed m.net.state.place m.net.state.place.version) ∷ []) m
+    → ClusterStands None (turns ++ line_of (act.Init rf shards seed nodes) (answer.Placed m.net.state.place m.net.state.place.version) ∷ []) m
 
 -- the fault by which the disk of the slot couldn't be taken in the next line
 abbrev pub untaken_at : List Turn → ℕ → ℕ → Fault
@@ -47,5 +47,5 @@ untaken_at turns node shard = record { line = length turns; node = node; shard =
 -- No events tell of an `init` that couldn't take a disk, and serve it.
 abbrev pub UntakenTells : Type 0 → Type 0
 UntakenTells D =
-    (tells : Bool) (turns : List Turn) (rf shards seed : ℕ) (nodes : List (List ℕ × List ℕ)) (name : List ℕ) (shard : ℕ) (old new : Depot D) → NoneStands turns → (untaken : IsUntaken rf shards seed nodes name shard old new)
+    (tells : Bool) (turns : List Turn) (rf shards seed : ℕ) (nodes : List (List ℕ × List ℕ)) (name : List ℕ) (shard : ℕ) (old new : Depot D) → NoneStands turns → (untaken : IsDiskUntaken rf shards seed nodes name shard old new)
     → LeavesAnew PlainLine tells (untaken_at turns untaken.node shard ∷ []) turns (act.Init rf shards seed nodes) (answer.Disk name shard) []

@@ -13,7 +13,7 @@ use Rattle.session_net.specs.Ready.{IsReady}
 use Rattle.session_net.specs.Runs.{Ran}
 use Rattle.cluster_members.specs.declared.members.Members.{Members}
 use Rattle.act_lines.specs.Stays.{HaveNoPlace}
-use Rattle.act_lines.specs.Opens.{IsGivenNow, MayBegin}
+use Rattle.act_lines.specs.Opens.{IsGivenNow, MayOpenSlots}
 
 -- each begin among the events is of a tenure that the placement which stands gives
 abbrev pub BeginsGiven : List Event → List Event → Type 0
@@ -22,5 +22,5 @@ BeginsGiven past more = (n s tenure : ℕ) (r : StepReply) → IsIn more (event.
 -- Where the events made no placement and began only what it gives, with what slots first begin is as before.
 abbrev pub BeginsStill : {D : Type 0} {G : Ghosts D} → (D → DiskState) → Members D G → Type 0
 BeginsStill {D} {G} state old =
-    (tells : Bool) (start : Option MetaState) (new : Tracked D) (more : List Event) → IsReady old.net.state old.net.replicas old.net.bag → MayBegin state tells start old.net.replicas → Ran state old.net.replicas more new → HaveNoPlace more → BeginsGiven old.net.replicas.events more
-    → MayBegin state tells start new
+    (tells : Bool) (start : Option MetaState) (new : Tracked D) (more : List Event) → IsReady old.net.state old.net.replicas old.net.bag → MayOpenSlots state tells start old.net.replicas → Ran state old.net.replicas more new → HaveNoPlace more → BeginsGiven old.net.replicas.events more
+    → MayOpenSlots state tells start new

@@ -6,7 +6,7 @@ use Rattle.m3_model.specs.declared.placement.Placement.{Placement}
 use Rattle.m3_model.specs.declared.point.Point.{Point}
 use Rattle.m3_model.specs.declared.rules.MetaState.{MetaState}
 use Rattle.m3_outside.specs.Depots.{TellAll}
-use Rattle.m3_outside.specs.DiskState.{DiskState, EachImage, IsLawful}
+use Rattle.m3_outside.specs.DiskState.{DiskState, EachImage, IsLawfulDisk}
 use Rattle.m3_outside.specs.Files.{Files}
 use Rattle.shard_files.specs.FilesHold.{FilesHold}
 use Rattle.cluster_core.specs.Earlier.{last_place}
@@ -39,8 +39,8 @@ pub record OpensLow {D : Type 0} (state : D → DiskState) (start : Option MetaS
   pub tried : (n s own : ℕ) → (replica n s replicas.events).begun ≡ [] → IsIn (replica n s replicas.events).tried own → (tenure : ℕ) → IsGivenNow replicas.events n s tenure → own ≤ tenure
 
 -- what is known of disks, and of the machines over them; where the disks tell, slots open low
-pub record MayBegin {D : Type 0} (state : D → DiskState) (tells : Bool) (start : Option MetaState) (replicas : Tracked D) : Type 0 where
-  pub disks : (d : D) → IsLawful (state d)
+pub record MayOpenSlots {D : Type 0} (state : D → DiskState) (tells : Bool) (start : Option MetaState) (replicas : Tracked D) : Type 0 where
+  pub disks : (d : D) → IsLawfulDisk (state d)
   pub tell : tells ≡ true → TellAll state
   pub members : AreMembersOf state replicas
   pub low : tells ≡ true → OpensLow state start replicas

@@ -26,11 +26,11 @@ use Rattle.told_by.specs.Lines.{ClockLine, PlainLine}
 use Rattle.transcripts.specs.Record.{line_of}
 use Rattle.call_lines.specs.Laws.{Kind, LeavesServed}
 use Rattle.cluster_members.specs.Names.{AreNumbered}
-use Rattle.cluster_members.specs.Steps.{IsMoved, IsNamed}
+use Rattle.cluster_members.specs.Steps.{IsMoved, IsSpaceAdded}
 use Rattle.cluster_members.specs.declared.members.Members.{Members}
 use Rattle.act_lines.specs.Due.{IsDueNext}
 use Rattle.act_lines.specs.Quiet.{DeliversNone, SetsNone}
-use Rattle.act_lines.specs.Stands.{Stands}
+use Rattle.act_lines.specs.Stands.{ClusterStands}
 
 -- ---- refusals that are due
 
@@ -63,7 +63,7 @@ FullDeliveryTells {D} {G} net = (start : Option MetaState) (turns : List Turn) (
 -- the turn's line is told and served, and the cluster stands after it
 pub record GoesOn {D : Type 0} {G : Ghosts D} (Line : Kind) (start : Option MetaState) (turns : List Turn) (old : Members D G) (a : Act) (b : Answer) (new : Members D G) : Type 0 where
   pub line : LeavesServed Line start turns [] old.net.replicas.events a b new.net.replicas.events
-  pub stands : Stands start (turns ++ line_of a b ∷ []) new
+  pub stands : ClusterStands start (turns ++ line_of a b ∷ []) new
 
 -- the namespace of an act
 abbrev pub space_of : List ℕ → ℕ → ℕ → ℕ → ℕ → Space
@@ -72,13 +72,13 @@ space_of name block past future retention = record { name = name; block = block;
 -- a namespace was made
 abbrev pub NamedTells : {D : Type 0} {G : Ghosts D} → (D → DiskState) → Members D G → Type 0
 NamedTells {D} {G} state old =
-    (start : Option MetaState) (turns : List Turn) (name : List ℕ) (block past future retention : ℕ) (new : Members D G) → Stands start turns old → IsNamed state old (space_of name block past future retention) answer.Done new
+    (start : Option MetaState) (turns : List Turn) (name : List ℕ) (block past future retention : ℕ) (new : Members D G) → ClusterStands start turns old → IsSpaceAdded state old (space_of name block past future retention) answer.Done new
     → GoesOn ClockLine start turns old (act.Namespace name block past future retention) answer.Done new
 
 -- the moment moved on
 abbrev pub MovedTells : {D : Type 0} {G : Ghosts D} → (D → DiskState) → Members D G → Type 0
 MovedTells {D} {G} state old =
-    (start : Option MetaState) (turns : List Turn) (now : ℕ) (new : Members D G) → Stands start turns old → IsMoved state old now answer.Done new → GoesOn ClockLine start turns old (act.Now now) answer.Done new
+    (start : Option MetaState) (turns : List Turn) (now : ℕ) (new : Members D G) → ClusterStands start turns old → IsMoved state old now answer.Done new → GoesOn ClockLine start turns old (act.Now now) answer.Done new
 
 -- all but the fates stays, and these are the list's, with the numbers of the nodes in place of their names
 pub record SetsFates {D : Type 0} {G : Ghosts D} (list : List (ℕ × ℕ × List ℕ × Fate)) (old new : Members D G) : Type 0 where
@@ -94,4 +94,4 @@ pub record SetsFates {D : Type 0} {G : Ghosts D} (list : List (ℕ × ℕ × Lis
 -- fates were set
 abbrev pub FatesTell : {D : Type 0} {G : Ghosts D} → Members D G → Type 0
 FatesTell {D} {G} old =
-    (start : Option MetaState) (turns : List Turn) (list : List (ℕ × ℕ × List ℕ × Fate)) (new : Members D G) → Stands start turns old → SetsFates list old new → GoesOn PlainLine start turns old (act.Fates list) answer.Done new
+    (start : Option MetaState) (turns : List Turn) (list : List (ℕ × ℕ × List ℕ × Fate)) (new : Members D G) → ClusterStands start turns old → SetsFates list old new → GoesOn PlainLine start turns old (act.Fates list) answer.Done new

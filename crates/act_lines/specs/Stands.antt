@@ -14,7 +14,7 @@ use Rattle.transcripts.specs.Fates.{is_stopped, numbering_after}
 use Rattle.transcripts.specs.Placements.{printed}
 use Rattle.transcripts.specs.Record.{InnerTurn, inner_turns}
 use Rattle.transcripts.specs.Rules.{rules_after, start_rules}
-use Rattle.call_lines.specs.Left.{AreSlots, AreStoppedBy, IsLeftBy}
+use Rattle.call_lines.specs.Left.{AreSlots, AreStoppedBy, NetIsLeftBy}
 use Rattle.cluster_members.specs.declared.members.Members.{Members}
 
 -- No cluster stands after these turns of a run that found nothing: none of them printed a placement, and nothing was set or stopped.
@@ -33,8 +33,8 @@ pub record HasSlots {D : Type 0} {G : Ghosts D} (m : Members D G) : Type 0 where
 
 -- Calls may be made, by what the turns left; the slots are right; all Places call a node by one name; and the nodes that are stopped are those that the turns
 -- stopped.
-pub record Stands {D : Type 0} {G : Ghosts D} (start : Option MetaState) (turns : List Turn) (m : Members D G) : Type 0 where
-  pub left : IsLeftBy start turns m.net
+pub record ClusterStands {D : Type 0} {G : Ghosts D} (start : Option MetaState) (turns : List Turn) (m : Members D G) : Type 0 where
+  pub left : NetIsLeftBy start turns m.net
   pub ready : IsReady m.net.state m.net.replicas m.net.bag
   pub slots : HasSlots m
   pub named : (n : ℕ) (own : Instance) → slice_get m.net.state.place.instances n ≡ Some own → IsNamedBy m.net.replicas.events n own.name

@@ -15,12 +15,12 @@ use Rattle.session_net.specs.Ready.{IsReady}
 use Rattle.session_net.specs.Runs.{Ran, slot_at}
 use Rattle.transcripts.specs.Fates.{stopped_by}
 use Rattle.transcripts.specs.Placements.{placement_after, printed}
-use Rattle.transcripts.specs.Record.{IsTurnPlace, TurnPlace, inner_turns, line_of}
+use Rattle.transcripts.specs.Record.{IsTurnPosition, TurnPosition, inner_turns, line_of}
 use Rattle.call_lines.specs.Keeps.{SetsNothing}
-use Rattle.call_lines.specs.Left.{IsLeftBy}
+use Rattle.call_lines.specs.Left.{NetIsLeftBy}
 use Rattle.cluster_members.specs.declared.members.Members.{Members}
 use Rattle.act_lines.specs.Quiet.{DeliversNone, KeepsStops, SetsNone}
-use Rattle.act_lines.specs.Stands.{NoneStands, Stands}
+use Rattle.act_lines.specs.Stands.{NoneStands, ClusterStands}
 
 -- ---- before an `init`
 
@@ -34,13 +34,13 @@ StaysUnmade = (turns : List Turn) (a : Act) (b : Answer) → NoneStands turns �
 
 -- where none stands there is no placement, and no turn printed one
 abbrev pub NoneIsPlaced : Type 0
-NoneIsPlaced = (turns : List Turn) → NoneStands turns → (placement_after None (inner_turns turns) ≡ None) × ((p : TurnPlace) → IsTurnPlace turns p → printed p.turn.answer ≡ None)
+NoneIsPlaced = (turns : List Turn) → NoneStands turns → (placement_after None (inner_turns turns) ≡ None) × ((p : TurnPosition) → IsTurnPosition turns p → printed p.turn.answer ≡ None)
 
 -- ---- a cluster that stands
 
 -- it stands after a line in which nothing changed
 abbrev pub StandsUnchanged : {D : Type 0} {G : Ghosts D} → Members D G → Type 0
-StandsUnchanged m = (start : Option MetaState) (turns : List Turn) (a : Act) (b : Answer) → Stands start turns m → SetsNone b → DeliversNone b → Stands start (turns ++ line_of a b ∷ []) m
+StandsUnchanged m = (start : Option MetaState) (turns : List Turn) (a : Act) (b : Answer) → ClusterStands start turns m → SetsNone b → DeliversNone b → ClusterStands start (turns ++ line_of a b ∷ []) m
 
 -- the event is no Place
 abbrev pub IsNoPlace : Event → Type 0
@@ -52,7 +52,7 @@ HaveNoPlace events = (e : Event) → IsIn events e → IsNoPlace e
 
 -- A turn that made no placement, steps of slots alone, and what the turns left is left with it: calls may be made, and slots and stopped nodes are as before.
 pub record StaysStanding {D : Type 0} {G : Ghosts D} (state : D → DiskState) (start : Option MetaState) (turns : List Turn) (old : Members D G) (a : Act) (b : Answer) (new : Members D G) : Type 0 where
-  pub left : IsLeftBy start (turns ++ line_of a b ∷ []) new.net
+  pub left : NetIsLeftBy start (turns ++ line_of a b ∷ []) new.net
   pub ready : IsReady new.net.state new.net.replicas new.net.bag
   pub place : new.net.state.place ≡ old.net.state.place
   pub more : List Event
@@ -65,4 +65,4 @@ pub record StaysStanding {D : Type 0} {G : Ghosts D} (state : D → DiskState) (
 
 -- then the cluster stands still
 abbrev pub StandsStill : {D : Type 0} {G : Ghosts D} → (D → DiskState) → Members D G → Type 0
-StandsStill {D} {G} state old = (start : Option MetaState) (turns : List Turn) (new : Members D G) (a : Act) (b : Answer) → Stands start turns old → StaysStanding state start turns old a b new → Stands start (turns ++ line_of a b ∷ []) new
+StandsStill {D} {G} state old = (start : Option MetaState) (turns : List Turn) (new : Members D G) (a : Act) (b : Answer) → ClusterStands start turns old → StaysStanding state start turns old a b new → ClusterStands start (turns ++ line_of a b ∷ []) new

@@ -21,7 +21,7 @@ use Rattle.m3_model.specs.Contents.{key_of, point_at}
 use Rattle.m3_model.proofs.Keyed.{equal_of}
 use Rattle.series_slots.specs.SeriesKeys.{key_at}
 use Rattle.series_slots.specs.Points.{value_of, points_of}
-use Rattle.series_slots.specs.Places.{Places, slots_of}
+use Rattle.series_slots.specs.SeriesEntries.{SeriesEntries, slots_of}
 use Rattle.series_slots.proofs.PointLemmas.{get-points}
 use Rattle.block_buffer.specs.Blocks.{block_start, block_of, IsBefore, IsBlocksOf, block_cmp, IsStartOf, IsBlockOf}
 use Rattle.block_buffer.specs.AllSeries.{IsFirst}
@@ -77,7 +77,7 @@ keys_ascend [] h = tt
 keys_ascend (k ∷ ks) h = ((λ y m. before_of k y (each_in _ ks h.0 y m)), keys_ascend ks h.1)
 
 -- the keys of a set that has exactly the blocks of the values
-pub blocks_of : (rules : Rules) (es : Places) (ks : List (ℕ × ℕ)) → IsStrictlySortedBy block_cmp ks
+pub blocks_of : (rules : Rules) (es : SeriesEntries) (ks : List (ℕ × ℕ)) → IsStrictlySortedBy block_cmp ks
     → ((q : ℕ × ℕ) → list_any (is_at (block_cmp q)) ks ≡ true → IsBlockOf rules es q)
     → ((k : Key) (v : ℤ) (q : ℕ × ℕ) → value_of (slots_of es) k ≡ Some v → block_of rules k ≡ Some q → list_any (is_at (block_cmp q)) ks ≡ true) → IsBlocksOf rules (points_of (slots_of es)) ks
 blocks_of rules es ks sorted held whole = record {
@@ -123,12 +123,12 @@ abbrev has_block : (ℕ × ℕ → Bool) → ℕ × ℕ → Type 0
 has_block has q = has q ≡ true
 
 -- the blocks of the values before a time were added
-pub record AreAdded (es : Places) (ns size low : ℕ) (before has : ℕ × ℕ → Bool) : Type 0 where
+pub record AreAdded (es : SeriesEntries) (ns size low : ℕ) (before has : ℕ × ℕ → Bool) : Type 0 where
   pub kept : (q : ℕ × ℕ) → before q ≡ true → has q ≡ true
   pub held : (q : ℕ × ℕ) → has q ≡ true → (before q ≡ true) ⊎ IsStartOf es ns size q
   pub done : (k : Key) (v : ℤ) → value_of (slots_of es) k ≡ Some v → k.ns ≡ ns → k.t < low → has (ns, block_start size k.t) ≡ true
 
-pub none_added : (es : Places) (ns size : ℕ) (has : ℕ × ℕ → Bool) → AreAdded es ns size 0 has has
+pub none_added : (es : SeriesEntries) (ns size : ℕ) (has : ℕ × ℕ → Bool) → AreAdded es ns size 0 has has
 none_added es ns size has = record { kept = λ q h. h; held = λ q h. inl h; done = λ k v e n low. absurd (omega (arith, low)) }
 
 on_or_off : (b c : Bool) → c ≡ true → cond b true c ≡ true
@@ -136,9 +136,9 @@ on_or_off true c e = refl
 on_or_off false c e = e
 
 -- the block of the first value from there on was added
-pub more_added : (es : Places) (ns size low place t : ℕ) (v : ℤ) (before has after : ℕ × ℕ → Bool) → 0 < size → AreAdded es ns size low before has → IsFirst es ns low place t v
+pub more_added : (es : SeriesEntries) (ns size low position t : ℕ) (v : ℤ) (before has after : ℕ × ℕ → Bool) → 0 < size → AreAdded es ns size low before has → IsFirst es ns low position t v
     → ((q : ℕ × ℕ) → after q ≡ cond (is_at (block_cmp (ns, block_start size t)) q) true (has q)) → AreAdded es ns size (block_start size t + size) before after
-more_added es ns size low place t v before has after some h first is = record {
+more_added es ns size low position t v before has after some h first is = record {
   kept = λ q e. is q ∙ on_or_off (is_at (block_cmp (ns, block_start size t)) q) (has q) (h.kept q e);
   held = λ q e. by q (is_at (block_cmp (ns, block_start size t)) q) refl (sym (is q) ∙ e);
   done = λ k w e n high. by_time k w e n high (before_or_from k.t low);

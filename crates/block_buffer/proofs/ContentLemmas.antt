@@ -14,7 +14,7 @@ use Rattle.series_slots.specs.declared.series_key.SeriesKey.{SeriesKey}
 use Rattle.series_slots.specs.SeriesKeys.{series_cmp, series_of}
 use Rattle.series_slots.specs.Slots.{Slots, settled}
 use Rattle.series_slots.specs.Points.{slot_in, slot_at, value_of, points_of}
-use Rattle.series_slots.specs.Places.{Places, StandsAt, slots_of}
+use Rattle.series_slots.specs.SeriesEntries.{SeriesEntries, StandsAt, slots_of}
 use Rattle.series_slots.proofs.PointLemmas.{get-points}
 use Rattle.block_buffer.proofs.PlaceLemmas.{eq_or_not}
 use Rattle.block_buffer.specs.Held.{without}
@@ -32,23 +32,23 @@ pub same_key : (k : Key) → eq_by_cmp key_cmp k k ≡ true
 same_key k = ap is_eq (tied_itself key_cmp_total k)
 
 -- the values, where one slot was set
-pub value_set : (old new : Places) (key : Key) (slot : Option (Option ℤ)) → IsSlotSet old new key slot
+pub value_set : (old new : SeriesEntries) (key : Key) (slot : Option (Option ℤ)) → IsSlotSet old new key slot
     → (k : Key) → value_of (slots_of new) k ≡ cond (eq_by_cmp key_cmp k key) (settled slot) (value_of (slots_of old) k)
 value_set old new key slot h k = ap settled (h k) ∙ settled-cond (eq_by_cmp key_cmp k key) slot (slot_at (slots_of old) k)
 
 -- no value changes where a slot takes the one that stood there
-pub value_held : (old new : Places) (key : Key) → IsSlotSet old new key (Some (value_of (slots_of old) key)) → (k : Key) → value_of (slots_of new) k ≡ value_of (slots_of old) k
+pub value_held : (old new : SeriesEntries) (key : Key) → IsSlotSet old new key (Some (value_of (slots_of old) key)) → (k : Key) → value_of (slots_of new) k ≡ value_of (slots_of old) k
 value_held old new key h k = value_set old new key (Some (value_of (slots_of old) key)) h k ∙ by_test (eq_by_cmp key_cmp k key) refl
   where
     by_test : (b : Bool) → eq_by_cmp key_cmp k key ≡ b → cond b (value_of (slots_of old) key) (value_of (slots_of old) k) ≡ value_of (slots_of old) k
     by_test true e = ap (value_of (slots_of old)) (sym (tied_key k key e))
     by_test false e = refl
 
-pub value_same : (old new : Places) → AreSameSlots old new → (k : Key) → value_of (slots_of new) k ≡ value_of (slots_of old) k
+pub value_same : (old new : SeriesEntries) → AreSameSlots old new → (k : Key) → value_of (slots_of new) k ≡ value_of (slots_of old) k
 value_same old new h k = ap settled (h k)
 
 -- a point left
-pub point_left : (old new : Places) (key : Key) → IsSlotSet old new key None → points_of (slots_of new) ≡ finite.remove (points_of (slots_of old)) key
+pub point_left : (old new : SeriesEntries) (key : Key) → IsSlotSet old new key None → points_of (slots_of new) ≡ finite.remove (points_of (slots_of old)) key
 point_left old new key h =
     same_map key_cmp_total key_cmp-IsAntisymmetric _ _
     (λ k. get-points (slots_of new) k ∙ value_set old new key None h k ∙ ap (λ o. cond (eq_by_cmp key_cmp k key) None o) (sym (get-points (slots_of old) k)) ∙ sym (get-remove key_cmp_total (points_of (slots_of old)) key k))
@@ -56,7 +56,7 @@ point_left old new key h =
 -- ---- slots without a value
 
 -- only the slot that was made has none
-pub only_held : (old new : Places) (key : Key) (slot : Option (Option ℤ)) → OnlyRoomIsEmpty None old → IsSlotSet old new key slot → OnlyRoomIsEmpty (Some key) new
+pub only_held : (old new : SeriesEntries) (key : Key) (slot : Option (Option ℤ)) → OnlyRoomIsEmpty None old → IsSlotSet old new key slot → OnlyRoomIsEmpty (Some key) new
 only_held old new key slot only h k e = by_test (eq_by_cmp key_cmp k key) refl (sym (h k) ∙ e)
   where
     by_test : (b : Bool) → eq_by_cmp key_cmp k key ≡ b → cond b slot (slot_at (slots_of old) k) ≡ Some None → Some key ≡ Some k
@@ -64,7 +64,7 @@ only_held old new key slot only h k e = by_test (eq_by_cmp key_cmp k key) refl (
     by_test false t g = let wrong : None ≡ Some k = only k g in cc
 
 -- none has none, once that one took a value
-pub only_raised : (old new : Places) (key : Key) (v : ℤ) → OnlyRoomIsEmpty (Some key) old → IsSlotSet old new key (Some (Some v)) → OnlyRoomIsEmpty None new
+pub only_raised : (old new : SeriesEntries) (key : Key) (v : ℤ) → OnlyRoomIsEmpty (Some key) old → IsSlotSet old new key (Some (Some v)) → OnlyRoomIsEmpty None new
 only_raised old new key v only h k e = by_test (eq_by_cmp key_cmp k key) refl (sym (h k) ∙ e)
   where
     by_test : (b : Bool) → eq_by_cmp key_cmp k key ≡ b → cond b (Some (Some v)) (slot_at (slots_of old) k) ≡ Some None → None ≡ Some k
@@ -75,11 +75,11 @@ only_raised old new key v only h k e = by_test (eq_by_cmp key_cmp k key) refl (s
         let wrong : true ≡ false = sym (same_key k) ∙ ap (λ q. eq_by_cmp key_cmp k q) (sym is) ∙ t in
         cc
 
-pub only_same : (room : Option Key) (old new : Places) → OnlyRoomIsEmpty room old → AreSameSlots old new → OnlyRoomIsEmpty room new
+pub only_same : (room : Option Key) (old new : SeriesEntries) → OnlyRoomIsEmpty room old → AreSameSlots old new → OnlyRoomIsEmpty room new
 only_same room old new only h k e = only k (sym (h k) ∙ e)
 
 -- nor once it left
-pub only_taken : (old new : Places) (key : Key) → OnlyRoomIsEmpty None old → IsSlotSet old new key None → OnlyRoomIsEmpty None new
+pub only_taken : (old new : SeriesEntries) (key : Key) → OnlyRoomIsEmpty None old → IsSlotSet old new key None → OnlyRoomIsEmpty None new
 only_taken old new key only h k e = by_test (eq_by_cmp key_cmp k key) (sym (h k) ∙ e)
   where
     by_test : (b : Bool) → cond b None (slot_at (slots_of old) k) ≡ Some None → None ≡ Some k
@@ -87,7 +87,7 @@ only_taken old new key only h k e = by_test (eq_by_cmp key_cmp k key) (sym (h k)
     by_test false g = only k g
 
 -- where no slot is without a value, each has one
-pub slot_valued : (es : Places) (k : Key) → OnlyRoomIsEmpty None es → IsSome (slot_at (slots_of es) k) → (v : ℤ) × (value_of (slots_of es) k ≡ Some v)
+pub slot_valued : (es : SeriesEntries) (k : Key) → OnlyRoomIsEmpty None es → IsSome (slot_at (slots_of es) k) → (v : ℤ) × (value_of (slots_of es) k ≡ Some v)
 slot_valued es k only h = by (slot_at (slots_of es) k) refl h
   where
     by : (o : Option (Option ℤ)) → slot_at (slots_of es) k ≡ o → IsSome o → (v : ℤ) × (value_of (slots_of es) k ≡ Some v)
@@ -144,16 +144,16 @@ len_removed c key v e =
     ]
 
 -- a slot of a series stands
-pub stands_if : (es : Places) (place t : ℕ) (s : SeriesKey) (v : Slots) (o : Option (Option ℤ)) → slice_get es place ≡ Some (s, v) → o ≡ finite.get v t → IfSome o (λ _. StandsAt es place t s)
-stands_if es place t s v None entry e = tt
-stands_if es place t s v (Some slot) entry e = record { slots = v; entry = entry; slot = ap is_some (sym e) }
+pub stands_if : (es : SeriesEntries) (position t : ℕ) (s : SeriesKey) (v : Slots) (o : Option (Option ℤ)) → slice_get es position ≡ Some (s, v) → o ≡ finite.get v t → IfSome o (λ _. StandsAt es position t s)
+stands_if es position t s v None entry e = tt
+stands_if es position t s v (Some slot) entry e = record { slots = v; entry = entry; slot = ap is_some (sym e) }
 
 -- where there are no series, there is no slot
 pub only_none : OnlyRoomIsEmpty None []
 only_none k e = let wrong : None ≡ Some None = sym (ap (λ o. slot_in o k.t) (get-empty series_cmp (series_of k))) ∙ e in cc
 
 -- a slot that is there is held already
-pub held_there : (es : Places) (key : Key) (slot : Option ℤ) → Some slot ≡ slot_at (slots_of es) key → IsSlotSet es es key (Some (value_of (slots_of es) key))
+pub held_there : (es : SeriesEntries) (key : Key) (slot : Option ℤ) → Some slot ≡ slot_at (slots_of es) key → IsSlotSet es es key (Some (value_of (slots_of es) key))
 held_there es key slot e k = by_test (eq_by_cmp key_cmp k key) refl
   where
     by_test : (b : Bool) → eq_by_cmp key_cmp k key ≡ b → slot_at (slots_of es) k ≡ cond b (Some (value_of (slots_of es) key)) (slot_at (slots_of es) k)
@@ -171,7 +171,7 @@ bare_slot (Some None) e = refl
 bare_slot (Some (Some v)) e = cc
 
 -- no value changes where a slot without one leaves
-pub value_vacated : (old new : Places) (key : Key) → is_bare (slot_at (slots_of old) key) ≡ true → IsSlotSet old new key None → (k : Key) → value_of (slots_of new) k ≡ value_of (slots_of old) k
+pub value_vacated : (old new : SeriesEntries) (key : Key) → is_bare (slot_at (slots_of old) key) ≡ true → IsSlotSet old new key None → (k : Key) → value_of (slots_of new) k ≡ value_of (slots_of old) k
 value_vacated old new key bare h k = value_set old new key None h k ∙ by_test (eq_by_cmp key_cmp k key) refl
   where
     by_test : (b : Bool) → eq_by_cmp key_cmp k key ≡ b → cond b None (value_of (slots_of old) k) ≡ value_of (slots_of old) k
@@ -179,7 +179,7 @@ value_vacated old new key bare h k = value_set old new key None h k ∙ by_test 
     by_test false e = refl
 
 -- what is without a value then was so before, and is another
-pub bare_before : (old new : Places) (key : Key) → IsSlotSet old new key None → (k : Key) → slot_at (slots_of new) k ≡ Some None → (slot_at (slots_of old) k ≡ Some None) × (k ≢ key)
+pub bare_before : (old new : SeriesEntries) (key : Key) → IsSlotSet old new key None → (k : Key) → slot_at (slots_of new) k ≡ Some None → (slot_at (slots_of old) k ≡ Some None) × (k ≢ key)
 bare_before old new key h k e = by_test (eq_by_cmp key_cmp k key) refl (sym (h k) ∙ e)
   where
     by_test : (b : Bool) → eq_by_cmp key_cmp k key ≡ b → cond b None (slot_at (slots_of old) k) ≡ Some None → (slot_at (slots_of old) k ≡ Some None) × (k ≢ key)
@@ -187,5 +187,5 @@ bare_before old new key h k e = by_test (eq_by_cmp key_cmp k key) refl (sym (h k
     by_test false t g = (g, λ is. let wrong : true ≡ false = sym (same_key k) ∙ ap (eq_by_cmp key_cmp k) is ∙ t in cc)
 
 -- where the slot has a value, what is without one is another
-pub bare_other : (es : Places) (key : Key) → is_bare (slot_at (slots_of es) key) ≡ false → (k : Key) → slot_at (slots_of es) k ≡ Some None → (slot_at (slots_of es) k ≡ Some None) × (k ≢ key)
+pub bare_other : (es : SeriesEntries) (key : Key) → is_bare (slot_at (slots_of es) key) ≡ false → (k : Key) → slot_at (slots_of es) k ≡ Some None → (slot_at (slots_of es) k ≡ Some None) × (k ≢ key)
 bare_other es key full k e = (e, λ is. let wrong : false ≡ true = sym full ∙ ap is_bare (sym (ap (slot_at (slots_of es)) is) ∙ e) in cc)

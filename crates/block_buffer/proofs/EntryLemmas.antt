@@ -10,7 +10,7 @@ use Rattle.indexmap.specs.IndexMap.{set_value_at}
 use Rattle.m3_model.proofs.Keyed.{equal_of}
 use Rattle.series_slots.specs.declared.series_key.SeriesKey.{SeriesKey}
 use Rattle.series_slots.specs.Slots.{Slots}
-use Rattle.series_slots.specs.Places.{Places}
+use Rattle.series_slots.specs.SeriesEntries.{SeriesEntries}
 use Rattle.block_buffer.specs.AllSeries.{EachEntry, TimesFit, SpacesBelow}
 use Rattle.block_buffer.proofs.PlaceLemmas.{eq_or_not, last_or_other, swapped_here, swapped_there, swapped_within}
 
@@ -33,47 +33,47 @@ still_some v t q h = by_test (eq_by_cmp nat_cmp q t) (sym (ap is_some (get-remov
     by_test true h = cc
     by_test false h = h
 
--- ---- a series at its place
+-- ---- a series at its position
 
-pub set_here : (es : Places) (place : ℕ) (s : SeriesKey) (v w : Slots) → slice_get es place ≡ Some (s, v) → slice_get (set_value_at es place w) place ≡ Some (s, w)
-set_here [] place s v w at = cc
+pub set_here : (es : SeriesEntries) (position : ℕ) (s : SeriesKey) (v w : Slots) → slice_get es position ≡ Some (s, v) → slice_get (set_value_at es position w) position ≡ Some (s, w)
+set_here [] position s v w at = cc
 set_here (e ∷ es) zero s v w at = let one : e ≡ (s, v) = cc in ap (λ (x : SeriesKey × Slots). Some (x.0, w)) one
-set_here (e ∷ es) (suc place) s v w at = set_here es place s v w at
+set_here (e ∷ es) (suc position) s v w at = set_here es position s v w at
 
-set_there : (es : Places) (place : ℕ) (w : Slots) (p : ℕ) → p ≢ place → slice_get (set_value_at es place w) p ≡ slice_get es p
-set_there [] place w p apart = refl
+set_there : (es : SeriesEntries) (position : ℕ) (w : Slots) (p : ℕ) → p ≢ position → slice_get (set_value_at es position w) p ≡ slice_get es p
+set_there [] position w p apart = refl
 set_there (e ∷ es) zero w zero apart = absurd (apart refl)
 set_there (e ∷ es) zero w (suc p) apart = refl
-set_there (e ∷ es) (suc place) w zero apart = refl
-set_there (e ∷ es) (suc place) w (suc p) apart = set_there es place w p (λ is. apart (ap suc is))
+set_there (e ∷ es) (suc position) w zero apart = refl
+set_there (e ∷ es) (suc position) w (suc p) apart = set_there es position w p (λ is. apart (ap suc is))
 
 same_entry : (x y : SeriesKey × Slots) → Some x ≡ Some y → x ≡ y
 same_entry x y e = cc
 
--- each place has a series
-pub entry_at : (es : Places) (place : ℕ) → place < length es → (s : SeriesKey) × (slots : Slots) × (slice_get es place ≡ Some (s, slots))
-entry_at [] place h = absurd (omega (arith, h))
+-- each position has a series
+pub entry_at : (es : SeriesEntries) (position : ℕ) → position < length es → (s : SeriesKey) × (slots : Slots) × (slice_get es position ≡ Some (s, slots))
+entry_at [] position h = absurd (omega (arith, h))
 entry_at (e ∷ es) zero h = (e.0, e.1, refl)
-entry_at (e ∷ es) (suc place) h = entry_at es place (omega (arith, h))
+entry_at (e ∷ es) (suc position) h = entry_at es position (omega (arith, h))
 
 -- ---- what holds of each of them
 
-module _ (P : SeriesKey × Slots → Type 0) (es : Places) (h : EachEntry P es) where
+module _ (P : SeriesKey × Slots → Type 0) (es : SeriesEntries) (h : EachEntry P es) where
   -- one got other slots
-  each_set : (place : ℕ) (s : SeriesKey) (v w : Slots) → slice_get es place ≡ Some (s, v) → P (s, w) → EachEntry P (set_value_at es place w)
-  each_set place s v w entry holds p e there = elim (eq_or_not p place) as (λ _. P e) [
-    | inl is ↦ subst P (sym (same_entry _ _ (sym there ∙ ap (slice_get (set_value_at es place w)) is ∙ set_here es place s v w entry))) holds
-    | inr apart ↦ h p e (sym (set_there es place w p apart) ∙ there)
+  each_set : (position : ℕ) (s : SeriesKey) (v w : Slots) → slice_get es position ≡ Some (s, v) → P (s, w) → EachEntry P (set_value_at es position w)
+  each_set position s v w entry holds p e there = elim (eq_or_not p position) as (λ _. P e) [
+    | inl is ↦ subst P (sym (same_entry _ _ (sym there ∙ ap (slice_get (set_value_at es position w)) is ∙ set_here es position s v w entry))) holds
+    | inr apart ↦ h p e (sym (set_there es position w p apart) ∙ there)
   ]
 
   -- one left, and the last one took its place
-  each_left : (place : ℕ) (x : SeriesKey × Slots) → slice_get es place ≡ Some x → EachEntry P (swap_remove es place x)
-  each_left place x entry p e there =
-      let below : place < length es = slice_get_within es place x entry in
-      let within = swapped_within es place x below p e there in
-      elim (eq_or_not p place) as (λ _. P e) [
-        | inl is ↦ h (length es - 1) e (sym (swapped_here es place x below (subst (λ q. q + 1 < length es) is within)) ∙ ap (slice_get (swap_remove es place x)) (sym is) ∙ there)
-        | inr apart ↦ h p e (sym (swapped_there es place x below p within apart) ∙ there)
+  each_left : (position : ℕ) (x : SeriesKey × Slots) → slice_get es position ≡ Some x → EachEntry P (swap_remove es position x)
+  each_left position x entry p e there =
+      let below : position < length es = slice_get_within es position x entry in
+      let within = swapped_within es position x below p e there in
+      elim (eq_or_not p position) as (λ _. P e) [
+        | inl is ↦ h (length es - 1) e (sym (swapped_here es position x below (subst (λ q. q + 1 < length es) is within)) ∙ ap (slice_get (swap_remove es position x)) (sym is) ∙ there)
+        | inr apart ↦ h p e (sym (swapped_there es position x below p within apart) ∙ there)
       ]
 
   -- one came last
@@ -82,31 +82,31 @@ module _ (P : SeriesKey × Slots → Type 0) (es : Places) (h : EachEntry P es) 
 
 -- ---- times
 
-pub times_inserted : (es : Places) (place : ℕ) (s : SeriesKey) (v : Slots) (t : ℕ) (x : Option ℤ) → slice_get es place ≡ Some (s, v) → t < 2 ^ 64 → TimesFit es → TimesFit (set_value_at es place (map.insert v t x))
-times_inserted es place s v t x entry short h =
-    each_set (λ e. (q : ℕ) → IsSome (map.get e.1 q) → q < 2 ^ 64) es h place s v (map.insert v t x) entry
-    (λ q some. elim (some_before v t x q some) as (λ _. q < 2 ^ 64) [ inl is ↦ subst (λ n. n < 2 ^ 64) (sym is) short | inr before ↦ h place (s, v) entry q before ])
+pub times_inserted : (es : SeriesEntries) (position : ℕ) (s : SeriesKey) (v : Slots) (t : ℕ) (x : Option ℤ) → slice_get es position ≡ Some (s, v) → t < 2 ^ 64 → TimesFit es → TimesFit (set_value_at es position (map.insert v t x))
+times_inserted es position s v t x entry short h =
+    each_set (λ e. (q : ℕ) → IsSome (map.get e.1 q) → q < 2 ^ 64) es h position s v (map.insert v t x) entry
+    (λ q some. elim (some_before v t x q some) as (λ _. q < 2 ^ 64) [ inl is ↦ subst (λ n. n < 2 ^ 64) (sym is) short | inr before ↦ h position (s, v) entry q before ])
 
-pub times_removed : (es : Places) (place : ℕ) (s : SeriesKey) (v : Slots) (t : ℕ) → slice_get es place ≡ Some (s, v) → TimesFit es → TimesFit (set_value_at es place (map.remove v t))
-times_removed es place s v t entry h =
-    each_set (λ e. (q : ℕ) → IsSome (map.get e.1 q) → q < 2 ^ 64) es h place s v (map.remove v t) entry (λ q some. h place (s, v) entry q (still_some v t q some))
+pub times_removed : (es : SeriesEntries) (position : ℕ) (s : SeriesKey) (v : Slots) (t : ℕ) → slice_get es position ≡ Some (s, v) → TimesFit es → TimesFit (set_value_at es position (map.remove v t))
+times_removed es position s v t entry h =
+    each_set (λ e. (q : ℕ) → IsSome (map.get e.1 q) → q < 2 ^ 64) es h position s v (map.remove v t) entry (λ q some. h position (s, v) entry q (still_some v t q some))
 
-pub times_left : (es : Places) (place : ℕ) (s : SeriesKey) (v : Slots) → slice_get es place ≡ Some (s, v) → TimesFit es → TimesFit (swap_remove es place (s, v))
-times_left es place s v entry h = each_left (λ e. (q : ℕ) → IsSome (map.get e.1 q) → q < 2 ^ 64) es h place (s, v) entry
+pub times_left : (es : SeriesEntries) (position : ℕ) (s : SeriesKey) (v : Slots) → slice_get es position ≡ Some (s, v) → TimesFit es → TimesFit (swap_remove es position (s, v))
+times_left es position s v entry h = each_left (λ e. (q : ℕ) → IsSome (map.get e.1 q) → q < 2 ^ 64) es h position (s, v) entry
 
-pub times_added : (es : Places) (s : SeriesKey) → TimesFit es → TimesFit (es ++ (s, map.empty) ∷ [])
+pub times_added : (es : SeriesEntries) (s : SeriesKey) → TimesFit es → TimesFit (es ++ (s, map.empty) ∷ [])
 times_added es s h =
     each_added (λ e. (q : ℕ) → IsSome (map.get e.1 q) → q < 2 ^ 64) es h (s, map.empty)
     (λ q some. let wrong : false ≡ true = sym (ap is_some (get-empty {X = Option ℤ} nat_cmp q)) ∙ some in cc)
 
 -- ---- namespaces
 
-pub spaces_set : (spaces : ℕ) (es : Places) (place : ℕ) (s : SeriesKey) (v w : Slots) → slice_get es place ≡ Some (s, v) → SpacesBelow spaces es → SpacesBelow spaces (set_value_at es place w)
-spaces_set spaces es place s v w entry h = each_set (λ e. e.0.ns < spaces) es h place s v w entry (h place (s, v) entry)
+pub spaces_set : (spaces : ℕ) (es : SeriesEntries) (position : ℕ) (s : SeriesKey) (v w : Slots) → slice_get es position ≡ Some (s, v) → SpacesBelow spaces es → SpacesBelow spaces (set_value_at es position w)
+spaces_set spaces es position s v w entry h = each_set (λ e. e.0.ns < spaces) es h position s v w entry (h position (s, v) entry)
 
-pub spaces_left : (spaces : ℕ) (es : Places) (place : ℕ) (s : SeriesKey) (v : Slots) → slice_get es place ≡ Some (s, v) → SpacesBelow spaces es → SpacesBelow spaces (swap_remove es place (s, v))
-spaces_left spaces es place s v entry h = each_left (λ e. e.0.ns < spaces) es h place (s, v) entry
+pub spaces_left : (spaces : ℕ) (es : SeriesEntries) (position : ℕ) (s : SeriesKey) (v : Slots) → slice_get es position ≡ Some (s, v) → SpacesBelow spaces es → SpacesBelow spaces (swap_remove es position (s, v))
+spaces_left spaces es position s v entry h = each_left (λ e. e.0.ns < spaces) es h position (s, v) entry
 
-pub spaces_added : (spaces next : ℕ) (es : Places) (s : SeriesKey) (v : Slots) → spaces ≤ next → s.ns < next → SpacesBelow spaces es → SpacesBelow next (es ++ (s, v) ∷ [])
+pub spaces_added : (spaces next : ℕ) (es : SeriesEntries) (s : SeriesKey) (v : Slots) → spaces ≤ next → s.ns < next → SpacesBelow spaces es → SpacesBelow next (es ++ (s, v) ∷ [])
 spaces_added spaces next es s v rises low h =
     each_added (λ e. e.0.ns < next) es (λ p e there. let before = h p e there in omega (arith, before, rises)) (s, v) low

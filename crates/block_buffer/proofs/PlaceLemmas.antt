@@ -1,4 +1,4 @@
--- What a list has at a place, after one came last, or the last took the place of another.
+-- What a list has at a position, after one came last, or the last took the place of another.
 use Rattle.std.proofs.Common.{◌≡◌, ◌≢◌, ℕ, zero, suc, ◌+◌, ◌-◌, ◌<◌, List, [], ◌∷◌, ◌++◌, length, get_or, refl, sym, ap, ◌∙◌, inl, inr, Bool, true, false, nat_eq, arith}
 use Rattle.std.specs.Prelude.{◌⊎◌, Some, slice_get, slice_set, swap_remove}
 use Rattle.std.proofs.lemmas.Bool.{eqb-true, eqb-false}
@@ -35,36 +35,36 @@ last_or_other (z ∷ zs) x (suc p) y e =
       | inr new ↦ inr (ap suc new.0, new.1)
     ]
 
-module _ {X : Type 0} (xs : List X) (place : ℕ) (d : X) (low : place < length xs) where
+module _ {X : Type 0} (xs : List X) (position : ℕ) (d : X) (low : position < length xs) where
   abbrev last : X
   last = get_or xs (length xs - 1) d
 
-  pub length-swapped : length (swap_remove xs place d) ≡ length xs - 1
+  pub length-swapped : length (swap_remove xs position d) ≡ length xs - 1
   length-swapped =
-      let a = length-take (length xs - 1) (slice_set xs place last) in
-      let b = length-set xs place last in
+      let a = length-take (length xs - 1) (slice_set xs position last) in
+      let b = length-set xs position last in
       grind (arith)
 
-  other : (p : ℕ) (e : X) → p + 1 < length xs → p ≢ place → get_or (swap_remove xs place d) p e ≡ get_or xs p e
-  other p e h n = get_or-take (length xs - 1) (slice_set xs place last) p e (omega (arith, h)) ∙ get_or-set_other xs place p last e n
+  other : (p : ℕ) (e : X) → p + 1 < length xs → p ≢ position → get_or (swap_remove xs position d) p e ≡ get_or xs p e
+  other p e h n = get_or-take (length xs - 1) (slice_set xs position last) p e (omega (arith, h)) ∙ get_or-set_other xs position p last e n
 
-  moved : (e : X) → place + 1 < length xs → get_or (swap_remove xs place d) place e ≡ last
-  moved e h = get_or-take (length xs - 1) (slice_set xs place last) place e (omega (arith, h)) ∙ get_or-set_same xs place last e low
+  moved : (e : X) → position + 1 < length xs → get_or (swap_remove xs position d) position e ≡ last
+  moved e h = get_or-take (length xs - 1) (slice_set xs position last) position e (omega (arith, h)) ∙ get_or-set_same xs position last e low
 
-  -- at the place, if it isn't the last, stands what stood last
-  pub swapped_here : place + 1 < length xs → slice_get (swap_remove xs place d) place ≡ slice_get xs (length xs - 1)
+  -- at the position, if it isn't the last, stands what stood last
+  pub swapped_here : position + 1 < length xs → slice_get (swap_remove xs position d) position ≡ slice_get xs (length xs - 1)
   swapped_here h =
       let n = length-swapped in
-      slice_get-get_or (swap_remove xs place d) place d (omega (arith, n, h)) ∙ ap Some (moved d h) ∙ sym (slice_get-get_or xs (length xs - 1) d (omega (arith, low)))
+      slice_get-get_or (swap_remove xs position d) position d (omega (arith, n, h)) ∙ ap Some (moved d h) ∙ sym (slice_get-get_or xs (length xs - 1) d (omega (arith, low)))
 
   -- at the others, but the last, stands what stood there
-  pub swapped_there : (p : ℕ) → p + 1 < length xs → p ≢ place → slice_get (swap_remove xs place d) p ≡ slice_get xs p
+  pub swapped_there : (p : ℕ) → p + 1 < length xs → p ≢ position → slice_get (swap_remove xs position d) p ≡ slice_get xs p
   swapped_there p h n =
       let l = length-swapped in
-      slice_get-get_or (swap_remove xs place d) p d (omega (arith, l, h)) ∙ ap Some (other p d h n) ∙ sym (slice_get-get_or xs p d (omega (arith, h)))
+      slice_get-get_or (swap_remove xs position d) p d (omega (arith, l, h)) ∙ ap Some (other p d h n) ∙ sym (slice_get-get_or xs p d (omega (arith, h)))
 
-  pub swapped_within : (p : ℕ) (y : X) → slice_get (swap_remove xs place d) p ≡ Some y → p + 1 < length xs
+  pub swapped_within : (p : ℕ) (y : X) → slice_get (swap_remove xs position d) p ≡ Some y → p + 1 < length xs
   swapped_within p y e =
       let l = length-swapped in
-      let h = slice_get_within (swap_remove xs place d) p y e in
+      let h = slice_get_within (swap_remove xs position d) p y e in
       omega (arith, l, h)

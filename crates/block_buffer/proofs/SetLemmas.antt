@@ -12,7 +12,7 @@ use Rattle.series_slots.specs.declared.series_key.SeriesKey.{SeriesKey}
 use Rattle.series_slots.specs.SeriesKeys.{series_cmp, series_cmp_total, series_of, key_at}
 use Rattle.series_slots.specs.Slots.{Slots}
 use Rattle.series_slots.specs.Points.{AllSlots, slot_in, slot_at}
-use Rattle.series_slots.specs.Places.{Places, slots_of}
+use Rattle.series_slots.specs.SeriesEntries.{SeriesEntries, slots_of}
 use Rattle.series_slots.specs.Written.{IsWritten, IsAdded, IsRemoved}
 use Rattle.series_slots.proofs.PointLemmas.{series_cmp-IsAntisymmetric, key_ties}
 use Rattle.block_buffer.specs.AllSeries.{IsSlotSet, AreSameSlots, HasNoSlots}
@@ -41,23 +41,23 @@ slot_put m s v w t slot e at k =
     by_test false h = refl
 
 -- a slot was put
-pub put_slot : (old new : Places) (place : ℕ) (s : SeriesKey) (v : Slots) (t : ℕ) (x : Option ℤ) → IsWritten old new place s v (map.insert v t x) → IsSlotSet old new (key_at s t) (Some x)
-put_slot old new place s v t x h k = ap (λ (m : AllSlots). slot_at m k) h.mapped ∙ slot_put (slots_of old) s v (map.insert v t x) t (Some x) h.found (get-insert nat_cmp_total v t x) k
+pub put_slot : (old new : SeriesEntries) (position : ℕ) (s : SeriesKey) (v : Slots) (t : ℕ) (x : Option ℤ) → IsWritten old new position s v (map.insert v t x) → IsSlotSet old new (key_at s t) (Some x)
+put_slot old new position s v t x h k = ap (λ (m : AllSlots). slot_at m k) h.mapped ∙ slot_put (slots_of old) s v (map.insert v t x) t (Some x) h.found (get-insert nat_cmp_total v t x) k
 
 -- a slot was taken
-pub take_slot : (old new : Places) (place : ℕ) (s : SeriesKey) (v : Slots) (t : ℕ) → IsWritten old new place s v (map.remove v t) → IsSlotSet old new (key_at s t) None
-take_slot old new place s v t h k = ap (λ (m : AllSlots). slot_at m k) h.mapped ∙ slot_put (slots_of old) s v (map.remove v t) t None h.found (get-remove nat_cmp_total v t) k
+pub take_slot : (old new : SeriesEntries) (position : ℕ) (s : SeriesKey) (v : Slots) (t : ℕ) → IsWritten old new position s v (map.remove v t) → IsSlotSet old new (key_at s t) None
+take_slot old new position s v t h k = ap (λ (m : AllSlots). slot_at m k) h.mapped ∙ slot_put (slots_of old) s v (map.remove v t) t None h.found (get-remove nat_cmp_total v t) k
 
 -- a series came without slots
-pub came : (old new : Places) (s : SeriesKey) (place : ℕ) → map.get (slots_of old) s ≡ None → IsAdded old new s place → AreSameSlots old new
-came old new s place none h k = ap (λ (m : AllSlots). slot_at m k) h.mapped ∙ slot-insert (slots_of old) s map.empty k ∙ by_test (eq_by_cmp series_cmp (series_of k) s) refl
+pub came : (old new : SeriesEntries) (s : SeriesKey) (position : ℕ) → map.get (slots_of old) s ≡ None → IsAdded old new s position → AreSameSlots old new
+came old new s position none h k = ap (λ (m : AllSlots). slot_at m k) h.mapped ∙ slot-insert (slots_of old) s map.empty k ∙ by_test (eq_by_cmp series_cmp (series_of k) s) refl
   where
     by_test : (b : Bool) → eq_by_cmp series_cmp (series_of k) s ≡ b → cond b (map.get (map.empty {X = Option ℤ} {R = nat_cmp}) k.t) (slot_at (slots_of old) k) ≡ slot_at (slots_of old) k
     by_test true t = get-empty nat_cmp k.t ∙ sym (ap (λ q. slot_in (map.get (slots_of old) q) k.t) (series_cmp-IsAntisymmetric (series_of k) s (equal_of _ t)) ∙ ap (λ o. slot_in o k.t) none)
     by_test false t = refl
 
-pub came_empty : (old new : Places) (s : SeriesKey) (place : ℕ) → map.get (slots_of old) s ≡ None → IsAdded old new s place → HasNoSlots new s
-came_empty old new s place none h t = came old new s place none h (key_at s t) ∙ ap (λ o. slot_in o t) none
+pub came_empty : (old new : SeriesEntries) (s : SeriesKey) (position : ℕ) → map.get (slots_of old) s ≡ None → IsAdded old new s position → HasNoSlots new s
+came_empty old new s position none h t = came old new s position none h (key_at s t) ∙ ap (λ o. slot_in o t) none
 
 pub no_slot : (v : Slots) (q : ℕ) → length (entries v) ≡ 0 → map.get v q ≡ None
 no_slot v q e = get-entries v q ∙ none (entries v) e
@@ -74,13 +74,13 @@ some_slot v h = by (entries v) refl h
     by (x ∷ es) e h = (x.0, ap is_some (get-entries v x.0 ∙ ap (map.find nat_cmp x.0) e ∙ ap (λ b. cond b (Some x.1) (map.find nat_cmp x.0 es)) (ap is_eq (tied_itself nat_cmp_total x.0))))
 
 -- a series without slots left
-pub left_same : (old new : Places) (place : ℕ) (s : SeriesKey) (v : Slots) → length (entries v) ≡ 0 → IsRemoved old new place s v → AreSameSlots old new
-left_same old new place s v none h k =
+pub left_same : (old new : SeriesEntries) (position : ℕ) (s : SeriesKey) (v : Slots) → length (entries v) ≡ 0 → IsRemoved old new position s v → AreSameSlots old new
+left_same old new position s v none h k =
     ap (λ (m : AllSlots). slot_at m k) h.mapped ∙ ap (λ o. slot_in o k.t) (get-remove series_cmp_total (slots_of old) s (series_of k)) ∙ by_test (eq_by_cmp series_cmp (series_of k) s) refl
   where
     by_test : (b : Bool) → eq_by_cmp series_cmp (series_of k) s ≡ b → slot_in (cond b None (map.get (slots_of old) (series_of k))) k.t ≡ slot_at (slots_of old) k
     by_test true t = sym (slot-tied (slots_of old) s v k h.found t ∙ no_slot v k.t none)
     by_test false t = refl
 
-pub left_empty : (old new : Places) (place : ℕ) (s : SeriesKey) (v : Slots) → length (entries v) ≡ 0 → IsRemoved old new place s v → HasNoSlots new s
-left_empty old new place s v none h t = left_same old new place s v none h (key_at s t) ∙ slot_found (slots_of old) s v t h.found ∙ no_slot v t none
+pub left_empty : (old new : SeriesEntries) (position : ℕ) (s : SeriesKey) (v : Slots) → length (entries v) ≡ 0 → IsRemoved old new position s v → HasNoSlots new s
+left_empty old new position s v none h t = left_same old new position s v none h (key_at s t) ∙ slot_found (slots_of old) s v t h.found ∙ no_slot v t none

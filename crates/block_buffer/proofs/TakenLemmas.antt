@@ -11,9 +11,9 @@ use Rattle.series_slots.specs.declared.series_key.SeriesKey.{SeriesKey}
 use Rattle.series_slots.specs.SeriesKeys.{key_at}
 use Rattle.series_slots.specs.Slots.{settled, is_within}
 use Rattle.series_slots.specs.Points.{slot_in, slot_at, value_of, points_of}
-use Rattle.series_slots.specs.Places.{Places, IsAt, slots_of}
+use Rattle.series_slots.specs.SeriesEntries.{SeriesEntries, IsAt, slots_of}
 use Rattle.series_slots.proofs.PointLemmas.{get-points}
-use Rattle.block_buffer.specs.Held.{Held, without, has_expired, is_in_block}
+use Rattle.block_buffer.specs.Held.{InMemory, without, has_expired, is_in_block}
 use Rattle.block_buffer.specs.Room.{OnlyRoomIsEmpty}
 use Rattle.block_buffer.specs.AllSeries.{IsFirst, HasNoneFrom, HasNoSlots, HasSlots, IsTakenAt}
 use Rattle.block_buffer.specs.Spots.{IsKeyWithin, HasNoValueOf}
@@ -29,65 +29,65 @@ from_within : (low high t : ℕ) → is_within low high t ≡ true → (low ≤ 
 from_within low high t h = (grind (arith, nat_tests), grind (arith, nat_tests))
 
 -- the value of a content at a key
-pub value_in : (es : Places) (k : Key) (v : ℤ) → finite.get (points_of (slots_of es)) k ≡ Some v → value_of (slots_of es) k ≡ Some v
+pub value_in : (es : SeriesEntries) (k : Key) (v : ℤ) → finite.get (points_of (slots_of es)) k ≡ Some v → value_of (slots_of es) k ≡ Some v
 value_in es k v e = sym (get-points (slots_of es) k) ∙ e
 
 -- no value, no point
-pub none_in_range : (es : Places) (ns low high : ℕ) → HasNoneFrom es ns low → HasNone (points_of (slots_of es)) (IsKeyWithin ns low high)
+pub none_in_range : (es : SeriesEntries) (ns low high : ℕ) → HasNoneFrom es ns low → HasNone (points_of (slots_of es)) (IsKeyWithin ns low high)
 none_in_range es ns low high none k v e p =
     let wrong : None ≡ Some v = sym (none k p.0 (from_within low high k.t p.1).0) ∙ value_in es k v e in
     cc
 
-pub none_stands_of : (es : Places) (P : Key → Type 0) → HasNoValueOf es P → HasNone (points_of (slots_of es)) P
+pub none_stands_of : (es : SeriesEntries) (P : Key → Type 0) → HasNoValueOf es P → HasNone (points_of (slots_of es)) P
 none_stands_of es P none k v e p = let wrong : None ≡ Some v = sym (none k p) ∙ value_in es k v e in cc
 
 -- the first value comes too late
-pub late_in_range : (es : Places) (ns low high place t : ℕ) (v : ℤ) → IsFirst es ns low place t v → high < t → HasNone (points_of (slots_of es)) (IsKeyWithin ns low high)
-late_in_range es ns low high place t v first late k w e p =
+pub late_in_range : (es : SeriesEntries) (ns low high position t : ℕ) (v : ℤ) → IsFirst es ns low position t v → high < t → HasNone (points_of (slots_of es)) (IsKeyWithin ns low high)
+late_in_range es ns low high position t v first late k w e p =
     let times = from_within low high k.t p.1 in
     let below = times.1 in
     let wrong : None ≡ Some w = sym (first.first k p.0 times.0 (omega (arith, below, late))) ∙ value_in es k w e in
     cc
 
 -- the first value is the earliest point
-pub earliest : (es : Places) (ns low place t : ℕ) (v : ℤ) → IsFirst es ns low place t v → IsEarliest (points_of (slots_of es)) ns low t
-earliest es ns low place t v first k w e is from =
+pub earliest : (es : SeriesEntries) (ns low position t : ℕ) (v : ℤ) → IsFirst es ns low position t v → IsEarliest (points_of (slots_of es)) ns low t
+earliest es ns low position t v first k w e is from =
     elim (before_or_from k.t t) as (λ _. t ≤ k.t) [
       | inl early ↦ absurd (let wrong : None ≡ Some w = sym (first.first k is from early) ∙ value_in es k w e in cc)
       | inr late ↦ late
     ]
 
 -- a series without slots has no point
-pub no_series : (es : Places) (s : SeriesKey) → HasNoSlots es s → HasSeries (points_of (slots_of es)) s → ⊥
+pub no_series : (es : SeriesEntries) (s : SeriesKey) → HasNoSlots es s → HasSeries (points_of (slots_of es)) s → ⊥
 no_series es s none h =
     let some = value_some (slot_at (slots_of es) (key_at s h.t)) h.v (value_in es (key_at s h.t) h.v h.stands) in
     let wrong : false ≡ true = sym (ap is_some (none h.t)) ∙ some in
     cc
 
 -- one with slots has a point
-pub some_series : (es : Places) (place : ℕ) (s : SeriesKey) → OnlyRoomIsEmpty None es → HasSlots es place s → HasSeries (points_of (slots_of es)) s
-some_series es place s only h =
+pub some_series : (es : SeriesEntries) (position : ℕ) (s : SeriesKey) → OnlyRoomIsEmpty None es → HasSlots es position s → HasSeries (points_of (slots_of es)) s
+some_series es position s only h =
     let value = slot_valued es (key_at s h.t) only h.some in
     record { t = h.t; v = value.0; stands = get-points (slots_of es) (key_at s h.t) ∙ value.1 }
 
-gone_or_left : (es : Places) (place : ℕ) (s : SeriesKey) (o : Option SeriesKey) → OnlyRoomIsEmpty None es → MatchOption o (HasSlots es place s) (λ gone. (gone ≡ s) × HasNoSlots es s)
+gone_or_left : (es : SeriesEntries) (position : ℕ) (s : SeriesKey) (o : Option SeriesKey) → OnlyRoomIsEmpty None es → MatchOption o (HasSlots es position s) (λ gone. (gone ≡ s) × HasNoSlots es s)
     → MatchOption o (HasSeries (points_of (slots_of es)) s) (λ gone. (gone ≡ s) × (HasSeries (points_of (slots_of es)) gone → ⊥))
-gone_or_left es place s None only h = some_series es place s only h
-gone_or_left es place s (Some gone) only h = (h.0, λ series. no_series es s h.1 (subst (HasSeries (points_of (slots_of es))) h.0 series))
+gone_or_left es position s None only h = some_series es position s only h
+gone_or_left es position s (Some gone) only h = (h.0, λ series. no_series es s h.1 (subst (HasSeries (points_of (slots_of es))) h.0 series))
 
 -- a value left
-pub taken_at : (old new : Places) (P : Key → Type 0) (place t : ℕ) (s : SeriesKey) (x : Taken) → P (key_at s t) → OnlyRoomIsEmpty None new → IsTakenAt old new place s t x → IsTaken (points_of (slots_of old)) (points_of (slots_of new)) P x
-taken_at old new P place t s x holds only h = record {
+pub taken_at : (old new : SeriesEntries) (P : Key → Type 0) (position t : ℕ) (s : SeriesKey) (x : Taken) → P (key_at s t) → OnlyRoomIsEmpty None new → IsTakenAt old new position s t x → IsTaken (points_of (slots_of old)) (points_of (slots_of new)) P x
+taken_at old new P position t s x holds only h = record {
   key = key_at s t;
   holds = holds;
   time = sym h.time;
   stands = get-points (slots_of old) (key_at s t) ∙ h.value;
   left = point_left old new (key_at s t) h.set;
-  gone = gone_or_left new place s x.gone only h.left;
+  gone = gone_or_left new position s x.gone only h.left;
 }
 
-pub first_in_range : (old : Places) (ns low high place t : ℕ) (v : ℤ) (first : IsFirst old ns low place t v) → t ≤ high → IsKeyWithin ns low high (key_at first.series t)
-first_in_range old ns low high place t v first up = (first.space, within low high t first.from up)
+pub first_in_range : (old : SeriesEntries) (ns low high position t : ℕ) (v : ℤ) (first : IsFirst old ns low position t v) → t ≤ high → IsKeyWithin ns low high (key_at first.series t)
+first_in_range old ns low high position t v first up = (first.space, within low high t first.from up)
 
 -- ---- ranges and blocks
 
@@ -123,7 +123,7 @@ counted_still count old before after same is = omega (arith, same, is)
 -- ---- contents that points leave
 
 -- what is said of a buffer by its parts
-pub held_of : (h : Held) (c : Contents) → h.points ≡ c → h.room ≡ None → h ≡ record { points = c; room = None }
+pub held_of : (h : InMemory) (c : Contents) → h.points ≡ c → h.room ≡ None → h ≡ record { points = c; room = None }
 held_of h c points room = λ i. record { points = points i; room = room i }
 
 pub weaken_taken : (old new : Contents) (P Q : Key → Type 0) (x : Taken) → ((k : Key) → P k → Q k) → IsTaken old new P x → IsTaken old new Q x
@@ -169,30 +169,30 @@ if_some_to None P Q to h = tt
 if_some_to (Some x) P Q to h = to x h
 
 -- what a series' value at a time becomes
-pub settled_all : (old new : Places) (place t : ℕ) (v : ℤ) (s : SeriesKey) (o : Option Taken) → IsAt old place s → OnlyRoomIsEmpty None old → (o ≡ None → new ≡ old)
-    → (o ≡ None → (r : SeriesKey) → IsAt old place r → is_settled (value_of (slots_of old) (key_at r t)) v ≡ false)
-    → IfSome o (λ x. (r : SeriesKey) → IsAt old place r → (is_settled (Some x.v) v ≡ true) × IsTakenAt old new place r t x) → points_of (slots_of new) ≡ settled_at (points_of (slots_of old)) (record { ns = s.ns; id = s.id; t = t; v = v })
-settled_all old new place t v s None at only same none h =
-    ap (λ (es : Places). points_of (slots_of es)) (same refl)
+pub settled_all : (old new : SeriesEntries) (position t : ℕ) (v : ℤ) (s : SeriesKey) (o : Option Taken) → IsAt old position s → OnlyRoomIsEmpty None old → (o ≡ None → new ≡ old)
+    → (o ≡ None → (r : SeriesKey) → IsAt old position r → is_settled (value_of (slots_of old) (key_at r t)) v ≡ false)
+    → IfSome o (λ x. (r : SeriesKey) → IsAt old position r → (is_settled (Some x.v) v ≡ true) × IsTakenAt old new position r t x) → points_of (slots_of new) ≡ settled_at (points_of (slots_of old)) (record { ns = s.ns; id = s.id; t = t; v = v })
+settled_all old new position t v s None at only same none h =
+    ap (λ (es : SeriesEntries). points_of (slots_of es)) (same refl)
     ∙ settled_none (points_of (slots_of old)) (record { ns = s.ns; id = s.id; t = t; v = v }) (ap (λ (o : Option ℤ). is_settled o v) (get-points (slots_of old) (key_at s t)) ∙ none refl s at)
-settled_all old new place t v s (Some x) at only same none h =
+settled_all old new position t v s (Some x) at only same none h =
     let one = h s at in
     settled_taken (points_of (slots_of old)) (points_of (slots_of new)) (record { ns = s.ns; id = s.id; t = t; v = v }) x one.0
-    (taken_at old new (λ k. k ≡ key_at s t) place t s x refl (only_taken old new (key_at s t) only one.1.set) one.1)
+    (taken_at old new (λ k. k ≡ key_at s t) position t s x refl (only_taken old new (key_at s t) only one.1.set) one.1)
 
-pub settled_one : (old new : Places) (place t : ℕ) (v : ℤ) (s : SeriesKey) (o : Option Taken) → IsAt old place s → OnlyRoomIsEmpty None old
-    → IfSome o (λ x. (r : SeriesKey) → IsAt old place r → (is_settled (Some x.v) v ≡ true) × IsTakenAt old new place r t x)
+pub settled_one : (old new : SeriesEntries) (position t : ℕ) (v : ℤ) (s : SeriesKey) (o : Option Taken) → IsAt old position s → OnlyRoomIsEmpty None old
+    → IfSome o (λ x. (r : SeriesKey) → IsAt old position r → (is_settled (Some x.v) v ≡ true) × IsTakenAt old new position r t x)
     → IfSome o (IsTaken (points_of (slots_of old)) (points_of (slots_of new)) (λ k. k ≡ key_at s t))
-settled_one old new place t v s None at only h = tt
-settled_one old new place t v s (Some x) at only h = let one = h s at in taken_at old new (λ k. k ≡ key_at s t) place t s x refl (only_taken old new (key_at s t) only one.1.set) one.1
+settled_one old new position t v s None at only h = tt
+settled_one old new position t v s (Some x) at only h = let one = h s at in taken_at old new (λ k. k ≡ key_at s t) position t s x refl (only_taken old new (key_at s t) only one.1.set) one.1
 
-pub only_settled : (old new : Places) (place t : ℕ) (v : ℤ) (s : SeriesKey) (o : Option Taken) → IsAt old place s → OnlyRoomIsEmpty None old → (o ≡ None → new ≡ old)
-    → IfSome o (λ x. (r : SeriesKey) → IsAt old place r → (is_settled (Some x.v) v ≡ true) × IsTakenAt old new place r t x) → OnlyRoomIsEmpty None new
-only_settled old new place t v s None at only same h = subst (OnlyRoomIsEmpty None) (sym (same refl)) only
-only_settled old new place t v s (Some x) at only same h = only_taken old new (key_at s t) only (h s at).1.set
+pub only_settled : (old new : SeriesEntries) (position t : ℕ) (v : ℤ) (s : SeriesKey) (o : Option Taken) → IsAt old position s → OnlyRoomIsEmpty None old → (o ≡ None → new ≡ old)
+    → IfSome o (λ x. (r : SeriesKey) → IsAt old position r → (is_settled (Some x.v) v ≡ true) × IsTakenAt old new position r t x) → OnlyRoomIsEmpty None new
+only_settled old new position t v s None at only same h = subst (OnlyRoomIsEmpty None) (sym (same refl)) only
+only_settled old new position t v s (Some x) at only same h = only_taken old new (key_at s t) only (h s at).1.set
 
 -- a series that isn't there has no value to settle
-pub settled_absent : (es : Places) (t : ℕ) (v : ℤ) (s : SeriesKey) → finite.get (slots_of es) s ≡ None → points_of (slots_of es) ≡ settled_at (points_of (slots_of es)) (record { ns = s.ns; id = s.id; t = t; v = v })
+pub settled_absent : (es : SeriesEntries) (t : ℕ) (v : ℤ) (s : SeriesKey) → finite.get (slots_of es) s ≡ None → points_of (slots_of es) ≡ settled_at (points_of (slots_of es)) (record { ns = s.ns; id = s.id; t = t; v = v })
 settled_absent es t v s none =
     settled_none (points_of (slots_of es)) (record { ns = s.ns; id = s.id; t = t; v = v })
     (ap (λ (o : Option ℤ). is_settled o v) (get-points (slots_of es) (key_at s t)) ∙ ap (λ o. is_settled (settled (slot_in o t)) v) none)

@@ -9,7 +9,7 @@ use Rattle.block_buffer.specs.declared.taken.Taken.{Taken}
 use Rattle.series_slots.specs.SeriesKeys.{key_at}
 use Rattle.series_slots.specs.Slots.{Slots}
 use Rattle.series_slots.specs.Points.{slot_at, value_of}
-use Rattle.series_slots.specs.Places.{Places, IsAt, StandsAt, slots_of}
+use Rattle.series_slots.specs.SeriesEntries.{SeriesEntries, IsAt, StandsAt, slots_of}
 
 -- there is a slot, and it has no value
 abbrev pub is_bare : Option (Option ℤ) → Bool
@@ -17,51 +17,51 @@ is_bare None = false
 is_bare (Some value) = not (is_some value)
 
 -- each series with its slots is so
-abbrev pub EachEntry : (SeriesKey × Slots → Type 0) → Places → Type 0
-EachEntry P es = (place : ℕ) (e : SeriesKey × Slots) → slice_get es place ≡ Some e → P e
+abbrev pub EachEntry : (SeriesKey × Slots → Type 0) → SeriesEntries → Type 0
+EachEntry P es = (position : ℕ) (e : SeriesKey × Slots) → slice_get es position ≡ Some e → P e
 
 -- the time of each slot has 64 bits
-abbrev pub TimesFit : Places → Type 0
+abbrev pub TimesFit : SeriesEntries → Type 0
 TimesFit = EachEntry (λ e. (t : ℕ) → IsSome (map.get e.1 t) → t < 2 ^ 64)
 
 -- each series is of one of the first so many namespaces
-abbrev pub SpacesBelow : ℕ → Places → Type 0
+abbrev pub SpacesBelow : ℕ → SeriesEntries → Type 0
 SpacesBelow spaces = EachEntry (λ e. e.0.ns < spaces)
 
 -- the slots are the same, but for that at the key
-abbrev pub IsSlotSet : Places → Places → Key → Option (Option ℤ) → Type 0
+abbrev pub IsSlotSet : SeriesEntries → SeriesEntries → Key → Option (Option ℤ) → Type 0
 IsSlotSet old new key slot = (k : Key) → slot_at (slots_of new) k ≡ cond (eq_by_cmp key_cmp k key) slot (slot_at (slots_of old) k)
 
 -- all slots are the same
-abbrev pub AreSameSlots : Places → Places → Type 0
+abbrev pub AreSameSlots : SeriesEntries → SeriesEntries → Type 0
 AreSameSlots old new = (k : Key) → slot_at (slots_of new) k ≡ slot_at (slots_of old) k
 
--- the first value of the namespace at this time and later ones stands at the place
-pub record IsFirst (es : Places) (ns low place t : ℕ) (v : ℤ) : Type 0 where
+-- the first value of the namespace at this time and later ones stands at the position
+pub record IsFirst (es : SeriesEntries) (ns low position t : ℕ) (v : ℤ) : Type 0 where
   pub series : SeriesKey
   pub space : series.ns ≡ ns
   pub from : low ≤ t
-  pub stands : StandsAt es place t series
+  pub stands : StandsAt es position t series
   pub value : value_of (slots_of es) (key_at series t) ≡ Some v
   pub first : (k : Key) → k.ns ≡ ns → low ≤ k.t → k.t < t → value_of (slots_of es) k ≡ None
 
 -- no value of the namespace stands at this time and later ones
-abbrev pub HasNoneFrom : Places → ℕ → ℕ → Type 0
+abbrev pub HasNoneFrom : SeriesEntries → ℕ → ℕ → Type 0
 HasNoneFrom es ns low = (k : Key) → k.ns ≡ ns → low ≤ k.t → value_of (slots_of es) k ≡ None
 
 -- the series has no slot
-abbrev pub HasNoSlots : Places → SeriesKey → Type 0
+abbrev pub HasNoSlots : SeriesEntries → SeriesKey → Type 0
 HasNoSlots es s = (t : ℕ) → slot_at (slots_of es) (key_at s t) ≡ None
 
--- the series is at the place, with some slot
-pub record HasSlots (es : Places) (place : ℕ) (s : SeriesKey) : Type 0 where
-  pub at : IsAt es place s
+-- the series is at the position, with some slot
+pub record HasSlots (es : SeriesEntries) (position : ℕ) (s : SeriesKey) : Type 0 where
+  pub at : IsAt es position s
   pub t : ℕ
   pub some : IsSome (slot_at (slots_of es) (key_at s t))
 
--- the value of the series at the place and time left, and the series is told where it left with it
-pub record IsTakenAt (old new : Places) (place : ℕ) (s : SeriesKey) (t : ℕ) (x : Taken) : Type 0 where
+-- the value of the series at the position and time left, and the series is told where it left with it
+pub record IsTakenAt (old new : SeriesEntries) (position : ℕ) (s : SeriesKey) (t : ℕ) (x : Taken) : Type 0 where
   pub time : x.t ≡ t
   pub value : value_of (slots_of old) (key_at s t) ≡ Some x.v
   pub set : IsSlotSet old new (key_at s t) None
-  pub left : MatchOption x.gone (HasSlots new place s) (λ gone. (gone ≡ s) × HasNoSlots new s)
+  pub left : MatchOption x.gone (HasSlots new position s) (λ gone. (gone ≡ s) × HasNoSlots new s)

@@ -8,11 +8,11 @@ use Rattle.m3_model.specs.Contents.{Contents, contents_code}
 pub use Rattle.retention.specs.Expiry.{has_ended, has_expired}
 
 -- A buffer: its points, and the key at which the next `put` takes no memory.
-pub record Held : Type 0 where
+pub record InMemory : Type 0 where
   pub points : Contents
   pub room : Option Key
 
-abbrev pub held_code : Coded Held
+abbrev pub held_code : Coded InMemory
 held_code = code_by (Contents × Option Key) (coded× contents_code (coded_option key_code)) (λ h. (h.points, h.room)) (λ p. record { points = p.0; room = p.1 }) (λ _. refl)
 
 -- the key is of this namespace and this block

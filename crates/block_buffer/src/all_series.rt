@@ -8,7 +8,7 @@ ghost use Rattle.series_slots.specs.declared.series_key.SeriesKey.{SeriesKey};
 ghost use Rattle.series_slots.specs.SeriesKeys.{key_at};
 ghost use Rattle.series_slots.specs.Slots.{Slots, settled};
 ghost use Rattle.series_slots.specs.Points.{slot_at, value_of, points_of};
-ghost use Rattle.series_slots.specs.Places.{IsAt, StandsAt, slots_of};
+ghost use Rattle.series_slots.specs.SeriesEntries.{IsAt, StandsAt, slots_of};
 ghost use Rattle.series_slots.specs.Ranges.{IsRangeOf};
 ghost use Rattle.block_buffer.specs.Taken.{is_settled};
 ghost use Rattle.series_slots.specs.Firsts.{HasNoneLater, IsFirstAt};
@@ -20,36 +20,36 @@ use crate::spot::Spot;
 use crate::taken::Taken;
 use m3_model::{Duplicate, Memory, Rules, Seq, Series, Text};
 use retention::last_expired;
-use series_slots::{PlacedSeries, SeriesKey};
+use series_slots::{IndexedSeries, SeriesKey};
 use std::alloc::Global;
 use std::marker::Model;
 
-// The slots of each series, at its place. A place is that of its series until a series leaves.
+// The slots of each series, at its position. A position is that of its series until a series leaves.
 #[derive(Drop)]
 pub(crate) struct AllSeries {
-    placed: PlacedSeries,
+    placed: IndexedSeries,
     // One above the highest namespace that a series had.
     spaces: usize,
 }
 
 impl Model for AllSeries {
     ghost use Rattle.std.specs.Prelude.{◌≤◌};
-    ghost use Rattle.series_slots.specs.Places.{Places, places_code};
+    ghost use Rattle.series_slots.specs.SeriesEntries.{SeriesEntries, series_entries_code};
     ghost use Rattle.block_buffer.specs.AllSeries.{TimesFit, SpacesBelow};
 
-    ghost Value = { Places };
+    ghost Value = { SeriesEntries };
 
-    ghost coded = { places_code };
+    ghost coded = { series_entries_code };
 
     ghost view = { λ a. a.placed };
 
     ghost invariant = { λ a. TimesFit a.placed × SpacesBelow a.spaces a.placed × (a.spaces ≤ 256) };
 }
 
-// Where a slot is: the place of its series, and whether it has a value.
+// Where a slot is: the position of its series, and whether it has a value.
 #[derive(Clone, Copy)]
 pub(crate) struct Found {
-    pub(crate) place: usize,
+    pub(crate) position: usize,
     pub(crate) valued: bool,
 }
 
@@ -94,13 +94,13 @@ fn earlier(a: Option<Spot>, b: Option<Spot>) -> Option<Spot>
     }
 }
 
-// The place that comes so many steps after this one, where after the last of so many places comes the first.
-fn turned(places: usize, from: usize, step: usize) -> usize
-    requires { step < places }
-    ensures turned { result ≡ turned places from step }
-    ensures there { result < places }
+// The position that comes so many steps after this one, where after the last of so many positions comes the first.
+fn turned(positions: usize, from: usize, step: usize) -> usize
+    requires { step < positions }
+    ensures turned { result ≡ turned positions from step }
+    ensures there { result < positions }
 {
-    let before_end = places.saturating_sub(from);
+    let before_end = positions.saturating_sub(from);
     if step < before_end {
         from + step
     } else {
@@ -113,27 +113,27 @@ impl AllSeries {
         ensures { result ≡ [] }
     {
         AllSeries {
-            placed: PlacedSeries::new(alloc),
+            placed: IndexedSeries::new(alloc),
             spaces: 0,
         }
     }
 
-    // The place of the series, if it is there.
-    pub(crate) fn place_of(&self, series: &SeriesKey) -> Option<usize>
-        ensures there { IfSome result (λ place. IsAt self.now place series.now) }
+    // The position of the series, if it is there.
+    pub(crate) fn position_of(&self, series: &SeriesKey) -> Option<usize>
+        ensures there { IfSome result (λ position. IsAt self.now position series.now) }
         ensures absent { result ≡ None → finite.get (slots_of self.now) series.now ≡ None }
     {
-        self.placed.place_of(series)
+        self.placed.position_of(series)
     }
 
-    // The slot of the series at this place and time, if there is one.
-    pub(crate) fn slot(&self, place: usize, t: u64) -> Option<Option<i64>>
-        requires { (s : SeriesKey) × IsAt self.now place s }
-        ensures slot { (s : SeriesKey) → IsAt self.now place s → result ≡ slot_at (slots_of self.now) (key_at s t) }
-        ensures stands { (s : SeriesKey) → IsAt self.now place s → IfSome result (λ _. StandsAt self.now place t s) }
-        ensures bare { (s : SeriesKey) (slots : Slots) → slice_get self.now place ≡ Some (s, slots) → result ≡ finite.get slots t }
+    // The slot of the series at this position and time, if there is one.
+    pub(crate) fn slot(&self, position: usize, t: u64) -> Option<Option<i64>>
+        requires { (s : SeriesKey) × IsAt self.now position s }
+        ensures slot { (s : SeriesKey) → IsAt self.now position s → result ≡ slot_at (slots_of self.now) (key_at s t) }
+        ensures stands { (s : SeriesKey) → IsAt self.now position s → IfSome result (λ _. StandsAt self.now position t s) }
+        ensures bare { (s : SeriesKey) (slots : Slots) → slice_get self.now position ≡ Some (s, slots) → result ≡ finite.get slots t }
     {
-        self.placed.slot_at(place, t)
+        self.placed.slot_at(position, t)
     }
 
     // Makes a slot of the series at this time, if there is none. No value changes.
@@ -144,50 +144,50 @@ impl AllSeries {
         t: u64,
     ) -> Result<Found, Memory>
         ensures ok { OnOk result (IsSlotSet self.old self.new (key_at series.now t) (Some (value_of (slots_of self.old) (key_at series.now t)))) }
-        ensures stands { IfOk result (λ found. StandsAt self.new found.place t series.now) }
+        ensures stands { IfOk result (λ found. StandsAt self.new found.position t series.now) }
         ensures valued { IfOk result (λ found. found.valued ≡ is_some (value_of (slots_of self.old) (key_at series.now t))) }
         ensures err { OnErr result (AreSameSlots self.old self.new) }
     {
-        match self.place_of(series) {
-            Some(place) => {
-                let valued = self.hold_at(place, t)?;
-                Ok(Found { place, valued })
+        match self.position_of(series) {
+            Some(position) => {
+                let valued = self.hold_at(position, t)?;
+                Ok(Found { position, valued })
             }
             None => {
-                let place = self.hold_new(alloc, series.copy(alloc)?, t)?;
+                let position = self.hold_new(alloc, series.copy(alloc)?, t)?;
                 Ok(Found {
-                    place,
+                    position,
                     valued: false,
                 })
             }
         }
     }
 
-    // Makes a slot of the series at this place, if there is none. Says whether there is a value.
-    fn hold_at(&mut self, place: usize, t: u64) -> Result<bool, Memory>
-        requires { (s : SeriesKey) × IsAt self.old place s }
-        ensures ok { (s : SeriesKey) → IsAt self.old place s → OnOk result (IsSlotSet self.old self.new (key_at s t) (Some (value_of (slots_of self.old) (key_at s t)))) }
-        ensures stands { (s : SeriesKey) → IsAt self.old place s → OnOk result (StandsAt self.new place t s) }
-        ensures valued { (s : SeriesKey) → IsAt self.old place s → IfOk result (λ valued. valued ≡ is_some (value_of (slots_of self.old) (key_at s t))) }
+    // Makes a slot of the series at this position, if there is none. Says whether there is a value.
+    fn hold_at(&mut self, position: usize, t: u64) -> Result<bool, Memory>
+        requires { (s : SeriesKey) × IsAt self.old position s }
+        ensures ok { (s : SeriesKey) → IsAt self.old position s → OnOk result (IsSlotSet self.old self.new (key_at s t) (Some (value_of (slots_of self.old) (key_at s t)))) }
+        ensures stands { (s : SeriesKey) → IsAt self.old position s → OnOk result (StandsAt self.new position t s) }
+        ensures valued { (s : SeriesKey) → IsAt self.old position s → IfOk result (λ valued. valued ≡ is_some (value_of (slots_of self.old) (key_at s t))) }
         ensures err { OnErr result (self.new ≡ self.old) }
     {
-        match self.slot(place, t) {
+        match self.slot(position, t) {
             Some(slot) => Ok(slot.is_some()),
             None => {
-                self.hold_absent(place, t)?;
+                self.hold_absent(position, t)?;
                 Ok(false)
             }
         }
     }
 
-    // Makes a slot of the series at this place and time, where there is none.
-    fn hold_absent(&mut self, place: usize, t: u64) -> Result<(), Memory>
-        requires { (s : SeriesKey) × (slots : Slots) × (slice_get self.old place ≡ Some (s, slots)) × (finite.get slots t ≡ None) }
-        ensures ok { (s : SeriesKey) → IsAt self.old place s → OnOk result (IsSlotSet self.old self.new (key_at s t) (Some None)) }
-        ensures stands { (s : SeriesKey) → IsAt self.old place s → OnOk result (StandsAt self.new place t s) }
+    // Makes a slot of the series at this position and time, where there is none.
+    fn hold_absent(&mut self, position: usize, t: u64) -> Result<(), Memory>
+        requires { (s : SeriesKey) × (slots : Slots) × (slice_get self.old position ≡ Some (s, slots)) × (finite.get slots t ≡ None) }
+        ensures ok { (s : SeriesKey) → IsAt self.old position s → OnOk result (IsSlotSet self.old self.new (key_at s t) (Some None)) }
+        ensures stands { (s : SeriesKey) → IsAt self.old position s → OnOk result (StandsAt self.new position t s) }
         ensures err { OnErr result (self.new ≡ self.old) }
     {
-        self.placed.hold(place, t)?;
+        self.placed.hold(position, t)?;
         Ok(())
     }
 
@@ -195,14 +195,14 @@ impl AllSeries {
     fn hold_new(&mut self, alloc: Global, series: SeriesKey, t: u64) -> Result<usize, Memory>
         requires { finite.get (slots_of self.old) series ≡ None }
         ensures ok { OnOk result (IsSlotSet self.old self.new (key_at series t) (Some None)) }
-        ensures stands { IfOk result (λ place. StandsAt self.new place t series) }
+        ensures stands { IfOk result (λ position. StandsAt self.new position t series) }
         ensures err { OnErr result (AreSameSlots self.old self.new) }
     {
-        let place = self.add(alloc, series)?;
-        match self.hold_absent(place, t) {
-            Ok(()) => Ok(place),
+        let position = self.add(alloc, series)?;
+        match self.hold_absent(position, t) {
+            Ok(()) => Ok(position),
             Err(e) => {
-                drop(self.leave(place));
+                drop(self.leave(position));
                 Err(e)
             }
         }
@@ -211,119 +211,119 @@ impl AllSeries {
     // Adds a series that isn't there, without slots.
     fn add(&mut self, alloc: Global, series: SeriesKey) -> Result<usize, Memory>
         requires { finite.get (slots_of self.old) series ≡ None }
-        ensures at { IfOk result (λ place. slice_get self.new place ≡ Some (series, finite.empty)) }
+        ensures at { IfOk result (λ position. slice_get self.new position ≡ Some (series, finite.empty)) }
         ensures kept { AreSameSlots self.old self.new }
     {
         let spaces = series.ns as usize + 1;
-        let place = self.placed.add(alloc, series)?;
+        let position = self.placed.add(alloc, series)?;
         self.spaces = higher_of(self.spaces, spaces);
-        Ok(place)
+        Ok(position)
     }
 
-    // Puts the value into the slot of the series at this place and time, unless one at least as high stands there. Says
+    // Puts the value into the slot of the series at this position and time, unless one at least as high stands there. Says
     // whether it was put.
-    pub(crate) fn raise(&mut self, place: usize, t: u64, v: i64) -> bool
-        requires { (s : SeriesKey) × StandsAt self.old place t s }
-        ensures raised { (s : SeriesKey) → StandsAt self.old place t s → IsSlotSet self.old self.new (key_at s t) (Some (Some (higher (value_of (slots_of self.old) (key_at s t)) v))) }
-        ensures changed { (s : SeriesKey) → StandsAt self.old place t s → result ≡ is_higher (value_of (slots_of self.old) (key_at s t)) v }
+    pub(crate) fn raise(&mut self, position: usize, t: u64, v: i64) -> bool
+        requires { (s : SeriesKey) × StandsAt self.old position t s }
+        ensures raised { (s : SeriesKey) → StandsAt self.old position t s → IsSlotSet self.old self.new (key_at s t) (Some (Some (higher (value_of (slots_of self.old) (key_at s t)) v))) }
+        ensures changed { (s : SeriesKey) → StandsAt self.old position t s → result ≡ is_higher (value_of (slots_of self.old) (key_at s t)) v }
     {
-        self.placed.raise(place, t, v)
+        self.placed.raise(position, t, v)
     }
 
-    // Takes the slot of the series at this place and time out, if it has no value, and then the series if it has no slot.
-    pub(crate) fn vacate(&mut self, place: usize, t: u64)
-        requires { (s : SeriesKey) × StandsAt self.old place t s }
+    // Takes the slot of the series at this position and time out, if it has no value, and then the series if it has no slot.
+    pub(crate) fn vacate(&mut self, position: usize, t: u64)
+        requires { (s : SeriesKey) × StandsAt self.old position t s }
         ensures kept { (k : Key) → value_of (slots_of self.new) k ≡ value_of (slots_of self.old) k }
-        ensures vacated { (s : SeriesKey) → StandsAt self.old place t s → (k : Key) → slot_at (slots_of self.new) k ≡ Some None → (slot_at (slots_of self.old) k ≡ Some None) × (k ≢ key_at s t) }
+        ensures vacated { (s : SeriesKey) → StandsAt self.old position t s → (k : Key) → slot_at (slots_of self.new) k ≡ Some None → (slot_at (slots_of self.old) k ≡ Some None) × (k ≢ key_at s t) }
     {
-        if is_bare(self.slot(place, t)) {
-            drop(self.take(place, t));
+        if is_bare(self.slot(position, t)) {
+            drop(self.take(position, t));
         }
     }
 
-    // Takes the slot of the series at this place and time out, and then the series if it has no slot. Answers the series that
+    // Takes the slot of the series at this position and time out, and then the series if it has no slot. Answers the series that
     // left.
-    pub(crate) fn take(&mut self, place: usize, t: u64) -> Option<SeriesKey>
-        requires { (s : SeriesKey) × StandsAt self.old place t s }
-        ensures taken { (s : SeriesKey) → StandsAt self.old place t s → IsSlotSet self.old self.new (key_at s t) None }
-        ensures left { (s : SeriesKey) → StandsAt self.old place t s → MatchOption result (HasSlots self.new place s) (λ gone. (gone ≡ s) × HasNoSlots self.new s) }
+    pub(crate) fn take(&mut self, position: usize, t: u64) -> Option<SeriesKey>
+        requires { (s : SeriesKey) × StandsAt self.old position t s }
+        ensures taken { (s : SeriesKey) → StandsAt self.old position t s → IsSlotSet self.old self.new (key_at s t) None }
+        ensures left { (s : SeriesKey) → StandsAt self.old position t s → MatchOption result (HasSlots self.new position s) (λ gone. (gone ≡ s) × HasNoSlots self.new s) }
     {
-        self.take_slot(place, t);
-        self.leave(place)
+        self.take_slot(position, t);
+        self.leave(position)
     }
 
-    // Takes the value of the series at this place and time out, if it isn't above this one, and then the series if it has no
+    // Takes the value of the series at this position and time out, if it isn't above this one, and then the series if it has no
     // slot.
-    pub(crate) fn take_settled(&mut self, place: usize, t: u64, v: i64) -> Option<Taken>
-        requires { (s : SeriesKey) × IsAt self.old place s }
+    pub(crate) fn take_settled(&mut self, position: usize, t: u64, v: i64) -> Option<Taken>
+        requires { (s : SeriesKey) × IsAt self.old position s }
         ensures same { result ≡ None → self.new ≡ self.old }
-        ensures none { result ≡ None → (s : SeriesKey) → IsAt self.old place s → is_settled (value_of (slots_of self.old) (key_at s t)) v ≡ false }
-        ensures taken { IfSome result (λ x. (s : SeriesKey) → IsAt self.old place s → (is_settled (Some x.v) v ≡ true) × IsTakenAt self.old self.new place s t x) }
+        ensures none { result ≡ None → (s : SeriesKey) → IsAt self.old position s → is_settled (value_of (slots_of self.old) (key_at s t)) v ≡ false }
+        ensures taken { IfSome result (λ x. (s : SeriesKey) → IsAt self.old position s → (is_settled (Some x.v) v ≡ true) × IsTakenAt self.old self.new position s t x) }
     {
-        let stands = settled(self.slot(place, t))?;
+        let stands = settled(self.slot(position, t))?;
         if v < stands {
             return None;
         }
-        let gone = self.take(place, t);
+        let gone = self.take(position, t);
         Some(Taken { t, v: stands, gone })
     }
 
-    // Takes the slot of the series at this place and time out.
-    fn take_slot(&mut self, place: usize, t: u64)
-        requires { (s : SeriesKey) × IsAt self.old place s }
-        ensures taken { (s : SeriesKey) → IsAt self.old place s → IsSlotSet self.old self.new (key_at s t) None }
-        ensures there { (s : SeriesKey) → IsAt self.old place s → IsAt self.new place s }
+    // Takes the slot of the series at this position and time out.
+    fn take_slot(&mut self, position: usize, t: u64)
+        requires { (s : SeriesKey) × IsAt self.old position s }
+        ensures taken { (s : SeriesKey) → IsAt self.old position s → IsSlotSet self.old self.new (key_at s t) None }
+        ensures there { (s : SeriesKey) → IsAt self.old position s → IsAt self.new position s }
     {
-        self.placed.take(place, t);
+        self.placed.take(position, t);
     }
 
-    // Takes the series at this place out, if it has no slot.
-    fn leave(&mut self, place: usize) -> Option<SeriesKey>
-        requires { (s : SeriesKey) × IsAt self.old place s }
+    // Takes the series at this position out, if it has no slot.
+    fn leave(&mut self, position: usize) -> Option<SeriesKey>
+        requires { (s : SeriesKey) × IsAt self.old position s }
         ensures kept { AreSameSlots self.old self.new }
-        ensures left { (s : SeriesKey) → IsAt self.old place s → MatchOption result (HasSlots self.new place s) (λ gone. (gone ≡ s) × HasNoSlots self.new s) }
+        ensures left { (s : SeriesKey) → IsAt self.old position s → MatchOption result (HasSlots self.new position s) (λ gone. (gone ≡ s) × HasNoSlots self.new s) }
     {
-        if !self.placed.is_vacant(place) {
+        if !self.placed.is_vacant(position) {
             return None;
         }
-        self.placed.remove(place)
+        self.placed.remove(position)
     }
 
     // The first value of the namespace at the times from `low` on. Looks at each series.
     pub(crate) fn first(&self, ns: u8, low: u64) -> Option<Spot>
         ensures none { result ≡ None → HasNoneFrom self.now ns low }
-        ensures some { IfSome result (λ x. IsFirst self.now ns low x.place x.t x.v) }
+        ensures some { IfSome result (λ x. IsFirst self.now ns low x.position x.t x.v) }
         ensures small { (k : Key) → IsSome (slot_at (slots_of self.now) k) → k.t < 2 ^ 64 }
     {
         let mut first = None;
-        for place in 0..self.placed.len() {
-            first = earlier(first, self.first_at(place, ns, low));
+        for position in 0..self.placed.len() {
+            first = earlier(first, self.first_at(position, ns, low));
         }
         first
     }
 
-    // The first value of the series at this place at the times from `low` on, where it is of the namespace.
-    fn first_at(&self, place: usize, ns: u8, low: u64) -> Option<Spot>
-        requires { (s : SeriesKey) × IsAt self.now place s }
-        ensures none { result ≡ None → (s : SeriesKey) → IsAt self.now place s → s.ns ≡ ns → HasNoneLater self.now s low }
-        ensures some { IfSome result (λ x. (x.place ≡ place) × ((s : SeriesKey) → IsAt self.now place s → (s.ns ≡ ns) × IsFirstAt self.now place s low x.t x.v)) }
+    // The first value of the series at this position at the times from `low` on, where it is of the namespace.
+    fn first_at(&self, position: usize, ns: u8, low: u64) -> Option<Spot>
+        requires { (s : SeriesKey) × IsAt self.now position s }
+        ensures none { result ≡ None → (s : SeriesKey) → IsAt self.now position s → s.ns ≡ ns → HasNoneLater self.now s low }
+        ensures some { IfSome result (λ x. (x.position ≡ position) × ((s : SeriesKey) → IsAt self.now position s → (s.ns ≡ ns) × IsFirstAt self.now position s low x.t x.v)) }
     {
-        if self.placed.space_at(place) != ns {
+        if self.placed.space_at(position) != ns {
             return None;
         }
-        let (t, v) = self.placed.first_from(place, low)?;
-        Some(Spot { place, t, v })
+        let (t, v) = self.placed.first_from(position, low)?;
+        Some(Spot { position, t, v })
     }
 
-    // A value of the namespace at the times from `low` up to and with `high`. Looks at the series from this place on, and then at
+    // A value of the namespace at the times from `low` up to and with `high`. Looks at the series from this position on, and then at
     // those before.
     pub(crate) fn any_within(&self, from: usize, ns: u8, low: u64, high: u64) -> Option<Spot>
         ensures none { result ≡ None → HasNoValueOf self.now (IsKeyWithin ns low high) }
-        ensures some { IfSome result (λ x. IsValueOf self.now (IsKeyWithin ns low high) x.place x.t x.v) }
+        ensures some { IfSome result (λ x. IsValueOf self.now (IsKeyWithin ns low high) x.position x.t x.v) }
     {
-        let places = self.placed.len();
-        for step in 0..places {
-            let found = self.within_at(turned(places, from, step), ns, low, high);
+        let positions = self.placed.len();
+        for step in 0..positions {
+            let found = self.within_at(turned(positions, from, step), ns, low, high);
             if found.is_some() {
                 return found;
             }
@@ -331,27 +331,27 @@ impl AllSeries {
         None
     }
 
-    // A value of the series at this place at the times from `low` up to and with `high`, where it is of the namespace.
-    fn within_at(&self, place: usize, ns: u8, low: u64, high: u64) -> Option<Spot>
-        requires { (s : SeriesKey) × IsAt self.now place s }
-        ensures none { result ≡ None → HasNoneAt self.now place (IsKeyWithin ns low high) }
-        ensures some { IfSome result (λ x. IsValueOf self.now (IsKeyWithin ns low high) x.place x.t x.v) }
+    // A value of the series at this position at the times from `low` up to and with `high`, where it is of the namespace.
+    fn within_at(&self, position: usize, ns: u8, low: u64, high: u64) -> Option<Spot>
+        requires { (s : SeriesKey) × IsAt self.now position s }
+        ensures none { result ≡ None → HasNoneAt self.now position (IsKeyWithin ns low high) }
+        ensures some { IfSome result (λ x. IsValueOf self.now (IsKeyWithin ns low high) x.position x.t x.v) }
     {
-        let spot = self.first_at(place, ns, low)?;
+        let spot = self.first_at(position, ns, low)?;
         if high < spot.t {
             return None;
         }
         Some(spot)
     }
 
-    // A value that has expired. Looks at the series from this place on, and then at those before.
+    // A value that has expired. Looks at the series from this position on, and then at those before.
     pub(crate) fn any_expired(&self, from: usize, rules: &Rules) -> Option<Spot>
         ensures none { result ≡ None → HasNoValueOf self.now (λ k. has_expired rules.entry.now k ≡ true) }
-        ensures some { IfSome result (λ x. IsValueOf self.now (λ k. has_expired rules.entry.now k ≡ true) x.place x.t x.v) }
+        ensures some { IfSome result (λ x. IsValueOf self.now (λ k. has_expired rules.entry.now k ≡ true) x.position x.t x.v) }
     {
-        let places = self.placed.len();
-        for step in 0..places {
-            let found = self.expired_at(turned(places, from, step), rules);
+        let positions = self.placed.len();
+        for step in 0..positions {
+            let found = self.expired_at(turned(positions, from, step), rules);
             if found.is_some() {
                 return found;
             }
@@ -359,23 +359,23 @@ impl AllSeries {
         None
     }
 
-    // A value of the series at this place that has expired.
-    fn expired_at(&self, place: usize, rules: &Rules) -> Option<Spot>
-        requires { (s : SeriesKey) × IsAt self.now place s }
-        ensures none { result ≡ None → HasNoneAt self.now place (λ k. has_expired rules.entry.now k ≡ true) }
-        ensures some { IfSome result (λ x. IsValueOf self.now (λ k. has_expired rules.entry.now k ≡ true) x.place x.t x.v) }
+    // A value of the series at this position that has expired.
+    fn expired_at(&self, position: usize, rules: &Rules) -> Option<Spot>
+        requires { (s : SeriesKey) × IsAt self.now position s }
+        ensures none { result ≡ None → HasNoneAt self.now position (λ k. has_expired rules.entry.now k ≡ true) }
+        ensures some { IfSome result (λ x. IsValueOf self.now (λ k. has_expired rules.entry.now k ≡ true) x.position x.t x.v) }
     {
-        let ns = self.placed.space_at(place);
+        let ns = self.placed.space_at(position);
         let last = last_expired(rules, ns)?;
-        self.within_at(place, ns, 0, last)
+        self.within_at(position, ns, 0, last)
     }
 
     // Takes the value at the spot out, and then the series if it has no slot.
     pub(crate) fn take_spot(&mut self, spot: Spot) -> Taken
-        requires { (s : SeriesKey) × StandsAt self.old spot.place spot.t s × (value_of (slots_of self.old) (key_at s spot.t) ≡ Some spot.v) }
-        ensures { (s : SeriesKey) → StandsAt self.old spot.place spot.t s → IsTakenAt self.old self.new spot.place s spot.t result }
+        requires { (s : SeriesKey) × StandsAt self.old spot.position spot.t s × (value_of (slots_of self.old) (key_at s spot.t) ≡ Some spot.v) }
+        ensures { (s : SeriesKey) → StandsAt self.old spot.position spot.t s → IsTakenAt self.old self.new spot.position s spot.t result }
     {
-        let gone = self.take(spot.place, spot.t);
+        let gone = self.take(spot.position, spot.t);
         Taken {
             t: spot.t,
             v: spot.v,
@@ -396,8 +396,8 @@ impl AllSeries {
         ensures some { IsTrue result → (t : ℕ) × IsSome (slot_at (slots_of self.now) (key_at series.now t)) }
         ensures none { result ≡ false → HasNoSlots self.now series.now }
     {
-        match self.placed.place_of(series) {
-            Some(place) => !self.placed.is_vacant(place),
+        match self.placed.position_of(series) {
+            Some(position) => !self.placed.is_vacant(position),
             None => false,
         }
     }

@@ -3,7 +3,7 @@ ghost use Rattle.std.specs.List.{All};
 ghost use Rattle.std.specs.BTreeSet.{contains, IsOrdered};
 ghost use Rattle.m3_model.specs.declared.point.Key.{Key};
 ghost use Rattle.series_slots.specs.Points.{value_of};
-ghost use Rattle.series_slots.specs.Places.{slots_of};
+ghost use Rattle.series_slots.specs.SeriesEntries.{slots_of};
 ghost use Rattle.block_buffer.specs.Blocks.{block_cmp, block_start, block_of, IsStartOf, IsBlockOf};
 
 use crate::all_series::AllSeries;

@@ -25,7 +25,7 @@ use std::marker::Model;
 /// room: at it the next `put` takes no memory.
 ///
 /// The times of a series stand in a list, by which a point that comes after them all is found in constant time, and any other in
-/// their logarithm. One that comes or goes within them moves those on its shorter side by a place, beside the costs that the
+/// their logarithm. One that comes or goes within them moves those on its shorter side by a position, beside the costs that the
 /// functions state.
 ///
 /// See M3DB's page "Storage Engine", of the buffer.
@@ -36,17 +36,17 @@ pub struct Buffer {
     // The series that was sought last. Where there is room, it is the one for which.
     sought: SeriesKey,
     room: Option<Room>,
-    // The place of the series that a point left last, where the search for the next one to leave begins.
+    // The position of the series that a point left last, where the search for the next one to leave begins.
     hand: usize,
 }
 
 impl Model for Buffer {
     ghost use Rattle.series_slots.specs.Points.{points_of};
-    ghost use Rattle.series_slots.specs.Places.{slots_of};
+    ghost use Rattle.series_slots.specs.SeriesEntries.{slots_of};
     ghost use Rattle.block_buffer.specs.Room.{room_key, RoomStands, OnlyRoomIsEmpty};
-    ghost use Rattle.block_buffer.specs.Held.{Held, held_code};
+    ghost use Rattle.block_buffer.specs.Held.{InMemory, held_code};
 
-    ghost Value = { Held };
+    ghost Value = { InMemory };
 
     ghost coded = { held_code };
 
@@ -84,7 +84,7 @@ impl Buffer {
         self.sought.set(self.alloc, p.ns, &p.id)?;
         let found = self.all.hold(self.alloc, &self.sought, p.t)?;
         self.room = Some(Room {
-            place: found.place,
+            position: found.position,
             t: p.t,
         });
         Ok(found.valued)
@@ -99,7 +99,7 @@ impl Buffer {
         ensures changed { result ≡ is_higher (finite.get self.old.points (key_of p.now)) p.now.v }
     {
         match self.room.take() {
-            Some(room) => self.all.raise(room.place, room.t, p.v),
+            Some(room) => self.all.raise(room.position, room.t, p.v),
             None => false,
         }
     }
@@ -133,7 +133,7 @@ impl Buffer {
         ensures err { OnErr result (self.new ≡ self.old) }
     {
         let found = self.all.hold(self.alloc, series, t)?;
-        self.all.raise(found.place, t, v);
+        self.all.raise(found.position, t, v);
         Ok(())
     }
 
@@ -196,7 +196,7 @@ impl Buffer {
         if high < spot.t {
             return None;
         }
-        let gone = self.all.take(spot.place, spot.t);
+        let gone = self.all.take(spot.position, spot.t);
         Some(Taken {
             t: spot.t,
             v: spot.v,
@@ -215,7 +215,7 @@ impl Buffer {
     {
         self.release();
         let spot = self.all.any_within(self.hand, ns, low, high)?;
-        self.hand = spot.place;
+        self.hand = spot.position;
         Some(self.all.take_spot(spot))
     }
 
@@ -228,7 +228,7 @@ impl Buffer {
     {
         self.release();
         let spot = self.all.any_expired(self.hand, rules)?;
-        self.hand = spot.place;
+        self.hand = spot.position;
         Some(self.all.take_spot(spot))
     }
 
@@ -308,8 +308,8 @@ impl Buffer {
     {
         self.release();
         self.sought.set(self.alloc, ns, id)?;
-        match self.all.place_of(&self.sought) {
-            Some(place) => Ok(self.all.take_settled(place, t, v)),
+        match self.all.position_of(&self.sought) {
+            Some(position) => Ok(self.all.take_settled(position, t, v)),
             None => Ok(None),
         }
     }
@@ -361,7 +361,7 @@ impl Buffer {
         ensures { self.new ≡ record { points = self.old.points; room = None } }
     {
         if let Some(room) = self.room.take() {
-            self.all.vacate(room.place, room.t);
+            self.all.vacate(room.position, room.t);
         }
     }
 }

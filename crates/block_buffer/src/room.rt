@@ -1,6 +1,6 @@
-// Room for a point: the place of its series among those held, and its time.
+// Room for a point: the position of its series among those held, and its time.
 #[derive(Clone, Copy)]
 pub(crate) struct Room {
-    pub(crate) place: usize,
+    pub(crate) position: usize,
     pub(crate) t: u64,
 }

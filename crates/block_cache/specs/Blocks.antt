@@ -29,7 +29,7 @@ rows_of key b = lookup (same_block key) b.held
 abbrev pub after_get : BlockKey → Blocks → Blocks
 after_get key b = record b { held = option_map_or (λ e. e ∷ remove_entry (same_block key) b.held) (lookup_entry (same_block key) b.held) b.held }
 
--- the block goes first with these rows; where it wasn't held and all places are taken, the last block goes
+-- the block goes first with these rows; where it wasn't held and it is full, the last block goes
 abbrev pub after_put : BlockKey → List Series → Blocks → Blocks
 after_put key rows b =
     record b { held = option_map_or (λ e. (e.0, rows) ∷ remove_entry (same_block key) b.held) (lookup_entry (same_block key) b.held) ((key, rows) ∷ take (b.most - 1) b.held) }

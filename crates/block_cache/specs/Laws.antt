@@ -26,7 +26,7 @@ OnlyWhatWasPut =
     (p : BlockKey × List Series → Bool) (key : BlockKey) (rows : List Series) (b : Blocks) → All (λ e. p e ≡ true) b.held
     → All (λ e. p e ≡ true) (after_get key b).held × All (λ e. p e ≡ true) (after_forget key b).held × (p (key, rows) ≡ true → All (λ e. p e ≡ true) (after_put key rows b).held)
 
--- where all places are taken, the block that goes for a further one is the last
+-- where it is full, the block that goes for a further one is the last
 abbrev pub LastGoes : Type 0
 LastGoes =
     (key : BlockKey) (rows : List Series) (b : Blocks) → rows_of key b ≡ None → length b.held ≡ b.most → (after_put key rows b).held ≡ (key, rows) ∷ take (length b.held - 1) b.held

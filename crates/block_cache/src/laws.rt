@@ -18,7 +18,7 @@ pub fn only_what_was_put()
     ensures { OnlyWhatWasPut }
 {}
 
-/// Where all places are taken, a further block takes the place of the last one, which wasn't used for longest.
+/// Where it is full, a further block takes the place of the last one, which wasn't used for longest.
 pub fn last_goes()
     ensures { LastGoes }
 {}

@@ -12,18 +12,18 @@ use std::thread::{Threads, join};
 /// So many ticks each thread adds by its own seat, and as many by seats that it splits off.
 pub const ROUNDS: usize = 8;
 
-/// The places of a thread's ticks, and of those of the seats that it split off.
+/// The positions of a thread's ticks, and of those of the seats that it split off.
 #[derive(Drop)]
-pub struct Places {
+pub struct Positions {
     pub own: [u64; ROUNDS],
     pub split: [u64; ROUNDS],
 }
 
-/// A thread's seat, with the places of its ticks.
+/// A thread's seat, with the positions of its ticks.
 #[derive(Drop)]
 struct Work<N: BookName> {
     seat: Seat<Tick, N>,
-    places: Places,
+    positions: Positions,
 }
 
 /// A seat is split off, adds a tick, meets this one and ends in it.
@@ -32,10 +32,10 @@ fn add_aside<N: BookName>(book: &Book<Tick, N>, seat: &mut Seat<Tick, N>) -> Res
     ensures made { seat.new.made ≡ seat.old.made }
 {
     let mut aside = book.split(seat);
-    let place = add_tick(book, &mut aside, 0);
+    let position = add_tick(book, &mut aside, 0);
     book.meet(seat, &mut aside);
     book.join(seat, aside);
-    place
+    position
 }
 
 /// A thread's ticks.
@@ -50,8 +50,8 @@ fn add_ticks<N: BookName>(book: &Book<Tick, N>, seat: Seat<Tick, N>) -> Result<W
         own[round] = add_tick(book, &mut seat, round as u64)?;
         split[round] = add_aside(book, &mut seat)?;
     }
-    let places = Places { own, split };
-    Ok(Work { seat, places })
+    let positions = Positions { own, split };
+    Ok(Work { seat, positions })
 }
 
 /// Two threads.
@@ -82,12 +82,12 @@ fn two_threads<N: BookName + Send + Sync, R: Threads + Sync>(
 }
 
 /// A thread's seat ends in the first one.
-fn gather<N: BookName>(book: &Book<Tick, N>, first: &mut Seat<Tick, N>, work: Work<N>) -> Places
+fn gather<N: BookName>(book: &Book<Tick, N>, first: &mut Seat<Tick, N>, work: Work<N>) -> Positions
     ensures { HasJoined first.old work.seat first.new }
 {
-    let Work { seat, places } = work;
+    let Work { seat, positions } = work;
     book.join(first, seat);
-    places
+    positions
 }
 
 /// Four threads' seats end in the first one.
@@ -98,7 +98,7 @@ fn gather_all<N: BookName>(
     b: Work<N>,
     c: Work<N>,
     d: Work<N>,
-) -> [Places; 4]
+) -> [Positions; 4]
     ensures ordered { IsOrdered (λ tick. tick.number) N.tells first.new.seen }
     ensures made { first.new.made ≡ first.old.made }
     ensures a { StandsIn first.new.seen a.seat }
@@ -106,14 +106,14 @@ fn gather_all<N: BookName>(
     ensures c { StandsIn first.new.seen c.seat }
     ensures d { StandsIn first.new.seen d.seat }
 {
-    let places = [
+    let positions = [
         gather(book, first, a),
         gather(book, first, b),
         gather(book, first, c),
         gather(book, first, d),
     ];
     first.know();
-    places
+    positions
 }
 
 /// The four threads, whose seats are split off the first one and end in it. The list that it has then seen has each thread's ticks, in
@@ -122,7 +122,7 @@ pub fn four_threads<N: BookName + Send + Sync, R: Threads + Sync>(
     rt: &R,
     book: &Book<Tick, N>,
     first: &mut Seat<Tick, N>,
-) -> Result<[Places; 4], Full>
+) -> Result<[Positions; 4], Full>
     requires { first.old ≡ first_seat }
     ensures ordered { IsOrdered (λ tick. tick.number) N.tells first.new.seen }
     ensures made { first.new.made ≡ [] }

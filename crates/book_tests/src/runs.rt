@@ -1,6 +1,6 @@
 ghost use Rattle.std.specs.Prelude.{◌≡◌};
 
-use crate::four::{Places, ROUNDS, four_threads};
+use crate::four::{Positions, ROUNDS, four_threads};
 use crate::tick::{Tick, add_tick};
 use event_book::{Blank, BookName};
 use std::marker::Brand;
@@ -27,30 +27,33 @@ fn one_run<N: BookName + Send + Sync, R: Threads + Abort + Sync>(
     requires { blank ≡ N.table }
 {
     let (book, mut first) = blank.open::<N>();
-    let places = four_threads(rt, &book, &mut first).ok().ok_or("room")?;
+    let positions = four_threads(rt, &book, &mut first).ok().ok_or("room")?;
     let mut taken = [false; TICKS];
-    for each in &places {
+    for each in &positions {
         take(rt, &mut taken, each);
     }
     let last = add_tick(&book, &mut first, 0).ok().ok_or("room")?;
-    assert_eq!(rt; last, TICKS as u64, "no place but these was taken");
+    assert_eq!(rt; last, TICKS as u64, "no position but these was taken");
     Ok(())
 }
 
-// A thread's places ascend, and nobody else has them.
-fn take<R: Abort>(rt: &R, taken: &mut [bool; TICKS], places: &Places) {
+// A thread's positions ascend, and nobody else has them.
+fn take<R: Abort>(rt: &R, taken: &mut [bool; TICKS], positions: &Positions) {
     for round in 0..ROUNDS {
-        let own = places.own[round];
-        let split = places.split[round];
+        let own = positions.own[round];
+        let split = positions.split[round];
         assert!(rt; own < split, "the seat that is split off comes later");
         if round > 0 {
-            assert!(rt; places.split[round - 1] < own, "the next tick comes later");
+            assert!(rt;
+                positions.split[round - 1] < own,
+                "the next tick comes later"
+            );
         }
-        for place in [own, split] {
-            assert!(rt; place < TICKS as u64);
-            let place = place as usize % TICKS;
-            assert!(rt; !taken[place], "each place is one tick's");
-            taken[place] = true;
+        for position in [own, split] {
+            assert!(rt; position < TICKS as u64);
+            let position = position as usize % TICKS;
+            assert!(rt; !taken[position], "each position is one tick's");
+            taken[position] = true;
         }
     }
 }

@@ -26,7 +26,7 @@ pub fn add_tick<N: BookName>(
     number: u64,
 ) -> Result<u64, Full>
     requires { length seat.old.made ≡ number }
-    ensures { IfOk result (λ place. Appended seat.old (record { number = number }) place seat.new) }
+    ensures { IfOk result (λ position. Appended seat.old (record { number = number }) position seat.new) }
 {
     book.append(seat, &Tick { number })
 }

@@ -17,7 +17,7 @@ IsSublist [] ys = ⊤
 IsSublist (x ∷ xs) [] = ⊥
 IsSublist (x ∷ xs) (y ∷ ys) = ((x ≡ y) × IsSublist xs ys) ⊎ IsSublist (x ∷ xs) ys
 
--- what a claim leaves of the ranges asked for, in their order: each claimed range is taken at the first place where it can be
+-- what a claim leaves of the ranges asked for, in their order: each claimed range is taken at the first position where it can be
 abbrev pub left_of : List Range → List Range → List Range
 left_of [] claimed = []
 left_of (r ∷ asked) claimed = if is_first claimed r then left_of asked (drop 1 claimed) else r ∷ left_of asked claimed

@@ -8,7 +8,7 @@ use std::marker::Model;
 /// The times of a namespace from `from` up to `to`, without `to`; none where `to` isn't above `from`.
 #[derive(Clone, Copy, Debug, PartialEq, Eq)]
 pub struct Range {
-    /// The place of the namespace among the namespaces.
+    /// The position of the namespace among the namespaces.
     pub ns: u8,
     pub from: u64,
     pub to: u64,
@@ -45,8 +45,8 @@ fn take_out(ranges: &mut Vec<Range>, claimed: &[Range])
 {
     let mut rest = claimed;
     let mut kept = 0;
-    for place in 0..ranges.len() {
-        let range = ranges[place];
+    for position in 0..ranges.len() {
+        let range = ranges[position];
         if is_first(rest, range) {
             rest = &rest[1..];
         } else {

@@ -47,8 +47,8 @@ fn tell_claims(claims: &Claims, out: &mut String) -> Result<(), Fail> {
     tell(&claims.left, "", out)
 }
 
-fn claimant(letters: &[u8], place: usize) -> Claimant {
-    match letters.get(place) {
+fn claimant(letters: &[u8], position: usize) -> Claimant {
+    match letters.get(position) {
         Some(b'E') => Claimant::Every,
         _ => Claimant::Nothing,
     }

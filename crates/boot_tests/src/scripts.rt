@@ -10,8 +10,8 @@ const SCRIPTS: &str = "0: 5515 5000 2509636 14481; s7 1 424, s37 1 236, s25 1 89
 7: 5515 5000 2517755 14506; s78 1 231, s53 1 673, s45 1 219, s41 500 206
 4294967295: 5515 5000 2481016 14526; s59 1 36, s24 1 251, s70 1 959, s71 500 368";
 
-// The places, from 0, of requests that are no writes and don't set the moment.
-const PLACES: &str = "0 init
+// The positions, from 0, of requests that are no writes and don't set the moment.
+const POSITIONS: &str = "0 init
 1 namespace
 1102 flush
 1103 snapshot
@@ -76,10 +76,10 @@ fn tally_of(alloc: Global, seed: u32) -> Result<Tally, Memory> {
     Ok(tally)
 }
 
-// The write that stands at this place.
-fn write_at(alloc: Global, seed: u32, place: u32, out: &mut String) -> Result<(), Fail> {
+// The write that stands at this position.
+fn write_at(alloc: Global, seed: u32, position: u32, out: &mut String) -> Result<(), Fail> {
     let mut script = Script::new(seed);
-    for _ in 0..place {
+    for _ in 0..position {
         drop(script.next(alloc)?);
     }
     if let Some(request) = script.next(alloc)? {
@@ -102,27 +102,27 @@ fn told(alloc: Global, seed: u32, out: &mut String) -> Result<(), Fail> {
 }
 
 // What a request asks for that is no write and doesn't set the moment.
-fn tell_other(place: u32, request: &Request, out: &mut String) -> Result<(), Fail> {
+fn tell_other(position: u32, request: &Request, out: &mut String) -> Result<(), Fail> {
     match request {
-        Request::One(Act::Init { .. }) => writeln!(out, "{place} init")?,
-        Request::One(Act::Namespace { .. }) => writeln!(out, "{place} namespace")?,
-        Request::One(Act::Flush) => writeln!(out, "{place} flush")?,
-        Request::One(Act::Snapshot) => writeln!(out, "{place} snapshot")?,
-        Request::One(act) => tell_move(place, act, out)?,
+        Request::One(Act::Init { .. }) => writeln!(out, "{position} init")?,
+        Request::One(Act::Namespace { .. }) => writeln!(out, "{position} namespace")?,
+        Request::One(Act::Flush) => writeln!(out, "{position} flush")?,
+        Request::One(Act::Snapshot) => writeln!(out, "{position} snapshot")?,
+        Request::One(act) => tell_move(position, act, out)?,
         Request::Par { .. } => {}
     }
     Ok(())
 }
 
-fn tell_move(place: u32, act: &Act, out: &mut String) -> Result<(), Fail> {
+fn tell_move(position: u32, act: &Act, out: &mut String) -> Result<(), Fail> {
     match act {
         Act::Replace { node, by, group } => {
-            write!(out, "{place} replace {} ", node.as_str())?;
+            write!(out, "{position} replace {} ", node.as_str())?;
             writeln!(out, "{} {}", by.as_str(), group.as_str())?;
         }
-        Act::Bootstrap { node, .. } => writeln!(out, "{place} bootstrap {}", node.as_str())?,
+        Act::Bootstrap { node, .. } => writeln!(out, "{position} bootstrap {}", node.as_str())?,
         Act::Match { ns, from, to, .. } => {
-            writeln!(out, "{place} match {} {from} {to}", ns.as_str())?;
+            writeln!(out, "{position} match {} {from} {to}", ns.as_str())?;
         }
         _ => {}
     }
@@ -131,9 +131,9 @@ fn tell_move(place: u32, act: &Act, out: &mut String) -> Result<(), Fail> {
 
 fn tell_others(alloc: Global, out: &mut String) -> Result<(), Fail> {
     let mut script = Script::new(7);
-    for place in 0..MOST {
+    for position in 0..MOST {
         match script.next(alloc)? {
-            Some(request) => tell_other(place, &request, out)?,
+            Some(request) => tell_other(position, &request, out)?,
             None => break,
         }
     }
@@ -157,9 +157,9 @@ fn scripts_are_drawn(rt: HostRuntime) -> Result<(), Fail> {
 }
 
 #[test]
-fn other_requests_have_their_places(rt: HostRuntime) -> Result<(), Fail> {
+fn other_requests_have_their_positions(rt: HostRuntime) -> Result<(), Fail> {
     let mut out = String::new(rt.alloc());
     tell_others(rt.alloc(), &mut out)?;
-    assert_eq!(rt; out.trim_end(), PLACES);
+    assert_eq!(rt; out.trim_end(), POSITIONS);
     Ok(())
 }

@@ -11,7 +11,7 @@ use Rattle.m3_model.specs.Hash.{shard_of}
 use Rattle.m3_model.specs.Levels.{needed_read}
 use Rattle.m3_model.specs.Members.{IsIn}
 use Rattle.m3_model.specs.Reads.{Read, read_of}
-use Rattle.m3_model.specs.Rules.{namespace_place}
+use Rattle.m3_model.specs.Rules.{namespace_position}
 use Rattle.m3_model.specs.Tags.{IsBelow}
 use Rattle.m3_model.specs.declared.placement.Instance.{Instance}
 use Rattle.m3_model.specs.declared.act.Act.{Act}
@@ -32,7 +32,7 @@ use Rattle.m3_model.specs.declared.rules.MetaState.{MetaState}
 use Rattle.m3_model.specs.declared.rules.Rules.{Rules}
 use Rattle.m3_model.specs.declared.rules.Space.{Space}
 use Rattle.cluster_core.specs.Lists.{IsDistinct}
-use Rattle.cluster_core.specs.Rows.{MayRefuse}
+use Rattle.cluster_core.specs.Rows.{ReplicaMayRefuse}
 use Rattle.cluster_core.specs.declared.event.Asked.TheVariants as asking
 use Rattle.cluster_core.specs.declared.event.Event.{Event}
 use Rattle.cluster_core.specs.declared.event.Event.TheVariants as event
@@ -52,7 +52,7 @@ use Rattle.told_by.specs.Hears.{is_unstrict}
 use Rattle.told_by.specs.Makes.{MayAsk, MayRead}
 use Rattle.transcripts.specs.Calls.{IsAskedOf, Call, call_of}
 use Rattle.transcripts.specs.Caused.{is_write}
-use Rattle.transcripts.specs.Record.{TurnPlace}
+use Rattle.transcripts.specs.Record.{TurnPosition}
 use Rattle.call_lines.proofs.ShardLemmas.{MaySay}
 
 -- ---- acts that read
@@ -83,7 +83,7 @@ read_not_unmet (act.Match ns wanted from to level version) b spaces r e h = h
 read_not_unmet _ b spaces r e h = cc
 
 -- a read asks replicas to read
-pub read_asks : (start : Option MetaState) (past : List Event) (p : TurnPlace) (a : Act) (spaces : List Space) (r : Read) → read_of spaces a ≡ Some r → (n s client number : ℕ) (rules : Rules) (version : ℕ) (chosen : Pick) (from to : ℕ)
+pub read_asks : (start : Option MetaState) (past : List Event) (p : TurnPosition) (a : Act) (spaces : List Space) (r : Read) → read_of spaces a ≡ Some r → (n s client number : ℕ) (rules : Rules) (version : ℕ) (chosen : Pick) (from to : ℕ)
     → MayRead start past p n s client number rules version chosen from to → MayAsk start past p a (asking.Step n s (call.Read client number rules version chosen from to))
 read_asks start past p (act.Fetch ns id least end level at_version) spaces r e n s client number rules version chosen from to h = h
 read_asks start past p (act.Match ns wanted least end level at_version) spaces r e n s client number rules version chosen from to h = h
@@ -100,8 +100,8 @@ in_option None make l r of_level e = cc
 in_option (Some k) make l r of_level e = sym (ap (λ (x : Read). x.level) (some_same (make k) r e)) ∙ of_level k
 
 pub level_of : (a : Act) (spaces : List Space) (r : Read) → read_of spaces a ≡ Some r → level_in a ≡ Some r.level
-level_of (act.Fetch ns id from to level version) spaces r e = ap Some (sym (in_option (namespace_place ns spaces) (λ k. record { pick = pick.One k id; from = from; to = to; level = level }) level r (λ k. refl) e))
-level_of (act.Match ns wanted from to level version) spaces r e = ap Some (sym (in_option (namespace_place ns spaces) (λ k. record { pick = pick.Match k wanted; from = from; to = to; level = level }) level r (λ k. refl) e))
+level_of (act.Fetch ns id from to level version) spaces r e = ap Some (sym (in_option (namespace_position ns spaces) (λ k. record { pick = pick.One k id; from = from; to = to; level = level }) level r (λ k. refl) e))
+level_of (act.Match ns wanted from to level version) spaces r e = ap Some (sym (in_option (namespace_position ns spaces) (λ k. record { pick = pick.Match k wanted; from = from; to = to; level = level }) level r (λ k. refl) e))
 level_of _ spaces r e = cc
 
 -- whether it says that it was short
@@ -145,12 +145,12 @@ PicksBy (Some id) chosen = (k : ℕ) × (chosen ≡ pick.One k id)
 PicksBy None chosen = (k : ℕ) × (wanted : List Matcher) × (chosen ≡ pick.Match k wanted)
 
 pub pick_by : (a : Act) (spaces : List Space) (r : Read) (c : Call) → read_of spaces a ≡ Some r → call_of a ≡ Some c → PicksBy c.id r.pick
-pick_by (act.Fetch ns id from to level version) spaces r c e f = subst (λ i. PicksBy i r.pick) (ap (λ (x : Call). x.id) (some_same (record { id = Some id; version = version; needed = needed_read level }) c f)) (one (namespace_place ns spaces) e)
+pick_by (act.Fetch ns id from to level version) spaces r c e f = subst (λ i. PicksBy i r.pick) (ap (λ (x : Call). x.id) (some_same (record { id = Some id; version = version; needed = needed_read level }) c f)) (one (namespace_position ns spaces) e)
   where
     one : (o : Option ℕ) → option_map (λ k. record { pick = pick.One k id; from = from; to = to; level = level }) o ≡ Some r → (k : ℕ) × (r.pick ≡ pick.One k id)
     one None e = cc
     one (Some k) e = (k, sym (ap (λ (x : Read). x.pick) (some_same (record { pick = pick.One k id; from = from; to = to; level = level }) r e)))
-pick_by (act.Match ns wanted from to level version) spaces r c e f = subst (λ i. PicksBy i r.pick) (ap (λ (x : Call). x.id) (some_same (record { id = None; version = version; needed = needed_read level }) c f)) (all (namespace_place ns spaces) e)
+pick_by (act.Match ns wanted from to level version) spaces r c e f = subst (λ i. PicksBy i r.pick) (ap (λ (x : Call). x.id) (some_same (record { id = None; version = version; needed = needed_read level }) c f)) (all (namespace_position ns spaces) e)
   where
     all : (o : Option ℕ) → option_map (λ k. record { pick = pick.Match k wanted; from = from; to = to; level = level }) o ≡ Some r → (k : ℕ) × (wanted : List Matcher) × (r.pick ≡ pick.Match k wanted)
     all None e = cc
@@ -186,7 +186,7 @@ damage_shown (wrong.Digest file kept found) is = is.1
 damage_shown (wrong.Form file at) is = tt
 
 -- a read's refusal is no message that was cut off
-pub read_says : (tells : Bool) (past : List Event) (s : ℕ) (r : ReplicaState) (c : StepCall) (why : Reason) → ((damage : Damage) → why ≡ reason.Corrupt damage → IsFileDamage damage) → MayRefuse tells past s r c why → MaySay why
+pub read_says : (tells : Bool) (past : List Event) (s : ℕ) (r : ReplicaState) (c : StepCall) (why : Reason) → ((damage : Damage) → why ≡ reason.Corrupt damage → IsFileDamage damage) → ReplicaMayRefuse tells past s r c why → MaySay why
 read_says tells past s r c reason.Cut form h = absurd h
 read_says tells past s r c (reason.Corrupt damage) form h = damage_shown damage (form damage refl)
 read_says tells past s r c _ form h = tt
@@ -206,7 +206,7 @@ distinct_by_name place [] h = tt
 distinct_by_name place (n ∷ ns) h = (λ m i. not_below place n m (h.0 m i), distinct_by_name place ns h.1)
 
 -- too few may answer it
-pub unmet_kind : (start : Option MetaState) (p : TurnPlace) (a : Act) (spaces : List Space) (r : Read) → read_of spaces a ≡ Some r → (got needed : ℕ) (reasons : List (ℕ × Reason)) (shard : ℕ) → IsOfKind [] start p a (answer.Consistency got needed reasons shard)
+pub unmet_kind : (start : Option MetaState) (p : TurnPosition) (a : Act) (spaces : List Space) (r : Read) → read_of spaces a ≡ Some r → (got needed : ℕ) (reasons : List (ℕ × Reason)) (shard : ℕ) → IsOfKind [] start p a (answer.Consistency got needed reasons shard)
 unmet_kind start p (act.Fetch ns id from to level version) spaces r e got needed reasons shard = tt
 unmet_kind start p (act.Match ns wanted from to level version) spaces r e got needed reasons shard = tt
 unmet_kind start p _ spaces r e got needed reasons shard = cc

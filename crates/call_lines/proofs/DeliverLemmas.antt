@@ -6,7 +6,7 @@ use Rattle.std.specs.Result.{result_err}
 use Rattle.std.proofs.lemmas.Bool.{lt-ltb}
 use Rattle.m3_model.specs.Members.{IsIn}
 use Rattle.m3_model.specs.Reads.{found_of}
-use Rattle.m3_model.specs.Rules.{namespace_place}
+use Rattle.m3_model.specs.Rules.{namespace_position}
 use Rattle.m3_model.specs.declared.act.Act.{Act}
 use Rattle.m3_model.specs.declared.act.Act.TheVariants as act
 use Rattle.m3_model.specs.declared.act.Fate.TheVariants as fate
@@ -38,7 +38,7 @@ use Rattle.session_net.specs.Deliveries.{AreDelivered, known, late_put, outcome_
 use Rattle.session_net.specs.declared.net.Net.{Net}
 use Rattle.told_by.specs.Clocks.{sets_rules}
 use Rattle.told_by.specs.Hears.{Happens, HasStep, HearsBy, HearsLate, HearsOutcome, HearsOutcomes, InStretch, IsLatePut}
-use Rattle.told_by.specs.Lines.{IsPlain, MayChange, PrintsPlace, place_after}
+use Rattle.told_by.specs.Lines.{IsPlain, MayChange, PrintsPlace, position_after}
 use Rattle.told_by.specs.Makes.{MayMake}
 use Rattle.told_by.specs.Openings.{sets_seed}
 use Rattle.told_by.specs.Writes.{IsUnmetWrite}
@@ -47,7 +47,7 @@ use Rattle.told_by.proofs.OneLemmas.{among_back, back_at}
 use Rattle.transcripts.specs.Deliveries.{IsLateMessage, LateMessage}
 use Rattle.transcripts.specs.Placements.{printed}
 use Rattle.transcripts.specs.Points.{point_of}
-use Rattle.transcripts.specs.Record.{TurnPlace}
+use Rattle.transcripts.specs.Record.{TurnPosition}
 use Rattle.transcripts.specs.Rules.{rules_at}
 use Rattle.call_lines.specs.Laws.{DeliveredTells, IsCalm, IsGivenUp, NothingServes, NothingTells}
 use Rattle.call_lines.specs.Left.{AreHeldBack, IsHeldBack, next_delivery}
@@ -58,9 +58,9 @@ use Rattle.call_lines.proofs.WriteLemmas.{lawful_past, put_says}
 
 -- ---- namespaces
 
-namespace_low : (name : List ℕ) (spaces : List Space) (k : ℕ) → namespace_place name spaces ≡ Some k → k < length spaces
+namespace_low : (name : List ℕ) (spaces : List Space) (k : ℕ) → namespace_position name spaces ≡ Some k → k < length spaces
 namespace_low name [] k e = cc
-namespace_low name (space ∷ spaces) k e = by (pointwise nat_eq name space.name) (namespace_place name spaces) (namespace_low name spaces) e
+namespace_low name (space ∷ spaces) k e = by (pointwise nat_eq name space.name) (namespace_position name spaces) (namespace_low name spaces) e
   where
     by : (b : Bool) (o : Option ℕ) → ((j : ℕ) → o ≡ Some j → j < length spaces) → (if b then Some 0 else option_map suc o) ≡ Some k → k < suc (length spaces)
     by true o low e = let first : 0 ≡ k = some_same 0 k e in omega (arith, first)
@@ -69,7 +69,7 @@ namespace_low name (space ∷ spaces) k e = by (pointwise nat_eq name space.name
 
 -- the namespace of a write's point is there
 point_low : (spaces : List Space) (a : Act) (p : Point) → point_of spaces a ≡ Some p → p.ns < length spaces
-point_low spaces (act.Write ns id t v level version) p e = by (namespace_place ns spaces) (namespace_low ns spaces) e
+point_low spaces (act.Write ns id t v level version) p e = by (namespace_position ns spaces) (namespace_low ns spaces) e
   where
     by : (o : Option ℕ) → ((j : ℕ) → o ≡ Some j → j < length spaces) → option_map (λ k. record { ns = k; id = id; t = t; v = v }) o ≡ Some p → p.ns < length spaces
     by None low e = cc
@@ -80,8 +80,8 @@ point_low spaces _ p e = cc
 all_known : (start : Option MetaState) (turns : List Turn) (rules : Rules) → rules_at start (next_delivery turns) ≡ rules → (messages : List LateMessage) (bag : List LateWrite) → AreHeldBack start turns messages bag → known rules bag ≡ bag
 all_known start turns rules are [] [] held = refl
 all_known start turns rules are (message ∷ messages) (one ∷ bag) held =
-    let of_act : point_of rules.spaces message.place.turn.act ≡ Some message.point = ap (λ (r : Rules). point_of r.spaces message.place.turn.act) (sym are) ∙ (held.0).is_late.of_act in
-    let below : one.point.ns < length rules.spaces = subst (λ (p : Point). p.ns < length rules.spaces) (sym (held.0).point) (point_low rules.spaces message.place.turn.act message.point of_act) in
+    let of_act : point_of rules.spaces message.position.turn.act ≡ Some message.point = ap (λ (r : Rules). point_of r.spaces message.position.turn.act) (sym are) ∙ (held.0).is_late.of_act in
+    let below : one.point.ns < length rules.spaces = subst (λ (p : Point). p.ns < length rules.spaces) (sym (held.0).point) (point_low rules.spaces message.position.turn.act message.point of_act) in
     ap (λ b. cond b (one ∷ known rules bag) (known rules bag)) (lt-ltb one.point.ns (length rules.spaces) below) ∙ ap (λ l. one ∷ l) (all_known start turns rules are messages bag held.1)
 all_known start turns rules are [] (one ∷ bag) held = absurd held
 all_known start turns rules are (message ∷ messages) [] held = absurd held
@@ -96,8 +96,8 @@ pub record IsOfLate (start : Option MetaState) (turns : List Turn) (rules : Rule
   pub is : IsExchanged late.node late.shard (late_put rules late) e
 
 module _ (start : Option MetaState) (turns : List Turn) (b : Answer) (rules : Rules) (rules_are : rules ≡ rules_at start (next_delivery turns)) where
-  abbrev here : TurnPlace
-  here = place_after turns act.Deliver b
+  abbrev here : TurnPosition
+  here = position_after turns act.Deliver b
 
   -- a late message is one of this turn
   late_here : (message : LateMessage) (late : LateWrite) → IsHeldBack start turns message late → IsLateMessage start here message
@@ -190,7 +190,7 @@ few_puts rules (one ∷ bag) (d ∷ deliveries) puts h =
     let rest = few_puts rules bag deliveries h.2 h.5 in
     omega (arith, both, here, rest)
 
--- ---- places in the list
+-- ---- positions in the list
 
 some_place : (events : List Event) (place : Placement) → last_place events ≡ Some place → 0 < length events
 some_place [] place e = cc
@@ -248,7 +248,7 @@ delivered_tells {D} {G} state old tells start turns new outcomes left ready lega
     let at = in_at h.puts (event.Step one.node one.shard (late_put rules one) (reply.Refused why)) m in
     step_says tells events h.puts rules (subst (Legal tells) (h.ran).grew legal) one why at.0 (let low = long_list events old.state.place old.state.rules ready.place ready.clock in omega (arith, low)) at.1
     in
-    let outcomes_heard : HearsOutcomes start (InStretch all (length events) (length all)) (place_after turns act.Deliver b) messages outcomes = subst (HearsOutcomes start (InStretch all (length events) (length all)) (place_after turns act.Deliver b) messages) (sym h.outcomes_are)
+    let outcomes_heard : HearsOutcomes start (InStretch all (length events) (length all)) (position_after turns act.Deliver b) messages outcomes = subst (HearsOutcomes start (InStretch all (length events) (length all)) (position_after turns act.Deliver b) messages) (sym h.outcomes_are)
     (hears_outcomes start turns b rules are (InStretch all (length events) (length all)) messages old.bag h.deliveries h.puts held delivered stretch say) in
     record {
       more = h.puts;
@@ -271,7 +271,7 @@ delivered_tells {D} {G} state old tells start turns new outcomes left ready lega
       };
       serves = λ none. serves_so start turns events act.Deliver b h.puts (λ e m. calm_late start turns rules e (each e m)) (let low = few_puts rules old.bag h.deliveries h.puts delivered in let small = h.few in omega (arith, low, small)) messages ((left.late).in_order, outcomes_heard)
           (held_one start turns messages old.bag held) (answered start turns events act.Deliver b h.puts (λ e m. calm_late start turns rules e (each e m)) (inr tt) none);
-      delivered = delivered_so turns act.Deliver b messages (λ m i. let late = held_one start turns messages old.bag held m i in (line_below turns m.place (late.1).made, refl));
+      delivered = delivered_so turns act.Deliver b messages (λ m i. let late = held_one start turns messages old.bag held m i in (line_below turns m.position (late.1).made, refl));
     }
 
 -- ---- lines that were given up
@@ -314,7 +314,7 @@ prints_nothing answer.Memory h = refl
 prints_nothing answer.Full h = refl
 prints_nothing _ h = absurd h
 
-pub hears_nothing : (start : Option MetaState) (events : List Event) (Here : ℕ → Event → Type 0) (p : TurnPlace) (a : Act) (b : Answer) → IsGivenUp b → HearsBy start events Here p a b
+pub hears_nothing : (start : Option MetaState) (events : List Event) (Here : ℕ → Event → Type 0) (p : TurnPosition) (a : Act) (b : Answer) → IsGivenUp b → HearsBy start events Here p a b
 hears_nothing start events Here p (act.Init rf shards seed nodes) answer.Memory h = tt
 hears_nothing start events Here p (act.Init rf shards seed nodes) answer.Full h = tt
 hears_nothing start events Here p (act.Stop node) answer.Memory h = tt
@@ -343,7 +343,7 @@ nothing_tells start turns events a b h = record {
   makes = record {
     makes = λ i e le two at. absurd (none_behind events i e le at);
     restarts = λ i n s r le two at. absurd (none_behind events i (event.Step n s call.Restart r) le at);
-    hears = hears_nothing start events (InStretch (events ++ []) (length events) (length (events ++ []))) (place_after turns a b) a b h;
+    hears = hears_nothing start events (InStretch (events ++ []) (length events) (length (events ++ []))) (position_after turns a b) a b h;
   };
   plain = record { no_acks = gives_no_acks b h; not_unmet = not_unmet_so a b h; no_found = finds_nothing b h; no_rules = sets_none a b h; no_seed = seeds_none a b h };
   opened = inr refl;

@@ -23,15 +23,15 @@ use Rattle.cluster_core.specs.declared.event.Event.{Event}
 use Rattle.cluster_core.proofs.ListLemmas.{some_same}
 use Rattle.replica_exchange.specs.declared.call_id.CallId.{CallId}
 use Rattle.session_net.specs.Outcomes.{answering, refusing}
-use Rattle.session_net.specs.Reads.{IsFound, Wish, asked_shards, told_in}
+use Rattle.session_net.specs.Reads.{IsReadFound, Wish, asked_shards, told_in}
 use Rattle.session_net.specs.declared.net.Net.{Net}
 use Rattle.told_runs.specs.Answers.{IsOfKind}
 use Rattle.told_by.specs.Hears.{HasEnough, HearsFound, InStretch}
-use Rattle.told_by.specs.Lines.{Finds, ReadLine, place_after}
+use Rattle.told_by.specs.Lines.{Finds, ReadLine, position_after}
 use Rattle.told_by.specs.Reads.{IsAskedBy}
-use Rattle.transcripts.specs.Record.{TurnPlace}
+use Rattle.transcripts.specs.Record.{TurnPosition}
 use Rattle.call_lines.specs.Laws.{LeavesLine}
-use Rattle.call_lines.specs.ReadLaws.{FoundTells, IsRead}
+use Rattle.call_lines.specs.ReadLaws.{FoundTells, IsReadTurn}
 use Rattle.call_lines.proofs.StandLemmas.{StandsIn}
 use Rattle.call_lines.proofs.ActLemmas.{it_is, level_in, level_of, is_it}
 use Rattle.call_lines.proofs.ReadLemmas.{call_made, asks_for, uses_it, asked_in, in_asked, fetched_in, few_read, few_shards, stands, longer, line, calm, leaves, has_enough, hears_it}
@@ -44,13 +44,13 @@ some_needed reading.Unstrict rf some = omega arith
 some_needed reading.Majority rf some = omega arith
 some_needed reading.All rf some = some
 
-found_kind : (start : Option MetaState) (p : TurnPlace) (a : Act) (spaces : List Space) (r : Read) → read_of spaces a ≡ Some r → (series : List Series) (short : Bool) → IsOfKind [] start p a (answer.Found series short)
+found_kind : (start : Option MetaState) (p : TurnPosition) (a : Act) (spaces : List Space) (r : Read) → read_of spaces a ≡ Some r → (series : List Series) (short : Bool) → IsOfKind [] start p a (answer.Found series short)
 found_kind start p (act.Fetch ns id from to level version) spaces r e series short = tt
 found_kind start p (act.Match ns wanted from to level version) spaces r e series short = tt
 found_kind start p _ spaces r e series short = cc
 
-module _ {D : Type 0} {G : Ghosts D} (state : D → DiskState) (tells : Bool) (start : Option MetaState) (turns : List Turn) (old new : Net D G) (id : CallId) (a : Act) (w : Wish) (level : ReadLevel) (series : List Series) (short : Bool) (r : IsRead start turns old id a w level)
-    (legal : Legal tells new.replicas.events) (h : IsFound state old id w level series short new) where
+module _ {D : Type 0} {G : Ghosts D} (state : D → DiskState) (tells : Bool) (start : Option MetaState) (turns : List Turn) (old new : Net D G) (id : CallId) (a : Act) (w : Wish) (level : ReadLevel) (series : List Series) (short : Bool) (r : IsReadTurn start turns old id a w level)
+    (legal : Legal tells new.replicas.events) (h : IsReadFound state old id w level series short new) where
   abbrev b : Answer
   b = answer.Found series short
 
@@ -69,7 +69,7 @@ module _ {D : Type 0} {G : Ghosts D} (state : D → DiskState) (tells : Bool) (s
   stand_of : (s : ℕ) → IsIn listed s → StandsIn old.state old.fates id w (needed_read level old.state.place.rf) h.reads whole_list (length old.replicas.events) s
   stand_of = stands start turns old id a w level r b h.reads listed h.events [] h.are
 
-  enough_of : (s least : ℕ) → IsIn listed s → least ≤ length (answering (told_in (h.reads s))) → HasEnough start Within (place_after turns a b) old.state.place s least
+  enough_of : (s least : ℕ) → IsIn listed s → least ≤ length (answering (told_in (h.reads s))) → HasEnough start Within (position_after turns a b) old.state.place s least
   enough_of s least m enough =
       let x = stand_of s m in
       has_enough start turns old id a w level r b s (h.reads s) x.asked whole_list (longer start turns old id a w level r b h.reads listed h.events [] h.are) (h.reads s).begun x.not_before x.started x.each least enough
@@ -84,13 +84,13 @@ module _ {D : Type 0} {G : Ghosts D} (state : D → DiskState) (tells : Bool) (s
   level_is : level_in a ≡ Some level
   level_is = level_of a old.state.rules.spaces (record { pick = w.pick; from = w.from; to = w.to; level = level }) r.of_act
 
-  asks_of : (s : ℕ) → IsAskedBy start (place_after turns a b) (asks_for start turns old id a w level r b) s → IsIn listed s
+  asks_of : (s : ℕ) → IsAskedBy start (position_after turns a b) (asks_for start turns old id a w level r b) s → IsIn listed s
   asks_of = asked_in start turns old id a w level r b
 
-  of_asked : (s : ℕ) → IsIn listed s → IsAskedBy start (place_after turns a b) (asks_for start turns old id a w level r b) s
+  of_asked : (s : ℕ) → IsIn listed s → IsAskedBy start (position_after turns a b) (asks_for start turns old id a w level r b) s
   of_asked = in_asked start turns old id a w level r b
 
-  hears_found : HearsFound start Within (place_after turns a b) short
+  hears_found : HearsFound start Within (position_after turns a b) short
   hears_found = record {
     call = call_made start turns old id a w level r b;
     of_call = r.of_call;
@@ -115,8 +115,8 @@ module _ {D : Type 0} {G : Ghosts D} (state : D → DiskState) (tells : Bool) (s
     not_short = λ e u s asks. enough_of s (majority old.state.place.rf) (asks_of s asks) (long_of e (it_is a level level_is u) s (asks_of s asks));
   }
 
-  finds_so : (found : Found) → found_of b ≡ Some found → Finds start (place_after turns a b) (asks_for start turns old id a w level r b) (fetched_in start turns old id a w level r b h.reads) listed found
-  finds_so found is = subst (Finds start (place_after turns a b) (asks_for start turns old id a w level r b) (fetched_in start turns old id a w level r b h.reads) listed) (some_same (record { series = series; short = short }) found is) (record {
+  finds_so : (found : Found) → found_of b ≡ Some found → Finds start (position_after turns a b) (asks_for start turns old id a w level r b) (fetched_in start turns old id a w level r b h.reads) listed found
+  finds_so found is = subst (Finds start (position_after turns a b) (asks_for start turns old id a w level r b) (fetched_in start turns old id a w level r b h.reads) listed) (some_same (record { series = series; short = short }) found is) (record {
     all = asks_of;
     enough = λ s asks. (stand_of s (asks_of s asks)).enough;
     together = record {
@@ -133,7 +133,7 @@ module _ {D : Type 0} {G : Ghosts D} (state : D → DiskState) (tells : Bool) (s
       (line start turns old id a w level r b h.reads listed h.events [] h.are of_asked (inl (λ e m. absurd m)) (λ nodes e. cc) refl (λ i j e is at. cc) (λ j n t x at. cc) hears_found finds_so)
       (calm start turns old id a w level r b h.reads listed h.events [] h.are (λ e m. absurd m))
       (let few = few_read start turns old id a w level r b h.reads listed (length old.replicas.events) h.events h.are in let most = few_shards start turns old id a w level r b in let long = length-append h.events [] in omega (arith, few, most, long))
-      (inr (found_kind start (place_after turns a b) a old.state.rules.spaces (record { pick = w.pick; from = w.from; to = w.to; level = level }) r.of_act series short)) tt
+      (inr (found_kind start (position_after turns a b) a old.state.rules.spaces (record { pick = w.pick; from = w.from; to = w.to; level = level }) r.of_act series short)) tt
 
 pub found_tells : {D : Type 0} {G : Ghosts D} (state : D → DiskState) (old : Net D G) → FoundTells state old
 found_tells {D} {G} state old tells start turns new id a w level series short r legal h = found_leaves state tells start turns old new id a w level series short r legal h

@@ -31,8 +31,8 @@ use Rattle.replica_exchange.specs.declared.call_id.CallId.{CallId}
 use Rattle.session_net.specs.Messages.{fate_to}
 use Rattle.session_net.specs.Writes.{AreMembers, bag_after, filled, is_late, late_to, shard_of_point}
 use Rattle.session_net.specs.declared.net.Net.{Net}
-use Rattle.told_by.specs.Lines.{place_after}
-use Rattle.told_by.proofs.LineLemmas.{line_below, place_last, place_stays}
+use Rattle.told_by.specs.Lines.{position_after}
+use Rattle.told_by.proofs.LineLemmas.{line_below, position_last, position_stays}
 use Rattle.told_by.proofs.OneLemmas.{is_last}
 use Rattle.told_by.proofs.RuleLemmas.{Grows, after_grows, after_lines, point_grows}
 use Rattle.told_by.proofs.TurnLemmas.{inner-append}
@@ -41,11 +41,11 @@ use Rattle.transcripts.specs.Deliveries.{IsLateBefore, LateMessage, delivers_not
 use Rattle.transcripts.specs.Fates.{calls_in, client_acts, fates_set, fate_in, numbering_after, numbering_by}
 use Rattle.transcripts.specs.Placements.{has_replica, later_placement, placement_after, printed, seed_after, seed_by, start_placement}
 use Rattle.transcripts.specs.Points.{point_of, was_sent}
-use Rattle.transcripts.specs.Record.{IsTurnPlace, inner_turns, line_of}
+use Rattle.transcripts.specs.Record.{IsTurnPosition, inner_turns, line_of}
 use Rattle.transcripts.specs.Rules.{rules_after, rules_by, start_rules}
 use Rattle.call_lines.specs.Keeps.{FieldsStay, LeftAsBefore, LeftByDelivery, LeftByWrite, SetsNothing}
 use Rattle.call_lines.specs.Laws.{IsWrite}
-use Rattle.call_lines.specs.Left.{AreHeldBack, FareAsSet, HoldsBack, IsHeldBack, IsLeftBy}
+use Rattle.call_lines.specs.Left.{AreHeldBack, FareAsSet, HoldsBack, IsHeldBack, NetIsLeftBy}
 use Rattle.call_lines.proofs.MemberLemmas.{node_replica, node_within}
 use Rattle.call_lines.proofs.ServeLemmas.{held_one}
 use Rattle.call_lines.proofs.ShardLemmas.{node_there}
@@ -53,7 +53,7 @@ use Rattle.call_lines.proofs.WriteLemmas.{fate_here, may_use, number_here}
 
 -- ---- one turn on
 
--- behind an earlier place, one line more
+-- behind an earlier position, one line more
 drop_on : {X : Type 0} (k : ℕ) (xs : List X) (x y : X) → IsIn (drop k (xs ++ x ∷ [])) y → IsIn (drop k xs) y ⊎ (x ≡ y)
 drop_on zero xs x y i = elim (IsIn-append_cases xs (x ∷ []) y i) as (λ _. IsIn xs y ⊎ (x ≡ y)) [ inl before ↦ inl before | inr last ↦ elim last as (λ _. IsIn xs y ⊎ (x ≡ y)) [ inl same ↦ inr same | inr none ↦ absurd none ] ]
 drop_on {X} (suc k) [] x y i = absurd (none_left k i)
@@ -85,18 +85,18 @@ module _ (start : Option MetaState) (turns : List Turn) (a : Act) (b : Answer) w
   module _ (quiet : IsTrue (delivers_nothing (line_of a b))) where
     held_on : (message : LateMessage) (late : LateWrite) → IsHeldBack start turns message late → IsHeldBack start longer message late
     held_on message late h = record {
-      made = place_stays turns (line_of a b) message.place h.made;
+      made = position_stays turns (line_of a b) message.position h.made;
       is_late = (let was = h.is_late in record {
-        made = inl (place_stays turns (line_of a b) message.place h.made);
+        made = inl (position_stays turns (line_of a b) message.position h.made);
         of_act = point_grows (rules_after (start_rules start) (inner_turns turns)).spaces (rules_after (start_rules start) (inner_turns longer)).spaces
-            (subst (λ (r : Rules). Grows (rules_after (start_rules start) (inner_turns turns)).spaces r.spaces) (sym rules_next) (after_grows (rules_after (start_rules start) (inner_turns turns)) (inner_turns (line_of a b ∷ [])))) message.place.turn.act message.point was.of_act;
+            (subst (λ (r : Rules). Grows (rules_after (start_rules start) (inner_turns turns)).spaces r.spaces) (sym rules_next) (after_grows (rules_after (start_rules start) (inner_turns turns)) (inner_turns (line_of a b ∷ [])))) message.position.turn.act message.point was.of_act;
         was_sent = was.was_sent;
         call = was.call;
         of_call = was.of_call;
         may_use = was.may_use;
         member = was.member;
         late = was.late;
-        not_yet = λ line i. elim (drop_on (suc (length message.place.lines)) turns (line_of a b) line i) as (λ _. IsTrue (delivers_nothing line)) [
+        not_yet = λ line i. elim (drop_on (suc (length message.position.lines)) turns (line_of a b) line i) as (λ _. IsTrue (delivers_nothing line)) [
           | inl before ↦ was.not_yet line before
           | inr same ↦ subst (λ l. IsTrue (delivers_nothing l)) same quiet
         ];
@@ -130,7 +130,7 @@ module _ (start : Option MetaState) (turns : List Turn) (a : Act) (b : Answer) (
   fates_on = ap (λ n. n.fates) (numbering_next start turns a b) ∙ ap (λ o. (numbering_by o (calls_in (client_acts 0 (request.One a))) (numbering_after 0 turns)).fates) sets.fates
 
   -- all but the bag
-  pub left_on : {D : Type 0} {G : Ghosts D} (old new : Net D G) → IsLeftBy start turns old → FieldsStay old new → HoldsBack start (longer start turns a b) new.bag → IsLeftBy start (longer start turns a b) new
+  pub left_on : {D : Type 0} {G : Ghosts D} (old new : Net D G) → NetIsLeftBy start turns old → FieldsStay old new → HoldsBack start (longer start turns a b) new.bag → NetIsLeftBy start (longer start turns a b) new
   left_on {D} {G} old new left stay late = record {
     rules = rules_on ∙ left.rules ∙ ap (λ s. s.rules) (sym stay.state);
     place = place_next start turns a b sets.place ∙ left.place ∙ ap (λ s. Some s.place) (sym stay.state);
@@ -218,7 +218,7 @@ module _ {D : Type 0} {G : Ghosts D} (start : Option MetaState) (turns : List Tu
   shard = shard_of_point old.state point
 
   abbrev message_to : ℕ → LateMessage
-  message_to n = record { place = place_after turns a b; used = place; node = n; point = point }
+  message_to n = record { position = position_after turns a b; used = place; node = n; point = point }
 
   abbrev late_one : ℕ → LateWrite
   late_one n = late_to id shard place.version point n
@@ -226,8 +226,8 @@ module _ {D : Type 0} {G : Ghosts D} (start : Option MetaState) (turns : List Tu
   to_shard : shard ≡ shard_of_message start (message_to 0)
   to_shard = ap (λ (seed : ℕ). shard_of point.id seed (length place.shards)) (sym (w.left).seed)
 
-  made_here : IsTurnPlace on (place_after turns a b)
-  made_here = place_last turns (line_of a b) (place_after turns a b) (is_last start turns [] a b [])
+  made_here : IsTurnPosition on (position_after turns a b)
+  made_here = position_last turns (line_of a b) (position_after turns a b) (is_last start turns [] a b [])
 
   new_held : (n : ℕ) → IsIn (nodes_of (shard_at place shard)) n → is_late (fate_to old.fates id n) ≡ true → IsHeldBack start on (message_to n) (late_one n)
   new_held n m late =
@@ -280,8 +280,8 @@ module _ {D : Type 0} {G : Ghosts D} (start : Option MetaState) (turns : List Tu
         in_order = ascends_both IsLateBefore messages (map message_to first) (w.left.late).in_order
             (ascends-map IsLateBefore message_to first (ascends_on (IsNamedBelow place) (λ x y. IsLateBefore (message_to x) (message_to y)) first (λ x y below. inr (refl, inr (inr (refl, below))))
             (ascends_take (IsNamedBelow place) some.0 late_nodes (ascends-filter (IsNamedBelow place) is_late_to nodes ordered))))
-            (λ x y i j. inl (let held = held_one start turns messages old.bag (w.left.late).held x i in let before = line_below turns x.place (held.1).made in
-            let from = IsIn-map message_to first y j in let here : length turns ≡ length y.place.lines = ap (λ (z : LateMessage). length z.place.lines) from.2 in omega (arith, before, here)));
+            (λ x y i j. inl (let held = held_one start turns messages old.bag (w.left.late).held x i in let before = line_below turns x.position (held.1).made in
+            let from = IsIn-map message_to first y j in let here : length turns ≡ length y.position.lines = ap (λ (z : LateMessage). length z.position.lines) from.2 in omega (arith, before, here)));
         held = held_append start on messages (map message_to first) old.bag (map late_one first) was new;
       })
 

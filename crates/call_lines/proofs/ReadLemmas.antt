@@ -41,17 +41,17 @@ use Rattle.session_net.specs.declared.net.Net.{Net}
 use Rattle.told_runs.specs.Answers.{HearsOf, IsOfKind}
 use Rattle.told_by.specs.Spans.{From}
 use Rattle.told_by.specs.Hears.{HearsBy, Happens, HasEnough, HearsShard, InStretch, IsOwnCall}
-use Rattle.told_by.specs.Lines.{start_of as told_start, AreFetched, AreSteps, Finds, IsAskOrStep, IsCutShort, ReadLine, place_after}
+use Rattle.told_by.specs.Lines.{start_of as told_start, AreFetched, AreSteps, Finds, IsAskOrStep, IsCutShort, ReadLine, position_after}
 use Rattle.told_by.specs.Makes.{EndsRestart, CountsOwnReads, MayMake}
 use Rattle.told_by.specs.Reads.{Asking, Fetched, IsAskedBy, IsAskingOf}
 use Rattle.told_by.proofs.OneLemmas.{back_at}
 use Rattle.transcripts.specs.Calls.{IsAskedOf, Call}
 use Rattle.transcripts.specs.Fates.{call_number}
 use Rattle.transcripts.specs.Placements.{IsCounted, MayUse, printed}
-use Rattle.transcripts.specs.Record.{TurnPlace}
+use Rattle.transcripts.specs.Record.{TurnPosition}
 use Rattle.transcripts.specs.Rules.{rules_at}
 use Rattle.call_lines.specs.Laws.{IsCalm, LeavesLine}
-use Rattle.call_lines.specs.ReadLaws.{IsRead}
+use Rattle.call_lines.specs.ReadLaws.{IsReadTurn}
 use Rattle.call_lines.proofs.ServeLemmas.{answered, delivered_so, few_members, serves_so}
 use Rattle.call_lines.proofs.HeardLemmas.{IsExchangedBy, each_came, events_are, few_events, heard_nodes}
 use Rattle.call_lines.proofs.ShardLemmas.{AreHeardOf, IsCallBy, answering_by_name, answering_counted, answering_served, counted_among_nodes, delivered_to, hears_shard}
@@ -62,9 +62,9 @@ use Rattle.call_lines.proofs.ActLemmas.{is_call_of, never_writes, read_sets_none
 
 -- ---- the read
 
-module _ {D : Type 0} {G : Ghosts D} (start : Option MetaState) (turns : List Turn) (net : Net D G) (id : CallId) (a : Act) (w : Wish) (level : ReadLevel) (r : IsRead start turns net id a w level) (b : Answer) where
-  abbrev pub here : TurnPlace
-  here = place_after turns a b
+module _ {D : Type 0} {G : Ghosts D} (start : Option MetaState) (turns : List Turn) (net : Net D G) (id : CallId) (a : Act) (w : Wish) (level : ReadLevel) (r : IsReadTurn start turns net id a w level) (b : Answer) where
+  abbrev pub here : TurnPosition
+  here = position_after turns a b
 
   abbrev place : Placement
   place = net.state.place
@@ -187,7 +187,7 @@ module _ {D : Type 0} {G : Ghosts D} (start : Option MetaState) (turns : List Tu
           let step : event.Step n s step_call (reply.Found y.0) ≡ event.Step n t (call.Read here.client (call_number here) (rules_at start here) v chosen from to) (reply.Found y.0) =
           λ j. event.Step n (start_shard s t same j) (call.Read (r.next.0 j) (number_is j) (rules_here j) (start_version place.version v same j) (start_pick w.pick chosen same j) (start_from w.from from same j) (start_to w.to to same j)) (reply.Found y.0) in
           record {
-            place = begun + suc at.0;
+            position = begun + suc at.0;
             later = omega arith;
             series = y.0;
             answered = subst (At (take i all) (begun + suc at.0)) step (take_at all (begun + suc at.0) i (event.Step n s step_call (reply.Found y.0)) (each at.0 (event.Step n s step_call (reply.Found y.0)) at.1) (omega (arith, is, below)));

@@ -14,14 +14,14 @@ use Rattle.told_runs.specs.LateSample.{lines_to_fates, lines_to_write, message}
 use Rattle.transcripts.specs.Deliveries.{IsLateMessage}
 use Rattle.transcripts.specs.Fates.{fate_in, numbering_after}
 use Rattle.transcripts.specs.Placements.{has_replica}
-use Rattle.transcripts.specs.Record.{IsTurnPlace, inner_turns}
+use Rattle.transcripts.specs.Record.{IsTurnPosition, inner_turns}
 use Rattle.call_lines.specs.Left.{FareAsSet, HoldsBack, next_delivery}
 use Rattle.call_lines.specs.Sample.{SampleIsLeft, held}
 
 abbrev node : Instance
 node = record { name = name; group = name; listed = true; drained = false }
 
-made : IsTurnPlace lines_to_write message.place
+made : IsTurnPosition lines_to_write message.position
 made = record { after = []; in_run = refl; stands = record { front = []; later = []; back = []; in_line = refl; others = refl; client_is = refl } }
 
 late : IsLateMessage None (next_delivery lines_to_write) message

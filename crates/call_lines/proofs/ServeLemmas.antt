@@ -1,4 +1,4 @@
--- A line that neither places nor begins or ends replicas is served where no refusal was due.
+-- A line that neither positions nor begins or ends replicas is served where no refusal was due.
 use Rattle.std.proofs.Common.{◌≡◌, ℕ, zero, suc, ◌+◌, ◌*◌, ◌<◌, ◌≤◌, List, [], ◌∷◌, ◌++◌, drop, length, refl, sym, ap, subst, ◌∙◌, inl, inr, arith, Bool, false, length-append, IsPermutation}
 use Rattle.std.specs.Prelude.{◌⊎◌, Option, if◌then◌else◌}
 use Rattle.std.proofs.lemmas.List.{append-nil}
@@ -24,7 +24,7 @@ use Rattle.net_plan.specs.declared.late_write.LateWrite.{LateWrite}
 use Rattle.placement_core.specs.Lawful.{IsLawful}
 use Rattle.placement_core.specs.Shards.{Shard, shard_at}
 use Rattle.told_by.specs.Hears.{InStretch}
-use Rattle.told_by.specs.Lines.{place_after}
+use Rattle.told_by.specs.Lines.{position_after}
 use Rattle.told_by.proofs.LineLemmas.{line_below}
 use Rattle.told_by.proofs.OneLemmas.{among_back}
 use Rattle.replica_exchange.specs.MachineCalls.{HasRoom}
@@ -33,8 +33,8 @@ use Rattle.told_runs.specs.Bounds.{writes_taken}
 use Rattle.told_runs.specs.Lines.{AddsInOrder, OpensNext, ServesOne, delivered_on}
 use Rattle.transcripts.specs.Caused.{acts_in}
 use Rattle.transcripts.specs.Deliveries.{IsSameMessage, LateMessage, delivers_nothing}
-use Rattle.transcripts.specs.Record.{IsTurnPlace, Record, TurnPlace, inner_turns, line_of}
-use Rattle.transcripts.proofs.PlaceLemmas.{at_push}
+use Rattle.transcripts.specs.Record.{IsTurnPosition, Record, TurnPosition, inner_turns, line_of}
+use Rattle.transcripts.proofs.PositionLemmas.{at_push}
 use Rattle.call_lines.specs.Laws.{IsCalm, IsNotRefused}
 use Rattle.call_lines.specs.Left.{AreHeldBack, IsHeldBack, WereDelivered}
 use Rattle.call_lines.proofs.ShardLemmas.{shard_there}
@@ -69,11 +69,11 @@ in_drop (suc k) [] y ys le = absurd (omega (arith, le))
 in_drop (suc k) (x ∷ xs) y ys le = in_drop k xs y ys (omega (arith, le))
 
 -- a message that is held back was never delivered
-pub never_delivered : (start : Option MetaState) (turns : List Turn) (x : LateMessage) (late : LateWrite) → IsHeldBack start turns x late → (was : TurnPlace → List LateMessage) → WereDelivered turns was → (q : TurnPlace) → IsTurnPlace turns q → (y : LateMessage) → IsIn (was q) y → ¬ IsSameMessage x y
+pub never_delivered : (start : Option MetaState) (turns : List Turn) (x : LateMessage) (late : LateWrite) → IsHeldBack start turns x late → (was : TurnPosition → List LateMessage) → WereDelivered turns was → (q : TurnPosition) → IsTurnPosition turns q → (y : LateMessage) → IsIn (was q) y → ¬ IsSameMessage x y
 never_delivered start turns x late held was were q at y m same =
     let before = were q at y m in
-    let behind : suc (length x.place.lines) ≤ length q.lines = let is = same.0.0 in let less = before.0 in omega (arith, is, less) in
-    let quiet = (held.is_late).not_yet q.line (subst (λ ts. IsIn (drop (suc (length x.place.lines)) ts) q.line) (sym at.in_run) (in_drop (suc (length x.place.lines)) q.lines q.line at.after behind)) in
+    let behind : suc (length x.position.lines) ≤ length q.lines = let is = same.0.0 in let less = before.0 in omega (arith, is, less) in
+    let quiet = (held.is_late).not_yet q.line (subst (λ ts. IsIn (drop (suc (length x.position.lines)) ts) q.line) (sym at.in_run) (in_drop (suc (length x.position.lines)) q.lines q.line at.after behind)) in
     let loud = before.1 in
     cc
 
@@ -108,12 +108,12 @@ module _ (start : Option MetaState) (turns : List Turn) (events : List Event) (a
       let some : (MOST_REQUEST_EVENTS * 1) * 1 ≤ (MOST_REQUEST_EVENTS * 1) * (writes + 1) = mul-le-mul_left (MOST_REQUEST_EVENTS * 1) one in
       omega (arith, both, few, some)
 
-  pub answered : (b ≡ answer.Memory) ⊎ IsOfKind [] start (place_after turns a b) a b → IsNotRefused start turns a b → IsAnswered [] start (length (events ++ more)) (place_after turns a b)
+  pub answered : (b ≡ answer.Memory) ⊎ IsOfKind [] start (position_after turns a b) a b → IsNotRefused start turns a b → IsAnswered [] start (length (events ++ more)) (position_after turns a b)
   answered (inl memory) none = inl memory
-  answered (inr kind) none = inr (inr (inner_turns turns, record { others = []; some_of = tt; are = sym (append-nil (inner_turns turns)) }, subst (IsDecidedBy [] start (place_after turns a b)) (sym none) kind))
+  answered (inr kind) none = inr (inr (inner_turns turns, record { others = []; some_of = tt; are = sym (append-nil (inner_turns turns)) }, subst (IsDecidedBy [] start (position_after turns a b)) (sym none) kind))
 
-  pub serves_so : length more ≤ MOST_REQUEST_EVENTS → (messages : List LateMessage) → HearsOf start (InStretch (events ++ more) (length events) (length (events ++ more))) (place_after turns a b) messages b
-      → ((x : LateMessage) → IsIn messages x → (late : LateWrite) × IsHeldBack start turns x late) → IsAnswered [] start (length (events ++ more)) (place_after turns a b) → (tells : Bool) (was : TurnPlace → List LateMessage) (past : List Record) → WereDelivered turns was
+  pub serves_so : length more ≤ MOST_REQUEST_EVENTS → (messages : List LateMessage) → HearsOf start (InStretch (events ++ more) (length events) (length (events ++ more))) (position_after turns a b) messages b
+      → ((x : LateMessage) → IsIn messages x → (late : LateWrite) × IsHeldBack start turns x late) → IsAnswered [] start (length (events ++ more)) (position_after turns a b) → (tells : Bool) (was : TurnPosition → List LateMessage) (past : List Record) → WereDelivered turns was
       → ServesOne tells [] messages was past start turns events a b more
   serves_so few messages heard held is_answered tells was past were = record {
     adds = in_order;
@@ -127,9 +127,9 @@ module _ (start : Option MetaState) (turns : List Turn) (events : List Event) (a
   }
 
 -- what was delivered before, and now
-pub delivered_so : (turns : List Turn) (a : Act) (b : Answer) (messages : List LateMessage) → ((m : LateMessage) → IsIn messages m → (length m.place.lines < length turns) × (delivers_nothing (line_of a b) ≡ false)) → (was : TurnPlace → List LateMessage) → WereDelivered turns was
+pub delivered_so : (turns : List Turn) (a : Act) (b : Answer) (messages : List LateMessage) → ((m : LateMessage) → IsIn messages m → (length m.position.lines < length turns) × (delivers_nothing (line_of a b) ≡ false)) → (was : TurnPosition → List LateMessage) → WereDelivered turns was
     → WereDelivered (turns ++ line_of a b ∷ []) (delivered_on turns was (λ p. messages))
-delivered_so turns a b messages now was were = at_push (λ q. (m : LateMessage) → IsIn (delivered_on turns was (λ p. messages) q) m → (length m.place.lines < length q.lines) × (delivers_nothing q.line ≡ false)) turns (line_of a b)
+delivered_so turns a b messages now was were = at_push (λ q. (m : LateMessage) → IsIn (delivered_on turns was (λ p. messages) q) m → (length m.position.lines < length q.lines) × (delivers_nothing q.line ≡ false)) turns (line_of a b)
     (λ q at m i. were q at m (subst (λ t. IsIn (if t then was q else messages) m) (lt-ltb (length q.lines) (length turns) (line_below turns q at)) i))
     (λ q last m i. let there = now m (subst (λ t. IsIn (if t then was q else messages) m) (le-ltb (length q.lines) (length turns) (omega (arith, ap length last.lines_are))) i) in
-    (subst (λ ls. length m.place.lines < length ls) (sym last.lines_are) there.0, ap delivers_nothing last.line_is ∙ there.1))
+    (subst (λ ls. length m.position.lines < length ls) (sym last.lines_are) there.0, ap delivers_nothing last.line_is ∙ there.1))

@@ -27,13 +27,13 @@ use Rattle.placement_core.specs.Shards.{Shard, counted, is_available, nodes_of, 
 use Rattle.placement_core.proofs.HolderLemmas.{chosen_node}
 use Rattle.replica_exchange.specs.declared.call_id.CallId.{CallId}
 use Rattle.session_net.specs.Messages.{Heard, fate_to}
-use Rattle.session_net.specs.Outcomes.{Told, answering, refusing, told_of}
-use Rattle.told_by.specs.Hears.{HasServed, HasStep, Happens, HearsShard, IsHeard, IsOwnCall, IsServed}
+use Rattle.session_net.specs.Outcomes.{NodeOutcome, answering, refusing, told_of}
+use Rattle.told_by.specs.Hears.{HasServed, HasStep, Happens, HearsShard, IsHeard, IsOwnCall, DidAsAsked}
 use Rattle.told_by.specs.Makes.{IsDeliveredTo}
 use Rattle.transcripts.specs.Fates.{IsCutAt, fate_at}
 use Rattle.transcripts.specs.Placements.{IsCounted}
 use Rattle.transcripts.specs.Reasons.{IsShown}
-use Rattle.transcripts.specs.Record.{TurnPlace}
+use Rattle.transcripts.specs.Record.{TurnPosition}
 use Rattle.call_lines.proofs.HeardLemmas.{CameSo}
 use Rattle.call_lines.proofs.ToldLemmas.{answering_ascend, heard_err, heard_ok, one_or_other, refusing_ascend, told-refusing, told_nodes}
 
@@ -57,7 +57,7 @@ counted_among_nodes shard n m = let a = chosen_node is_available shard n m in su
 -- ---- the call
 
 -- What is known of a call: the placement that it uses, and that its messages fare as the turn's fates say.
-pub record IsCallBy (p : TurnPlace) (place : Placement) (fates : FateMap) (id : CallId) : Type 0 where
+pub record IsCallBy (p : TurnPosition) (place : Placement) (fates : FateMap) (id : CallId) : Type 0 where
   pub calls : IsTrue (is_call p.turn.act)
   pub lawful : IsLawful place
   pub fates_are : (node : ℕ) (own : Instance) → slice_get place.instances node ≡ Some own → fate_to fates id node ≡ fate_at p own.name
@@ -80,7 +80,7 @@ pub record AreHeardOf {X : Type 0} (ok : X → StepReply) (place : Placement) (f
   pub by_name : Ascends (IsNamedBelow place) (map (λ x. x.0) heard)
   pub came : (x : Heard X) → IsIn heard x → CameSo ok (fate_to fates id x.0) x.0 shard c x.1 events
 
-module _ (start : Option MetaState) (Here : ℕ → Event → Type 0) (p : TurnPlace) (place : Placement) (fates : FateMap) (id : CallId) (known : IsCallBy p place fates id) where
+module _ (start : Option MetaState) (Here : ℕ → Event → Type 0) (p : TurnPosition) (place : Placement) (fates : FateMap) (id : CallId) (known : IsCallBy p place fates id) where
   pub delivered_to : (shard n : ℕ) → IsIn (nodes_of (shard_at place shard)) n → is_cut (fate_to fates id n) ≡ false → IsDeliveredTo p place n
   delivered_to shard n m uncut = let own = node_there place known.lawful shard n m in record { instance_ = own.0; stands = own.1; holds = ap is_cut (sym (known.fates_are n own.0 own.1)) ∙ uncut }
 
@@ -93,7 +93,7 @@ module _ (start : Option MetaState) (Here : ℕ → Event → Type 0) (p : TurnP
   refused_so shard n (reason.Corrupt damage) say step = (say, step)
   refused_so shard n _ say step = step
 
-  module _ {X : Type 0} (ok : X → StepReply) (shard : ℕ) (c : StepCall) (heard : List (Heard X)) (events : List Event) (own : IsOwnCall start p place.version c) (here : (e : Event) → IsIn events e → Happens Here e) (serves : (x : X) → IsServed (ok x))
+  module _ {X : Type 0} (ok : X → StepReply) (shard : ℕ) (c : StepCall) (heard : List (Heard X)) (events : List Event) (own : IsOwnCall start p place.version c) (here : (e : Event) → IsIn events e → Happens Here e) (serves : (x : X) → DidAsAsked (ok x))
       (h : AreHeardOf ok place fates id shard c heard events) where
     pub counted_of : (n : ℕ) → IsIn (map (λ (x : Heard X). x.0) heard) n → IsCounted place shard n
     counted_of n m = h.within n m
@@ -110,7 +110,7 @@ module _ (start : Option MetaState) (Here : ℕ → Event → Type 0) (p : TurnP
       | inr step ↦ refused_so shard n why (say n why m step.1) (c, own, here (event.Step n shard c (reply.Refused why)) step.1)
     ]
 
-    abbrev pub told : List Told
+    abbrev pub told : List NodeOutcome
     told = map told_of heard
 
     -- a node that answered counts, and did as the call asks
@@ -120,7 +120,7 @@ module _ (start : Option MetaState) (Here : ℕ → Event → Type 0) (p : TurnP
     pub answering_served : (n : ℕ) → IsIn (answering told) n → HasServed start Here p place shard n
     answering_served n m = let y = heard_ok heard n m in served_by n y.0 y.1
 
-    in_order : Ascends (IsNamedBelow place) (map (λ (x : Told). x.0) told)
+    in_order : Ascends (IsNamedBelow place) (map (λ (x : NodeOutcome). x.0) told)
     in_order = subst (Ascends (IsNamedBelow place)) (sym (told_nodes heard)) h.by_name
 
     pub answering_by_name : Ascends (IsNamedBelow place) (answering told)

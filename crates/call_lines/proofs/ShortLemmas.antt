@@ -30,13 +30,13 @@ use Rattle.session_net.specs.Reads.{ShardRead, Wish, asked_shards, most_added, r
 use Rattle.session_net.specs.declared.net.Net.{Net}
 use Rattle.told_runs.specs.Answers.{HearsOf, IsOfKind, MayLackRoom}
 use Rattle.told_by.specs.Hears.{HearsBy, HearsShard, InStretch}
-use Rattle.told_by.specs.Lines.{IsCutShort, ReadLine, place_after}
+use Rattle.told_by.specs.Lines.{IsCutShort, ReadLine, position_after}
 use Rattle.told_by.specs.Makes.{MayMake}
 use Rattle.told_by.specs.Reads.{IsAskedBy}
 use Rattle.told_by.proofs.OneLemmas.{back_at}
 use Rattle.transcripts.specs.Placements.{IsCounted, printed}
 use Rattle.call_lines.specs.Laws.{IsCalm, LeavesLine}
-use Rattle.call_lines.specs.ReadLaws.{FirstShortTells, IsRead}
+use Rattle.call_lines.specs.ReadLaws.{FirstShortTells, IsReadTurn}
 use Rattle.call_lines.proofs.HeardLemmas.{IsExchangedBy, events_are, few_events}
 use Rattle.call_lines.proofs.ToldLemmas.{permuted-IsIn}
 use Rattle.call_lines.proofs.ActLemmas.{unmet_kind, shards_ascend, stands_before}
@@ -63,7 +63,7 @@ take_few (suc k) (x ∷ ns) = let rest = take_few k ns in omega (arith, rest)
 
 -- ---- behind whole reads, one that began
 
-module _ {D : Type 0} {G : Ghosts D} (start : Option MetaState) (turns : List Turn) (old : Net D G) (id : CallId) (a : Act) (w : Wish) (level : ReadLevel) (r : IsRead start turns old id a w level) (b : Answer) (before : List ℕ) (one : ℕ) (after : List ℕ)
+module _ {D : Type 0} {G : Ghosts D} (start : Option MetaState) (turns : List Turn) (old : Net D G) (id : CallId) (a : Act) (w : Wish) (level : ReadLevel) (r : IsReadTurn start turns old id a w level) (b : Answer) (before : List ℕ) (one : ℕ) (after : List ℕ)
     (reads : ℕ → ShardRead) (whole : List Event) (were : WereRead old.state old.fates id w (needed_read level old.state.place.rf) (length old.replicas.events) before (one ∷ after) reads whole) (nodes : List ℕ) (own : List Event)
     (each : (e : Event) → IsIn own e → IsExchangedBy old.fates id one (read_call id old.state.rules old.state.place.version w) nodes e) (within : (n : ℕ) → IsIn nodes n → IsCounted old.state.place one n) where
   abbrev pub tail : List Event
@@ -90,17 +90,17 @@ module _ {D : Type 0} {G : Ghosts D} (start : Option MetaState) (turns : List Tu
   in_before : (s : ℕ) → IsIn before s → IsIn (asked_shards old.state w.pick) s
   in_before s m = subst (λ ns. IsIn ns s) (sym were.asked) (IsIn-append_left before (one ∷ after) s m)
 
-  pub before_asked : (s : ℕ) → IsIn before s → IsAskedBy start (place_after turns a b) (asks_for start turns old id a w level r b) s
+  pub before_asked : (s : ℕ) → IsIn before s → IsAskedBy start (position_after turns a b) (asks_for start turns old id a w level r b) s
   before_asked s m = in_asked start turns old id a w level r b s (in_before s m)
 
-  pub one_asked : IsAskedBy start (place_after turns a b) (asks_for start turns old id a w level r b) one
+  pub one_asked : IsAskedBy start (position_after turns a b) (asks_for start turns old id a w level r b) one
   one_asked = in_asked start turns old id a w level r b one (subst (λ ns. IsIn ns one) (sym were.asked) (IsIn-append_right before (one ∷ after) one (inl refl)))
 
   longer_so : (i : ℕ) (e : Event) → At old.replicas.events i e → At whole_list i e
   longer_so i e at = at_append old.replicas.events (whole ++ tail) i e at
 
-  may : (i j : ℕ) (e : Event) → i ≡ begun + j → At tail j e → MayMake start (take i whole_list) (place_after turns a b) e
-  may i zero e is at = subst (MayMake start (take i whole_list) (place_after turns a b)) (some_same (start_of old.state w one) e at) tt
+  may : (i j : ℕ) (e : Event) → i ≡ begun + j → At tail j e → MayMake start (take i whole_list) (position_after turns a b) e
+  may i zero e is at = subst (MayMake start (take i whole_list) (position_after turns a b)) (some_same (start_of old.state w one) e at) tt
   may i (suc k) e is at = make_read start turns old id a w level r b one nodes own each within whole_list longer_so begun low started i k e is at
 
   no_restart : (j n t : ℕ) (x : StepReply) → At tail j (event.Step n t call.Restart x) → ⊥
@@ -111,7 +111,7 @@ module _ {D : Type 0} {G : Ghosts D} (start : Option MetaState) (turns : List Tu
   calm_tail e (inl is) = subst IsCalm is tt
   calm_tail e (inr m) = reads_calm start turns old id a w level r b one nodes own each within e m
 
-  cut : IsCutShort start (place_after turns a b) (asks_for start turns old id a w level r b) tail
+  cut : IsCutShort start (position_after turns a b) (asks_for start turns old id a w level r b) tail
   cut = record { s = one; asked = one_asked; reads = own; steps = reads_steps start turns old id a w level r b one nodes own each within; adds = ap (λ x. x ∷ own) (start_same start turns old id a w level r b one) }
 
   few_so : length own ≤ 24 → length (whole ++ tail) ≤ MOST_REQUEST_EVENTS
@@ -122,8 +122,8 @@ module _ {D : Type 0} {G : Ghosts D} (start : Option MetaState) (turns : List Tu
       let long = length-append whole tail in
       omega (arith, few, most, parts, long, short)
 
-  pub leaves_so : (new : Net D G) → new.replicas.events ≡ whole_list → length own ≤ 24 → ((nodes : List ℕ) → b ≡ answer.Acks nodes → ⊥) → printed b ≡ None → found_of b ≡ None → (b ≡ answer.Memory) ⊎ IsOfKind [] start (place_after turns a b) a b
-      → HearsOf start (InStretch whole_list (length old.replicas.events) (length whole_list)) (place_after turns a b) [] b → HearsBy start old.replicas.events (InStretch whole_list (length old.replicas.events) (length whole_list)) (place_after turns a b) a b
+  pub leaves_so : (new : Net D G) → new.replicas.events ≡ whole_list → length own ≤ 24 → ((nodes : List ℕ) → b ≡ answer.Acks nodes → ⊥) → printed b ≡ None → found_of b ≡ None → (b ≡ answer.Memory) ⊎ IsOfKind [] start (position_after turns a b) a b
+      → HearsOf start (InStretch whole_list (length old.replicas.events) (length whole_list)) (position_after turns a b) [] b → HearsBy start old.replicas.events (InStretch whole_list (length old.replicas.events) (length whole_list)) (position_after turns a b) a b
       → LeavesLine ReadLine start turns [] old a b new
   leaves_so new grew short no_acks no_place no_found kind delivers hears = leaves start turns old id a w level r b new (whole ++ tail) grew
       (line start turns old id a w level r b reads before whole tail were.are before_asked (inr cut) no_acks no_place may no_restart hears (λ found is. absurd (let bad : None ≡ Some found = sym no_found ∙ is in cc)))
@@ -152,21 +152,21 @@ first_short_tells {D} {G} state old tells start turns new id a w level shard due
     let asks = one_asked start turns old id a w level r b h.before one h.after h.reads h.events h.were x.nodes x.reads each within in
     let heard = hears_it start turns old id a w level r b one x h.asked all longer_list begins low_so starts reads_there tells (subst (Legal tells) grew legal) in
     let ascends : Ascends ◌<◌ (h.before ++ one ∷ h.after) = subst (Ascends ◌<◌) (h.were).asked (shards_ascend old.state w.pick) in
-    let lower_stands : (lower : ℕ) → lower < shard → IsAskedBy start (place_after turns a b) (asks_for start turns old id a w level r b) lower → IsIn h.before lower = λ lower lt also.
+    let lower_stands : (lower : ℕ) → lower < shard → IsAskedBy start (position_after turns a b) (asks_for start turns old id a w level r b) lower → IsIn h.before lower = λ lower lt also.
     stands_before h.before one h.after ascends lower (subst (λ ns. IsIn ns lower) (h.were).asked (asked_in start turns old id a w level r b lower also)) (let same = short.shard_is in omega (arith, same, lt)) in
     leaves_so start turns old id a w level r b h.before one h.after h.reads h.events h.were x.nodes x.reads each within new grew
     (let few = few_events reply.Found old.fates id one (read_call id old.state.rules old.state.place.version w) x.nodes x.heard x.reads (h.asked).heard in let six = few_nodes start turns old id a w level r b one x.nodes ((h.asked).counted).same in omega (arith, few, six))
-    (λ nodes e. cc) refl refl (inr (unmet_kind start (place_after turns a b) a spaces (record { pick = w.pick; from = w.from; to = w.to; level = level }) r.of_act got due reasons shard)) tt (record {
+    (λ nodes e. cc) refl refl (inr (unmet_kind start (position_after turns a b) a spaces (record { pick = w.pick; from = w.from; to = w.to; level = level }) r.of_act got due reasons shard)) tt (record {
       call = call_made start turns old id a w level r b;
       of_call = r.of_call;
       place = old.state.place;
       may_use = uses_it start turns old id a w level r b;
-      asked = subst (IsAskedBy start (place_after turns a b) (asks_for start turns old id a w level r b)) (sym short.shard_is) asks;
+      asked = subst (IsAskedBy start (position_after turns a b) (asks_for start turns old id a w level r b)) (sym short.shard_is) asks;
       needed_is = short.needed_is;
       fewer = short.fewer;
-      hears = subst (λ s. HearsShard start Here (place_after turns a b) old.state.place s got reasons) (sym short.shard_is)
-          (subst (λ n. HearsShard start Here (place_after turns a b) old.state.place one n reasons) (sym short.got_is)
-          (subst (λ rs. HearsShard start Here (place_after turns a b) old.state.place one (length (answering (told_in x))) rs) (sym short.reasons_are) heard));
+      hears = subst (λ s. HearsShard start Here (position_after turns a b) old.state.place s got reasons) (sym short.shard_is)
+          (subst (λ n. HearsShard start Here (position_after turns a b) old.state.place one n reasons) (sym short.got_is)
+          (subst (λ rs. HearsShard start Here (position_after turns a b) old.state.place one (length (answering (told_in x))) rs) (sym short.reasons_are) heard));
       first = λ lower lt also.
           let m = lower_stands lower lt also in
           let y = stands start turns old id a w level r b h.reads h.before h.events tail_list (h.were).are lower m in
@@ -175,13 +175,13 @@ first_short_tells {D} {G} state old tells start turns new id a w level shard due
 
 -- ---- ended early
 
-module _ {D : Type 0} {G : Ghosts D} (state : D → DiskState) (start : Option MetaState) (turns : List Turn) (old new : Net D G) (id : CallId) (a : Act) (w : Wish) (level : ReadLevel) (r : IsRead start turns old id a w level) where
+module _ {D : Type 0} {G : Ghosts D} (state : D → DiskState) (start : Option MetaState) (turns : List Turn) (old new : Net D G) (id : CallId) (a : Act) (w : Wish) (level : ReadLevel) (r : IsReadTurn start turns old id a w level) where
   -- between two shards
   stopped_line : (b : Answer) → IsGivenUp b → (before after : List ℕ) (reads : ℕ → ShardRead) (whole : List Event) → WereRead old.state old.fates id w (needed_read level old.state.place.rf) (length old.replicas.events) before after reads whole
       → ReadLine start turns old.replicas.events a b (whole ++ [])
   stopped_line b up before after reads whole were = line start turns old id a w level r b reads before whole [] were.are
       (λ s m. in_asked start turns old id a w level r b s (subst (λ ns. IsIn ns s) (sym were.asked) (IsIn-append_left before after s m))) (inl (λ e m. absurd m)) (gives_no_acks b up) (prints_nothing b up) (λ i j e is at. cc) (λ j n t x at. cc)
-      (hears_nothing start old.replicas.events (InStretch (old.replicas.events ++ (whole ++ [])) (length old.replicas.events) (length (old.replicas.events ++ (whole ++ [])))) (place_after turns a b) a b up) (λ found is. absurd (let none = finds_nothing b up in let bad : None ≡ Some found = sym none ∙ is in cc))
+      (hears_nothing start old.replicas.events (InStretch (old.replicas.events ++ (whole ++ [])) (length old.replicas.events) (length (old.replicas.events ++ (whole ++ [])))) (position_after turns a b) a b up) (λ found is. absurd (let none = finds_nothing b up in let bad : None ≡ Some found = sym none ∙ is in cc))
 
   stopped : IsStopped state old.state old.fates id w (needed_read level old.state.place.rf) old.replicas new.replicas → LeavesLine ReadLine start turns [] old a answer.Memory new
   stopped h = leaves start turns old id a w level r answer.Memory new (h.events ++ []) ((h.ran).grew ∙ ap (λ es. old.replicas.events ++ es) (sym (append-nil h.events))) (stopped_line answer.Memory tt h.before h.after h.reads h.events h.were)
@@ -203,7 +203,7 @@ module _ {D : Type 0} {G : Ghosts D} (state : D → DiskState) (start : Option M
       leaves_so start turns old id a w level r answer.Memory h.before h.here h.after h.reads h.events h.were nodes x.reads (events_are reply.Found old.fates id h.here c nodes x.heard x.reads asked.heard)
       (λ n m. permuted-IsIn (counted (shard_at old.state.place h.here)) x.nodes (asked.counted).same n (take_in h.k x.nodes n m)) new (h.ran).grew
       (let few = few_events reply.Found old.fates id h.here c nodes x.heard x.reads asked.heard in let six = few_nodes start turns old id a w level r answer.Memory h.here x.nodes (asked.counted).same in let some = take_few h.k x.nodes in omega (arith, few, six, some))
-      (λ nodes e. cc) refl refl (inl refl) tt (hears_nothing start old.replicas.events (InStretch (old.replicas.events ++ (h.events ++ start_of old.state w h.here ∷ x.reads)) (length old.replicas.events) (length (old.replicas.events ++ (h.events ++ start_of old.state w h.here ∷ x.reads)))) (place_after turns a answer.Memory) a answer.Memory tt)
+      (λ nodes e. cc) refl refl (inl refl) tt (hears_nothing start old.replicas.events (InStretch (old.replicas.events ++ (h.events ++ start_of old.state w h.here ∷ x.reads)) (length old.replicas.events) (length (old.replicas.events ++ (h.events ++ start_of old.state w h.here ∷ x.reads)))) (position_after turns a answer.Memory) a answer.Memory tt)
 
 pub ended_tells : {D : Type 0} {G : Ghosts D} (state : D → DiskState) (old : Net D G) → EndedTells state old
 ended_tells {D} {G} state old start turns new id a w level r (inl h) = stopped state start turns old new id a w level r h

@@ -7,7 +7,7 @@ use Rattle.m3_model.specs.Levels.{needed_write}
 use Rattle.m3_model.specs.Members.{IsIn}
 use Rattle.m3_model.specs.Ascends.{Ascends}
 use Rattle.m3_model.specs.Reads.{found_of}
-use Rattle.m3_model.specs.Rules.{namespace_place}
+use Rattle.m3_model.specs.Rules.{namespace_position}
 use Rattle.m3_model.specs.declared.limits.TheConstants.{MOST_REQUEST_EVENTS}
 use Rattle.m3_model.proofs.MemberLemmas.{IsIn-append_cases}
 use Rattle.m3_model.specs.declared.placement.Assignment.{Assignment}
@@ -31,7 +31,7 @@ use Rattle.m3_outside.specs.declared.disk.Disk.{Ghosts}
 use Rattle.cluster_core.specs.Earlier.{last_place}
 use Rattle.cluster_core.specs.Legal.{Lawful, LawfulAt, Legal}
 use Rattle.cluster_core.specs.Replicas.{replica}
-use Rattle.cluster_core.specs.Rows.{MayRefuse}
+use Rattle.cluster_core.specs.Rows.{ReplicaMayRefuse}
 use Rattle.cluster_core.specs.declared.replica_state.ReplicaState.{ReplicaState}
 use Rattle.cluster_core.specs.Lists.{At}
 use Rattle.cluster_core.specs.declared.event.Event.{Event}
@@ -52,7 +52,7 @@ use Rattle.session_net.specs.declared.net.Net.{Net}
 use Rattle.session_net.proofs.ReadyLemmas.{place_there}
 use Rattle.told_by.specs.Hears.{Happens, HasServed, HearsAcks, HearsBy, HearsShard, InStretch, IsOwnCall}
 use Rattle.told_by.specs.Clocks.{sets_rules}
-use Rattle.told_by.specs.Lines.{AreSteps, IsAskOrStep, WriteLine, ack_by, place_after}
+use Rattle.told_by.specs.Lines.{AreSteps, IsAskOrStep, WriteLine, ack_by, position_after}
 use Rattle.told_by.specs.Makes.{CountsOwnPuts, EndsRestart, IsPlaceOf, MayMake}
 use Rattle.told_by.specs.Spans.{From}
 use Rattle.told_by.specs.Writes.{IsSendOf}
@@ -63,11 +63,11 @@ use Rattle.transcripts.specs.Calls.{AsksShard}
 use Rattle.transcripts.specs.Fates.{call_number, fate_at, fate_in, numbering_after}
 use Rattle.transcripts.specs.Placements.{IsCounted, MayUse, printed, seed_at}
 use Rattle.transcripts.specs.Points.{point_of, was_sent}
-use Rattle.transcripts.specs.Record.{TurnPlace, inner_turns}
+use Rattle.transcripts.specs.Record.{TurnPosition, inner_turns}
 use Rattle.transcripts.specs.Rules.{rules_at}
 use Rattle.transcripts.proofs.PlacementLemmas.{known_more, stood_known}
 use Rattle.call_lines.specs.Laws.{IsCalm, IsWrite, LeavesLine, AcknowledgedTells, UnmetTells, UnsentTells}
-use Rattle.call_lines.specs.Left.{IsLeftBy, IsNextCall, MayUseIt}
+use Rattle.call_lines.specs.Left.{NetIsLeftBy, IsNextCall, MayUseIt}
 use Rattle.call_lines.proofs.HeardLemmas.{IsExchangedBy, counted_nodes, each_came, events_are, few_events, heard_nodes, in_counted}
 use Rattle.call_lines.proofs.ToldLemmas.{heard_ok}
 use Rattle.call_lines.proofs.MemberLemmas.{counted_all, counted_many, counted_within, node_replica, node_within}
@@ -76,17 +76,17 @@ use Rattle.call_lines.proofs.ShardLemmas.{AreHeardOf, IsCallBy, MaySay, answerin
 
 -- ---- what a call of the next line meets
 
-module _ {D : Type 0} {G : Ghosts D} (start : Option MetaState) (turns : List Turn) (net : Net D G) (id : CallId) (left : IsLeftBy start turns net) (next : IsNextCall turns id) where
-  pub number_here : (a : Act) (b : Answer) → id.number ≡ call_number (place_after turns a b)
+module _ {D : Type 0} {G : Ghosts D} (start : Option MetaState) (turns : List Turn) (net : Net D G) (id : CallId) (left : NetIsLeftBy start turns net) (next : IsNextCall turns id) where
+  pub number_here : (a : Act) (b : Answer) → id.number ≡ call_number (position_after turns a b)
   number_here a b = next.1 ∙ more_none (numbering_after 0 turns).calls
     where
       more_none : (n : ℕ) → n ≡ n + 0
       more_none n = omega arith
 
-  pub fate_here : (a : Act) (b : Answer) (node : ℕ) (own : Instance) → slice_get net.state.place.instances node ≡ Some own → fate_to net.fates id node ≡ fate_at (place_after turns a b) own.name
+  pub fate_here : (a : Act) (b : Answer) (node : ℕ) (own : Instance) → slice_get net.state.place.instances node ≡ Some own → fate_to net.fates id node ≡ fate_at (position_after turns a b) own.name
   fate_here a b node own stands = left.fates id.client id.number node own stands ∙ ap₂ (λ client number. fate_in (numbering_after 0 turns).fates client number own.name) next.0 (number_here a b)
 
-  pub may_use : (a : Act) (b : Answer) (version : Option ℕ) → MayUseIt version net.state.place → MayUse start (place_after turns a b) version net.state.place
+  pub may_use : (a : Act) (b : Answer) (version : Option ℕ) → MayUseIt version net.state.place → MayUse start (position_after turns a b) version net.state.place
   may_use a b None uses = (inner_turns turns, record { others = []; some_of = tt; are = sym (append-nil (inner_turns turns)) }, left.place)
   may_use a b (Some version) uses = (known_more start (inner_turns turns) [] net.state.place (stood_known start (inner_turns turns) net.state.place left.place), sym uses)
 
@@ -108,7 +108,7 @@ lawful_past tells (suc zero) past e le h = absurd (omega (arith, le))
 lawful_past tells (suc (suc i)) past e le h = h
 
 -- a put is never refused for damage, nor by a message that was cut off
-pub put_says : (tells : Bool) (past : List Event) (s : ℕ) (r : ReplicaState) (client number : ℕ) (rules : Rules) (version : ℕ) (point : Point) (why : Reason) → MayRefuse tells past s r (call.Put client number rules version point) why → MaySay why
+pub put_says : (tells : Bool) (past : List Event) (s : ℕ) (r : ReplicaState) (client number : ℕ) (rules : Rules) (version : ℕ) (point : Point) (why : Reason) → ReplicaMayRefuse tells past s r (call.Put client number rules version point) why → MaySay why
 put_says tells past s r client number rules version point reason.Cut h = absurd h
 put_says tells past s r client number rules version point (reason.Corrupt damage) h = let reads = h.reads in cc
 put_says tells past s r client number rules version point _ h = tt
@@ -125,8 +125,8 @@ module _ {D : Type 0} {G : Ghosts D} (start : Option MetaState) (turns : List Tu
   abbrev written : Act
   written = act.Write w.ns w.name w.t w.v level w.version
 
-  abbrev here : TurnPlace
-  here = place_after turns written b
+  abbrev here : TurnPosition
+  here = position_after turns written b
 
   abbrev place : Placement
   place = net.state.place
@@ -171,7 +171,7 @@ module _ {D : Type 0} {G : Ghosts D} (start : Option MetaState) (turns : List Tu
   shard_is = ap (λ seed. shard_of point.id seed (length place.shards)) (sym (w.left).seed)
 
   asked_itself : AsksShard start here place (Some w.name) shard
-  asked_itself = shard_is ∙ ap (λ i. shard_of i (seed_at start here) (length place.shards)) (id_of (namespace_place w.ns net.state.rules.spaces) w.name w.t w.v point of_written)
+  asked_itself = shard_is ∙ ap (λ i. shard_of i (seed_at start here) (length place.shards)) (id_of (namespace_position w.ns net.state.rules.spaces) w.name w.t w.v point of_written)
 
   asked : (s : ℕ) → AsksShard start here place (Some w.name) s → shard ≡ s
   asked s h = asked_itself ∙ sym h
@@ -287,7 +287,7 @@ module _ {D : Type 0} {G : Ghosts D} (start : Option MetaState) (turns : List Tu
         let step : event.Step n shard put reply.Done ≡ event.Step n s (call.Put here.client (call_number here) (rules_at start here) v q) reply.Done =
         λ j. event.Step n (shard_same shard s same j) (call.Put (w.next.0 j) (number_is j) (rules_here j) (version_same v same j) (point_same q same j)) reply.Done in
         record {
-          place = length events + suc at.0;
+          position = length events + suc at.0;
           later = omega arith;
           took = subst (At (take i all) (length events + suc at.0)) step (take_at all (length events + suc at.0) i (event.Step n shard put reply.Done) at.2 (let low = at.1 in omega (arith, is, low)));
         }
@@ -383,8 +383,8 @@ no_restart send acks (suc k) n s r at = cc
 
 -- a write's line is served
 serves_write : {D : Type 0} {G : Ghosts D} (start : Option MetaState) (turns : List Turn) (old new : Net D G) (id : CallId) (a : Act) (point : Point) (level : WriteLevel) (w : IsWrite start turns old id a point level) (b : Answer) (more : List Event) → ((e : Event) → IsIn more e → IsCalm e)
-    → length more ≤ MOST_REQUEST_EVENTS → (b ≡ answer.Memory) ⊎ IsOfKind [] start (place_after turns (act.Write w.ns w.name w.t w.v level w.version) b) (act.Write w.ns w.name w.t w.v level w.version) b
-    → HearsOf start (InStretch (old.replicas.events ++ more) (length old.replicas.events) (length (old.replicas.events ++ more))) (place_after turns (act.Write w.ns w.name w.t w.v level w.version) b) [] b → new.replicas.events ≡ old.replicas.events ++ more
+    → length more ≤ MOST_REQUEST_EVENTS → (b ≡ answer.Memory) ⊎ IsOfKind [] start (position_after turns (act.Write w.ns w.name w.t w.v level w.version) b) (act.Write w.ns w.name w.t w.v level w.version) b
+    → HearsOf start (InStretch (old.replicas.events ++ more) (length old.replicas.events) (length (old.replicas.events ++ more))) (position_after turns (act.Write w.ns w.name w.t w.v level w.version) b) [] b → new.replicas.events ≡ old.replicas.events ++ more
     → WriteLine start turns old.replicas.events (act.Write w.ns w.name w.t w.v level w.version) b more → LeavesLine WriteLine start turns [] old a b new
 serves_write {D} {G} start turns old new id a point level w b more calm few kind heard grew line =
     let written : Act = act.Write w.ns w.name w.t w.v level w.version in
@@ -412,7 +412,7 @@ acked_tells {D} {G} state old start turns new id a point level acks w h =
     let took_it : (n : ℕ) → IsIn acks n → IsIn h.sent.puts (event.Step n shard put reply.Done) =
     λ n m. took start turns old id a point level w b h.sent h.is_sent n (subst (λ ns. IsIn ns n) h.acks_are m) in
     let all = old.replicas.events ++ send ∷ (h.sent.puts ++ last) in
-    let here = place_after turns (act.Write w.ns w.name w.t w.v level w.version) b in
+    let here = position_after turns (act.Write w.ns w.name w.t w.v level w.version) b in
     let counts = ack_counts start turns old id a point level w b h.sent.members same h.sent.puts last each acks took_it in
     let ends : (k : ℕ) (e : Event) → At last k e → MayMake start (take (length old.replicas.events + suc (length h.sent.puts + k)) all) here e = by start (length old.replicas.events) (length h.sent.puts) acks all here counts in
     let enough : needed_write level old.state.place.rf ≤ length (answering (told_in h.sent)) = subst (λ ns. needed_write level old.state.place.rf ≤ length ns) h.acks_are h.enough in
@@ -422,7 +422,7 @@ acked_tells {D} {G} state old start turns new id a point level acks w h =
     (line start turns old id a point level w b h.sent.members same h.sent.puts last each refl refl refl refl refl ends (no_restart (length old.replicas.events) acks)
     (subst (λ ns. HearsAcks start (InStretch all (length old.replicas.events) (length all)) here ns) (sym h.acks_are) hears))
   where
-    by : (start : Option MetaState) (low many : ℕ) (acks : List ℕ) (all : List Event) (here : TurnPlace) → ((i : ℕ) → i ≡ low + suc many → CountsOwnPuts start (take i all) here low acks)
+    by : (start : Option MetaState) (low many : ℕ) (acks : List ℕ) (all : List Event) (here : TurnPosition) → ((i : ℕ) → i ≡ low + suc many → CountsOwnPuts start (take i all) here low acks)
         → (k : ℕ) (e : Event) → At (event.Ack low acks ∷ []) k e → MayMake start (take (low + suc (many + k)) all) here e
     by start low many acks all here counts zero e at = subst (MayMake start (take (low + suc (many + 0)) all) here) (some_same (event.Ack low acks) e at) (counts (low + suc (many + 0)) (omega arith))
     by start low many acks all here counts (suc k) e at = cc
@@ -435,7 +435,7 @@ unmet_tells {D} {G} state old tells start turns new id a point level shard neede
     let each = each_put start turns old id a point level w b h.sent h.is_sent in
     let own = shard_of_point old.state point in
     let all = old.replicas.events ++ send ∷ (h.sent.puts ++ []) in
-    let here = place_after turns (act.Write w.ns w.name w.t w.v level w.version) b in
+    let here = position_after turns (act.Write w.ns w.name w.t w.v level w.version) b in
     let Here = InStretch all (length old.replicas.events) (length all) in
     let grew : new.replicas.events ≡ all = (h.ran).grew ∙ ap (λ es. old.replicas.events ++ send ∷ es) (sym (append-nil h.sent.puts)) in
     let heard = hears_shard_so start turns old id a point level w b h.sent h.is_sent tells (subst (Legal tells) grew legal) in

@@ -21,7 +21,7 @@ use Rattle.transcripts.specs.Points.{was_sent}
 use Rattle.transcripts.specs.Record.{line_of}
 use Rattle.transcripts.specs.Rules.{rules_by}
 use Rattle.call_lines.specs.Laws.{IsWrite}
-use Rattle.call_lines.specs.Left.{IsLeftBy}
+use Rattle.call_lines.specs.Left.{NetIsLeftBy}
 
 -- the state by which calls go and the fates stay
 pub record FieldsStay {D : Type 0} {G : Ghosts D} (old new : Net D G) : Type 0 where
@@ -38,15 +38,15 @@ pub record SetsNothing (a : Act) (b : Answer) : Type 0 where
 -- where the bag stays and the turn delivers nothing
 abbrev pub LeftAsBefore : {D : Type 0} {G : Ghosts D} → Net D G → Type 0
 LeftAsBefore {D} {G} old =
-    (start : Option MetaState) (turns : List Turn) (new : Net D G) (a : Act) (b : Answer) → IsLeftBy start turns old → FieldsStay old new → SetsNothing a b → IsTrue (delivers_nothing (line_of a b)) → new.bag ≡ old.bag → IsLeftBy start (turns ++ line_of a b ∷ []) new
+    (start : Option MetaState) (turns : List Turn) (new : Net D G) (a : Act) (b : Answer) → NetIsLeftBy start turns old → FieldsStay old new → SetsNothing a b → IsTrue (delivers_nothing (line_of a b)) → new.bag ≡ old.bag → NetIsLeftBy start (turns ++ line_of a b ∷ []) new
 
 -- where the late messages of a write to some first ones of the members came to the bag
 abbrev pub LeftByWrite : {D : Type 0} {G : Ghosts D} → Net D G → Type 0
 LeftByWrite {D} {G} old =
     (start : Option MetaState) (turns : List Turn) (new : Net D G) (id : CallId) (a : Act) (b : Answer) (point : Point) (level : WriteLevel) (members : Shard) (k : ℕ) → IsWrite start turns old id a point level → FieldsStay old new → SetsNothing a b
-    → was_sent b ≡ true → IsTrue (delivers_nothing (line_of a b)) → AreMembers old.state.place (shard_of_point old.state point) members → new.bag ≡ bag_after old id point (nodes_of (take k members)) → IsLeftBy start (turns ++ line_of a b ∷ []) new
+    → was_sent b ≡ true → IsTrue (delivers_nothing (line_of a b)) → AreMembers old.state.place (shard_of_point old.state point) members → new.bag ≡ bag_after old id point (nodes_of (take k members)) → NetIsLeftBy start (turns ++ line_of a b ∷ []) new
 
 -- and where the bag was emptied
 abbrev pub LeftByDelivery : {D : Type 0} {G : Ghosts D} → Net D G → Type 0
 LeftByDelivery {D} {G} old =
-    (start : Option MetaState) (turns : List Turn) (new : Net D G) (a : Act) (b : Answer) → IsLeftBy start turns old → FieldsStay old new → SetsNothing a b → new.bag ≡ [] → IsLeftBy start (turns ++ line_of a b ∷ []) new
+    (start : Option MetaState) (turns : List Turn) (new : Net D G) (a : Act) (b : Answer) → NetIsLeftBy start turns old → FieldsStay old new → SetsNothing a b → new.bag ≡ [] → NetIsLeftBy start (turns ++ line_of a b ∷ []) new

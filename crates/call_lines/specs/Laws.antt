@@ -17,17 +17,17 @@ use Rattle.cluster_core.specs.declared.event.Event.TheVariants as event
 use Rattle.cluster_core.specs.declared.event.StepCall.{StepCall}
 use Rattle.cluster_core.specs.declared.event.StepCall.TheVariants as call
 use Rattle.replica_exchange.specs.declared.call_id.CallId.{CallId}
-use Rattle.session_net.specs.Deliveries.{IsDelivered}
+use Rattle.session_net.specs.Deliveries.{HasDelivered}
 use Rattle.session_net.specs.Ready.{IsReady}
 use Rattle.session_net.specs.Writes.{IsAcknowledged, IsUnmet, IsUnsent}
 use Rattle.session_net.specs.declared.net.Net.{Net}
-use Rattle.told_by.specs.Lines.{PlainLine, WriteLine, place_after}
+use Rattle.told_by.specs.Lines.{PlainLine, WriteLine, position_after}
 use Rattle.told_runs.specs.Lines.{ServesOne, delivered_on}
 use Rattle.transcripts.specs.Caused.{refusal_after}
 use Rattle.transcripts.specs.Deliveries.{LateMessage}
 use Rattle.transcripts.specs.Points.{point_of}
-use Rattle.transcripts.specs.Record.{Record, TurnPlace, inner_turns, line_of}
-use Rattle.call_lines.specs.Left.{IsLeftBy, IsNextCall, MayUseIt, WereDelivered}
+use Rattle.transcripts.specs.Record.{Record, TurnPosition, inner_turns, line_of}
+use Rattle.call_lines.specs.Left.{NetIsLeftBy, IsNextCall, MayUseIt, WereDelivered}
 
 -- A kind of line that says what its events tell.
 abbrev pub Kind : Type 1
@@ -47,29 +47,29 @@ IsCalm _ = ⊤
 
 -- no refusal is due for the act where it stands
 abbrev pub IsNotRefused : Option MetaState → List Turn → Act → Answer → Type 0
-IsNotRefused start turns a b = refusal_after start (place_after turns a b) (inner_turns turns) ≡ None
+IsNotRefused start turns a b = refusal_after start (position_after turns a b) (inner_turns turns) ≡ None
 
 -- What came to the list tells of the turn's line; and where no refusal was due, the line is served: it delivers these messages.
 pub record LeavesLine {D : Type 0} {G : Ghosts D} (Line : Kind) (start : Option MetaState) (turns : List Turn) (messages : List LateMessage) (old : Net D G) (a : Act) (b : Answer) (new : Net D G) : Type 0 where
   pub more : List Event
   pub grew : new.replicas.events ≡ old.replicas.events ++ more
   pub line : Line start turns old.replicas.events a b more
-  pub serves : IsNotRefused start turns a b → (tells : Bool) (was : TurnPlace → List LateMessage) (past : List Record) → WereDelivered turns was → ServesOne tells [] messages was past start turns old.replicas.events a b more
-  pub delivered : (was : TurnPlace → List LateMessage) → WereDelivered turns was → WereDelivered (turns ++ line_of a b ∷ []) (delivered_on turns was (λ p. messages))
+  pub serves : IsNotRefused start turns a b → (tells : Bool) (was : TurnPosition → List LateMessage) (past : List Record) → WereDelivered turns was → ServesOne tells [] messages was past start turns old.replicas.events a b more
+  pub delivered : (was : TurnPosition → List LateMessage) → WereDelivered turns was → WereDelivered (turns ++ line_of a b ∷ []) (delivered_on turns was (λ p. messages))
 
 -- The same of a line that is served whatever refusal is due: where the one that is due was answered, or where there was no room.
 pub record LeavesServed (Line : Kind) (start : Option MetaState) (turns : List Turn) (messages : List LateMessage) (events : List Event) (a : Act) (b : Answer) (later : List Event) : Type 0 where
   pub more : List Event
   pub grew : later ≡ events ++ more
   pub line : Line start turns events a b more
-  pub serves : (tells : Bool) (was : TurnPlace → List LateMessage) (past : List Record) → WereDelivered turns was → ServesOne tells [] messages was past start turns events a b more
-  pub delivered : (was : TurnPlace → List LateMessage) → WereDelivered turns was → WereDelivered (turns ++ line_of a b ∷ []) (delivered_on turns was (λ p. messages))
+  pub serves : (tells : Bool) (was : TurnPosition → List LateMessage) (past : List Record) → WereDelivered turns was → ServesOne tells [] messages was past start turns events a b more
+  pub delivered : (was : TurnPosition → List LateMessage) → WereDelivered turns was → WereDelivered (turns ++ line_of a b ∷ []) (delivered_on turns was (λ p. messages))
 
 -- ---- writes
 
 -- the next turn is a write of this point, made as this call where calls may be made
 pub record IsWrite {D : Type 0} {G : Ghosts D} (start : Option MetaState) (turns : List Turn) (net : Net D G) (id : CallId) (a : Act) (point : Point) (level : WriteLevel) : Type 0 where
-  pub left : IsLeftBy start turns net
+  pub left : NetIsLeftBy start turns net
   pub ready : IsReady net.state net.replicas net.bag
   pub next : IsNextCall turns id
   pub ns : List ℕ
@@ -105,7 +105,7 @@ UnsentTells {D} {G} state old =
 abbrev pub DeliveredTells : {D : Type 0} {G : Ghosts D} → (D → DiskState) → Net D G → Type 0
 DeliveredTells {D} {G} state old =
     (tells : Bool) (start : Option MetaState) (turns : List Turn) (new : Net D G) (outcomes : List (ℕ × ℕ × Option Reason))
-    → (left : IsLeftBy start turns old) → IsReady old.state old.replicas old.bag → Legal tells new.replicas.events → IsDelivered state old outcomes new
+    → (left : NetIsLeftBy start turns old) → IsReady old.state old.replicas old.bag → Legal tells new.replicas.events → HasDelivered state old outcomes new
     → LeavesLine PlainLine start turns (left.late).messages old act.Deliver (answer.Outcomes outcomes) new
 
 -- ---- calls that were refused before any event
@@ -122,4 +122,4 @@ NothingTells = (start : Option MetaState) (turns : List Turn) (events : List Eve
 
 -- And such a line that wanted memory is served.
 abbrev pub NothingServes : Type 0
-NothingServes = (tells : Bool) (was : TurnPlace → List LateMessage) (past : List Record) (start : Option MetaState) (turns : List Turn) (events : List Event) (a : Act) → WereDelivered turns was → ServesOne tells [] [] was past start turns events a answer.Memory []
+NothingServes = (tells : Bool) (was : TurnPosition → List LateMessage) (past : List Record) (start : Option MetaState) (turns : List Turn) (events : List Event) (a : Act) → WereDelivered turns was → ServesOne tells [] [] was past start turns events a answer.Memory []

@@ -16,11 +16,11 @@ use Rattle.replica_exchange.specs.declared.call_id.CallId.{CallId}
 use Rattle.replica_exchange.specs.declared.slot.Slot.{Slot}
 use Rattle.session_net.specs.Calls.{Tracked}
 use Rattle.session_net.specs.declared.net.Net.{Net}
-use Rattle.told_by.specs.Lines.{place_after}
+use Rattle.told_by.specs.Lines.{position_after}
 use Rattle.transcripts.specs.Deliveries.{LateMessage, IsLateBefore, IsLateMessage, delivers_nothing, shard_of_message}
 use Rattle.transcripts.specs.Fates.{call_number, fate_in, is_stopped, numbering_after}
 use Rattle.transcripts.specs.Placements.{placement_after, seed_after, start_placement}
-use Rattle.transcripts.specs.Record.{TurnPlace, IsTurnPlace, inner_turns}
+use Rattle.transcripts.specs.Record.{TurnPosition, IsTurnPosition, inner_turns}
 use Rattle.transcripts.specs.Rules.{rules_after, start_rules}
 
 -- the call is client 0's next
@@ -32,22 +32,22 @@ abbrev pub MayUseIt : Option ℕ → Placement → Type 0
 MayUseIt None place = ⊤
 MayUseIt (Some version) place = version ≡ place.version
 
--- the place of a delivery in the next line, whatever it answers
-abbrev pub next_delivery : List Turn → TurnPlace
-next_delivery turns = place_after turns act.Deliver answer.Memory
+-- the position of a delivery in the next line, whatever it answers
+abbrev pub next_delivery : List Turn → TurnPosition
+next_delivery turns = position_after turns act.Deliver answer.Memory
 
 -- the late write is this message of the turns, and wasn't delivered yet
 pub record IsHeldBack (start : Option MetaState) (turns : List Turn) (message : LateMessage) (late : LateWrite) : Type 0 where
-  pub made : IsTurnPlace turns message.place
+  pub made : IsTurnPosition turns message.position
   pub is_late : IsLateMessage start (next_delivery turns) message
-  pub client : late.client ≡ message.place.client
-  pub number : late.number ≡ call_number message.place
+  pub client : late.client ≡ message.position.client
+  pub number : late.number ≡ call_number message.position
   pub node : late.node ≡ message.node
   pub shard : late.shard ≡ shard_of_message start message
   pub version : late.version ≡ message.used.version
   pub point : late.point ≡ message.point
 
--- each late write is a message, in its place
+-- each late write is a message, at its position
 abbrev pub AreHeldBack : Option MetaState → List Turn → List LateMessage → List LateWrite → Type 0
 AreHeldBack start turns [] [] = ⊤
 AreHeldBack start turns (message ∷ messages) (late ∷ bag) = IsHeldBack start turns message late × AreHeldBack start turns messages bag
@@ -64,7 +64,7 @@ abbrev pub FareAsSet : List Turn → Placement → FateMap → Type 0
 FareAsSet turns place fates = (client call node : ℕ) (own : Instance) → slice_get place.instances node ≡ Some own → fate_of fates (record { client = client; call = call; node = node }) ≡ fate_in (numbering_after 0 turns).fates client call own.name
 
 -- The rules, the placement, the seed, the fates and the late writes are what the turns left.
-pub record IsLeftBy {D : Type 0} {G : Ghosts D} (start : Option MetaState) (turns : List Turn) (net : Net D G) : Type 0 where
+pub record NetIsLeftBy {D : Type 0} {G : Ghosts D} (start : Option MetaState) (turns : List Turn) (net : Net D G) : Type 0 where
   pub rules : rules_after (start_rules start) (inner_turns turns) ≡ net.state.rules
   pub place : placement_after (start_placement start) (inner_turns turns) ≡ Some net.state.place
   pub seed : seed_after start (inner_turns turns) ≡ net.state.seed
@@ -85,5 +85,5 @@ pub record AreSlots {D : Type 0} (slots : List Slot) (replicas : Tracked D) : Ty
 -- ---- what was delivered
 
 -- Each message that a turn delivered was made late in an earlier line, and the turn's own line delivers.
-abbrev pub WereDelivered : List Turn → (TurnPlace → List LateMessage) → Type 0
-WereDelivered turns was = (q : TurnPlace) → IsTurnPlace turns q → (m : LateMessage) → IsIn (was q) m → (length m.place.lines < length q.lines) × (delivers_nothing q.line ≡ false)
+abbrev pub WereDelivered : List Turn → (TurnPosition → List LateMessage) → Type 0
+WereDelivered turns was = (q : TurnPosition) → IsTurnPosition turns q → (m : LateMessage) → IsIn (was q) m → (length m.position.lines < length q.lines) × (delivers_nothing q.line ≡ false)

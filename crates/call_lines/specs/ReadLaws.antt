@@ -13,17 +13,17 @@ use Rattle.m3_outside.specs.DiskState.{DiskState}
 use Rattle.m3_outside.specs.declared.disk.Disk.{Ghosts}
 use Rattle.cluster_core.specs.Legal.{Legal}
 use Rattle.replica_exchange.specs.declared.call_id.CallId.{CallId}
-use Rattle.session_net.specs.Reads.{IsCutShort, IsFirstShort, IsFound, IsFull, IsStopped, Wish}
+use Rattle.session_net.specs.Reads.{IsCutShort, IsFirstShort, IsReadFound, IsFull, IsStopped, Wish}
 use Rattle.session_net.specs.Ready.{IsReady}
 use Rattle.session_net.specs.declared.net.Net.{Net}
 use Rattle.told_by.specs.Lines.{ReadLine}
 use Rattle.transcripts.specs.Calls.{call_of}
 use Rattle.call_lines.specs.Laws.{LeavesLine, LeavesServed}
-use Rattle.call_lines.specs.Left.{IsLeftBy, IsNextCall, MayUseIt}
+use Rattle.call_lines.specs.Left.{NetIsLeftBy, IsNextCall, MayUseIt}
 
 -- the next turn is a read of what this wish wants, made as this call where calls may be made
-pub record IsRead {D : Type 0} {G : Ghosts D} (start : Option MetaState) (turns : List Turn) (net : Net D G) (id : CallId) (a : Act) (w : Wish) (level : ReadLevel) : Type 0 where
-  pub left : IsLeftBy start turns net
+pub record IsReadTurn {D : Type 0} {G : Ghosts D} (start : Option MetaState) (turns : List Turn) (net : Net D G) (id : CallId) (a : Act) (w : Wish) (level : ReadLevel) : Type 0 where
+  pub left : NetIsLeftBy start turns net
   pub ready : IsReady net.state net.replicas net.bag
   pub next : IsNextCall turns id
   pub name : Option (List ℕ)
@@ -36,24 +36,24 @@ pub record IsRead {D : Type 0} {G : Ghosts D} (start : Option MetaState) (turns 
 abbrev pub FoundTells : {D : Type 0} {G : Ghosts D} → (D → DiskState) → Net D G → Type 0
 FoundTells {D} {G} state old =
     (tells : Bool) (start : Option MetaState) (turns : List Turn) (new : Net D G) (id : CallId) (a : Act) (w : Wish) (level : ReadLevel) (series : List Series) (short : Bool)
-    → IsRead start turns old id a w level → Legal tells new.replicas.events → IsFound state old id w level series short new → LeavesLine ReadLine start turns [] old a (answer.Found series short) new
+    → IsReadTurn start turns old id a w level → Legal tells new.replicas.events → IsReadFound state old id w level series short new → LeavesLine ReadLine start turns [] old a (answer.Found series short) new
 
 -- so does one that too few answered
 abbrev pub FirstShortTells : {D : Type 0} {G : Ghosts D} → (D → DiskState) → Net D G → Type 0
 FirstShortTells {D} {G} state old =
     (tells : Bool) (start : Option MetaState) (turns : List Turn) (new : Net D G) (id : CallId) (a : Act) (w : Wish) (level : ReadLevel) (shard needed got : ℕ) (reasons : List (ℕ × Reason))
-    → IsRead start turns old id a w level → Legal tells new.replicas.events → IsFirstShort state old.state old.fates id w (needed_read level old.state.place.rf) old.replicas new.replicas shard needed got reasons
+    → IsReadTurn start turns old id a w level → Legal tells new.replicas.events → IsFirstShort state old.state old.fates id w (needed_read level old.state.place.rf) old.replicas new.replicas shard needed got reasons
     → LeavesLine ReadLine start turns [] old a (answer.Consistency got needed reasons shard) new
 
 -- and one that ended early for want of memory, between two shards or within one
 abbrev pub EndedTells : {D : Type 0} {G : Ghosts D} → (D → DiskState) → Net D G → Type 0
 EndedTells {D} {G} state old =
-    (start : Option MetaState) (turns : List Turn) (new : Net D G) (id : CallId) (a : Act) (w : Wish) (level : ReadLevel) → IsRead start turns old id a w level
+    (start : Option MetaState) (turns : List Turn) (new : Net D G) (id : CallId) (a : Act) (w : Wish) (level : ReadLevel) → IsReadTurn start turns old id a w level
     → IsStopped state old.state old.fates id w (needed_read level old.state.place.rf) old.replicas new.replicas ⊎ IsCutShort state old.state old.fates id w (needed_read level old.state.place.rf) old.replicas new.replicas
     → LeavesLine ReadLine start turns [] old a answer.Memory new
 
 -- One for which the list had no room tells of its line too, which is served.
 abbrev pub FullTells : {D : Type 0} {G : Ghosts D} → (D → DiskState) → Net D G → Type 0
 FullTells {D} {G} state old =
-    (start : Option MetaState) (turns : List Turn) (new : Net D G) (id : CallId) (a : Act) (w : Wish) (level : ReadLevel) → IsRead start turns old id a w level
+    (start : Option MetaState) (turns : List Turn) (new : Net D G) (id : CallId) (a : Act) (w : Wish) (level : ReadLevel) → IsReadTurn start turns old id a w level
     → IsFull state old.state old.fates id w (needed_read level old.state.place.rf) old.replicas new.replicas → LeavesServed ReadLine start turns [] old.replicas.events a answer.Full new.replicas.events

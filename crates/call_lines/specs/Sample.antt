@@ -8,7 +8,7 @@ use Rattle.session_net.specs.declared.net.Net.{Net}
 use Rattle.told_by.specs.Sample.{name, place, point, rules}
 use Rattle.told_runs.specs.LateSample.{lines_to_write}
 use Rattle.transcripts.specs.Fates.{fate_in}
-use Rattle.call_lines.specs.Left.{IsLeftBy}
+use Rattle.call_lines.specs.Left.{NetIsLeftBy}
 
 -- the message of the run's write, as the bag holds it
 abbrev pub held : LateWrite
@@ -24,4 +24,4 @@ pub record IsSampleNet {D : Type 0} {G : Ghosts D} (net : Net D G) : Type 0 wher
 
 -- and they are what the turns to that write left
 abbrev pub SampleIsLeft : {D : Type 0} {G : Ghosts D} → Net D G → Type 0
-SampleIsLeft net = IsSampleNet net → IsLeftBy None lines_to_write net
+SampleIsLeft net = IsSampleNet net → NetIsLeftBy None lines_to_write net

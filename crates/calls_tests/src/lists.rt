@@ -12,7 +12,7 @@ the first placement comes first>P1s C1>C1 P1s
 it ends no move>P1s>P1d
 it is lawful>P1s>P1e
 the second event is a clock>P1s C1>P1s P2m
-an ask may stand at any later place>P1s C1 ?B011>P1s ?B011
+an ask may stand at any later position>P1s C1 ?B011>P1s ?B011
 moments don't go back>P1s C1 C2>P1s C1 C0
 namespaces stay>P1s C1 C12>P1s C1 C10
 a clock is asked for>P1s C1 C2>P1s C1 ~C2

@@ -7,7 +7,7 @@ use cluster_core::{Asked, Event, StepCall, StepReply};
 use m3_model::{Damage, Memory, Point, Reason, Report, Seq, Standing, Text};
 use std::alloc::Global;
 
-// What a word means where it stands: the present moment, the shard of which it is, and the place of the last Send or
+// What a word means where it stands: the present moment, the shard of which it is, and the position of the last Send or
 // FetchStart.
 #[derive(Drop)]
 struct Scene {
@@ -16,8 +16,8 @@ struct Scene {
     at: u64,
 }
 
-fn letter_at(letters: &[u8], place: usize, otherwise: u8) -> u8 {
-    letters.get(place).copied().unwrap_or(otherwise)
+fn letter_at(letters: &[u8], position: usize, otherwise: u8) -> u8 {
+    letters.get(position).copied().unwrap_or(otherwise)
 }
 
 fn put(alloc: Global, moment: u8, version: u64, point: Point) -> Result<StepCall, Memory> {

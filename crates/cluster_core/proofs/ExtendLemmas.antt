@@ -24,7 +24,7 @@ use Rattle.cluster_core.specs.Answers.{PageAsked}
 use Rattle.cluster_core.specs.Asks.{IsLike, WasAsked, StepWasAsked}
 use Rattle.cluster_core.specs.Earlier.{IsClock, IsSend, PlacesShard, CountsNodes, GivesTenure, TookPoint, GaveAnswer, GavePage, HasClock, HasPut, last_place, place_after, last_clock, clock_after}
 use Rattle.cluster_core.specs.Joins.{BeganWith, FencedAt, GaveAsked, MergedPage, GavePages, HasCover, HasStreamed, HasJoined}
-use Rattle.cluster_core.specs.Rows.{TicksByClock, TakesWhatIsThere, MayRefuse, LawfulStep}
+use Rattle.cluster_core.specs.Rows.{TicksByClock, TakesWhatIsThere, ReplicaMayRefuse, LawfulStep}
 use Rattle.cluster_core.specs.Lists.{At, AfterSome}
 use Rattle.cluster_core.specs.declared.replica_state.ReplicaState.{ReplicaState}
 use Rattle.cluster_core.specs.Replicas.{replica, fresh, after, step_of}
@@ -145,7 +145,7 @@ module _ (past more : List Event) where
   there_more s (call.Merge page) h = any_more (GavePage s page) past more h
   there_more s _ h = h
 
-  refuse_more : (tells : Bool) (s : ℕ) (r : ReplicaState) (c : StepCall) (why : Reason) → MayRefuse tells past s r c why → MayRefuse tells (past ++ more) s r c why
+  refuse_more : (tells : Bool) (s : ℕ) (r : ReplicaState) (c : StepCall) (why : Reason) → ReplicaMayRefuse tells past s r c why → ReplicaMayRefuse tells (past ++ more) s r c why
   refuse_more tells s r c reason.Memory h = h
   refuse_more tells s r c reason.Cut h = h
   refuse_more tells s r c reason.NotOwned h = h
@@ -280,8 +280,8 @@ extended tells log more m a b apart =
     let others : (x : Event) → IsIn (entries more) x → IsAkin m.entry x → ⊥ =
     λ x h akin.
     let from = entries_in more x h in
-    let place = in_at (log ++ more) from.0 (in_right log more from.0 from.1) in
-    apart from.0 from.1 (akin_by m.entry (from.0).entry m.by (from.0).by mine (b.makers place.0 from.0 place.1) (subst (IsAkin m.entry) (sym from.2) akin)) in
+    let position = in_at (log ++ more) from.0 (in_right log more from.0 from.1) in
+    apart from.0 from.1 (akin_by m.entry (from.0).entry m.by (from.0).by mine (b.makers position.0 from.0 position.1) (subst (IsAkin m.entry) (sym from.2) akin)) in
     let next : Legal tells ((entries log ++ entries more) ++ m.entry ∷ []) = legal_push tells (entries log ++ entries more) m.entry legal (law_more tells (entries log) (entries more) m.entry others legal law) in
     record {
       legal = subst (Legal tells) (sym (entries_append (log ++ more) (m ∷ []) ∙ ap (λ es. es ++ m.entry ∷ []) (entries_append log more))) next;

@@ -29,7 +29,7 @@ use Rattle.cluster_core.specs.declared.event.Event.TheVariants as event
 use Rattle.cluster_core.specs.Lists.{At}
 use Rattle.cluster_core.specs.declared.replica_state.ReplicaState.{ReplicaState}
 use Rattle.cluster_core.specs.Replicas.{replica, after, IsGone}
-use Rattle.cluster_core.specs.Answers.{PageAsked, IsWanted, IsFound, IsPage, IsBelow, IsPast, IsUpTo, AsksFor, IsCoverFrom}
+use Rattle.cluster_core.specs.Answers.{PageAsked, IsWantedUnexpired, IsFoundBy, IsPage, IsKeyBelow, IsPastKey, IsUpTo, AsksFor, IsCoverFrom}
 use Rattle.cluster_core.specs.Legal.{Legal}
 use Rattle.cluster_core.specs.Core.{Opening, AgreesWith, held, held_by}
 use Rattle.m3_model.specs.Rules.{HasExpired}
@@ -56,7 +56,7 @@ matches_value : (pick : Pick) (p : Point) (w : ℤ) → Matches pick p → Match
 matches_value (pick.One ns id) p w h = h
 matches_value (pick.Match ns wanted) p w h = h
 
-pub wanted_value : (rules : Rules) (pick : Pick) (from to : ℕ) (p : Point) (w : ℤ) → IsWanted rules pick from to p → IsWanted rules pick from to (record p { v = w })
+pub wanted_value : (rules : Rules) (pick : Pick) (from to : ℕ) (p : Point) (w : ℤ) → IsWantedUnexpired rules pick from to p → IsWantedUnexpired rules pick from to (record p { v = w })
 wanted_value rules pick from to p w h = record { matches = matches_value pick p w h.matches; in_range = h.in_range; unexpired = λ x. h.unexpired (record { space = x.space; stands = x.stands; ended = x.ended }) }
 
 -- whether a key is gone doesn't depend on the value
@@ -67,18 +67,18 @@ gone_value r p w stays gone =
 
 -- a read shows what is held, wanted and not gone
 pub found_covers : (r : ReplicaState) (rules : Rules) (pick : Pick) (from to : ℕ) (series : List Series) (p : Point)
-    → IsFound r rules pick from to series → Covers r.sure p → ¬ IsGone r p → IsWanted rules pick from to p → Covers (points_in (space_picked pick) series) p
+    → IsFoundBy r rules pick from to series → Covers r.sure p → ¬ IsGone r p → IsWantedUnexpired rules pick from to p → Covers (points_in (space_picked pick) series) p
 found_covers r rules pick from to series p found c stays wanted =
     covers_lower (points_in (space_picked pick) series) p c.value c.at_least
-    (each-from_All (λ q. ¬ IsGone r q → IsWanted rules pick from to q → Covers (points_in (space_picked pick) series) q) r.sure found.all_there (record p { v = c.value }) c.stands (gone_value r p c.value stays) (wanted_value rules pick from to p c.value wanted))
+    (each-from_All (λ q. ¬ IsGone r q → IsWantedUnexpired rules pick from to q → Covers (points_in (space_picked pick) series) q) r.sure found.all_there (record p { v = c.value }) c.stands (gone_value r p c.value stays) (wanted_value rules pick from to p c.value wanted))
 
 -- a page shows what is held and not gone, up to where it says that more follows
 pub page_covers : (r : ReplicaState) (from : Option Key) (page : Page) (p : Point)
-    → IsPage r (call.Page from) page → Covers r.sure p → ¬ IsGone r p → IsPast from (key_of p) → IsUpTo page.next (key_of p) → Covers page.points p
+    → IsPage r (call.Page from) page → Covers r.sure p → ¬ IsGone r p → IsPastKey from (key_of p) → IsUpTo page.next (key_of p) → Covers page.points p
 page_covers r from page p shown c stays past up =
     covers_lower page.points p c.value c.at_least (each-from_All (λ q. ¬ IsGone r q → AsksFor (call.Page from) q → IsUpTo page.next (key_of q) → Covers page.points q) r.sure shown.all_there (record p { v = c.value }) c.stands (gone_value r p c.value stays) past up)
 
-dec_below : (a b : Key) → IsBelow a b ⊎ (IsBelow a b → ⊥)
+dec_below : (a b : Key) → IsKeyBelow a b ⊎ (IsKeyBelow a b → ⊥)
 dec_below a b = by (key_cmp a b)
   where
     by : (o : Ordering) → (o ≡ Less) ⊎ (o ≡ Less → ⊥)
@@ -87,18 +87,18 @@ dec_below a b = by (key_cmp a b)
     by Greater = inr (λ e. cc)
 
 -- some page of a cover holds each point above its first key
-pub cover_finds : (from : Option Key) (pages : List PageAsked) (p : Point) → IsCoverFrom from pages → IsPast from (key_of p)
-    → ((x : PageAsked) → IsIn pages x → IsPast x.0 (key_of p) → IsUpTo x.1.next (key_of p) → Covers x.1.points p)
+pub cover_finds : (from : Option Key) (pages : List PageAsked) (p : Point) → IsCoverFrom from pages → IsPastKey from (key_of p)
+    → ((x : PageAsked) → IsIn pages x → IsPastKey x.0 (key_of p) → IsUpTo x.1.next (key_of p) → Covers x.1.points p)
     → (x : PageAsked) × IsIn pages x × Covers x.1.points p
 cover_finds from [] p cover past each = absurd cover
 cover_finds from (x ∷ xs) p cover past each =
     by x.1.next refl cover.1 (λ k c past. cover_finds (Some k) xs p c past (λ y h. each y (inr h)))
   where
-    here : IsPast x.0 (key_of p)
-    here = subst (λ f. IsPast f (key_of p)) (sym cover.0) past
+    here : IsPastKey x.0 (key_of p)
+    here = subst (λ f. IsPastKey f (key_of p)) (sym cover.0) past
 
     by : (next : Option Key) → x.1.next ≡ next → MatchOption next (xs ≡ []) (λ k. IsCoverFrom (Some k) xs)
-        → ((k : Key) → IsCoverFrom (Some k) xs → IsBelow k (key_of p) → (y : PageAsked) × IsIn xs y × Covers y.1.points p)
+        → ((k : Key) → IsCoverFrom (Some k) xs → IsKeyBelow k (key_of p) → (y : PageAsked) × IsIn xs y × Covers y.1.points p)
         → (y : PageAsked) × ((x ≡ y) ⊎ IsIn xs y) × Covers y.1.points p
     by None is goes later = (x, inl refl, each x (inl refl) here (subst (λ n. IsUpTo n (key_of p)) (sym is) tt))
     by (Some k) is goes later =

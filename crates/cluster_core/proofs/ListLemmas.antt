@@ -70,7 +70,7 @@ at_any P xs i x e p = (i, x, at_within xs i x e, read_at xs i x e, p)
 pub any_at : {X : Type 0} (P : X → Type 0) (xs : List X) → Any P xs → (i : ℕ) × (x : X) × At xs i x × P x
 any_at P xs h = (h.0, h.1, at_index xs h.0 h.1 h.2 (sym h.3), h.4)
 
--- an element of the kind, at its place, and what is wanted of the rest
+-- an element of the kind, at its position, and what is wanted of the rest
 pub after_at : {X : Type 0} (Kind : X → Type 0) (Wanted : List X → Type 0) (xs : List X) → AfterSome Kind Wanted xs → (i : ℕ) × (x : X) × At xs i x × Kind x × Wanted (drop (suc i) xs)
 after_at Kind Wanted [] h = absurd h
 after_at Kind Wanted (y ∷ ys) h =

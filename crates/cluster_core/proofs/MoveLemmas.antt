@@ -19,7 +19,7 @@ use Rattle.placement_core.specs.Shards.{Shard, counted, holders, former}
 use Rattle.placement_core.specs.Steps.{Ends, IsShardStep}
 use Rattle.placement_core.proofs.ChangeLemmas.{step_holders, step_counted}
 use Rattle.cluster_core.specs.Replicas.{replica}
-use Rattle.cluster_core.specs.Answers.{PageAsked, IsPast, IsUpTo}
+use Rattle.cluster_core.specs.Answers.{PageAsked, IsPastKey, IsUpTo}
 use Rattle.cluster_core.specs.Joins.{HasJoined}
 use Rattle.cluster_core.specs.Legal.{Legal}
 use Rattle.cluster_core.specs.Core.{Opening, AgreesWith, IsLiveUpTo}
@@ -40,7 +40,7 @@ module _ (events : List Event) (legal : Legal true events) (first : Placement) (
   pub stream_holds : (s y q tenure k limit : ℕ) (x : Point) → k ≤ limit → limit ≤ length events → IsLiveUpTo events limit x → (st : Streamed (take k events) s y tenure q)
       → HoldsBy events legal o agrees s (suc st.fence) q x → HoldsBy events legal o agrees s k y x
   stream_holds s y q tenure k limit x low high live st h =
-      let shown : (p : PageAsked) → IsIn st.pages p → IsPast p.0 (key_of x) → IsUpTo p.1.next (key_of x) → Covers p.1.points x =
+      let shown : (p : PageAsked) → IsIn st.pages p → IsPastKey p.0 (key_of x) → IsUpTo p.1.next (key_of x) → Covers p.1.points x =
       λ p m past up.
       let g = st.merged p m in
       let there = at_take events g.paged_at k (event.Step q s (call.Page p.0) (reply.Paged p.1)) g.paged in
@@ -100,8 +100,8 @@ module _ (events : List Event) (legal : Legal true events) (first : Placement) (
       let bound = at_within events b (event.Step y s (call.Begin tenure) (reply.Began fence points)) there in
       let has = tenure_at (take b events) y s tenure law.given in
       let at = at_tenure events legal first done0 there0 b s tenure has in
-      let sound = at_sound events legal first done0 there0 s (suc has.place) (has.placement).version has.shard (omega arith) (omega (arith, at.1, bound)) at.0 in
-      (has.place, (has.placement).version, has.shard, at.1, at.0, omega (arith, sound.tenures has.assigned has.stands, has.tenure_is))
+      let sound = at_sound events legal first done0 there0 s (suc has.position) (has.placement).version has.shard (omega arith) (omega (arith, at.1, bound)) at.0 in
+      (has.position, (has.placement).version, has.shard, at.1, at.0, omega (arith, sound.tenures has.assigned has.stands, has.tenure_is))
 
   module _ (s : ℕ) (x : Point) (limit : ℕ) (high : limit ≤ length events) (live : IsLiveUpTo events limit x) (taken : List ℕ) where
     -- what is kept at a position is kept at all later ones, whatever moves

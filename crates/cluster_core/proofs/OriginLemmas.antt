@@ -5,7 +5,7 @@ use Rattle.std.proofs.lemmas.Bool.{cases_eq}
 use Rattle.std.specs.List.{Any}
 use Rattle.m3_model.specs.Members.{IsIn}
 use Rattle.placement_core.proofs.ListLemmas.{each-from_All, IsIn-from_Any}
-use Rattle.cluster_core.specs.Answers.{IsWanted, AsksFor}
+use Rattle.cluster_core.specs.Answers.{IsWantedUnexpired, AsksFor}
 use Rattle.m3_model.proofs.MemberLemmas.{IsIn-append_cases}
 use Rattle.m3_model.specs.Reads.{points_in, space_picked}
 use Rattle.m3_model.specs.declared.point.Point.{Point}
@@ -117,9 +117,9 @@ module _ (events : List Event) (legal : Legal true events) (o : Opening) (agrees
       inl (f.0, version, omega (arith, t.1), t.0)
   origin_step k n c a q there before (paged page has m) =
       let h = page_at (take k events) s page has in
-      let t = at_take events h.place k (event.Step h.node s h.page_call (reply.Paged page)) h.there in
-      let sure = page_source (take h.place events) h.node s (replica h.node s (take h.place events)) h.page_call page q (lawful_step events legal h.place h.node s h.page_call (reply.Paged page) t.0) m in
-      origin_later h.place (suc k) q (omega (arith, t.1)) (before h.place h.node q (omega (arith, t.1)) (inl sure))
+      let t = at_take events h.position k (event.Step h.node s h.page_call (reply.Paged page)) h.there in
+      let sure = page_source (take h.position events) h.node s (replica h.node s (take h.position events)) h.page_call page q (lawful_step events legal h.position h.node s h.page_call (reply.Paged page) t.0) m in
+      origin_later h.position (suc k) q (omega (arith, t.1)) (before h.position h.node q (omega (arith, t.1)) (inl sure))
   origin_step k n c a q there before (opened tenure fence points ec ea none m) =
       inr (n, subst (λ ps. IsIn ps q) (agrees k n s tenure fence points (there ∙ ap Some (λ i. event.Step n s (ec i) (ea i))) none) m)
 
@@ -162,10 +162,10 @@ fetch_origin events legal o agrees i start nodes series high f q m =
     let any = each-from_All (λ p. Any (λ answer. IsIn (points_in (space_picked f.pick) answer) p) f.answers) (points_in (space_picked f.pick) series) (f.joined).nothing_else q m in
     let from = IsIn-from_Any (λ answer. IsIn (points_in (space_picked f.pick) answer) q) f.answers any in
     let a = answer_of (take i events) start f.s f.version f.rules f.pick f.from f.to nodes f.answers from.0 f.answered from.1 in
-    let t = at_take events (a.1).place i (event.Step a.0 f.s (call.Read (a.1).client (a.1).number f.rules f.version f.pick f.from f.to) (reply.Found from.0)) (a.1).there in
-    let row = lawful_step events legal (a.1).place a.0 f.s (call.Read (a.1).client (a.1).number f.rules f.version f.pick f.from f.to) (reply.Found from.0) t.0 in
-    let up = origin events legal o agrees f.s (a.1).place (omega (arith, t.1)) (a.1).place a.0 q (omega arith) (inl (each-from_All (λ p. IsIn (replica a.0 f.s (take (a.1).place events)).sure p × IsWanted f.rules f.pick f.from f.to p) (points_in (space_picked f.pick) from.0) (row.2).nothing_else q from.2).0) in
-    origin_later events legal o agrees f.s (a.1).place i q (omega (arith, t.1)) up
+    let t = at_take events (a.1).position i (event.Step a.0 f.s (call.Read (a.1).client (a.1).number f.rules f.version f.pick f.from f.to) (reply.Found from.0)) (a.1).there in
+    let row = lawful_step events legal (a.1).position a.0 f.s (call.Read (a.1).client (a.1).number f.rules f.version f.pick f.from f.to) (reply.Found from.0) t.0 in
+    let up = origin events legal o agrees f.s (a.1).position (omega (arith, t.1)) (a.1).position a.0 q (omega arith) (inl (each-from_All (λ p. IsIn (replica a.0 f.s (take (a.1).position events)).sure p × IsWantedUnexpired f.rules f.pick f.from f.to p) (points_in (space_picked f.pick) from.0) (row.2).nothing_else q from.2).0) in
+    origin_later events legal o agrees f.s (a.1).position i q (omega (arith, t.1)) up
 
 -- each point of a page has an origin
 pub page_origin : (events : List Event) (legal : Legal true events) (o : Opening) (agrees : AgreesWith events o) (i n s : ℕ) (c : StepCall) (page : Page) → At events i (event.Step n s c (reply.Paged page))

@@ -1,4 +1,4 @@
--- What stands earlier, with its place in the list.
+-- What stands earlier, with its position in the list.
 use Rattle.std.proofs.Common.{◌≡◌, ℕ, suc, ◌+◌, ◌<◌, ◌≤◌, List, [], ◌∷◌, drop, refl, ap, ◌∙◌, inl, inr, arith}
 use Rattle.std.specs.Prelude.{Some, Option}
 use Rattle.std.specs.List.{Any}
@@ -83,11 +83,11 @@ send_at past version s p h = let a = any_at (IsSend version s p) past h in (a.0,
 
 -- a Place of the version in which these nodes count for the shard
 pub record CountedAt (past : List Event) (version s : ℕ) (nodes : List ℕ) : Type 0 where
-  pub place : ℕ
+  pub position : ℕ
   pub placement : Placement
   pub done : List (ℕ × ℕ)
   pub shard : Shard
-  pub there : At past place (event.Place placement done)
+  pub there : At past position (event.Place placement done)
   pub version_is : placement.version ≡ version
   pub shard_is : At placement.shards s shard
   pub within : (n : ℕ) → IsIn nodes n → IsIn (counted shard) n
@@ -96,15 +96,15 @@ pub counted_at : (past : List Event) (version s : ℕ) (nodes : List ℕ) → Ar
 counted_at past version s nodes h =
     let a = any_at (CountsNodes version s nodes) past h in
     let c = counts_of version s nodes a.1 a.3 in
-    record { place = a.0; placement = c.0; done = c.1; shard = c.2; there = a.2 ∙ ap Some c.3; version_is = c.4; shard_is = c.5; within = c.6 }
+    record { position = a.0; placement = c.0; done = c.1; shard = c.2; there = a.2 ∙ ap Some c.3; version_is = c.4; shard_is = c.5; within = c.6 }
 
 -- a Place of the version with the shard
 pub record ShardAt (past : List Event) (version s : ℕ) : Type 0 where
-  pub place : ℕ
+  pub position : ℕ
   pub placement : Placement
   pub done : List (ℕ × ℕ)
   pub shard : Shard
-  pub there : At past place (event.Place placement done)
+  pub there : At past position (event.Place placement done)
   pub version_is : placement.version ≡ version
   pub shard_is : At placement.shards s shard
 
@@ -112,15 +112,15 @@ pub shard_at : (past : List Event) (version s : ℕ) → HasShard past version s
 shard_at past version s h =
     let a = any_at (PlacesShard version s) past h in
     let c = places_of version s a.1 a.3 in
-    record { place = a.0; placement = c.0; done = c.1; shard = c.2; there = a.2 ∙ ap Some c.3; version_is = c.4; shard_is = c.5 }
+    record { position = a.0; placement = c.0; done = c.1; shard = c.2; there = a.2 ∙ ap Some c.3; version_is = c.4; shard_is = c.5 }
 
 -- a Place that gives the node the shard with the tenure
 pub record TenureAt (past : List Event) (s tenure : ℕ) : Type 0 where
-  pub place : ℕ
+  pub position : ℕ
   pub placement : Placement
   pub done : List (ℕ × ℕ)
   pub shard : Shard
-  pub there : At past place (event.Place placement done)
+  pub there : At past position (event.Place placement done)
   pub shard_is : At placement.shards s shard
   pub assigned : Assignment
   pub stands : IsIn shard assigned
@@ -130,49 +130,49 @@ pub tenure_at : (past : List Event) (n s tenure : ℕ) → HasTenure past n s te
 tenure_at past n s tenure h =
     let a = any_at (GivesTenure n s tenure) past h in
     let g = gives_of n s tenure a.1 a.3 in
-    record { place = a.0; placement = g.0; done = g.1; shard = g.2; there = a.2 ∙ ap Some g.4; shard_is = g.5; assigned = g.3; stands = g.6; tenure_is = g.7 }
+    record { position = a.0; placement = g.0; done = g.1; shard = g.2; there = a.2 ∙ ap Some g.4; shard_is = g.5; assigned = g.3; stands = g.6; tenure_is = g.7 }
 
 -- the replica took the point at the version
 pub record PutAt (past : List Event) (n s version : ℕ) (point : Point) : Type 0 where
-  pub place : ℕ
+  pub position : ℕ
   pub client : ℕ
   pub number : ℕ
   pub rules : Rules
-  pub there : At past place (event.Step n s (call.Put client number rules version point) reply.Done)
+  pub there : At past position (event.Step n s (call.Put client number rules version point) reply.Done)
 
 pub put_at : (past : List Event) (n s version : ℕ) (point : Point) → HasPut past n s version point → PutAt past n s version point
 put_at past n s version point h =
     let a = any_at (TookPoint n s version point) past h in
     let t = took_of n s version point a.1 a.3 in
-    record { place = a.0; client = t.0; number = t.1; rules = t.2; there = a.2 ∙ ap Some t.3 }
+    record { position = a.0; client = t.0; number = t.1; rules = t.2; there = a.2 ∙ ap Some t.3 }
 
--- the replica answered the read past this place
+-- the replica answered the read past this position
 pub record ReadAt (past : List Event) (start n s version : ℕ) (rules : Rules) (pick : Pick) (from to : ℕ) (series : List Series) : Type 0 where
-  pub place : ℕ
+  pub position : ℕ
   pub client : ℕ
   pub number : ℕ
-  pub later : start < place
-  pub there : At past place (event.Step n s (call.Read client number rules version pick from to) (reply.Found series))
+  pub later : start < position
+  pub there : At past position (event.Step n s (call.Read client number rules version pick from to) (reply.Found series))
 
 pub read_at : (past : List Event) (start n s version : ℕ) (rules : Rules) (pick : Pick) (from to : ℕ) (series : List Series)
     → Any (GaveAnswer n (event.FetchStart version s rules pick from to) series) (drop (suc start) past) → ReadAt past start n s version rules pick from to series
 read_at past start n s version rules pick from to series h =
     let a = any_at (GaveAnswer n (event.FetchStart version s rules pick from to) series) (drop (suc start) past) h in
     let g = gave_of n version s rules pick from to series a.1 a.3 in
-    record { place = suc start + a.0; client = g.0; number = g.1; later = omega arith; there = drop_at past (suc start) a.0 (event.Step n s (call.Read g.0 g.1 rules version pick from to) (reply.Found series)) (a.2 ∙ ap Some g.2) }
+    record { position = suc start + a.0; client = g.0; number = g.1; later = omega arith; there = drop_at past (suc start) a.0 (event.Step n s (call.Read g.0 g.1 rules version pick from to) (reply.Found series)) (a.2 ∙ ap Some g.2) }
 
 -- some replica of the shard gave the page
 pub record PageAt (past : List Event) (s : ℕ) (page : Page) : Type 0 where
-  pub place : ℕ
+  pub position : ℕ
   pub node : ℕ
   pub page_call : StepCall
-  pub there : At past place (event.Step node s page_call (reply.Paged page))
+  pub there : At past position (event.Step node s page_call (reply.Paged page))
 
 pub page_at : (past : List Event) (s : ℕ) (page : Page) → HasPage past s page → PageAt past s page
 page_at past s page h =
     let a = any_at (GavePage s page) past h in
     let g = page_of s page a.1 a.3 in
-    record { place = a.0; node = g.0; page_call = g.1; there = a.2 ∙ ap Some g.2 }
+    record { position = a.0; node = g.0; page_call = g.1; there = a.2 ∙ ap Some g.2 }
 
 -- ---- streams
 

@@ -184,20 +184,20 @@ module _ {tells : Bool} (events : List Event) (legal : Legal tells events) (firs
   pub at_place : (z s : ℕ) (p : Placement) (done : List (ℕ × ℕ)) (shard : Shard) → At events z (event.Place p done) → At p.shards s shard → IsAt events s (suc z) p.version shard
   at_place z s p done shard there h = record { place = p; last = fold_suc place_after None events z (event.Place p done) there; version_is = refl; shard_is = h }
 
-  pub at_shard : (i s version : ℕ) → (h : ShardAt (take i events) version s) → IsAt events s (suc h.place) version h.shard × (h.place < i)
+  pub at_shard : (i s version : ℕ) → (h : ShardAt (take i events) version s) → IsAt events s (suc h.position) version h.shard × (h.position < i)
   at_shard i s version h =
-      let t = at_take events h.place i (event.Place h.placement h.done) h.there in
-      (subst (λ v. IsAt events s (suc h.place) v h.shard) h.version_is (at_place h.place s h.placement h.done h.shard t.0 h.shard_is), t.1)
+      let t = at_take events h.position i (event.Place h.placement h.done) h.there in
+      (subst (λ v. IsAt events s (suc h.position) v h.shard) h.version_is (at_place h.position s h.placement h.done h.shard t.0 h.shard_is), t.1)
 
-  pub at_counted : (i s version : ℕ) (nodes : List ℕ) → (h : CountedAt (take i events) version s nodes) → IsAt events s (suc h.place) version h.shard × (h.place < i)
+  pub at_counted : (i s version : ℕ) (nodes : List ℕ) → (h : CountedAt (take i events) version s nodes) → IsAt events s (suc h.position) version h.shard × (h.position < i)
   at_counted i s version nodes h =
-      let t = at_take events h.place i (event.Place h.placement h.done) h.there in
-      (subst (λ v. IsAt events s (suc h.place) v h.shard) h.version_is (at_place h.place s h.placement h.done h.shard t.0 h.shard_is), t.1)
+      let t = at_take events h.position i (event.Place h.placement h.done) h.there in
+      (subst (λ v. IsAt events s (suc h.position) v h.shard) h.version_is (at_place h.position s h.placement h.done h.shard t.0 h.shard_is), t.1)
 
-  pub at_tenure : (i s tenure : ℕ) → (h : TenureAt (take i events) s tenure) → IsAt events s (suc h.place) (h.placement).version h.shard × (h.place < i)
+  pub at_tenure : (i s tenure : ℕ) → (h : TenureAt (take i events) s tenure) → IsAt events s (suc h.position) (h.placement).version h.shard × (h.position < i)
   at_tenure i s tenure h =
-      let t = at_take events h.place i (event.Place h.placement h.done) h.there in
-      (at_place h.place s h.placement h.done h.shard t.0 h.shard_is, t.1)
+      let t = at_take events h.position i (event.Place h.placement h.done) h.there in
+      (at_place h.position s h.placement h.done h.shard t.0 h.shard_is, t.1)
 
   -- the last position below a version, before it is reached
   pub first_above : (s i j v w m : ℕ) (a b : Shard) → 1 ≤ i → IsAt events s i v a → v < m → i ≤ j → j ≤ length events → IsAt events s j w b → m ≤ w

@@ -17,7 +17,7 @@ dec_in n (m ∷ ms) =
       ]
     ]
 
--- the list with one place of n left out
+-- the list with one position of n left out
 drop_one : (n : ℕ) (ns : List ℕ) → IsIn ns n → (rest : List ℕ) × (length ns ≡ suc (length rest)) × ((m : ℕ) → IsIn ns m → (m ≡ n → ⊥) → IsIn rest m)
 drop_one n [] h = absurd h
 drop_one n (m ∷ ms) h =

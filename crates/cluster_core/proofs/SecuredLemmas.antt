@@ -23,7 +23,7 @@ use Rattle.cluster_core.specs.Lists.{At, IsMajority}
 use Rattle.cluster_core.specs.Replicas.{replica}
 use Rattle.cluster_core.specs.Earlier.{last_place}
 use Rattle.cluster_core.specs.Legal.{Legal, EachAnswered}
-use Rattle.cluster_core.specs.Core.{Opening, AgreesWith, KeptByOpening, IsAcked, IsSecured, IsLiveUpTo, held, held_by}
+use Rattle.cluster_core.specs.Core.{Opening, AgreesWith, KeptByOpening, IsAckedBefore, IsSecured, IsLiveUpTo, held, held_by}
 use Rattle.std.proofs.Common.{drop}
 use Rattle.cluster_core.proofs.ListLemmas.{at_take, at_same}
 use Rattle.cluster_core.proofs.PastLemmas.{PutAt, ReadAt, FetchAt, put_at, read_at, shard_at, counted_at, clock_at}
@@ -65,26 +65,26 @@ module _ (events : List Event) (legal : Legal true events) (first : Placement) (
   taken_by_put : (past : ℕ) (before s version : ℕ) (p : Point) (n : ℕ) → past < before → PutAt (take past events) n s version p
       → (i client number : ℕ) × (rules : Rules) × (i < before) × At events i (event.Step n s (call.Put client number rules version p) reply.Done)
   taken_by_put past before s version p n lt h =
-      let t = at_take events h.place past (event.Step n s (call.Put h.client h.number h.rules version p) reply.Done) h.there in
-      (h.place, h.client, h.number, h.rules, omega (arith, t.1), t.0)
+      let t = at_take events h.position past (event.Step n s (call.Put h.client h.number h.rules version p) reply.Done) h.there in
+      (h.position, h.client, h.number, h.rules, omega (arith, t.1), t.0)
 
-  pub acked_taken : (before s : ℕ) (p : Point) → IsAcked first.rf events before s p → Taken events first.rf before s p
+  pub acked_taken : (before s : ℕ) (p : Point) → IsAckedBefore first.rf events before s p → Taken events first.rf before s p
   acked_taken before s p h =
-      let ack = lawful_ack events legal h.place h.send h.nodes h.acked in
-      let sent = at_take events h.send h.place (event.Send ack.version ack.s ack.point) ack.sent in
+      let ack = lawful_ack events legal h.position h.send h.nodes h.acked in
+      let sent = at_take events h.send h.position (event.Send ack.version ack.s ack.point) ack.sent in
       let same = same_send ack.version ack.s h.version s ack.point p (at_same events h.send (event.Send ack.version ack.s ack.point) (event.Send h.version s p) sent.0 h.sent) in
-      let placed = counted_at (take h.place events) ack.version ack.s h.nodes ack.counted in
-      let at = at_counted events legal first done0 there0 h.place ack.s ack.version h.nodes placed in
+      let placed = counted_at (take h.position events) ack.version ack.s h.nodes ack.counted in
+      let at = at_counted events legal first done0 there0 h.position ack.s ack.version h.nodes placed in
       record {
         version = ack.version;
-        z = suc placed.place;
+        z = suc placed.position;
         shard = placed.shard;
         nodes = h.nodes;
         one = omega arith;
         early = omega (arith, at.1, h.early);
-        placed = subst (λ k. IsAt events k (suc placed.place) ack.version placed.shard) same.1 at.0;
+        placed = subst (λ k. IsAt events k (suc placed.position) ack.version placed.shard) same.1 at.0;
         counts = record { distinct = ack.distinct; within = placed.within; enough = h.enough };
-        put = λ n m. taken_by_put h.place before s ack.version p n h.early (subst (λ q. PutAt (take h.place events) n s ack.version q) same.2 (subst (λ k. PutAt (take h.place events) n k ack.version ack.point) same.1 (put_at (take h.place events) n ack.s ack.version ack.point (ack.taken n m))));
+        put = λ n m. taken_by_put h.position before s ack.version p n h.early (subst (λ q. PutAt (take h.position events) n s ack.version q) same.2 (subst (λ k. PutAt (take h.position events) n k ack.version ack.point) same.1 (put_at (take h.position events) n ack.s ack.version ack.point (ack.taken n m))));
       }
 
   -- what was put holds from then on
@@ -201,25 +201,25 @@ module _ (events : List Event) (legal : Legal true events) (first : Placement) (
         let at = at_shard events legal first done0 there0 start f.s f.version placed in
         let counting = counted_at (take i events) f.version f.s nodes f.counted in
         let at_done = at_counted events legal first done0 there0 i f.s f.version nodes counting in
-        let same : counting.shard ≡ placed.shard = same_shard f.s f.version counting.place placed.place counting.shard placed.shard (omega (arith, at_done.1)) (omega (arith, at.1, begun.1)) at_done.0 at.0 in
+        let same : counting.shard ≡ placed.shard = same_shard f.s f.version counting.position placed.position counting.shard placed.shard (omega (arith, at_done.1)) (omega (arith, at.1, begun.1)) at_done.0 at.0 in
         let m : IsMajority first.rf (counted placed.shard) nodes = record { distinct = f.distinct; within = λ n h. subst (λ c. IsIn (counted c) n) same (counting.within n h); enough = enough } in
         let served : (q : ℕ) → IsIn nodes q → f.version < (replica q f.s (take start events)).fence → ⊥ =
         λ q h fence.
         let a = read_of (take i events) start f.s f.version f.rules f.pick f.from f.to nodes f.answers q f.answered h in
-        let there = at_take events (a.2).place i (event.Step q f.s (call.Read (a.2).client (a.2).number f.rules f.version f.pick f.from f.to) (reply.Found a.0)) (a.2).there in
-        let row = lawful_step events legal (a.2).place q f.s (call.Read (a.2).client (a.2).number f.rules f.version f.pick f.from f.to) (reply.Found a.0) there.0 in
-        omega (arith, (row.0).fence_low, fence_grows events legal q f.s start (a.2).place (suc f.version) (omega (arith, (a.2).later)) (omega (arith, there.1)) fence) in
-        let h = asked_holds i start f.version f.s placed.shard placed.place nodes p high begun.1 live at.0 at.1 m served secured in
+        let there = at_take events (a.2).position i (event.Step q f.s (call.Read (a.2).client (a.2).number f.rules f.version f.pick f.from f.to) (reply.Found a.0)) (a.2).there in
+        let row = lawful_step events legal (a.2).position q f.s (call.Read (a.2).client (a.2).number f.rules f.version f.pick f.from f.to) (reply.Found a.0) there.0 in
+        omega (arith, (row.0).fence_low, fence_grows events legal q f.s start (a.2).position (suc f.version) (omega (arith, (a.2).later)) (omega (arith, there.1)) fence) in
+        let h = asked_holds i start f.version f.s placed.shard placed.position nodes p high begun.1 live at.0 at.1 m served secured in
         let a = read_of (take i events) start f.s f.version f.rules f.pick f.from f.to nodes f.answers h.0 f.answered h.1 in
-        let there = at_take events (a.2).place i (event.Step h.0 f.s (call.Read (a.2).client (a.2).number f.rules f.version f.pick f.from f.to) (reply.Found a.0)) (a.2).there in
-        let row = lawful_step events legal (a.2).place h.0 f.s (call.Read (a.2).client (a.2).number f.rules f.version f.pick f.from f.to) (reply.Found a.0) there.0 in
-        let bound : (a.2).place ≤ length events = omega (arith, there.1) in
-        let has = holds_grows events legal o agrees h.0 f.s start (a.2).place p (omega (arith, (a.2).later)) bound h.2 in
-        let ruled = clock_at (take (a.2).place events) f.rules row.1 in
-        let clock = at_take events ruled.0 (a.2).place (event.Clock f.rules) ruled.1 in
-        let shown = found_covers (replica h.0 f.s (take (a.2).place events)) f.rules f.pick f.from f.to a.0 p row.2
-        (holds_sure events legal o agrees h.0 f.s (a.2).place p bound ((row.0).owner).open_ has)
-        (not_gone events legal h.0 f.s i (a.2).place p (omega (arith, there.1)) bound live)
+        let there = at_take events (a.2).position i (event.Step h.0 f.s (call.Read (a.2).client (a.2).number f.rules f.version f.pick f.from f.to) (reply.Found a.0)) (a.2).there in
+        let row = lawful_step events legal (a.2).position h.0 f.s (call.Read (a.2).client (a.2).number f.rules f.version f.pick f.from f.to) (reply.Found a.0) there.0 in
+        let bound : (a.2).position ≤ length events = omega (arith, there.1) in
+        let has = holds_grows events legal o agrees h.0 f.s start (a.2).position p (omega (arith, (a.2).later)) bound h.2 in
+        let ruled = clock_at (take (a.2).position events) f.rules row.1 in
+        let clock = at_take events ruled.0 (a.2).position (event.Clock f.rules) ruled.1 in
+        let shown = found_covers (replica h.0 f.s (take (a.2).position events)) f.rules f.pick f.from f.to a.0 p row.2
+        (holds_sure events legal o agrees h.0 f.s (a.2).position p bound ((row.0).owner).open_ has)
+        (not_gone events legal h.0 f.s i (a.2).position p (omega (arith, there.1)) bound live)
         (record { matches = matches; in_range = in_range; unexpired = live ruled.0 f.rules (omega (arith, clock.1, there.1)) clock.0 }) in
         covers_lower (points_in (space_picked f.pick) series) p shown.value shown.at_least (each-from_All (λ q. Covers (points_in (space_picked f.pick) series) q) (points_in (space_picked f.pick) a.0)
         (each-from_All (λ answer. All (λ q. Covers (points_in (space_picked f.pick) series) q) (points_in (space_picked f.pick) answer)) f.answers (f.joined).all_there a.0 a.1) (record p { v = shown.value }) shown.stands)

@@ -9,7 +9,7 @@ use Rattle.m3_model.specs.Reads.{Covers, points_in, space_picked}
 use Rattle.m3_model.specs.declared.point.Key.{Key}
 use Rattle.m3_model.specs.declared.point.Point.{Point}
 use Rattle.placement_core.proofs.ListLemmas.{All-from_each, Any-from_IsIn}
-use Rattle.cluster_core.specs.Answers.{IsWanted, IsBelow, AsksFor, IsUpTo, GoesOn}
+use Rattle.cluster_core.specs.Answers.{IsWantedUnexpired, IsKeyBelow, AsksFor, IsUpTo, GoesOn}
 use Rattle.cluster_core.specs.Replicas.{IsGone}
 use Rattle.cluster_core.specs.Shown.{FoundShows, PageShows}
 use Rattle.cluster_core.specs.declared.event.StepCall.{StepCall}
@@ -19,8 +19,8 @@ use Rattle.cluster_core.proofs.ListLemmas.{at_in}
 
 pub found_shows : FoundShows
 found_shows r content rules pick from to series shows is = record {
-  nothing_else = All-from_each (λ p. IsIn r.sure p × IsWanted rules pick from to p) (points_in (space_picked pick) series) (λ p m. let s = is.sound p m in (shows.sure (key_of p) p.v s.0, s.1));
-  all_there = All-from_each (λ p. ¬ IsGone r p → IsWanted rules pick from to p → Covers (points_in (space_picked pick) series) p) r.sure
+  nothing_else = All-from_each (λ p. IsIn r.sure p × IsWantedUnexpired rules pick from to p) (points_in (space_picked pick) series) (λ p m. let s = is.sound p m in (shows.sure (key_of p) p.v s.0, s.1));
+  all_there = All-from_each (λ p. ¬ IsGone r p → IsWantedUnexpired rules pick from to p → Covers (points_in (space_picked pick) series) p) r.sure
       (λ p m stays wanted.
       let h = shows.all p m stays in
       record { value = h.value; at_least = h.at_least; stands = is.all (key_of p) h.value h.stands (wanted_value rules pick from to p h.value wanted) });
@@ -52,10 +52,10 @@ page_shows r content c page shows is = record {
         | inl front ↦ record { value = h.value; at_least = h.at_least; stands = front }
         | inr back ↦ elim is.next as (λ _. Covers page.points p) [
           | inl none ↦ absurd (subst (λ (ps : List Point). IsIn ps q) none.0 back)
-          | inr more ↦ absurd (subst (λ (n : Option Key). IsUpTo n (key_of p)) more.5 up (ascends_across (λ a b. IsBelow (key_of a) (key_of b)) page.points is.rest is.ascending more.3 q (at_in page.points 63 more.3 more.4) back))
+          | inr more ↦ absurd (subst (λ (n : Option Key). IsUpTo n (key_of p)) more.5 up (ascends_across (λ a b. IsKeyBelow (key_of a) (key_of b)) page.points is.rest is.ascending more.3 q (at_in page.points 63 more.3 more.4) back))
         ]
       ]);
-  ascending = ascends_front (λ a b. IsBelow (key_of a) (key_of b)) page.points is.rest is.ascending;
+  ascending = ascends_front (λ a b. IsKeyBelow (key_of a) (key_of b)) page.points is.rest is.ascending;
   few = is.few;
   next = elim is.next as (λ _. MatchOption page.next ⊤ (λ k. GoesOn r c page k)) [
     | inl none ↦ subst (λ (n : Option Key). MatchOption n ⊤ (λ k. GoesOn r c page k)) (sym none.1) tt
@@ -66,8 +66,8 @@ page_shows r content c page shows is = record {
           last = more.3;
           at_end = more.4;
           next_is = refl;
-          more = Any-from_IsIn (λ p. AsksFor c p × IsBelow (key_of more.3) (key_of p)) r.sure more.0 (shows.sure (key_of more.0) (more.0).v s.0)
-              (s.1, ascends_across (λ a b. IsBelow (key_of a) (key_of b)) page.points is.rest is.ascending more.3 more.0 (at_in page.points 63 more.3 more.4) more.1);
+          more = Any-from_IsIn (λ p. AsksFor c p × IsKeyBelow (key_of more.3) (key_of p)) r.sure more.0 (shows.sure (key_of more.0) (more.0).v s.0)
+              (s.1, ascends_across (λ a b. IsKeyBelow (key_of a) (key_of b)) page.points is.rest is.ascending more.3 more.0 (at_in page.points 63 more.3 more.4) more.1);
         })
   ];
 }

@@ -4,7 +4,7 @@ use Rattle.m3_model.specs.Members.{IsIn}
 use Rattle.m3_model.specs.Reads.{Covers, Matches, InRange, points_in, space_picked}
 use Rattle.m3_model.specs.declared.point.Pick.{Pick}
 use Rattle.m3_model.specs.declared.rules.Rules.{Rules}
-use Rattle.cluster_core.specs.Core.{KeepsPoints, IsSecured, WasWritten}
+use Rattle.cluster_core.specs.Core.{ListKeepsPoints, IsSecured, WasWritten}
 use Rattle.cluster_core.specs.Legal.{Legal}
 use Rattle.cluster_core.specs.declared.event.Event.{Event}
 use Rattle.cluster_core.specs.declared.event.Event.TheVariants as event
@@ -23,7 +23,7 @@ record SameStart (s t : ℕ) (pick picked : Pick) (from least to end : ℕ) : Ty
 same_start : (v w s t : ℕ) (rules ruled : Rules) (pick picked : Pick) (from least to end : ℕ) → event.FetchStart w t ruled picked least end ≡ event.FetchStart v s rules pick from to → SameStart s t pick picked from least to end
 same_start v w s t rules ruled pick picked from least to end e = record { shard = cc; picks = cc; first = cc; last = cc }
 
-pub keeps_points : (events : List Event) → Legal true events → KeepsPoints events
+pub keeps_points : (events : List Event) → Legal true events → ListKeepsPoints events
 keeps_points events legal first done there o agrees g kept_by = record {
   read = λ start i nodes series s pick from to r enough p matches in_range live secured.
       let bound = at_within events i (event.FetchDone start nodes series) r.is_done in

@@ -3,7 +3,7 @@ use Rattle.std.proofs.Common.{◌≡◌, ℕ, zero, suc, List, take, refl, subst
 use Rattle.m3_model.specs.declared.reason.Reason.{Reason}
 use Rattle.m3_model.specs.declared.reason.Reason.TheVariants as reason
 use Rattle.cluster_core.specs.Legal.{Lawful, LawfulAt, LegalOverAny}
-use Rattle.cluster_core.specs.Rows.{LawfulStep, MayRefuse, IsTaken, MayBeUnowned}
+use Rattle.cluster_core.specs.Rows.{LawfulStep, ReplicaMayRefuse, IsTakenCall, MayBeUnowned}
 use Rattle.cluster_core.specs.declared.event.Event.{Event}
 use Rattle.cluster_core.specs.declared.event.Event.TheVariants as event
 use Rattle.cluster_core.specs.declared.event.StepCall.{StepCall}
@@ -12,7 +12,7 @@ use Rattle.cluster_core.specs.declared.event.StepReply.{StepReply}
 use Rattle.cluster_core.specs.declared.event.StepReply.TheVariants as reply
 use Rattle.cluster_core.specs.declared.replica_state.ReplicaState.{ReplicaState}
 
-taken_untold : (r : ReplicaState) (c : StepCall) → IsTaken true r c → IsTaken false r c
+taken_untold : (r : ReplicaState) (c : StepCall) → IsTakenCall true r c → IsTakenCall false r c
 taken_untold r (call.Begin tenure) h = (h.0, tt)
 taken_untold r _ h = h
 
@@ -20,7 +20,7 @@ unowned_untold : (r : ReplicaState) (c : StepCall) → MayBeUnowned true r c →
 unowned_untold r (call.Begin tenure) h = (h.0, tt)
 unowned_untold r _ h = h
 
-refused_untold : (past : List Event) (s : ℕ) (r : ReplicaState) (c : StepCall) (why : Reason) → MayRefuse true past s r c why → MayRefuse false past s r c why
+refused_untold : (past : List Event) (s : ℕ) (r : ReplicaState) (c : StepCall) (why : Reason) → ReplicaMayRefuse true past s r c why → ReplicaMayRefuse false past s r c why
 refused_untold past s r c reason.Memory h = h
 refused_untold past s r c reason.Cut h = h
 refused_untold past s r c reason.NotOwned h = unowned_untold r c h

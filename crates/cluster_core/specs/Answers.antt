@@ -31,15 +31,15 @@ unfoldable pub HoldsOf : List ℕ → Matcher → Type 0
 HoldsOf id m = (tags : List (List ℕ × List ℕ)) → HasTags id tags → MatcherHolds tags m
 
 -- a point that a read asks for, and that hasn't expired
-pub record IsWanted (rules : Rules) (pick : Pick) (from to : ℕ) (p : Point) : Type 0 where
+pub record IsWantedUnexpired (rules : Rules) (pick : Pick) (from to : ℕ) (p : Point) : Type 0 where
   pub matches : Matches pick p
   pub in_range : InRange from to p
   pub unexpired : ¬ HasExpired rules p
 
 -- the series have only wanted points that are sure, and cover each such point that isn't gone
-pub record IsFound (r : ReplicaState) (rules : Rules) (pick : Pick) (from to : ℕ) (series : List Series) : Type 0 where
-  pub nothing_else : All (λ p. IsIn r.sure p × IsWanted rules pick from to p) (points_in (space_picked pick) series)
-  pub all_there : All (λ p. ¬ IsGone r p → IsWanted rules pick from to p → Covers (points_in (space_picked pick) series) p) r.sure
+pub record IsFoundBy (r : ReplicaState) (rules : Rules) (pick : Pick) (from to : ℕ) (series : List Series) : Type 0 where
+  pub nothing_else : All (λ p. IsIn r.sure p × IsWantedUnexpired rules pick from to p) (points_in (space_picked pick) series)
+  pub all_there : All (λ p. ¬ IsGone r p → IsWantedUnexpired rules pick from to p → Covers (points_in (space_picked pick) series) p) r.sure
   pub ordered : IsOrdered series
 
 -- the series are the join of the answers of several replicas
@@ -54,18 +54,18 @@ pub record IsJoin (ns : ℕ) (answers : List (List Series)) (series : List Serie
 abbrev pub page_size : ℕ
 page_size = MOST_PAGE_POINTS
 
-abbrev pub IsBelow : Key → Key → Type 0
-IsBelow a b = key_cmp a b ≡ Less
+abbrev pub IsKeyBelow : Key → Key → Type 0
+IsKeyBelow a b = key_cmp a b ≡ Less
 
 -- above the key, where there is one
-abbrev pub IsPast : Option Key → Key → Type 0
-IsPast None k = ⊤
-IsPast (Some a) k = IsBelow a k
+abbrev pub IsPastKey : Option Key → Key → Type 0
+IsPastKey None k = ⊤
+IsPastKey (Some a) k = IsKeyBelow a k
 
 -- not above the key, where there is one
 abbrev pub IsUpTo : Option Key → Key → Type 0
 IsUpTo None k = ⊤
-IsUpTo (Some a) k = ¬ IsBelow a k
+IsUpTo (Some a) k = ¬ IsKeyBelow a k
 
 -- the points of a block: `start <= t < start + size`
 pub record IsInBlock (ns start size : ℕ) (p : Point) : Type 0 where
@@ -75,8 +75,8 @@ pub record IsInBlock (ns start size : ℕ) (p : Point) : Type 0 where
 
 -- a point that the call for a page asks for: above its key, and for Block within the block
 abbrev pub AsksFor : StepCall → Point → Type 0
-AsksFor (call.Page from) p = IsPast from (key_of p)
-AsksFor (call.Block ns start size from) p = IsPast from (key_of p) × IsInBlock ns start size p
+AsksFor (call.Page from) p = IsPastKey from (key_of p)
+AsksFor (call.Block ns start size from) p = IsPastKey from (key_of p) × IsInBlock ns start size p
 AsksFor _ p = ⊥
 
 -- a page goes on from its last key where it is full and a sure point that is asked for follows
@@ -85,13 +85,13 @@ pub record GoesOn (r : ReplicaState) (c : StepCall) (page : Page) (next : Key) :
   pub last : Point
   pub at_end : At page.points 63 last
   pub next_is : key_of last ≡ next
-  pub more : Any (λ p. AsksFor c p × IsBelow next (key_of p)) r.sure
+  pub more : Any (λ p. AsksFor c p × IsKeyBelow next (key_of p)) r.sure
 
 -- the page has the first points that are asked for: only sure ones, and up to where it goes on it covers all that aren't gone
 pub record IsPage (r : ReplicaState) (c : StepCall) (page : Page) : Type 0 where
   pub nothing_else : All (λ p. IsIn r.sure p × AsksFor c p) page.points
   pub all_there : All (λ p. ¬ IsGone r p → AsksFor c p → IsUpTo page.next (key_of p) → Covers page.points p) r.sure
-  pub ascending : Ascends (λ a b. IsBelow (key_of a) (key_of b)) page.points
+  pub ascending : Ascends (λ a b. IsKeyBelow (key_of a) (key_of b)) page.points
   pub few : length page.points ≤ page_size
   pub next : MatchOption page.next ⊤ (λ k. GoesOn r c page k)
 

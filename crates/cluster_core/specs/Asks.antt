@@ -9,15 +9,15 @@ use Rattle.cluster_core.specs.declared.event.Event.TheVariants as event
 use Rattle.cluster_core.specs.declared.event.StepCall.TheVariants as call
 
 -- the event is what was asked for: a step by its replica and its call, whatever was answered
-abbrev pub IsNamed : Asked → Event → Type 0
-IsNamed (asked.Step n s c) (event.Step node shard made reply) = (node ≡ n) × (shard ≡ s) × (made ≡ c)
-IsNamed (asked.Place place done) (event.Place placed ended) = (placed ≡ place) × (ended ≡ done)
-IsNamed (asked.Clock rules) (event.Clock ruled) = ruled ≡ rules
-IsNamed _ _ = ⊥
+abbrev pub MatchesAsked : Asked → Event → Type 0
+MatchesAsked (asked.Step n s c) (event.Step node shard made reply) = (node ≡ n) × (shard ≡ s) × (made ≡ c)
+MatchesAsked (asked.Place place done) (event.Place placed ended) = (placed ≡ place) × (ended ≡ done)
+MatchesAsked (asked.Clock rules) (event.Clock ruled) = ruled ≡ rules
+MatchesAsked _ _ = ⊥
 
 -- an Ask for the event
 abbrev pub IsAskFor : Event → Event → Type 0
-IsAskFor e (event.Ask asked) = IsNamed asked e
+IsAskFor e (event.Ask asked) = MatchesAsked asked e
 IsAskFor e _ = ⊥
 
 -- another event that the Asks for the event ask for, too
@@ -27,7 +27,7 @@ IsLike (event.Place place done) (event.Place placed ended) = (placed ≡ place) 
 IsLike (event.Clock rules) (event.Clock ruled) = ruled ≡ rules
 IsLike _ _ = ⊥
 
--- more Asks for the event stand earlier than events like it, the first two events apart; both by their places
+-- more Asks for the event stand earlier than events like it, the first two events apart; both by their positions
 pub record WasAsked (past : List Event) (e : Event) : Type 0 where
   pub asks : List ℕ
   pub answered : List ℕ

@@ -39,26 +39,26 @@ KeptByOpening opening first given =
 
 -- ---- what is to be kept
 
--- an Ack of a majority before this place has the point, sent to the shard
-pub record IsAcked (rf : ℕ) (events : List Event) (before s : ℕ) (p : Point) : Type 0 where
-  pub place : ℕ
+-- an Ack of a majority before this position has the point, sent to the shard
+pub record IsAckedBefore (rf : ℕ) (events : List Event) (before s : ℕ) (p : Point) : Type 0 where
+  pub position : ℕ
   pub send : ℕ
   pub version : ℕ
   pub nodes : List ℕ
-  pub early : place < before
-  pub acked : At events place (event.Ack send nodes)
+  pub early : position < before
+  pub acked : At events position (event.Ack send nodes)
   pub sent : At events send (event.Send version s p)
   pub enough : majority rf ≤ length nodes
 
--- the opening keeps the point of the shard, or a majority took it before this place
+-- the opening keeps the point of the shard, or a majority took it before this position
 abbrev pub IsSecured : ℕ → List (Point × ℕ) → List Event → ℕ → ℕ → Point → Type 0
-IsSecured rf given events before s p = IsIn given (p, s) ⊎ IsAcked rf events before s p
+IsSecured rf given events before s p = IsIn given (p, s) ⊎ IsAckedBefore rf events before s p
 
--- no Clock before this place has expired the point
+-- no Clock before this position has expired the point
 abbrev pub IsLiveUpTo : List Event → ℕ → Point → Type 0
 IsLiveUpTo events before p = (j : ℕ) (rules : Rules) → j < before → At events j (event.Clock rules) → ¬ HasExpired rules p
 
--- the point was sent to the shard before this place, or the opening has it in the shard
+-- the point was sent to the shard before this position, or the opening has it in the shard
 abbrev pub WasWritten : List Event → Opening → ℕ → ℕ → Point → Type 0
 WasWritten events opening before s p = ((j v : ℕ) × (j < before) × At events j (event.Send v s p)) ⊎ ((n : ℕ) × IsIn (opening n s) p)
 
@@ -72,8 +72,8 @@ held opening events n s = held_by (opening n s) (replica n s events) (replica n 
 
 -- ---- what is kept
 
--- the read of this shard that began at one place and was done at another
-pub record IsRead (events : List Event) (start done : ℕ) (nodes : List ℕ) (series : List Series) (s : ℕ) (pick : Pick) (from to : ℕ) : Type 0 where
+-- the read of this shard that began at one position and was done at another
+pub record IsReadBetween (events : List Event) (start done : ℕ) (nodes : List ℕ) (series : List Series) (s : ℕ) (pick : Pick) (from to : ℕ) : Type 0 where
   pub version : ℕ
   pub rules : Rules
   pub is_done : At events done (event.FetchDone start nodes series)
@@ -81,10 +81,10 @@ pub record IsRead (events : List Event) (start done : ℕ) (nodes : List ℕ) (s
 
 pub record KeepsAll (events : List Event) (rf : ℕ) (opening : Opening) (given : List (Point × ℕ)) : Type 0 where
   -- a fetch that a majority answered has, or surpasses, each live point that it asks for and that was secured before it began
-  pub read : (start done : ℕ) (nodes : List ℕ) (series : List Series) (s : ℕ) (pick : Pick) (from to : ℕ) → IsRead events start done nodes series s pick from to → majority rf ≤ length nodes
+  pub read : (start done : ℕ) (nodes : List ℕ) (series : List Series) (s : ℕ) (pick : Pick) (from to : ℕ) → IsReadBetween events start done nodes series s pick from to → majority rf ≤ length nodes
       → (p : Point) → Matches pick p → InRange from to p → IsLiveUpTo events done p → IsSecured rf given events start s p → Covers (points_in (space_picked pick) series) p
   -- each point of a fetch was written
-  pub written : (start done : ℕ) (nodes : List ℕ) (series : List Series) (s : ℕ) (pick : Pick) (from to : ℕ) → IsRead events start done nodes series s pick from to
+  pub written : (start done : ℕ) (nodes : List ℕ) (series : List Series) (s : ℕ) (pick : Pick) (from to : ℕ) → IsReadBetween events start done nodes series s pick from to
       → (p : Point) → IsIn (points_in (space_picked pick) series) p → WasWritten events opening done s p
   -- and so was each point of a page
   pub paged : (i n s : ℕ) (c : StepCall) (page : Page) → At events i (event.Step n s c (reply.Paged page)) → (p : Point) → IsIn page.points p → WasWritten events opening i s p
@@ -94,7 +94,7 @@ pub record KeepsAll (events : List Event) (rf : ℕ) (opening : Opening) (given 
       → (members : List ℕ) → IsMajority rf (holders shard) members → (n : ℕ) × IsIn members n × Covers (held opening (take i events) n s) p
 
 -- so for each opening with which the list agrees, and for all points that this opening keeps
-abbrev pub KeepsPoints : List Event → Type 0
-KeepsPoints events =
+abbrev pub ListKeepsPoints : List Event → Type 0
+ListKeepsPoints events =
     (first : Placement) (done : List (ℕ × ℕ)) → At events 0 (event.Place first done) → (opening : Opening) → AgreesWith events opening
     → (given : List (Point × ℕ)) → KeptByOpening opening first given → KeepsAll events first.rf opening given

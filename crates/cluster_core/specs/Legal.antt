@@ -21,7 +21,7 @@ use Rattle.cluster_core.specs.Rows.{LawfulStep}
 use Rattle.cluster_core.specs.declared.event.Event.{Event}
 use Rattle.cluster_core.specs.declared.event.Event.TheVariants as event
 
--- the moment doesn't go back, and namespaces stay in their places
+-- the moment doesn't go back, and namespaces stay at their positions
 pub record IsNextClock (past : List Event) (rules : Rules) : Type 0 where
   pub last : Rules
   pub last_is : last_clock past ≡ Some last
@@ -47,7 +47,7 @@ abbrev pub AcksSend : List Event → List ℕ → Event → Type 0
 AcksSend past nodes (event.Send version s point) = IsDistinct nodes × AreCounted past version s nodes × All (λ n. HasPut past n s version point) nodes
 AcksSend past nodes _ = ⊥
 
--- the Ack of the Send at this place
+-- the Ack of the Send at this position
 abbrev pub IsAck : List Event → ℕ → List ℕ → Type 0
 IsAck past send nodes = (sent : Event) × At past send sent × AcksSend past nodes sent
 
@@ -70,7 +70,7 @@ EndsFetch past since nodes series (event.FetchStart version s rules pick from to
     IsDistinct nodes × AreCounted past version s nodes × IsJoined since (event.FetchStart version s rules pick from to) pick nodes series
 EndsFetch past since nodes series _ = ⊥
 
--- the end of the fetch that started at this place
+-- the end of the fetch that started at this position
 abbrev pub IsFetched : List Event → ℕ → List ℕ → List Series → Type 0
 IsFetched past start nodes series = (fetch : Event) × At past start fetch × EndsFetch past (drop (suc start) past) nodes series fetch
 
@@ -86,18 +86,18 @@ Lawful tells past (event.FetchDone start nodes series) = IsFetched past start no
 Lawful tells past (event.Step n s c a) = StepWasAsked past (event.Step n s c a) × LawfulStep tells past n s (replica n s past) c a
 
 -- the opening placement, which ends no move
-abbrev pub IsFirst : Event → Type 0
-IsFirst (event.Place placement done) = IsLawful placement × (done ≡ [])
-IsFirst _ = ⊥
+abbrev pub IsOpeningPlace : Event → Type 0
+IsOpeningPlace (event.Place placement done) = IsLawful placement × (done ≡ [])
+IsOpeningPlace _ = ⊥
 
 -- the opening moment and namespaces
 abbrev pub IsSecond : Event → Type 0
 IsSecond (event.Clock rules) = ⊤
 IsSecond _ = ⊥
 
--- an event is lawful at its place
+-- an event is lawful at its position
 abbrev pub LawfulAt : Bool → ℕ → List Event → Event → Type 0
-LawfulAt tells zero past e = IsFirst e
+LawfulAt tells zero past e = IsOpeningPlace e
 LawfulAt tells (suc zero) past e = IsSecond e
 LawfulAt tells (suc (suc i)) past e = Lawful tells past e
 

@@ -1,10 +1,10 @@
--- Places in a list, and majorities.
+-- Positions in a list, and majorities.
 use Rattle.std.specs.Prelude.{◌≡◌, ◌≢◌, ◌⊎◌, ℕ, ◌≤◌, List, [], ◌∷◌, length, take, Some, slice_get}
 use Rattle.m3_model.specs.Ascends.{Ascends}
 use Rattle.m3_model.specs.Levels.{majority}
 use Rattle.m3_model.specs.Members.{IsIn}
 
--- the element stands at this place
+-- the element stands at this position
 abbrev pub At : {X : Type 0} → List X → ℕ → X → Type 0
 At xs i x = slice_get xs i ≡ Some x
 

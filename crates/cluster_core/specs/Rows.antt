@@ -13,7 +13,7 @@ use Rattle.m3_model.specs.declared.replica.Report.{Report}
 use Rattle.m3_model.specs.declared.replica.Standing.{Standing}
 use Rattle.m3_model.specs.declared.replica.Standing.TheVariants as standing
 use Rattle.m3_model.specs.declared.rules.Rules.{Rules}
-use Rattle.cluster_core.specs.Answers.{IsFound, IsPage}
+use Rattle.cluster_core.specs.Answers.{IsFoundBy, IsPage}
 use Rattle.cluster_core.specs.Earlier.{HasClock, HasSend, HasTenure, HasPage}
 use Rattle.cluster_core.specs.Refusals.{first_refusal, uses_disk, reads_files}
 use Rattle.cluster_core.specs.Replicas.{greater, IsGone}
@@ -39,7 +39,7 @@ pub record IsOwner (r : ReplicaState) (version : ℕ) : Type 0 where
   pub tenure_low : tenure ≤ version
 
 -- open with a tenure and a fence not above the version
-pub record IsServing (r : ReplicaState) (version : ℕ) : Type 0 where
+pub record IsServingAt (r : ReplicaState) (version : ℕ) : Type 0 where
   pub owner : IsOwner r version
   pub fence_low : r.fence ≤ version
 
@@ -80,9 +80,9 @@ abbrev pub MayBeHigher : ReplicaState → ℕ → Type 0
 MayBeHigher r tenure = Any (λ begun. tenure < begun) r.begun ⊎ (Any (λ tried. tenure < tried) r.tried ⊎ (r.begun ≡ []))
 
 -- nothing but memory, the disk and the files stands against the call
-abbrev pub IsTaken : Bool → ReplicaState → StepCall → Type 0
-IsTaken tells r (call.Begin tenure) = (first_refusal r (call.Begin tenure) ≡ None) × OnTrue tells (NoneHigher r tenure)
-IsTaken tells r c = first_refusal r c ≡ None
+abbrev pub IsTakenCall : Bool → ReplicaState → StepCall → Type 0
+IsTakenCall tells r (call.Begin tenure) = (first_refusal r (call.Begin tenure) ≡ None) × OnTrue tells (NoneHigher r tenure)
+IsTakenCall tells r c = first_refusal r c ≡ None
 
 -- the rules of a tick are those of an earlier Clock
 abbrev pub TicksByClock : List Event → StepCall → Type 0
@@ -96,16 +96,16 @@ TakesWhatIsThere past s (call.Merge page) = HasPage past s page
 TakesWhatIsThere past s _ = ⊤
 
 -- the disk fails only in a call that uses it and that nothing else stands against
-pub record MayFail (tells : Bool) (past : List Event) (s : ℕ) (r : ReplicaState) (c : StepCall) : Type 0 where
+pub record DiskMayFail (tells : Bool) (past : List Event) (s : ℕ) (r : ReplicaState) (c : StepCall) : Type 0 where
   pub uses : IsTrue (uses_disk c)
-  pub taken : IsTaken tells r c
+  pub taken : IsTakenCall tells r c
   pub clock : TicksByClock past c
   pub there : TakesWhatIsThere past s c
 
 -- damage is found only by a call that reads files and that nothing else stands against
 pub record MayFindDamage (tells : Bool) (past : List Event) (r : ReplicaState) (c : StepCall) : Type 0 where
   pub reads : IsTrue (reads_files c)
-  pub taken : IsTaken tells r c
+  pub taken : IsTakenCall tells r c
   pub clock : TicksByClock past c
 
 -- a Begin is refused as not owned where a higher tenure is or may be known; any other call where that is its first reason
@@ -113,14 +113,14 @@ abbrev pub MayBeUnowned : Bool → ReplicaState → StepCall → Type 0
 MayBeUnowned tells r (call.Begin tenure) = (first_refusal r (call.Begin tenure) ≡ None) × OnTrue tells (MayBeHigher r tenure)
 MayBeUnowned tells r c = first_refusal r c ≡ Some reason.NotOwned
 
--- want of memory may come at any place, and a message that was lost is no replica's answer
-abbrev pub MayRefuse : Bool → List Event → ℕ → ReplicaState → StepCall → Reason → Type 0
-MayRefuse tells past s r c reason.Memory = ⊤
-MayRefuse tells past s r c reason.Cut = ⊥
-MayRefuse tells past s r c reason.NotOwned = MayBeUnowned tells r c
-MayRefuse tells past s r c reason.Disk = MayFail tells past s r c
-MayRefuse tells past s r c (reason.Corrupt damage) = MayFindDamage tells past r c
-MayRefuse tells past s r c why = first_refusal r c ≡ Some why
+-- want of memory may come at any position, and a message that was lost is no replica's answer
+abbrev pub ReplicaMayRefuse : Bool → List Event → ℕ → ReplicaState → StepCall → Reason → Type 0
+ReplicaMayRefuse tells past s r c reason.Memory = ⊤
+ReplicaMayRefuse tells past s r c reason.Cut = ⊥
+ReplicaMayRefuse tells past s r c reason.NotOwned = MayBeUnowned tells r c
+ReplicaMayRefuse tells past s r c reason.Disk = DiskMayFail tells past s r c
+ReplicaMayRefuse tells past s r c (reason.Corrupt damage) = MayFindDamage tells past r c
+ReplicaMayRefuse tells past s r c why = first_refusal r c ≡ Some why
 
 -- ---- the rows
 
@@ -132,7 +132,7 @@ pub record MayBegin (tells : Bool) (past : List Event) (n s : ℕ) (r : ReplicaS
   pub began : OnTrue tells (IsBegan r.standing r.begun r tenure fence points)
 
 pub record MayTake (past : List Event) (s : ℕ) (r : ReplicaState) (rules : Rules) (version : ℕ) (point : Point) : Type 0 where
-  pub serving : IsServing r version
+  pub serving : IsServingAt r version
   pub in_window : InWindow rules point
   pub sent : HasSend past version s point
   pub clock : HasClock past rules
@@ -141,7 +141,7 @@ pub record MayTake (past : List Event) (s : ℕ) (r : ReplicaState) (rules : Rul
 abbrev pub LawfulStep : Bool → List Event → ℕ → ℕ → ReplicaState → StepCall → StepReply → Type 0
 LawfulStep tells past n s r (call.Begin tenure) (reply.Began fence points) = MayBegin tells past n s r tenure fence points
 LawfulStep tells past n s r (call.Put client number rules version point) reply.Done = MayTake past s r rules version point
-LawfulStep tells past n s r (call.Read client number rules version pick from to) (reply.Found series) = IsServing r version × HasClock past rules × OnTrue tells (IsFound r rules pick from to series)
+LawfulStep tells past n s r (call.Read client number rules version pick from to) (reply.Found series) = IsServingAt r version × HasClock past rules × OnTrue tells (IsFoundBy r rules pick from to series)
 LawfulStep tells past n s r (call.Fence version) reply.Done = IsOwner r version
 LawfulStep tells past n s r (call.Page from) (reply.Paged page) = IsOwned r × OnTrue tells (IsPage r (call.Page from) page)
 LawfulStep tells past n s r (call.Block ns start size from) (reply.Paged page) = IsOwned r × OnTrue tells (IsPage r (call.Block ns start size from) page)
@@ -154,5 +154,5 @@ LawfulStep tells past n s r call.Report (reply.Told report) = IsReport r report
 LawfulStep tells past n s r call.End reply.Done = ⊤
 LawfulStep tells past n s r call.Stop reply.Done = ⊤
 LawfulStep tells past n s r call.Restart reply.Done = ⊤
-LawfulStep tells past n s r c (reply.Refused why) = MayRefuse tells past s r c why
+LawfulStep tells past n s r c (reply.Refused why) = ReplicaMayRefuse tells past s r c why
 LawfulStep tells past n s r _ _ = ⊥

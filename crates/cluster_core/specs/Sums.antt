@@ -12,7 +12,7 @@ use Rattle.m3_model.specs.declared.replica.BlockDigest.{BlockDigest}
 use Rattle.m3_model.specs.declared.rules.Rules.{Rules}
 use Rattle.m3_model.specs.declared.rules.Space.{Space}
 use Rattle.wire_bytes.specs.Entries.{points_bytes}
-use Rattle.cluster_core.specs.Answers.{IsBelow, IsInBlock}
+use Rattle.cluster_core.specs.Answers.{IsKeyBelow, IsInBlock}
 use Rattle.cluster_core.specs.Replicas.{Shows}
 use Rattle.cluster_core.specs.declared.replica_state.ReplicaState.{ReplicaState}
 
@@ -30,7 +30,7 @@ pub record IsDigestOf (content : Contents) (rules : Rules) (d : BlockDigest) : T
   pub points : List Point
   pub some : 0 < length points
   pub all : (p : Point) → IsIn points p ↔ IsLiveIn content rules d.ns d.start p
-  pub ascending : Ascends (λ a b. IsBelow (key_of a) (key_of b)) points
+  pub ascending : Ascends (λ a b. IsKeyBelow (key_of a) (key_of b)) points
   pub digest_is : d.digest ≡ sha256 (points_bytes points)
 
 -- one block stands before the other

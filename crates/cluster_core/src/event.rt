@@ -116,7 +116,7 @@ pub enum Event {
         shard: u32,
         point: Point,
     },
-    /// These nodes took the point of the `Send` at this place of the list.
+    /// These nodes took the point of the `Send` at this position of the list.
     Ack {
         send: u64,
         nodes: Seq<u8>,
@@ -129,7 +129,7 @@ pub enum Event {
         from: u64,
         to: u64,
     },
-    /// These nodes answered the `FetchStart` at this place of the list, and these series are their answers, joined.
+    /// These nodes answered the `FetchStart` at this position of the list, and these series are their answers, joined.
     FetchDone {
         start: u64,
         nodes: Seq<u8>,

@@ -1,6 +1,6 @@
 //! What is so of each legal list.
 ghost use Rattle.std.specs.Prelude.{true};
-ghost use Rattle.cluster_core.specs.Core.{KeepsPoints};
+ghost use Rattle.cluster_core.specs.Core.{ListKeepsPoints};
 ghost use Rattle.cluster_core.specs.Legal.{Legal, LegalOverAny};
 ghost use Rattle.cluster_core.specs.Makers.{StaysLawful, FollowsFromItsSeat, AddsWhatIsLawful};
 ghost use Rattle.cluster_core.specs.Shown.{FoundShows, PageShows};
@@ -11,7 +11,7 @@ use m3_model::Seq;
 /// The core theorem: whatever is lost, late, repeated, fenced, moved or restarted, a fetch that a majority answered
 /// holds each point that a majority took before it began, and nothing that wasn't written.
 pub fn reads_keep(_events: &Seq<Event>)
-    ensures { Legal true _events.now → KeepsPoints _events.now }
+    ensures { Legal true _events.now → ListKeepsPoints _events.now }
 {}
 
 /// What one maker may add depends on its own events, and on the existence and the number of earlier ones: what others add

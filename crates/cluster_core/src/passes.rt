@@ -1,6 +1,6 @@
 //! What follows from a seat of a book of events alone.
 ghost use Rattle.std.specs.Prelude.{◌≡◌, ℕ, true, [], ◌∷◌};
-ghost use Rattle.cluster_core.specs.Core.{KeepsPoints};
+ghost use Rattle.cluster_core.specs.Core.{ListKeepsPoints};
 ghost use Rattle.cluster_core.specs.Makers.{IsLawfulLog, entries, replica_seat};
 ghost use Rattle.cluster_core.specs.Replicas.{replica};
 
@@ -17,7 +17,7 @@ pub fn seen_is_lawful<N: BookName>(seat: &Seat<Event, N>)
 /// Over disks that tell, the reads of the seen list keep what a majority took.
 pub fn seen_reads_keep<N: BookName>(seat: &Seat<Event, N>)
     requires { N.tells ≡ true }
-    ensures { KeepsPoints (entries seat.now.seen) }
+    ensures { ListKeepsPoints (entries seat.now.seen) }
 {
     seat.know();
 }

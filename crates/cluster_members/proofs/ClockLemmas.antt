@@ -71,13 +71,13 @@ module _ (rules : Rules) where
     push past (event.Clock r) law b =
         elim (same r rules) as (λ _. IsBalanced (past ++ event.Clock r ∷ []) own) [
           | inr other ↦ balanced_other past (event.Clock r) (λ two like. other like) b
-          | inl is ↦ at_place past law is b
+          | inl is ↦ at_position past law is b
         ]
       where
-        at_place : (xs : List Event) → LawfulAt tells (length xs) xs (event.Clock r) → r ≡ rules → IsBalanced xs own → IsBalanced (xs ++ event.Clock r ∷ []) own
-        at_place [] law is b = absurd law
-        at_place (y ∷ []) law is b = balanced_other (y ∷ []) (event.Clock r) (λ two like. absurd (omega (arith, two))) b
-        at_place (y ∷ z ∷ xs) law is b = balanced_own (y ∷ z ∷ xs) (event.Clock r) (subst (λ (k : Rules). WasAsked (y ∷ z ∷ xs) (event.Clock k)) is law.0)
+        at_position : (xs : List Event) → LawfulAt tells (length xs) xs (event.Clock r) → r ≡ rules → IsBalanced xs own → IsBalanced (xs ++ event.Clock r ∷ []) own
+        at_position [] law is b = absurd law
+        at_position (y ∷ []) law is b = balanced_other (y ∷ []) (event.Clock r) (λ two like. absurd (omega (arith, two))) b
+        at_position (y ∷ z ∷ xs) law is b = balanced_own (y ∷ z ∷ xs) (event.Clock r) (subst (λ (k : Rules). WasAsked (y ∷ z ∷ xs) (event.Clock k)) is law.0)
     push past _ law b = balanced_other past _ (λ two like. absurd like) b
 
     by_length : (k : ℕ) (past : List Event) → length past ≡ k → Legal tells past → IsBalanced past own

@@ -12,10 +12,10 @@ use Rattle.placement_core.proofs.OrderLemmas.{apart_of}
 use Rattle.cluster_members.specs.Names.{node_named}
 
 -- an element by its index
-at_place : {X : Type 0} (xs : List X) (i : ℕ) (d : X) → i < length xs → slice_get xs i ≡ Some (get_or xs i d)
-at_place [] i d low = absurd (omega (arith, low))
-at_place (x ∷ xs) zero d low = refl
-at_place (x ∷ xs) (suc i) d low = at_place xs i d (omega (arith, low))
+at_position : {X : Type 0} (xs : List X) (i : ℕ) (d : X) → i < length xs → slice_get xs i ≡ Some (get_or xs i d)
+at_position [] i d low = absurd (omega (arith, low))
+at_position (x ∷ xs) zero d low = refl
+at_position (x ∷ xs) (suc i) d low = at_position xs i d (omega (arith, low))
 
 index_at : {X : Type 0} (xs : List X) (i : ℕ) (x d : X) → slice_get xs i ≡ Some x → get_or xs i d ≡ x
 index_at [] i x d e = cc
@@ -40,7 +40,7 @@ node_found name (x ∷ xs) node e =
     let found = position-Some (λ (i : Instance). i.listed && pointwise nat_eq name i.name) (x ∷ xs) node x e in
     let one : Instance = get_or (x ∷ xs) node x in
     let both = both_true one.listed (pointwise nat_eq name one.name) found.1 in
-    record { instance_ = one; stands = at_place (x ∷ xs) node x found.0; listed = both.0; name_is = sym ((bytes_eq-Decides name one.name).0 both.1) }
+    record { instance_ = one; stands = at_position (x ∷ xs) node x found.0; listed = both.0; name_is = sym ((bytes_eq-Decides name one.name).0 both.1) }
 
 -- nodes of one name are the same, where names differ
 pub same_node : (instances : List Instance) (n m : ℕ) (a b : Instance) → Ascends (λ x y. x.name ≢ y.name) instances → slice_get instances n ≡ Some a → slice_get instances m ≡ Some b → a.name ≡ b.name → n ≡ m

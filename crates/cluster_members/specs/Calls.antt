@@ -2,7 +2,7 @@
 use Rattle.std.specs.Prelude.{◌≡◌, ◌⊎◌, ℕ, ℤ, List, Some, None}
 use Rattle.m3_outside.specs.DiskState.{DiskState}
 use Rattle.m3_outside.specs.declared.disk.Disk.{Ghosts}
-use Rattle.m3_model.specs.Rules.{namespace_place}
+use Rattle.m3_model.specs.Rules.{namespace_position}
 use Rattle.m3_model.specs.declared.act.ReadLevel.{ReadLevel}
 use Rattle.m3_model.specs.declared.act.WriteLevel.{WriteLevel}
 use Rattle.m3_model.specs.declared.answer.Answer.{Answer}
@@ -10,7 +10,7 @@ use Rattle.m3_model.specs.declared.answer.Answer.TheVariants as answer
 use Rattle.m3_model.specs.declared.point.Pick.{Pick}
 use Rattle.m3_model.specs.declared.point.Point.{Point}
 use Rattle.replica_exchange.specs.declared.call_id.CallId.{CallId}
-use Rattle.session_net.specs.Reads.{Wish, IsFound, IsRefusedRead}
+use Rattle.session_net.specs.Reads.{Wish, IsReadFound, IsRefusedRead}
 use Rattle.session_net.specs.Writes.{IsAcknowledged, IsRefused}
 use Rattle.session_net.specs.declared.net.Net.{Net}
 use Rattle.session_net.specs.declared.session_err.SessionErr.{SessionErr}
@@ -41,7 +41,7 @@ pub record NamedPoint : Type 0 where
   pub t : ℕ
   pub v : ℤ
 
--- the point, in the namespace of this place
+-- the point, in the namespace of this position
 abbrev pub placed : NamedPoint → ℕ → Point
 placed p ns = record { ns = ns; id = p.id; t = p.t; v = p.v }
 
@@ -55,15 +55,15 @@ IsWriteAnswer state old id p level _ new = ⊥
 
 -- a write went to the members of its shard
 pub record IsPut {D : Type 0} {G : Ghosts D} (state : D → DiskState) (old : Members D G) (id : CallId) (point : NamedPoint) (level : WriteLevel) (answered : Answer) (new : Members D G) : Type 0 where
-  pub place : ℕ
-  pub found : namespace_place point.ns (spaces_in old) ≡ Some place
-  pub answers : IsWriteAnswer state old.net id (placed point place) level answered new.net
+  pub position : ℕ
+  pub found : namespace_position point.ns (spaces_in old) ≡ Some position
+  pub answers : IsWriteAnswer state old.net id (placed point position) level answered new.net
   pub keeps : KeepsCluster old new
 
 -- the namespace isn't there, or the write went to the members of its shard
 abbrev pub IsWritten : {D : Type 0} {G : Ghosts D} → (D → DiskState) → Members D G → CallId → NamedPoint → WriteLevel → Answer → Members D G → Type 0
 IsWritten state old id point level answered new =
-    ((namespace_place point.ns (spaces_in old) ≡ None) × (answered ≡ answer.Unknown point.ns) × (new ≡ old)) ⊎ IsPut state old id point level answered new
+    ((namespace_position point.ns (spaces_in old) ≡ None) × (answered ≡ answer.Unknown point.ns) × (new ≡ old)) ⊎ IsPut state old id point level answered new
 
 -- ---- reads
 
@@ -73,21 +73,21 @@ wish pick range = record { pick = pick; from = range.from; to = range.to }
 
 -- a read found what the nodes that count answered, or it was refused
 abbrev pub IsReadAnswer : {D : Type 0} {G : Ghosts D} → (D → DiskState) → Net D G → CallId → Wish → ReadLevel → Answer → Net D G → Type 0
-IsReadAnswer state old id w level (answer.Found series short) new = IsFound state old id w level series short new
+IsReadAnswer state old id w level (answer.Found series short) new = IsReadFound state old id w level series short new
 IsReadAnswer state old id w level (answer.Consistency got needed reasons shard) new = IsRefusedRead state old id w level new (err.Consistency shard needed got reasons)
 IsReadAnswer state old id w level answer.Memory new = IsRefusedRead state old id w level new err.Memory
 IsReadAnswer state old id w level answer.Full new = IsRefusedRead state old id w level new err.Full
 IsReadAnswer state old id w level _ new = ⊥
 
 -- the nodes that count were asked
-pub record IsRead {D : Type 0} {G : Ghosts D} (state : D → DiskState) (old : Members D G) (id : CallId) (ns : List ℕ) (pick : ℕ → Pick) (range : Range) (level : ReadLevel) (answered : Answer) (new : Members D G) : Type 0 where
-  pub place : ℕ
-  pub found : namespace_place ns (spaces_in old) ≡ Some place
-  pub answers : IsReadAnswer state old.net id (wish (pick place) range) level answered new.net
+pub record IsReadServed {D : Type 0} {G : Ghosts D} (state : D → DiskState) (old : Members D G) (id : CallId) (ns : List ℕ) (pick : ℕ → Pick) (range : Range) (level : ReadLevel) (answered : Answer) (new : Members D G) : Type 0 where
+  pub position : ℕ
+  pub found : namespace_position ns (spaces_in old) ≡ Some position
+  pub answers : IsReadAnswer state old.net id (wish (pick position) range) level answered new.net
   pub keeps : KeepsCluster old new
   pub bag : new.net.bag ≡ old.net.bag
 
 -- the namespace isn't there, or the nodes that count were asked
-abbrev pub IsFetched : {D : Type 0} {G : Ghosts D} → (D → DiskState) → Members D G → CallId → List ℕ → (ℕ → Pick) → Range → ReadLevel → Answer → Members D G → Type 0
-IsFetched state old id ns pick range level answered new =
-    ((namespace_place ns (spaces_in old) ≡ None) × (answered ≡ answer.Unknown ns) × (new ≡ old)) ⊎ IsRead state old id ns pick range level answered new
+abbrev pub IsFetchAnswer : {D : Type 0} {G : Ghosts D} → (D → DiskState) → Members D G → CallId → List ℕ → (ℕ → Pick) → Range → ReadLevel → Answer → Members D G → Type 0
+IsFetchAnswer state old id ns pick range level answered new =
+    ((namespace_position ns (spaces_in old) ≡ None) × (answered ≡ answer.Unknown ns) × (new ≡ old)) ⊎ IsReadServed state old id ns pick range level answered new

@@ -3,7 +3,7 @@ use Rattle.std.specs.Prelude.{◌≡◌, ℕ, ◌≤◌, ◌<◌, List, [], ◌�
 use Rattle.m3_outside.specs.DiskState.{DiskState}
 use Rattle.m3_outside.specs.declared.disk.Disk.{Ghosts}
 use Rattle.m3_model.specs.declared.limits.TheConstants.{MOST_NAMESPACES}
-use Rattle.m3_model.specs.Rules.{namespace_place}
+use Rattle.m3_model.specs.Rules.{namespace_position}
 use Rattle.m3_model.specs.declared.answer.Answer.{Answer}
 use Rattle.m3_model.specs.declared.answer.Answer.TheVariants as answer
 use Rattle.m3_model.specs.declared.rules.Rules.{Rules}
@@ -43,17 +43,17 @@ with_space space rules = record rules { spaces = rules.spaces ++ space ∷ [] }
 
 -- its name is new, and there is room for one more
 pub record MayName (spaces : List Space) (space : Space) : Type 0 where
-  pub new : namespace_place space.name spaces ≡ None
+  pub new : namespace_position space.name spaces ≡ None
   pub few : length spaces < MOST_NAMESPACES
 
 -- a namespace is made; one of a name that is there is out of order, and there is a limit to them
-abbrev pub IsNamed : {D : Type 0} {G : Ghosts D} → (D → DiskState) → Members D G → Space → Answer → Members D G → Type 0
-IsNamed state old space answer.Done new = MayName (spaces_in old) space × SetsRules state (with_space space old.net.state.rules) old new
-IsNamed state old space answer.Order new = IsSome (namespace_place space.name (spaces_in old)) × (new ≡ old)
-IsNamed state old space (answer.Limit limit) new = (namespace_place space.name (spaces_in old) ≡ None) × (MOST_NAMESPACES ≤ length (spaces_in old)) × (limit ≡ MOST_NAMESPACES) × (new ≡ old)
-IsNamed state old space answer.Memory new = MayName (spaces_in old) space × (new ≡ old)
-IsNamed state old space answer.Full new = MayName (spaces_in old) space × LacksRoom old new
-IsNamed state old space _ new = ⊥
+abbrev pub IsSpaceAdded : {D : Type 0} {G : Ghosts D} → (D → DiskState) → Members D G → Space → Answer → Members D G → Type 0
+IsSpaceAdded state old space answer.Done new = MayName (spaces_in old) space × SetsRules state (with_space space old.net.state.rules) old new
+IsSpaceAdded state old space answer.Order new = IsSome (namespace_position space.name (spaces_in old)) × (new ≡ old)
+IsSpaceAdded state old space (answer.Limit limit) new = (namespace_position space.name (spaces_in old) ≡ None) × (MOST_NAMESPACES ≤ length (spaces_in old)) × (limit ≡ MOST_NAMESPACES) × (new ≡ old)
+IsSpaceAdded state old space answer.Memory new = MayName (spaces_in old) space × (new ≡ old)
+IsSpaceAdded state old space answer.Full new = MayName (spaces_in old) space × LacksRoom old new
+IsSpaceAdded state old space _ new = ⊥
 
 -- ---- the moment
 

@@ -5,10 +5,10 @@ ghost use Rattle.m3_model.specs.Identifiers.{IsIdentifier};
 ghost use Rattle.m3_model.specs.Reads.{space_picked};
 ghost use Rattle.m3_model.specs.declared.point.Pick.TheVariants as pick;
 ghost use Rattle.session_net.specs.Ready.{IsReady};
-ghost use Rattle.cluster_members.specs.Calls.{answer_of, IsWritten, IsFetched, IsReadAnswer, wish};
+ghost use Rattle.cluster_members.specs.Calls.{answer_of, IsWritten, IsFetchAnswer, IsReadAnswer, wish};
 
 use crate::members::Members;
-use crate::spaces::namespace_place;
+use crate::spaces::namespace_position;
 use m3_model::{Answer, Matcher, Pick, Point, ReadLevel, Seq, Text, WriteLevel};
 use m3_outside::Disk;
 use replica_exchange::CallId;
@@ -66,11 +66,11 @@ impl<D: Disk> Members<D> {
         ensures written { IsWritten D.state self.old id (record { ns = ns; id = name; t = t; v = v }) level result self.new }
     {
         let spaces = self.net.state.rules.spaces.as_slice();
-        let Some(place) = namespace_place(spaces, ns.as_str()) else {
+        let Some(position) = namespace_position(spaces, ns.as_str()) else {
             return Answer::Unknown { name: ns };
         };
         let point = Point {
-            ns: place as u8,
+            ns: position as u8,
             id: name,
             t,
             v,
@@ -95,14 +95,14 @@ impl<D: Disk> Members<D> {
     ) -> Answer
         requires ready { IsReady self.old.net.state self.old.net.replicas self.old.net.bag }
         ensures ready { IsReady self.new.net.state self.new.net.replicas self.new.net.bag }
-        ensures fetched { IsFetched D.state self.old id ns (λ k. pick.One k name) range level result self.new }
+        ensures fetched { IsFetchAnswer D.state self.old id ns (λ k. pick.One k name) range level result self.new }
     {
         let spaces = self.net.state.rules.spaces.as_slice();
-        let Some(place) = namespace_place(spaces, ns.as_str()) else {
+        let Some(position) = namespace_position(spaces, ns.as_str()) else {
             return Answer::Unknown { name: ns };
         };
         let pick = Pick::One {
-            ns: place as u8,
+            ns: position as u8,
             id: name,
         };
         self.read(alloc, id, &pick, range, level)
@@ -122,14 +122,14 @@ impl<D: Disk> Members<D> {
     ) -> Answer
         requires ready { IsReady self.old.net.state self.old.net.replicas self.old.net.bag }
         ensures ready { IsReady self.new.net.state self.new.net.replicas self.new.net.bag }
-        ensures fetched { IsFetched D.state self.old id ns (λ k. pick.Match k wanted) range level result self.new }
+        ensures fetched { IsFetchAnswer D.state self.old id ns (λ k. pick.Match k wanted) range level result self.new }
     {
         let spaces = self.net.state.rules.spaces.as_slice();
-        let Some(place) = namespace_place(spaces, ns.as_str()) else {
+        let Some(position) = namespace_position(spaces, ns.as_str()) else {
             return Answer::Unknown { name: ns };
         };
         let pick = Pick::Match {
-            ns: place as u8,
+            ns: position as u8,
             wanted,
         };
         self.read(alloc, id, &pick, range, level)

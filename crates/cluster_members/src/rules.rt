@@ -5,11 +5,11 @@ ghost use Rattle.m3_model.specs.declared.limits.TheConstants.{MOST_NAMESPACES, T
 ghost use Rattle.cluster_core.specs.Legal.{IsNextClock};
 ghost use Rattle.replica_exchange.specs.MachineCalls.{HasRoom};
 ghost use Rattle.session_net.specs.Ready.{IsReady};
-ghost use Rattle.cluster_members.specs.Steps.{IsMoved, IsNamed, SetsRules, at_moment, with_space};
+ghost use Rattle.cluster_members.specs.Steps.{IsMoved, IsSpaceAdded, SetsRules, at_moment, with_space};
 
 use crate::clock::tick;
 use crate::members::Members;
-use crate::spaces::namespace_place;
+use crate::spaces::namespace_position;
 use m3_model::limits::MOST_NAMESPACES;
 use m3_model::{Answer, Duplicate, Memory, Rules, Space};
 use m3_outside::Disk;
@@ -61,10 +61,10 @@ impl<D: Disk> Members<D> {
         requires sized { 0 < space.block }
         requires ready { IsReady self.old.net.state self.old.net.replicas self.old.net.bag }
         ensures ready { IsReady self.new.net.state self.new.net.replicas self.new.net.bag }
-        ensures named { IsNamed D.state self.old space result self.new }
+        ensures named { IsSpaceAdded D.state self.old space result self.new }
     {
         let spaces = self.net.state.rules.spaces.as_slice();
-        if namespace_place(spaces, space.name.as_str()).is_some() {
+        if namespace_position(spaces, space.name.as_str()).is_some() {
             return Answer::Order;
         }
         if spaces.len() >= MOST_NAMESPACES {

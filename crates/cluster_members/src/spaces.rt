@@ -1,16 +1,16 @@
 ghost use Rattle.std.specs.Prelude.{◌≡◌, ◌<◌, length, IfSome};
-ghost use Rattle.m3_model.specs.Rules.{namespace_place};
+ghost use Rattle.m3_model.specs.Rules.{namespace_position};
 
 use m3_model::Space;
 
-/// The place of a namespace, by its name.
-pub(crate) fn namespace_place(spaces: &[Space], name: &str) -> Option<usize>
-    ensures place { result ≡ namespace_place name.now spaces.now }
-    ensures below { IfSome result (λ place. place < length spaces.now) }
+/// The position of a namespace, by its name.
+pub(crate) fn namespace_position(spaces: &[Space], name: &str) -> Option<usize>
+    ensures position { result ≡ namespace_position name.now spaces.now }
+    ensures below { IfSome result (λ position. position < length spaces.now) }
 {
-    for (place, space) in spaces.iter().enumerate() {
+    for (position, space) in spaces.iter().enumerate() {
         if name == space.name.as_str() {
-            return Some(place);
+            return Some(position);
         }
     }
     None

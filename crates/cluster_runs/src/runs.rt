@@ -1,8 +1,8 @@
 //! Words that a cluster serves, with what it answers.
 ghost use Rattle.std.specs.Prelude.{◌≢◌};
 ghost use Rattle.m3_outside.specs.Slots.{Out};
-ghost use Rattle.m3_outside.specs.declared.slot.Slot.{Slot as Place};
-ghost use Rattle.served_cluster.specs.Owned.{MayServe};
+ghost use Rattle.m3_outside.specs.declared.slot.DiskSlot.{DiskSlot};
+ghost use Rattle.served_cluster.specs.Owned.{MayServeCluster};
 
 use cluster_words::{act_of, spell_placement, spell_reply};
 use m3_model::{Memory, Reply, Request};
@@ -16,8 +16,8 @@ fn answered<X: Disks>(
     disks: &mut X,
     word: &str,
 ) -> Result<Reply, Memory>
-    requires owned { MayServe cluster.old (X.held disks.old) }
-    ensures owned { MayServe cluster.new (X.held disks.new) }
+    requires owned { MayServeCluster cluster.old (X.held disks.old) }
+    ensures owned { MayServeCluster cluster.new (X.held disks.new) }
 {
     let act = act_of(alloc, word)?;
     Ok(cluster.serve(alloc, disks, Request::One(act)))
@@ -38,8 +38,8 @@ fn tell_word<X: Disks>(
     word: &str,
     out: &mut String,
 ) -> Result<(), Memory>
-    requires owned { MayServe cluster.old (X.held disks.old) }
-    ensures owned { MayServe cluster.new (X.held disks.new) }
+    requires owned { MayServeCluster cluster.old (X.held disks.old) }
+    ensures owned { MayServeCluster cluster.new (X.held disks.new) }
 {
     if word == "p" {
         spell_place(cluster, out)?;
@@ -58,8 +58,8 @@ fn tell<X: Disks>(
     words: &str,
     out: &mut String,
 ) -> Result<(), Memory>
-    requires owned { MayServe cluster.old (X.held disks.old) }
-    ensures owned { MayServe cluster.new (X.held disks.new) }
+    requires owned { MayServeCluster cluster.old (X.held disks.old) }
+    ensures owned { MayServeCluster cluster.new (X.held disks.new) }
 {
     for word in words.split(' ') {
         tell_word(alloc, cluster, disks, word, out)?;
@@ -74,8 +74,8 @@ pub fn run<X: Disks>(
     words: &str,
     out: &mut String,
 ) -> Result<(), Memory>
-    requires free { (place : Place) → X.held disks.old place ≢ Out }
-    ensures free { (place : Place) → X.held disks.new place ≢ Out }
+    requires free { (slot : DiskSlot) → X.held disks.old slot ≢ Out }
+    ensures free { (slot : DiskSlot) → X.held disks.new slot ≢ Out }
 {
     let mut cluster = Cluster::new();
     let told = tell(alloc, &mut cluster, disks, words, out);

@@ -1,7 +1,7 @@
 //! Calls of the replicas of a cluster by slot: fences, stops, restarts and reports.
 ghost use Rattle.std.specs.Prelude.{◌≢◌};
 ghost use Rattle.m3_outside.specs.Slots.{Out};
-ghost use Rattle.m3_outside.specs.declared.slot.Slot.{Slot as Place};
+ghost use Rattle.m3_outside.specs.declared.slot.DiskSlot.{DiskSlot};
 ghost use Rattle.member_runs.specs.Ready.{IsReadyCluster};
 
 use cluster_members::Members;
@@ -110,7 +110,7 @@ fn story<X: Disks>(
     calls: &str,
     out: &mut String,
 ) -> Result<(), Memory>
-    requires free { (place : Place) → X.held disks.old place ≢ Out }
+    requires free { (slot : DiskSlot) → X.held disks.old slot ≢ Out }
 {
     let mut members = first(alloc, disks, 1)?;
     let told = tell_both(alloc, &mut members, words, calls, out);

@@ -1,7 +1,7 @@
 //! Stories of calls, of nodes and of messages to them, over a cluster that stands.
 ghost use Rattle.std.specs.Prelude.{◌≢◌};
 ghost use Rattle.m3_outside.specs.Slots.{Out};
-ghost use Rattle.m3_outside.specs.declared.slot.Slot.{Slot as Place};
+ghost use Rattle.m3_outside.specs.declared.slot.DiskSlot.{DiskSlot};
 ghost use Rattle.member_runs.specs.Ready.{IsReadyCluster};
 
 use cluster_members::Members;
@@ -49,7 +49,7 @@ fn story<X: Disks>(
     words: &str,
     out: &mut String,
 ) -> Result<(), Memory>
-    requires free { (place : Place) → X.held disks.old place ≢ Out }
+    requires free { (slot : DiskSlot) → X.held disks.old slot ≢ Out }
 {
     let mut members = first(alloc, disks, 1)?;
     let told = tell_story(alloc, &mut members, client, fates, words, out);
@@ -67,7 +67,7 @@ fn story_over(alloc: Global, row: &str, out: &mut String) -> Result<(), Memory> 
 }
 
 // How many calls of the disk of a pass, if not all; the client; fates as `f00bL`, of client 0's call 0 to b; its words; and
-// their answers, each ended by a colon. A call's number is the place of its word.
+// their answers, each ended by a colon. A call's number is the position of its word.
 const STORIES: &str = "|0|f|wmuM100=5 rmuM d|abc:u100=5,.::
 |0|f00bB,01cB,02cL|wmuM100=5 wmuM101=6 wmuM102=7 d d sa sb rmuU rmuM rmuO|ac:ab:ab:b+c+::ok:ok:u100=5,101=6,!:1/2a-b-:u100=5,101=6,.:
 |0|f00aL,00bL,00cL|wmuO100=5 rmuO d|0/1axbxcx:.::

@@ -9,12 +9,12 @@ use Rattle.m3_model.specs.declared.reason.Reason.{Reason}
 use Rattle.m3_model.specs.declared.reason.Reason.TheVariants as reason
 use Rattle.m3_model.specs.declared.turn.Turn.{Turn}
 use Rattle.m3_outside.specs.Depots.{Depot}
-use Rattle.m3_outside.specs.DiskState.{DiskState, IsLawful}
+use Rattle.m3_outside.specs.DiskState.{DiskState, IsLawfulDisk}
 use Rattle.m3_outside.specs.declared.disk.Disk.{Ghosts}
 use Rattle.call_lines.specs.Laws.{IsNotRefused}
 use Rattle.cluster_members.specs.Names.{node_named}
 use Rattle.cluster_members.specs.declared.members.Members.{Members}
-use Rattle.upkeep_lines.specs.Nodes.{HasShard, IsBootstrapped, IsHeldUp, IsNoShard, MayBoot}
+use Rattle.upkeep_lines.specs.Nodes.{HasShard, IsBootstrapAnswer, IsHeldUp, IsNoShard, MayBoot}
 use Rattle.act_lines.specs.Due.{BootstrapDue, IsDueNext}
 use Rattle.act_lines.proofs.DueLemmas.{bootstraps_are_due}
 use Rattle.act_lines.specs.Nodes.{LeavesBegun}
@@ -23,7 +23,7 @@ use Rattle.cluster_tracks.specs.Lines.{BootstrapsAreTracked, IsLeft, MayGoOn}
 use Rattle.cluster_tracks.proofs.NodeLemmas.{IsTracked, begun_on, flag_tells, full_on, may_begin, refused_on, so, wanted_on}
 use Rattle.cluster_tracks.proofs.SharedLemmas.{have_left}
 
-module _ {D : Type 0} {G : Ghosts D} (state : D → DiskState) (lawful : (d : D) → IsLawful (state d)) (m : Members D G) (tells : Bool) (first now : Depot D) (turns : List Turn) (calls : List ℕ) (go : MayGoOn state tells first now turns calls m) (name : List ℕ) where
+module _ {D : Type 0} {G : Ghosts D} (state : D → DiskState) (lawful : (d : D) → IsLawfulDisk (state d)) (m : Members D G) (tells : Bool) (first now : Depot D) (turns : List Turn) (calls : List ℕ) (go : MayGoOn state tells first now turns calls m) (name : List ℕ) where
   boot_due : (asked : Option ℕ) (b : Answer) → BootstrapDue None turns m.net.state.place name asked b
   boot_due asked b = bootstraps_are_due None turns m.net.state.place m.net.state.rules (have_left turns m go.tracks.after.stands) name asked b
 
@@ -47,7 +47,7 @@ module _ {D : Type 0} {G : Ghosts D} (state : D → DiskState) (lawful : (d : D)
     held_on : (b : Answer) (g : Members D G) (shard : ℕ) (why : Reason) → IsLeft tells g → IsHeldUp state m name asked shard why g → LeavesBegun state tells None turns m boot b g → IsTracked state m tells first now turns calls go boot b g
     held_on b g shard why left h leaves = begun_on state m tells first now turns calls go lawful boot b g h.begins left (free_boot asked b h.may) leaves h.keeps.keeps.slots h.ran
 
-    pub boot_on : (b : Answer) (g : Members D G) → IsLeft tells g → IsBootstrapped state m name asked b g → IsTracked state m tells first now turns calls go boot b g
+    pub boot_on : (b : Answer) (g : Members D G) → IsLeft tells g → IsBootstrapAnswer state m name asked b g → IsTracked state m tells first now turns calls go boot b g
     boot_on (answer.Available available place version) g left (none, is, version_is, h) =
         let b : Answer = answer.Available available place version in
         let leaves = available_tells state m tells None turns g name asked available place version (so state m tells first now turns calls go).stands (may_begin state m tells first now turns calls go lawful) (none, is, version_is, h) in
@@ -74,5 +74,5 @@ module _ {D : Type 0} {G : Ghosts D} (state : D → DiskState) (lawful : (d : D)
         full_on state m tells first now turns calls go boot g lacks.same (2 * length m.net.state.place.shards) (omega (arith, few)) lacks.room
     boot_on _ g left h = absurd h
 
-pub bootstraps_are_tracked : {D : Type 0} {G : Ghosts D} (state : D → DiskState) → ((d : D) → IsLawful (state d)) → (m : Members D G) → BootstrapsAreTracked state m
+pub bootstraps_are_tracked : {D : Type 0} {G : Ghosts D} (state : D → DiskState) → ((d : D) → IsLawfulDisk (state d)) → (m : Members D G) → BootstrapsAreTracked state m
 bootstraps_are_tracked state lawful m name asked tells first now turns calls b g go left did = boot_on state lawful m tells first now turns calls go name asked b g left did

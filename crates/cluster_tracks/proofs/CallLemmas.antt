@@ -1,13 +1,13 @@
 -- Lines of calls of a cluster that stands: what came to the list tells of each, and the cluster stands after it.
 use Rattle.std.proofs.Common.{◌≡◌, ◌<◌, ℕ, List, [], ◌∷◌, ◌++◌, min, refl, sym, ap, subst, arith, Bool}
 use Rattle.std.specs.Prelude.{Some, None}
-use Rattle.m3_model.specs.Rules.{namespace_place}
+use Rattle.m3_model.specs.Rules.{namespace_position}
 use Rattle.m3_model.specs.declared.act.Act.{Act}
 use Rattle.m3_model.specs.declared.answer.Answer.{Answer}
 use Rattle.m3_model.specs.declared.answer.Answer.TheVariants as answer
 use Rattle.m3_model.specs.declared.turn.Turn.{Turn}
 use Rattle.m3_outside.specs.Depots.{Depot}
-use Rattle.m3_outside.specs.DiskState.{DiskState, IsLawful}
+use Rattle.m3_outside.specs.DiskState.{DiskState, IsLawfulDisk}
 use Rattle.m3_outside.specs.declared.disk.Disk.{Ghosts}
 use Rattle.cluster_core.specs.declared.event.Event.{Event}
 use Rattle.session_net.specs.Runs.{Ran}
@@ -17,7 +17,7 @@ use Rattle.told_by.specs.Lines.{MakesAndHears, PlainLine}
 use Rattle.told_by.specs.Makes.{OpensReplicas}
 use Rattle.transcripts.specs.Record.{line_of}
 use Rattle.call_lines.specs.Laws.{IsNotRefused, Kind, LeavesLine, LeavesServed}
-use Rattle.call_lines.specs.Left.{IsLeftBy, IsNextCall}
+use Rattle.call_lines.specs.Left.{NetIsLeftBy, IsNextCall}
 use Rattle.call_lines.proofs.KeepLemmas.{left_as_before}
 use Rattle.cluster_members.specs.Calls.{KeepsCluster}
 use Rattle.cluster_members.specs.Steps.{spaces_in}
@@ -45,7 +45,7 @@ module _ {D : Type 0} {G : Ghosts D} (state : D → DiskState) (m : Members D G)
   stood : StandsSo state tells now turns m
   stood = on.tracks.after
 
-  pub left_so : IsLeftBy None turns m.net
+  pub left_so : NetIsLeftBy None turns m.net
   left_so = stood.stands.left
 
   -- which refusals are due of calls
@@ -56,14 +56,14 @@ module _ {D : Type 0} {G : Ghosts D} (state : D → DiskState) (m : Members D G)
   pub next_is : (next_call calls).number < last_number → IsNextCall turns (next_call calls)
   next_is low = (refl, counted_all (next_call calls).number _ last_number on.tracks.numbered.next low)
 
-  module _ (lawful : (d : D) → IsLawful (state d)) (a : Act) (b : Answer) (g : Members D G) (is_left : IsLeft tells g) (sets : SetsNone b) (calm : OpensReplicas a → ⊥) (keeps : KeepsCluster m g) where
+  module _ (lawful : (d : D) → IsLawfulDisk (state d)) (a : Act) (b : Answer) (g : Members D G) (is_left : IsLeft tells g) (sets : SetsNone b) (calm : OpensReplicas a → ⊥) (keeps : KeepsCluster m g) where
     -- by lines of such a kind the turn makes what it may
     abbrev pub IsMaking : Kind → Type 0
     IsMaking Line = (more : List Event) → Line None turns m.net.replicas.events a b more → MakesAndHears None turns m.net.replicas.events a b more
 
     -- what came to the list tells of the line; and steps came, by which the cluster is what the turns left
     goes_on : (Line : Kind) → TracksOn Line state (Some m) → IsMaking Line → AddsLine Line tells [] [] on.tracks.delivered turns m.net.replicas.events a b g.net.replicas.events
-        → (more : List Event) → Ran state m.net.replicas more g.net.replicas → IsLeftBy None (turns ++ line_of a b ∷ []) g.net
+        → (more : List Event) → Ran state m.net.replicas more g.net.replicas → NetIsLeftBy None (turns ++ line_of a b ∷ []) g.net
         → Tracks state tells first now (turns ++ line_of a b ∷ []) (Some g) (numbers_by a b calls)
     goes_on Line tracks_on makes adds more ran left =
         goes_quietly state m tells first now turns calls a b Line tracks_on lawful g [] on adds is_left.legal (record {
@@ -85,18 +85,18 @@ module _ {D : Type 0} {G : Ghosts D} (state : D → DiskState) (m : Members D G)
 
     -- so where no refusal was due
     pub told_on : (Line : Kind) → TracksOn Line state (Some m) → IsMaking Line → LeavesLine Line None turns [] m.net a b g.net → IsNotRefused None turns a b
-        → (more : List Event) → Ran state m.net.replicas more g.net.replicas → IsLeftBy None (turns ++ line_of a b ∷ []) g.net
+        → (more : List Event) → Ran state m.net.replicas more g.net.replicas → NetIsLeftBy None (turns ++ line_of a b ∷ []) g.net
         → Tracks state tells first now (turns ++ line_of a b ∷ []) (Some g) (numbers_by a b calls)
     told_on Line tracks_on makes line free more ran left = goes_on Line tracks_on makes (call_adds Line m.net tells turns [] on.tracks.delivered a b g.net on.tracks.were free line) more ran left
 
     -- whatever refusal was due
     pub served_on : (Line : Kind) → TracksOn Line state (Some m) → IsMaking Line → LeavesServed Line None turns [] m.net.replicas.events a b g.net.replicas.events
-        → (more : List Event) → Ran state m.net.replicas more g.net.replicas → IsLeftBy None (turns ++ line_of a b ∷ []) g.net
+        → (more : List Event) → Ran state m.net.replicas more g.net.replicas → NetIsLeftBy None (turns ++ line_of a b ∷ []) g.net
         → Tracks state tells first now (turns ++ line_of a b ∷ []) (Some g) (numbers_by a b calls)
     served_on Line tracks_on makes line more ran left = goes_on Line tracks_on makes (served_adds Line tells turns [] on.tracks.delivered m.net.replicas.events a b g.net.replicas.events on.tracks.were line) more ran left
 
     -- where the late messages stay, and none was delivered, the fields are what the turns left
-    pub same_bag : DeliversNone b → g.net.bag ≡ m.net.bag → IsLeftBy None (turns ++ line_of a b ∷ []) g.net
+    pub same_bag : DeliversNone b → g.net.bag ≡ m.net.bag → NetIsLeftBy None (turns ++ line_of a b ∷ []) g.net
     same_bag delivers same = left_as_before m.net None turns g.net a b left_so (record { state = keeps.state; fates = keeps.fates }) (sets_nothing_so a b sets) (delivers_nothing_so a b delivers) same
 
     -- and where nothing changed
@@ -113,5 +113,5 @@ module _ {D : Type 0} {G : Ghosts D} (state : D → DiskState) (m : Members D G)
     wanted_on is = stays_same state m tells first now turns calls a b g same on.tracks (subst (λ (x : Answer). LeavesNothing None turns m.net.replicas.events a x) (sym is) (memory_tells turns m.net.replicas.events a))
 
     -- one whose namespace isn't there
-    pub unknown_on : (ns : List ℕ) → SpaceDue None turns m.net.state.rules ns a b → namespace_place ns (spaces_in m) ≡ None → b ≡ answer.Unknown ns → Tracks state tells first now (turns ++ line_of a b ∷ []) (Some g) (numbers_by a b calls)
+    pub unknown_on : (ns : List ℕ) → SpaceDue None turns m.net.state.rules ns a b → namespace_position ns (spaces_in m) ≡ None → b ≡ answer.Unknown ns → Tracks state tells first now (turns ++ line_of a b ∷ []) (Some g) (numbers_by a b calls)
     unknown_on ns due none is = stays_same state m tells first now turns calls a b g same on.tracks (refused_tells None turns m.net.replicas.events a b (subst (λ (x : Answer). IsDueNext None turns a b (Some x)) (sym is) (due.unknown none)))

@@ -3,7 +3,7 @@ use Rattle.std.proofs.Common.{◌≡◌, [], refl}
 use Rattle.m3_model.specs.declared.reason.Damage.{Damage}
 use Rattle.m3_model.specs.declared.reason.Reason.TheVariants as reason
 use Rattle.m3_outside.specs.Depots.{TellAll}
-use Rattle.m3_outside.specs.DiskState.{DiskState, EachImage, IsLawful}
+use Rattle.m3_outside.specs.DiskState.{DiskState, EachImage, IsLawfulDisk}
 use Rattle.cluster_core.specs.Replicas.{replica}
 use Rattle.cluster_core.specs.declared.event.Event.TheVariants as event
 use Rattle.cluster_core.specs.declared.event.StepCall.{StepCall}
@@ -20,7 +20,7 @@ use Rattle.first_cluster.specs.Bare.{HasNoPoints}
 use Rattle.cluster_tracks.specs.Runs.{RunFindsNoDamage}
 use Rattle.cluster_tracks.proofs.OpenLemmas.{in_run}
 
-module _ {D : Type 0} (state : D → DiskState) (lawful : (d : D) → IsLawful (state d)) (tell : TellAll state) where
+module _ {D : Type 0} (state : D → DiskState) (lawful : (d : D) → IsLawfulDisk (state d)) (tell : TellAll state) where
   -- a machine over such a disk finds none
   finds_none : (first : D) → EachImage (state first) HasNoPoints → (r : ReplicaState) (old new : MachineState D) (c : StepCall) (a : StepReply) → IsMachineOf state (state first).images r old → IsStep state old c a new
       → (damage : Damage) → a ≡ reply.Refused (reason.Corrupt damage) → ⊥
@@ -30,7 +30,7 @@ module _ {D : Type 0} (state : D → DiskState) (lawful : (d : D) → IsLawful (
       let known = tenures_are_known state first r old sound is (tell old.disk) files ((lawful old.disk).read_is_image (tell old.disk)) in
       step.sound damage is_damage (tell old.disk) (record { points = known.points; tenure = known.tenure; fence = known.fence; held = known.held })
 
-pub run_finds_no_damage : {D : Type 0} (state : D → DiskState) → ((d : D) → IsLawful (state d)) → (t : Tracked D) → RunFindsNoDamage state t
+pub run_finds_no_damage : {D : Type 0} (state : D → DiskState) → ((d : D) → IsLawfulDisk (state d)) → (t : Tracked D) → RunFindsNoDamage state t
 run_finds_no_damage {D} state lawful t depot tell h n s c damage i =
     let at = in_at t.events (event.Step n s c (reply.Refused (reason.Corrupt damage))) i in
     in_run n s state depot tell t h (λ past c a. (damage : Damage) → a ≡ reply.Refused (reason.Corrupt damage) → ⊥) (λ first bare past old new c a is step. finds_none state lawful tell first bare (replica n s past) old new c a is step)

@@ -7,7 +7,7 @@ use Rattle.m3_model.specs.declared.answer.Answer.TheVariants as answer
 use Rattle.m3_model.specs.declared.rules.MetaState.{MetaState}
 use Rattle.m3_model.specs.declared.turn.Turn.{Turn}
 use Rattle.m3_outside.specs.Depots.{Depot}
-use Rattle.m3_outside.specs.DiskState.{DiskState, IsLawful}
+use Rattle.m3_outside.specs.DiskState.{DiskState, IsLawfulDisk}
 use Rattle.m3_outside.specs.declared.disk.Disk.{Ghosts}
 use Rattle.replica_calls.specs.Calls.{Tracked}
 use Rattle.session_net.specs.Runs.{Ran}
@@ -15,11 +15,11 @@ use Rattle.session_net.specs.declared.net.Net.{Net}
 use Rattle.session_net.proofs.RunLemmas.{ran_nothing}
 use Rattle.told_by.specs.Lines.{PlainLine}
 use Rattle.transcripts.specs.Record.{line_of}
-use Rattle.call_lines.specs.Left.{IsLeftBy}
+use Rattle.call_lines.specs.Left.{NetIsLeftBy}
 use Rattle.call_lines.proofs.DeliverLemmas.{delivered_tells}
 use Rattle.call_lines.proofs.KeepLemmas.{left_as_before, left_by_delivery}
 use Rattle.cluster_members.specs.declared.members.Members.{Members}
-use Rattle.upkeep_lines.specs.Nodes.{IsDelivered, KeepsButReplicas}
+use Rattle.upkeep_lines.specs.Nodes.{IsDeliverAnswer, KeepsButReplicas}
 use Rattle.act_lines.specs.Settings.{LeavesNothing}
 use Rattle.act_lines.proofs.DueLemmas.{deliveries_are_due}
 use Rattle.act_lines.proofs.NothingLemmas.{full_delivery_tells}
@@ -31,9 +31,9 @@ use Rattle.cluster_tracks.proofs.StepLemmas.{plain_on}
 use Rattle.cluster_tracks.specs.Lines.{DeliveriesAreTracked, IsLeft, MayGoOn}
 use Rattle.cluster_tracks.proofs.SharedLemmas.{goes_quietly, have_left, memory_tells}
 
-module _ {D : Type 0} {G : Ghosts D} (state : D → DiskState) (lawful : (d : D) → IsLawful (state d)) (m : Members D G) (tells : Bool) (first now : Depot D) (turns : List Turn) (calls : List ℕ) (g : Members D G) (on : MayGoOn state tells first now turns calls m) (left : IsLeft tells g) where
+module _ {D : Type 0} {G : Ghosts D} (state : D → DiskState) (lawful : (d : D) → IsLawfulDisk (state d)) (m : Members D G) (tells : Bool) (first now : Depot D) (turns : List Turn) (calls : List ℕ) (g : Members D G) (on : MayGoOn state tells first now turns calls m) (left : IsLeft tells g) where
   -- the late messages were delivered
-  delivered : (outcomes : List _) → IsDelivered state m (answer.Outcomes outcomes) g → Tracks state tells first now (turns ++ line_of act.Deliver (answer.Outcomes outcomes) ∷ []) (Some g) calls
+  delivered : (outcomes : List _) → IsDeliverAnswer state m (answer.Outcomes outcomes) g → Tracks state tells first now (turns ++ line_of act.Deliver (answer.Outcomes outcomes) ∷ []) (Some g) calls
   delivered outcomes done =
       let b : Answer = answer.Outcomes outcomes in
       let stands = on.tracks.after.stands in
@@ -75,7 +75,7 @@ module _ {D : Type 0} {G : Ghosts D} (state : D → DiskState) (lawful : (d : D)
         more = [];
         ran = subst (λ t. Ran state m.net.replicas [] t) (sym same) (ran_nothing state m.net.replicas);
         others = λ s none. refl;
-        left = elim bag as (λ _. IsLeftBy None (turns ++ line_of act.Deliver b ∷ []) g.net) [
+        left = elim bag as (λ _. NetIsLeftBy None (turns ++ line_of act.Deliver b ∷ []) g.net) [
           | inl as_before ↦ left_as_before m.net None turns g.net act.Deliver b stands.left (record { state = keeps.state; fates = keeps.fates }) sets (delivers_nothing_so act.Deliver b h.delivers_none) as_before
           | inr lost ↦ left_by_delivery m.net None turns g.net act.Deliver b stands.left (record { state = keeps.state; fates = keeps.fates }) sets lost
         ];
@@ -86,12 +86,12 @@ module _ {D : Type 0} {G : Ghosts D} (state : D → DiskState) (lawful : (d : D)
       })
 
   -- the line of a delivery
-  delivery_tracked : (b : Answer) → IsDelivered state m b g → Tracks state tells first now (turns ++ line_of act.Deliver b ∷ []) (Some g) calls
+  delivery_tracked : (b : Answer) → IsDeliverAnswer state m b g → Tracks state tells first now (turns ++ line_of act.Deliver b ∷ []) (Some g) calls
   delivery_tracked (answer.Outcomes outcomes) done = delivered outcomes done
   delivery_tracked answer.Memory done = given_up answer.Memory (memory_tells turns m.net.replicas.events act.Deliver) done.0.0 done.0.1 done.1
   delivery_tracked answer.Full done =
       given_up answer.Full (full_delivery_tells m.net None turns act.Deliver g.net done.0) (ap (λ (n : Net D G). n.replicas) done.0.0) (inl (ap (λ (n : Net D G). n.bag) done.0.0)) done.1
   delivery_tracked _ done = absurd done
 
-pub deliveries_are_tracked : {D : Type 0} {G : Ghosts D} (state : D → DiskState) → ((d : D) → IsLawful (state d)) → (m : Members D G) → DeliveriesAreTracked state m
+pub deliveries_are_tracked : {D : Type 0} {G : Ghosts D} (state : D → DiskState) → ((d : D) → IsLawfulDisk (state d)) → (m : Members D G) → DeliveriesAreTracked state m
 deliveries_are_tracked state lawful m tells first now turns calls b g on left done = delivery_tracked state lawful m tells first now turns calls g on left b done

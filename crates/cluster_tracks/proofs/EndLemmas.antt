@@ -12,9 +12,9 @@ use Rattle.m3_model.specs.declared.turn.Request.{Request}
 use Rattle.m3_model.specs.declared.turn.Turn.{Turn}
 use Rattle.m3_outside.specs.Causes.{RoseBy, last_count}
 use Rattle.m3_outside.specs.Depots.{Depot, TellAll}
-use Rattle.m3_outside.specs.DiskState.{DiskState, IsLawful}
+use Rattle.m3_outside.specs.DiskState.{DiskState, IsLawfulDisk}
 use Rattle.m3_outside.specs.declared.disk.Disk.{Ghosts}
-use Rattle.m3_outside.specs.declared.slot.Slot.{Slot as Place}
+use Rattle.m3_outside.specs.declared.slot.DiskSlot.{DiskSlot}
 use Rattle.cluster_core.specs.Core.{AgreesWith}
 use Rattle.cluster_core.specs.declared.event.Event.{Event}
 use Rattle.cluster_core.specs.declared.event.Event.TheVariants as event
@@ -28,26 +28,26 @@ use Rattle.told_runs.proofs.CausedLemmas.{told_caused}
 use Rattle.told_runs.proofs.CountedLemmas.{few, of_run}
 use Rattle.transcripts.specs.Caused.{Caused}
 use Rattle.transcripts.specs.Faults.{Fault, FaultKind, Taking, Failing, Damaged, is_failing, is_taking}
-use Rattle.transcripts.specs.Record.{TurnPlace, IsTurnPlace}
+use Rattle.transcripts.specs.Record.{TurnPosition, IsTurnPosition}
 use Rattle.replica_exchange.specs.declared.member.Member.{Member}
 use Rattle.replica_exchange.specs.declared.slot.Slot.{Slot}
 use Rattle.replica_calls.specs.Slots.{MemberMap}
 use Rattle.session_net.specs.Runs.{Step, slot_at, step_in, steps_of}
 use Rattle.cluster_members.specs.declared.members.Members.{Members}
-use Rattle.first_cluster.specs.Depots.{count_at, place_of_slot, risen}
+use Rattle.first_cluster.specs.Depots.{count_at, disk_slot_of, risen}
 use Rattle.cluster_tracks.specs.Ends.{AreGivenBack, CausedWhereTracked, KeptWhereTracked, ShownWhereTracked, is_failed_at, is_fault}
 use Rattle.cluster_tracks.specs.Failures.{failures_in}
 use Rattle.cluster_tracks.specs.Runs.{HasNoDamage, RoseByFailures, no_points}
 use Rattle.cluster_tracks.proofs.DamageLemmas.{run_finds_no_damage}
 use Rattle.cluster_core.proofs.ListLemmas.{at_in}
-use Rattle.cluster_tracks.specs.Tracks.{MayStand, StandsSo, Tracks, events_of, faults_of}
+use Rattle.cluster_tracks.specs.Tracks.{MayStandSo, StandsSo, Tracks, events_of, faults_of}
 use Rattle.cluster_tracks.proofs.FailureLemmas.{failures_append, steps_append}
 use Rattle.cluster_tracks.proofs.OpenLemmas.{run_opens_empty}
 use Rattle.cluster_tracks.proofs.RunLemmas.{run_is_counted}
 
--- a place in these turns is one in more of them
-place_longer : (turns more : List Turn) (p : TurnPlace) → IsTurnPlace turns p → IsTurnPlace (turns ++ more) p
-place_longer turns more p at = record { after = at.after ++ more; in_run = ap (λ ts. ts ++ more) at.in_run ∙ append_assoc p.lines (p.line ∷ at.after) more; stands = at.stands }
+-- a position in these turns is one in more of them
+position_longer : (turns more : List Turn) (p : TurnPosition) → IsTurnPosition turns p → IsTurnPosition (turns ++ more) p
+position_longer turns more p at = record { after = at.after ++ more; in_run = ap (λ ts. ts ++ more) at.in_run ∙ append_assoc p.lines (p.line ∷ at.after) more; stands = at.stands }
 
 -- ---- kept
 
@@ -58,20 +58,20 @@ caused_front : (tells : Bool) (turns more : List Turn) (unanswered : Option Requ
 caused_front tells turns more unanswered faults c = record {
   different = c.different;
   delivered = c.delivered;
-  each = λ p at. c.each p (place_longer turns more p at);
-  once = λ p q at there. c.once p q (place_longer turns more p at) (place_longer turns more q there);
+  each = λ p at. c.each p (position_longer turns more p at);
+  once = λ p q at there. c.once p q (position_longer turns more p at) (position_longer turns more q there);
   whole = λ before line after e. c.whole before line (after ++ more) (ap (λ ts. ts ++ more) e ∙ append_assoc before (line ∷ after) more);
 }
 
 module _ {D : Type 0} {G : Ghosts D} (state : D → DiskState) where
-  agrees : (members : Option (Members D G)) (now : Depot D) (turns : List Turn) → TellAll state → MayStand state true now turns members → AgreesWith (events_of members) no_points
+  agrees : (members : Option (Members D G)) (now : Depot D) (turns : List Turn) → TellAll state → MayStandSo state true now turns members → AgreesWith (events_of members) no_points
   agrees None now turns tell h = none_agrees
   agrees (Some m) now turns tell h = run_opens_empty state m.net.replicas now tell h.run
 
   pub kept_where_tracked : (members : Option (Members D G)) → KeptWhereTracked state members
   kept_where_tracked members first now turns more calls unanswered t p at =
       told_kept (life_of [] None (turns ++ more) None) (events_of members) no_points t.legal (agrees members now (turns ++ more) (t.tell refl) t.after) (record { acked = λ turn m nodes e. absurd m; sent = λ n s point m. absurd m }) t.served.0
-      p (place_longer turns more p at)
+      p (position_longer turns more p at)
 
   -- ---- caused
 
@@ -133,7 +133,7 @@ undamaged_told : (ends : ℕ → ℕ) (events : List Event) (lines : ℕ) → Ha
 undamaged_told ends events lines clean f i kind =
     let told = faults_steps ends events lines f i in
     let d = told_damage f.line told.e f told.tells kind in
-    clean d.0 d.1 d.2 d.3 (subst (IsIn events) d.4 (at_in events told.place told.e told.there))
+    clean d.0 d.1 d.2 d.3 (subst (IsIn events) d.4 (at_in events told.position told.e told.there))
 
 -- those of taking are at most as many as couldn't be taken
 taken_few : (taking : List Fault) (ends : ℕ → ℕ) (events : List Event) (lines : ℕ) → count_by (λ f. is_taking f.kind) (taking ++ faults_told ends events lines) ≤ length taking
@@ -149,22 +149,22 @@ steps_one : (s : Slot) (e : Event) (es : List Event) → failures_in (steps_of s
 steps_one s e es = ap failures_in (steps_append s (e ∷ []) es) ∙ failures_append (steps_of s (e ∷ [])) (steps_of s es)
 
 -- an event tells that the slot's disk failed where it is such a step
-one_event : (place : Place) (e : Event) → 0 + cond (tells_of (is_failed_at place) e) 1 0 ≡ failures_in (steps_of (slot_at place.node place.shard) (e ∷ []))
-one_event place (event.Step n s c (reply.Refused reason.Disk)) = by (nat_eq n place.node && nat_eq s place.shard)
+one_event : (disk_slot : DiskSlot) (e : Event) → 0 + cond (tells_of (is_failed_at disk_slot) e) 1 0 ≡ failures_in (steps_of (slot_at disk_slot.node disk_slot.shard) (e ∷ []))
+one_event disk_slot (event.Step n s c (reply.Refused reason.Disk)) = by (nat_eq n disk_slot.node && nat_eq s disk_slot.shard)
   where
     by : (b : Bool) → 0 + cond (true && b) 1 0 ≡ failures_in (cons_option (if b then Some (record { call = c; reply = reply.Refused reason.Disk }) else None) [])
     by true = refl
     by false = refl
-one_event place (event.Step n s c a) = by (nat_eq n place.node && nat_eq s place.shard)
+one_event disk_slot (event.Step n s c a) = by (nat_eq n disk_slot.node && nat_eq s disk_slot.shard)
   where
     by : (b : Bool) → 0 ≡ failures_in (cons_option (if b then Some (record { call = c; reply = a }) else None) [])
     by true = refl
     by false = refl
-one_event place _ = refl
+one_event disk_slot _ = refl
 
-at_slot : (place : Place) (events : List Event) → count_by (tells_of (is_failed_at place)) events ≡ failures_in (steps_of (slot_at place.node place.shard) events)
-at_slot place [] = refl
-at_slot place (e ∷ es) = omega (arith, count_cons (tells_of (is_failed_at place)) e es, one_event place e, at_slot place es, steps_one (slot_at place.node place.shard) e es)
+at_slot : (disk_slot : DiskSlot) (events : List Event) → count_by (tells_of (is_failed_at disk_slot)) events ≡ failures_in (steps_of (slot_at disk_slot.node disk_slot.shard) events)
+at_slot disk_slot [] = refl
+at_slot disk_slot (e ∷ es) = omega (arith, count_cons (tells_of (is_failed_at disk_slot)) e es, one_event disk_slot e, at_slot disk_slot es, steps_one (slot_at disk_slot.node disk_slot.shard) e es)
 
 -- ---- of one slot
 
@@ -178,24 +178,24 @@ rose_by : (n before now : ℕ) → RoseBy n before now → now < last_count → 
 rose_by n before now rose low = omega arith
 
 module _ {D : Type 0} {G : Ghosts D} (state : D → DiskState) where
-  shown_at : (tells : Bool) (first now : Depot D) (turns : List Turn) (members : Option (Members D G)) (all : ℕ) (of_disk : Place → ℕ) → MayStand state tells now turns members → AreGivenBack state now members all of_disk
-      → (place : Place) → first.counted place ≤ now.counted place → (n : ℕ) → n ≤ failures_in (steps_of (slot_at place.node place.shard) (events_of members)) → RoseBy n (first.counted place) (of_disk place)
-  shown_at tells first now turns None all of_disk h back place later n few = rose_still n 0 (first.counted place) (now.counted place) (of_disk place) few refl later (back.counted (slot_at place.node place.shard))
-  shown_at tells first now turns (Some m) all of_disk h back place later n few = by (finite.get m.net.replicas.members slot) refl
+  shown_at : (tells : Bool) (first now : Depot D) (turns : List Turn) (members : Option (Members D G)) (all : ℕ) (of_disk : DiskSlot → ℕ) → MayStandSo state tells now turns members → AreGivenBack state now members all of_disk
+      → (disk_slot : DiskSlot) → first.counted disk_slot ≤ now.counted disk_slot → (n : ℕ) → n ≤ failures_in (steps_of (slot_at disk_slot.node disk_slot.shard) (events_of members)) → RoseBy n (first.counted disk_slot) (of_disk disk_slot)
+  shown_at tells first now turns None all of_disk h back disk_slot later n few = rose_still n 0 (first.counted disk_slot) (now.counted disk_slot) (of_disk disk_slot) few refl later (back.counted (slot_at disk_slot.node disk_slot.shard))
+  shown_at tells first now turns (Some m) all of_disk h back disk_slot later n few = by (finite.get m.net.replicas.members slot) refl
     where
       slot : Slot
-      slot = slot_at place.node place.shard
+      slot = slot_at disk_slot.node disk_slot.shard
 
       rose : RoseByFailures state now m.net.replicas
       rose = (run_is_counted state m.net.replicas tells now h.run).1
 
-      by : (o : Option (Member D)) → finite.get m.net.replicas.members (slot_at place.node place.shard) ≡ o → RoseBy n (first.counted place) (of_disk place)
+      by : (o : Option (Member D)) → finite.get m.net.replicas.members (slot_at disk_slot.node disk_slot.shard) ≡ o → RoseBy n (first.counted disk_slot) (of_disk disk_slot)
       by None none =
-          rose_still n (failures_in (steps_of (slot_at place.node place.shard) m.net.replicas.events)) (first.counted place) (now.counted place) (of_disk place) few (ap failures_in (rose.others (slot_at place.node place.shard) none)) later
-          (back.counted (slot_at place.node place.shard) ∙ ap (λ o. count_at state now o (slot_at place.node place.shard)) none)
+          rose_still n (failures_in (steps_of (slot_at disk_slot.node disk_slot.shard) m.net.replicas.events)) (first.counted disk_slot) (now.counted disk_slot) (of_disk disk_slot) few (ap failures_in (rose.others (slot_at disk_slot.node disk_slot.shard) none)) later
+          (back.counted (slot_at disk_slot.node disk_slot.shard) ∙ ap (λ o. count_at state now o (slot_at disk_slot.node disk_slot.shard)) none)
       by (Some r) is =
-          rose_within n (failures_in (steps_of (slot_at place.node place.shard) m.net.replicas.events)) (first.counted place) (now.counted place) (state r.machine.disk).faults (of_disk place) few later (rose.rose (slot_at place.node place.shard) r is)
-          (back.counted (slot_at place.node place.shard) ∙ ap (λ o. count_at state now o (slot_at place.node place.shard)) is)
+          rose_within n (failures_in (steps_of (slot_at disk_slot.node disk_slot.shard) m.net.replicas.events)) (first.counted disk_slot) (now.counted disk_slot) (state r.machine.disk).faults (of_disk disk_slot) few later (rose.rose (slot_at disk_slot.node disk_slot.shard) r is)
+          (back.counted (slot_at disk_slot.node disk_slot.shard) ∙ ap (λ o. count_at state now o (slot_at disk_slot.node disk_slot.shard)) is)
 
 -- ---- of all slots
 
@@ -246,11 +246,11 @@ many slots (e ∷ es) each =
     ]
 
 module _ {D : Type 0} (state : D → DiskState) (depot : Depot D) (members : MemberMap D) (events : List Event) where
-  risen_all : (slots : List Slot) → ((s : Slot) → failures_in (steps_of s events) ≤ count_at state depot (finite.get members s) s - depot.counted (place_of_slot s)) → in_all slots events ≤ risen state depot members slots
+  risen_all : (slots : List Slot) → ((s : Slot) → failures_in (steps_of s events) ≤ count_at state depot (finite.get members s) s - depot.counted (disk_slot_of s)) → in_all slots events ≤ risen state depot members slots
   risen_all [] each = omega arith
   risen_all (s ∷ slots) each = omega (arith, each s, risen_all slots each)
 
-module _ {D : Type 0} {G : Ghosts D} (state : D → DiskState) (tells : Bool) (now : Depot D) (turns : List Turn) (m : Members D G) (h : StandsSo state tells now turns m) (all : ℕ) (of_disk : Place → ℕ) (back : AreGivenBack state now (Some m) all of_disk) where
+module _ {D : Type 0} {G : Ghosts D} (state : D → DiskState) (tells : Bool) (now : Depot D) (turns : List Turn) (m : Members D G) (h : StandsSo state tells now turns m) (all : ℕ) (of_disk : DiskSlot → ℕ) (back : AreGivenBack state now (Some m) all of_disk) where
   abbrev rise : RoseByFailures state now m.net.replicas
   rise = (run_is_counted state m.net.replicas tells now h.run).1
 
@@ -264,17 +264,17 @@ module _ {D : Type 0} {G : Ghosts D} (state : D → DiskState) (tells : Bool) (n
       own : (n s : ℕ) (c : StepCall) → step_in (slot_at n s) (event.Step n s c (reply.Refused reason.Disk)) ≡ Some (record { call = c; reply = reply.Refused reason.Disk })
       own n s c = ap (λ b. if b then Some (record { call = c; reply = reply.Refused reason.Disk }) else None) (and_from (nat_eq n n) (nat_eq s s) (eq-eqb n n refl) (eq-eqb s s refl))
 
-  few_at : ((place : Place) → of_disk place < last_count) → (s : Slot) → failures_in (steps_of s m.net.replicas.events) ≤ count_at state now (finite.get m.net.replicas.members s) s - now.counted (place_of_slot s)
+  few_at : ((disk_slot : DiskSlot) → of_disk disk_slot < last_count) → (s : Slot) → failures_in (steps_of s m.net.replicas.events) ≤ count_at state now (finite.get m.net.replicas.members s) s - now.counted (disk_slot_of s)
   few_at low s = by (finite.get m.net.replicas.members s) refl
     where
-      by : (o : Option (Member D)) → finite.get m.net.replicas.members s ≡ o → failures_in (steps_of s m.net.replicas.events) ≤ count_at state now (finite.get m.net.replicas.members s) s - now.counted (place_of_slot s)
+      by : (o : Option (Member D)) → finite.get m.net.replicas.members s ≡ o → failures_in (steps_of s m.net.replicas.events) ≤ count_at state now (finite.get m.net.replicas.members s) s - now.counted (disk_slot_of s)
       by None none = let zero : failures_in (steps_of s m.net.replicas.events) ≡ 0 = ap failures_in (rise.others s none) in omega (arith, zero)
       by (Some r) is =
           let count : count_at state now (finite.get m.net.replicas.members s) s ≡ (state r.machine.disk).faults = ap (λ o. count_at state now o s) is in
-          let below : (state r.machine.disk).faults < last_count = subst (λ n. n < last_count) (back.counted s ∙ count) (low (place_of_slot s)) in
-          subst (λ n. failures_in (steps_of s m.net.replicas.events) ≤ n - now.counted (place_of_slot s)) (sym count) (rose_by (failures_in (steps_of s m.net.replicas.events)) (now.counted (place_of_slot s)) (state r.machine.disk).faults (rise.rose s r is) below)
+          let below : (state r.machine.disk).faults < last_count = subst (λ n. n < last_count) (back.counted s ∙ count) (low (disk_slot_of s)) in
+          subst (λ n. failures_in (steps_of s m.net.replicas.events) ≤ n - now.counted (disk_slot_of s)) (sym count) (rose_by (failures_in (steps_of s m.net.replicas.events)) (now.counted (disk_slot_of s)) (state r.machine.disk).faults (rise.rose s r is) below)
 
-  all_of : all < last_count → ((place : Place) → of_disk place < last_count) → now.faults + count_by (tells_of failing) m.net.replicas.events ≤ all
+  all_of : all < last_count → ((disk_slot : DiskSlot) → of_disk disk_slot < last_count) → now.faults + count_by (tells_of failing) m.net.replicas.events ≤ all
   all_of low each =
       let first = many m.slots.items m.net.replicas.events of_slots in
       let next = risen_all state now m.net.replicas.members m.net.replicas.events m.slots.items (few_at each) in
@@ -285,30 +285,30 @@ module _ {D : Type 0} {G : Ghosts D} (state : D → DiskState) (tells : Bool) (n
       sum before told at_all rise all first next rose low = omega arith
 
 module _ {D : Type 0} {G : Ghosts D} (state : D → DiskState) where
-  told_by_all : (tells : Bool) (now : Depot D) (turns : List Turn) (members : Option (Members D G)) → MayStand state tells now turns members → (all : ℕ) (of_disk : Place → ℕ) → AreGivenBack state now members all of_disk
-      → all < last_count → ((place : Place) → of_disk place < last_count) → now.faults + count_by (tells_of failing) (events_of members) ≤ all
+  told_by_all : (tells : Bool) (now : Depot D) (turns : List Turn) (members : Option (Members D G)) → MayStandSo state tells now turns members → (all : ℕ) (of_disk : DiskSlot → ℕ) → AreGivenBack state now members all of_disk
+      → all < last_count → ((disk_slot : DiskSlot) → of_disk disk_slot < last_count) → now.faults + count_by (tells_of failing) (events_of members) ≤ all
   told_by_all tells now turns None h all of_disk back low each = let later = back.later in omega (arith, later)
   told_by_all tells now turns (Some m) h all of_disk back low each = all_of state tells now turns m h all of_disk back low each
 
-  none_damaged : ((d : D) → IsLawful (state d)) → (members : Option (Members D G)) (now : Depot D) (turns : List Turn) → TellAll state → MayStand state true now turns members → HasNoDamage (events_of members)
+  none_damaged : ((d : D) → IsLawfulDisk (state d)) → (members : Option (Members D G)) (now : Depot D) (turns : List Turn) → TellAll state → MayStandSo state true now turns members → HasNoDamage (events_of members)
   none_damaged lawful None now turns tell h = λ n s c damage i. i
   none_damaged lawful (Some m) now turns tell h = run_finds_no_damage state lawful m.net.replicas now tell h.run
 
-  undamaged_all : ((d : D) → IsLawful (state d)) → (tells : Bool) (first now : Depot D) (turns : List Turn) (members : Option (Members D G)) (calls : List ℕ) (t : Tracks state tells first now turns members calls) → tells ≡ true → (f : Fault) → IsIn (faults_of t) f → ¬ (f.kind ≡ Damaged)
+  undamaged_all : ((d : D) → IsLawfulDisk (state d)) → (tells : Bool) (first now : Depot D) (turns : List Turn) (members : Option (Members D G)) (calls : List ℕ) (t : Tracks state tells first now turns members calls) → tells ≡ true → (f : Fault) → IsIn (faults_of t) f → ¬ (f.kind ≡ Damaged)
   undamaged_all lawful tells first now turns members calls t e f i kind =
       elim (IsIn-append_cases t.taking (faults_told (t.served.0).ends (events_of members) (length turns)) f i) as (λ _. ⊥) [
         | inl untaken ↦ (let clash : Taking ≡ Damaged = sym (((t.served.1).answers).untaken f untaken).0 ∙ kind in cc)
-        | inr told ↦ undamaged_told (t.served.0).ends (events_of members) (length turns) (none_damaged lawful members now turns (t.tell e) (subst (λ b. MayStand state b now turns members) e t.after)) f told kind
+        | inr told ↦ undamaged_told (t.served.0).ends (events_of members) (length turns) (none_damaged lawful members now turns (t.tell e) (subst (λ b. MayStandSo state b now turns members) e t.after)) f told kind
       ]
 
-  pub shown_where_tracked : ((d : D) → IsLawful (state d)) → (members : Option (Members D G)) → ShownWhereTracked state members
+  pub shown_where_tracked : ((d : D) → IsLawfulDisk (state d)) → (members : Option (Members D G)) → ShownWhereTracked state members
   shown_where_tracked lawful members tells first now turns calls all of_disk t back = record {
     undamaged = undamaged_all lawful tells first now turns members calls t;
     of_lines = of_run (life_of [] None turns None) (events_of members) t.served.0 t.taking t.delivered t.served.1;
     of_taking = taken first.faults now.faults all (length t.taking) (count_by (λ f. is_taking f.kind) (faults_of t)) t.untaken back.later (taken_few t.taking (t.served.0).ends (events_of members) (length turns));
-    of_disks = λ place. shown_at state tells first now turns members all of_disk t.after back place (t.later place) (count_by (is_failed_at place) (faults_of t))
-        (subst (λ n. count_by (is_failed_at place) (faults_of t) ≤ n) (at_slot place (events_of members))
-        (few (life_of [] None turns None) (events_of members) t.served.0 t.taking t.delivered t.served.1 (is_failed_at place) (λ f. refl) (λ f is. ap (λ k. is_failing k && (nat_eq f.node place.node && nat_eq f.shard place.shard)) is)));
+    of_disks = λ disk_slot. shown_at state tells first now turns members all of_disk t.after back disk_slot (t.later disk_slot) (count_by (is_failed_at disk_slot) (faults_of t))
+        (subst (λ n. count_by (is_failed_at disk_slot) (faults_of t) ≤ n) (at_slot disk_slot (events_of members))
+        (few (life_of [] None turns None) (events_of members) t.served.0 t.taking t.delivered t.served.1 (is_failed_at disk_slot) (λ f. refl) (λ f is. ap (λ k. is_failing k && (nat_eq f.node disk_slot.node && nat_eq f.shard disk_slot.shard)) is)));
     of_all = λ low each.
         whole first.faults now.faults all (length t.taking) (count_by (λ f. is_taking f.kind) (faults_of t)) (count_by failing (faults_of t)) (count_by is_fault (faults_of t)) (count_by (tells_of failing) (events_of members)) t.untaken
         (taken_few t.taking (t.served.0).ends (events_of members) (length turns))

@@ -27,7 +27,7 @@ use Rattle.session_net.specs.Runs.{steps_of}
 use Rattle.cluster_members.specs.declared.members.Members.{Members}
 use Rattle.first_cluster.specs.Bare.{AreBare}
 use Rattle.first_cluster.specs.Begins.{begins_of}
-use Rattle.first_cluster.specs.Depots.{place_of_slot}
+use Rattle.first_cluster.specs.Depots.{disk_slot_of}
 use Rattle.first_cluster.specs.First.{IsFirst, opening_of}
 use Rattle.first_cluster.specs.Slots.{AreApart, slots_of, start_at, starts_of}
 use Rattle.first_cluster.proofs.BareLemmas.{given_bare}
@@ -35,11 +35,11 @@ use Rattle.first_cluster.proofs.PlacedSlots.{from_start, start_slot, tenure_firs
 use Rattle.first_cluster.proofs.SlotLists.{in_or_out, slots_apart}
 use Rattle.told_by.specs.Makes.{IsAssigned}
 use Rattle.transcripts.specs.Record.{line_of}
-use Rattle.act_lines.specs.Stands.{NoneStands, Stands}
+use Rattle.act_lines.specs.Stands.{NoneStands, ClusterStands}
 use Rattle.act_lines.specs.Opens.{IsGivenNow, IsLow, OpensLow}
 use Rattle.act_lines.proofs.BeginEvents.{step_among}
 use Rattle.act_lines.proofs.InitStands.{first_stands}
-use Rattle.cluster_tracks.specs.Runs.{HaveRun, IsMade}
+use Rattle.cluster_tracks.specs.Runs.{HaveRun, IsMadeOver}
 use Rattle.cluster_tracks.specs.Steps.{FirstStandsSo}
 use Rattle.cluster_tracks.proofs.FailureLemmas.{stepped_from}
 use Rattle.cluster_tracks.proofs.OpenLemmas.{none_taken}
@@ -66,7 +66,7 @@ module _ {D : Type 0} {G : Ghosts D} (state : D → DiskState) (m : Members D G)
   list_is : events ≡ list
   list_is = first.opened.begun.ran.grew
 
-  stands : Stands None longer m
+  stands : ClusterStands None longer m
   stands = first_stands state m turns rf shards seed nodes old now none first
 
   in_slots : (s : Slot) → IsIn (slots_of place) s → IsIn m.slots.items s
@@ -74,12 +74,12 @@ module _ {D : Type 0} {G : Ghosts D} (state : D → DiskState) (m : Members D G)
 
   -- ---- what the replicas did
 
-  each_made : (s : Slot) (r : Member D) → finite.get first.opened.made s ≡ Some r → IsMade state tells now s r
-  each_made s r is = elim (in_or_out m.slots.items s) as (λ _. IsMade state tells now s r) [
+  each_made : (s : Slot) (r : Member D) → finite.get first.opened.made s ≡ Some r → IsMadeOver state tells now s r
+  each_made s r is = elim (in_or_out m.slots.items s) as (λ _. IsMadeOver state tells now s r) [
     | inl i ↦
         (let t = first.opened.taken.taken s i in
         let same : first_member t.disk ≡ r = some_same (first_member t.disk) r (sym t.stands ∙ is) in
-        record { disk = t.disk; is_first = sym same; counted = t.disk_faults ∙ sym t.counted; bare = λ e. given_bare state (old.held (place_of_slot s)) t.disk (bare e (place_of_slot s)) t.given })
+        record { disk = t.disk; is_first = sym same; counted = t.disk_faults ∙ sym t.counted; bare = λ e. given_bare state (old.held (disk_slot_of s)) t.disk (bare e (disk_slot_of s)) t.given })
     | inr out ↦ (let clash : None ≡ Some r = sym (first.opened.taken.others s out).no_member ∙ is in cc)
   ]
 
@@ -138,7 +138,7 @@ module _ {D : Type 0} {G : Ghosts D} (state : D → DiskState) (m : Members D G)
     tried = λ n s own unbegun tried tenure g.
         let here : Tries (replica n s (take (length events) events)) own = subst (λ es. Tries (replica n s es) own) (sym (take_all events)) (inr tried) in
         let began = tried_began events legal n s own (length events) (omega arith) here in
-        let one = begun_one began.place n s own began.answer (subst (λ es. At es began.place (event.Step n s (call.Begin own) began.answer)) list_is began.there) in
+        let one = begun_one began.position n s own began.answer (subst (λ es. At es began.position (event.Step n s (call.Begin own) began.answer)) list_is began.there) in
         let given_is = given_one n s tenure g in
         omega (arith, one, given_is);
   }

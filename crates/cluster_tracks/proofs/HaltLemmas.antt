@@ -10,7 +10,7 @@ use Rattle.m3_model.specs.declared.reason.Reason.{Reason}
 use Rattle.m3_model.specs.declared.reason.Reason.TheVariants as reason
 use Rattle.m3_model.specs.declared.turn.Turn.{Turn}
 use Rattle.m3_outside.specs.Depots.{Depot}
-use Rattle.m3_outside.specs.DiskState.{DiskState, IsLawful}
+use Rattle.m3_outside.specs.DiskState.{DiskState, IsLawfulDisk}
 use Rattle.m3_outside.specs.declared.disk.Disk.{Ghosts}
 use Rattle.cluster_core.specs.declared.event.Event.{Event}
 use Rattle.call_lines.specs.Laws.{IsNotRefused}
@@ -24,7 +24,7 @@ use Rattle.cluster_tracks.specs.Lines.{IsLeft, MayGoOn, RestartsAreTracked, Stop
 use Rattle.cluster_tracks.proofs.NodeLemmas.{IsTracked, flag_tells, halted_on, lacking_on, refused_on, so}
 use Rattle.cluster_tracks.proofs.SharedLemmas.{have_left}
 
-module _ {D : Type 0} {G : Ghosts D} (state : D → DiskState) (lawful : (d : D) → IsLawful (state d)) (m : Members D G) (tells : Bool) (first now : Depot D) (turns : List Turn) (calls : List ℕ) (go : MayGoOn state tells first now turns calls m) (name : List ℕ) where
+module _ {D : Type 0} {G : Ghosts D} (state : D → DiskState) (lawful : (d : D) → IsLawfulDisk (state d)) (m : Members D G) (tells : Bool) (first now : Depot D) (turns : List Turn) (calls : List ℕ) (go : MayGoOn state tells first now turns calls m) (name : List ℕ) where
   -- ---- stops
 
   abbrev stop : Act
@@ -87,8 +87,8 @@ module _ {D : Type 0} {G : Ghosts D} (state : D → DiskState) (lawful : (d : D)
     restart_on answer.Full g left (n, lacks) = let few = few_own m n.node in lacking_on state m tells first now turns calls go restart g 4 n.node (omega (arith, few)) lacks
     restart_on _ g left h = absurd h
 
-pub stops_are_tracked : {D : Type 0} {G : Ghosts D} (state : D → DiskState) → ((d : D) → IsLawful (state d)) → (m : Members D G) → StopsAreTracked state m
+pub stops_are_tracked : {D : Type 0} {G : Ghosts D} (state : D → DiskState) → ((d : D) → IsLawfulDisk (state d)) → (m : Members D G) → StopsAreTracked state m
 stops_are_tracked state lawful m name tells first now turns calls b g go left did = stop_on state lawful m tells first now turns calls go name b g left did
 
-pub restarts_are_tracked : {D : Type 0} {G : Ghosts D} (state : D → DiskState) → ((d : D) → IsLawful (state d)) → (m : Members D G) → RestartsAreTracked state m
+pub restarts_are_tracked : {D : Type 0} {G : Ghosts D} (state : D → DiskState) → ((d : D) → IsLawfulDisk (state d)) → (m : Members D G) → RestartsAreTracked state m
 restarts_are_tracked state lawful m name pick tells first now turns calls b g go left did = restart_on state lawful m tells first now turns calls go name pick b g left did

@@ -10,9 +10,9 @@ use Rattle.m3_model.specs.declared.placement.Placement.{Placement}
 use Rattle.m3_model.specs.declared.turn.Turn.{Turn}
 use Rattle.m3_outside.specs.Causes.{RoseBy}
 use Rattle.m3_outside.specs.Depots.{Depot}
-use Rattle.m3_outside.specs.DiskState.{DiskState, IsLawful}
+use Rattle.m3_outside.specs.DiskState.{DiskState, IsLawfulDisk}
 use Rattle.m3_outside.specs.declared.disk.Disk.{Ghosts}
-use Rattle.m3_outside.specs.declared.slot.Slot.{Slot as Place}
+use Rattle.m3_outside.specs.declared.slot.DiskSlot.{DiskSlot}
 use Rattle.cluster_core.proofs.ListLemmas.{some_same}
 use Rattle.replica_machine.specs.Machines.{MachineState}
 use Rattle.replica_exchange.specs.declared.member.Member.{Member}
@@ -25,8 +25,8 @@ use Rattle.transcripts.specs.Faults.{Fault}
 use Rattle.transcripts.specs.Record.{line_of}
 use Rattle.cluster_members.specs.declared.members.Members.{Members}
 use Rattle.first_cluster.specs.Bare.{AreBare}
-use Rattle.first_cluster.specs.Depots.{place_of_slot}
-use Rattle.first_cluster.specs.First.{IsFirst, IsRefusedInit, IsUntaken}
+use Rattle.first_cluster.specs.Depots.{disk_slot_of}
+use Rattle.first_cluster.specs.First.{IsFirst, IsRefusedInit, IsDiskUntaken}
 use Rattle.first_cluster.specs.Lending.{HasReturned, HasTaken, IsOpened}
 use Rattle.first_cluster.proofs.BareLemmas.{returned_bare}
 use Rattle.first_cluster.proofs.SlotLists.{in_or_out}
@@ -52,19 +52,19 @@ use Rattle.cluster_tracks.proofs.SharedLemmas.{have_left, memory_tells, stays}
 -- ---- counts of faults
 
 -- where disks were taken, no slot's fell
-taken_later : {D : Type 0} (state : D → DiskState) (slots : List Slot) (old now : Depot D) (members : MemberMap D) → HasTaken state slots old members now → (place : Place) → old.counted place ≤ now.counted place
-taken_later state slots old now members h place =
-    let s : Slot = slot_at place.node place.shard in
-    elim (in_or_out slots s) as (λ _. old.counted place ≤ now.counted place) [
-      | inl i ↦ (let same : now.counted place ≡ old.counted place = (h.taken s i).counted in omega (arith, same))
-      | inr out ↦ (let same : now.counted place ≡ old.counted place = (h.others s out).counted in omega (arith, same))
+taken_later : {D : Type 0} (state : D → DiskState) (slots : List Slot) (old now : Depot D) (members : MemberMap D) → HasTaken state slots old members now → (disk_slot : DiskSlot) → old.counted disk_slot ≤ now.counted disk_slot
+taken_later state slots old now members h disk_slot =
+    let s : Slot = slot_at disk_slot.node disk_slot.shard in
+    elim (in_or_out slots s) as (λ _. old.counted disk_slot ≤ now.counted disk_slot) [
+      | inl i ↦ (let same : now.counted disk_slot ≡ old.counted disk_slot = (h.taken s i).counted in omega (arith, same))
+      | inr out ↦ (let same : now.counted disk_slot ≡ old.counted disk_slot = (h.others s out).counted in omega (arith, same))
     ]
 
 -- nor that of a disk over which a replica was opened
-opened_later : {D : Type 0} (state : D → DiskState) (depot : Depot D) (s : Slot) (r : Member D) → IsOpened state depot s r → depot.counted (place_of_slot s) ≤ (state r.machine.disk).faults
+opened_later : {D : Type 0} (state : D → DiskState) (depot : Depot D) (s : Slot) (r : Member D) → IsOpened state depot s r → depot.counted (disk_slot_of s) ≤ (state r.machine.disk).faults
 opened_later {D} state depot s r opened =
-    let first : (state opened.disk).faults ≡ depot.counted (place_of_slot s) = opened.counted in
-    elim opened.begun as (λ _. depot.counted (place_of_slot s) ≤ (state r.machine.disk).faults) [
+    let first : (state opened.disk).faults ≡ depot.counted (disk_slot_of s) = opened.counted in
+    elim opened.begun as (λ _. depot.counted (disk_slot_of s) ≤ (state r.machine.disk).faults) [
       | inl same ↦ (let is : (state r.machine.disk).faults ≡ (state opened.disk).faults = ap (λ (x : Member D). (state x.machine.disk).faults) same in omega (arith, first, is))
       | inr begun ↦
           (let own = begun.1 in
@@ -75,14 +75,14 @@ opened_later {D} state depot s r opened =
     ]
 
 -- where they were given back, none fell
-returned_later : {D : Type 0} (state : D → DiskState) (old now : Depot D) → HasReturned state old empty now → (place : Place) → old.counted place ≤ now.counted place
-returned_later state old now h place =
-    let s : Slot = slot_at place.node place.shard in
-    elim (h.each s) as (λ _. old.counted place ≤ now.counted place) [
-      | inl untouched ↦ (let same : now.counted place ≡ old.counted place = untouched.counted in omega (arith, same))
+returned_later : {D : Type 0} (state : D → DiskState) (old now : Depot D) → HasReturned state old empty now → (disk_slot : DiskSlot) → old.counted disk_slot ≤ now.counted disk_slot
+returned_later state old now h disk_slot =
+    let s : Slot = slot_at disk_slot.node disk_slot.shard in
+    elim (h.each s) as (λ _. old.counted disk_slot ≤ now.counted disk_slot) [
+      | inl untouched ↦ (let same : now.counted disk_slot ≡ old.counted disk_slot = untouched.counted in omega (arith, same))
       | inr back ↦
-          (let same : now.counted place ≡ (state back.member.machine.disk).faults = back.counted in
-          let later : old.counted place ≤ (state back.member.machine.disk).faults = opened_later state old s back.member back.opened in
+          (let same : now.counted disk_slot ≡ (state back.member.machine.disk).faults = back.counted in
+          let later : old.counted disk_slot ≤ (state back.member.machine.disk).faults = opened_later state old s back.member back.opened in
           omega (arith, same, later))
     ]
 
@@ -90,7 +90,7 @@ returned_later state old now h place =
 
 module _ {D : Type 0} {G : Ghosts D} (state : D → DiskState) (tells : Bool) (first before : Depot D) (turns : List Turn) (calls : List ℕ) (t : Tracks {G = G} state tells first before turns None calls) where
   -- nothing came to the list of a line that sets nothing
-  unmade : (now : Depot D) (a : Act) (b : Answer) (untaken : List Fault) → AddsLine PlainLine tells untaken [] t.delivered turns [] a b [] → SetsNone b → RoseBy (length untaken) before.faults now.faults → ((place : Place) → before.counted place ≤ now.counted place)
+  unmade : (now : Depot D) (a : Act) (b : Answer) (untaken : List Fault) → AddsLine PlainLine tells untaken [] t.delivered turns [] a b [] → SetsNone b → RoseBy (length untaken) before.faults now.faults → ((disk_slot : DiskSlot) → before.counted disk_slot ≤ now.counted disk_slot)
       → (tells ≡ true → AreBare state now.held) → Tracks {G = G} state tells first now (turns ++ line_of a b ∷ []) None (numbers_by a b calls)
   unmade now a b untaken adds sets rose later bare =
       plain_on {G = G} state None tells first before now turns calls a b None t (record {
@@ -104,12 +104,12 @@ module _ {D : Type 0} {G : Ghosts D} (state : D → DiskState) (tells : Bool) (f
       })
 
   -- the same where no disk is to be counted
-  unmade_so : (now : Depot D) (a : Act) (b : Answer) → LeavesNothing None turns [] a b → before.faults ≤ now.faults → ((place : Place) → before.counted place ≤ now.counted place) → (tells ≡ true → AreBare state now.held)
+  unmade_so : (now : Depot D) (a : Act) (b : Answer) → LeavesNothing None turns [] a b → before.faults ≤ now.faults → ((disk_slot : DiskSlot) → before.counted disk_slot ≤ now.counted disk_slot) → (tells ≡ true → AreBare state now.held)
       → Tracks {G = G} state tells first now (turns ++ line_of a b ∷ []) None (numbers_by a b calls)
   unmade_so now a b h later each bare = unmade now a b [] (served_adds PlainLine tells turns [] t.delivered [] a b [] t.were h.line) h.sets_none (rose_none before.faults now.faults later) each bare
 
   out_of_order : (a : Act) → ¬ IsInitAct a → Tracks {G = G} state tells first before (turns ++ line_of a answer.Order ∷ []) None (numbers_by a answer.Order calls)
-  out_of_order a other = unmade_so before a answer.Order (refused_tells None turns [] a answer.Order (order_is_due None turns (no_placement turns t.after.none) a answer.Order other)) (omega arith) (λ place. omega arith) t.after.bare
+  out_of_order a other = unmade_so before a answer.Order (refused_tells None turns [] a answer.Order (order_is_due None turns (no_placement turns t.after.none) a answer.Order other)) (omega arith) (λ disk_slot. omega arith) t.after.bare
 
   module _ (now : Depot D) (rf shards seed : ℕ) (nodes : List (List ℕ × List ℕ)) where
     abbrev a : Act
@@ -118,7 +118,7 @@ module _ {D : Type 0} {G : Ghosts D} (state : D → DiskState) (tells : Bool) (f
     -- an `init` was refused, and its disks are back
     refused_tracked : (b : Answer) → IsRefusedInit state rf shards seed nodes before now b → Tracks {G = G} state tells first now (turns ++ line_of a b ∷ []) None calls
     refused_tracked (answer.Disk name shard) h =
-        let untaken : IsUntaken rf shards seed nodes name shard before now = h.0 in
+        let untaken : IsDiskUntaken rf shards seed nodes name shard before now = h.0 in
         let faults : List Fault = untaken_at turns untaken.node shard ∷ [] in
         unmade now a (answer.Disk name shard) faults (anew_adds PlainLine tells faults turns t.delivered a (answer.Disk name shard) [] t.were (untaken_tells {D = D} tells turns rf shards seed nodes name shard before now t.after.none untaken)) tt untaken.rose
         (returned_later state before now h.1) (λ e. returned_bare state before now (t.tell e) (t.after.bare e) h.1)
@@ -126,7 +126,7 @@ module _ {D : Type 0} {G : Ghosts D} (state : D → DiskState) (tells : Bool) (f
     refused_tracked _ h = absurd h
 
     -- a cluster was made
-    made_tracked : ((d : D) → IsLawful (state d)) → (m : Members D G) → IsLeft tells m → IsFirst state rf shards seed nodes before now m → (place : Placement) (version : ℕ) → place ≡ m.net.state.place → version ≡ place.version
+    made_tracked : ((d : D) → IsLawfulDisk (state d)) → (m : Members D G) → IsLeft tells m → IsFirst state rf shards seed nodes before now m → (place : Placement) (version : ℕ) → place ≡ m.net.state.place → version ≡ place.version
         → Tracks state tells first now (turns ++ line_of a (answer.Placed place version) ∷ []) (Some m) calls
     made_tracked lawful m left is place version same number =
         let own : Placement = m.net.state.place in
@@ -160,7 +160,7 @@ again state (Some m) tells first now turns calls rf shards seed nodes is t =
 
 -- ---- the line of an `init`
 
-pub inits_are_tracked : {D : Type 0} {G : Ghosts D} (state : D → DiskState) → ((d : D) → IsLawful (state d)) → (old : Option (Members D G)) → InitsAreTracked state old
+pub inits_are_tracked : {D : Type 0} {G : Ghosts D} (state : D → DiskState) → ((d : D) → IsLawfulDisk (state d)) → (old : Option (Members D G)) → InitsAreTracked state old
 inits_are_tracked {D} {G} state lawful old tells first before after turns calls rf shards seed nodes (answer.Placed place version) new t left made =
     let none : Tracks {G = G} state tells first before turns None calls = subst (λ (o : Option (Members D G)). Tracks state tells first before turns o calls) made.0 t in
     subst (λ (o : Option (Members D G)). Tracks state tells first after (turns ++ line_of (act.Init rf shards seed nodes) (answer.Placed place version) ∷ []) o calls) (sym made.2)

@@ -7,7 +7,7 @@ use Rattle.m3_model.specs.declared.act.Act.TheVariants as act
 use Rattle.m3_model.specs.declared.answer.Answer.{Answer}
 use Rattle.m3_model.specs.declared.turn.Turn.{Turn}
 use Rattle.m3_outside.specs.Depots.{Depot}
-use Rattle.m3_outside.specs.DiskState.{DiskState, IsLawful}
+use Rattle.m3_outside.specs.DiskState.{DiskState, IsLawfulDisk}
 use Rattle.m3_outside.specs.declared.disk.Disk.{Ghosts}
 use Rattle.replica_calls.specs.Calls.{AreMembersOf}
 use Rattle.told_moves.specs.Order.{IsInitAct}
@@ -114,7 +114,7 @@ module _ {D : Type 0} {G : Ghosts D} (state : D → DiskState) where
       by act.Status it did = other act.Status (λ no. no) it did
       by _ it did = absurd it
 
-pub lines_are_tracked : {D : Type 0} {G : Ghosts D} (state : D → DiskState) → ((d : D) → IsLawful (state d)) → (old : Option (Members D G)) → LinesAreTracked state old
+pub lines_are_tracked : {D : Type 0} {G : Ghosts D} (state : D → DiskState) → ((d : D) → IsLawfulDisk (state d)) → (old : Option (Members D G)) → LinesAreTracked state old
 lines_are_tracked state lawful old =
     lines_tracked state old (λ m is. record {
       write = writes_are_tracked state lawful m;

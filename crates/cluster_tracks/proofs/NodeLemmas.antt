@@ -8,7 +8,7 @@ use Rattle.m3_model.specs.declared.answer.Answer.TheVariants as answer
 use Rattle.m3_model.specs.declared.limits.TheConstants.{MOST_REQUEST_EVENTS}
 use Rattle.m3_model.specs.declared.turn.Turn.{Turn}
 use Rattle.m3_outside.specs.Depots.{Depot}
-use Rattle.m3_outside.specs.DiskState.{DiskState, IsLawful}
+use Rattle.m3_outside.specs.DiskState.{DiskState, IsLawfulDisk}
 use Rattle.m3_outside.specs.declared.disk.Disk.{Ghosts}
 use Rattle.cluster_core.specs.declared.event.Event.{Event}
 use Rattle.replica_exchange.specs.MachineCalls.{HasRoom}
@@ -28,7 +28,7 @@ use Rattle.act_lines.proofs.NothingLemmas.{no_room_tells, refused_tells}
 use Rattle.act_lines.specs.Stays.{HaveNoPlace}
 use Rattle.act_lines.specs.Keeps.{BeginsGiven}
 use Rattle.act_lines.specs.Nodes.{LeavesBegun, LeavesStanding}
-use Rattle.act_lines.specs.Opens.{MayBegin}
+use Rattle.act_lines.specs.Opens.{MayOpenSlots}
 use Rattle.act_lines.proofs.OpenLemmas.{begins_still}
 use Rattle.act_lines.proofs.NodeStands.{stopped_so}
 use Rattle.cluster_tracks.specs.Numbers.{numbers_by}
@@ -82,8 +82,8 @@ module _ {D : Type 0} {G : Ghosts D} (state : D → DiskState) (m : Members D G)
 
   -- ---- replicas took steps
 
-  module _ (lawful : (d : D) → IsLawful (state d)) where
-    pub may_begin : MayBegin state tells None m.net.replicas
+  module _ (lawful : (d : D) → IsLawfulDisk (state d)) where
+    pub may_begin : MayOpenSlots state tells None m.net.replicas
     may_begin = record { disks = lawful; tell = go.tracks.tell; members = go.members; low = so.low }
 
     -- a node was stopped or restarted, or stayed stopped

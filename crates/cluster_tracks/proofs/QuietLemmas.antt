@@ -7,14 +7,14 @@ use Rattle.m3_model.specs.declared.act.Act.{Act}
 use Rattle.m3_model.specs.declared.answer.Answer.{Answer}
 use Rattle.m3_model.specs.declared.turn.Turn.{Turn}
 use Rattle.m3_outside.specs.Depots.{Depot}
-use Rattle.m3_outside.specs.DiskState.{DiskState, IsLawful}
+use Rattle.m3_outside.specs.DiskState.{DiskState, IsLawfulDisk}
 use Rattle.m3_outside.specs.declared.disk.Disk.{Ghosts}
 use Rattle.cluster_core.specs.declared.event.Event.{Event}
 use Rattle.cluster_core.specs.declared.event.Event.TheVariants as event
 use Rattle.cluster_core.specs.declared.event.StepCall.TheVariants as call
 use Rattle.cluster_core.proofs.ListLemmas.{in_at}
 use Rattle.replica_calls.specs.Calls.{Tracked}
-use Rattle.told_by.specs.Lines.{MakesAndHears, place_after}
+use Rattle.told_by.specs.Lines.{MakesAndHears, position_after}
 use Rattle.told_by.specs.Makes.{MayMake, OpensReplicas}
 use Rattle.told_by.proofs.OneLemmas.{back_at}
 use Rattle.transcripts.specs.Placements.{printed}
@@ -22,7 +22,7 @@ use Rattle.cluster_members.specs.declared.members.Members.{Members}
 use Rattle.act_lines.specs.Stays.{HaveNoPlace, IsNoPlace}
 use Rattle.act_lines.proofs.StandLemmas.{stands_still}
 use Rattle.act_lines.specs.Keeps.{BeginsGiven}
-use Rattle.act_lines.specs.Opens.{MayBegin}
+use Rattle.act_lines.specs.Opens.{MayOpenSlots}
 use Rattle.act_lines.proofs.OpenLemmas.{begins_still}
 use Rattle.cluster_tracks.specs.Quiet.{QuietLinesStandOn, QuietTurnsMakeNone}
 use Rattle.cluster_tracks.specs.Runs.{HaveRun}
@@ -30,13 +30,13 @@ use Rattle.cluster_tracks.proofs.AddLemmas.{steps_are_of_slots}
 
 module _ (turns : List Turn) (events : List Event) (a : Act) (b : Answer) (more : List Event) (opened : 2 ≤ length events) (makes : MakesAndHears None turns events a b more) (prints : printed b ≡ None) (opens : OpensReplicas a → ⊥) where
   -- the turn may make each event that came
-  may_make : (e : Event) → (i : IsIn more e) → MayMake None (take (length events + (in_at more e i).0) (events ++ more)) (place_after turns a b) e
+  may_make : (e : Event) → (i : IsIn more e) → MayMake None (take (length events + (in_at more e i).0) (events ++ more)) (position_after turns a b) e
   may_make e i = let at = in_at more e i in makes.makes (length events + at.0) e (omega arith) (omega (arith, opened)) (back_at events more at.0 e at.1)
 
   no_place : HaveNoPlace more
   no_place e i = by e (in_at more e i).0 (may_make e i)
     where
-      by : (e : Event) (j : ℕ) → MayMake None (take (length events + j) (events ++ more)) (place_after turns a b) e → IsNoPlace e
+      by : (e : Event) (j : ℕ) → MayMake None (take (length events + j) (events ++ more)) (position_after turns a b) e → IsNoPlace e
       by (event.Place place done) j h = (let clash : None ≡ Some h.stood = sym prints ∙ h.prints in cc)
       by _ j h = tt
 
@@ -53,13 +53,13 @@ two_events state tells depot t h =
     let two : length h.made.events ≡ 2 = ap length h.opened in
     omega (arith, long, two)
 
-pub quiet_lines_stand_on : {D : Type 0} {G : Ghosts D} (state : D → DiskState) → ((d : D) → IsLawful (state d)) → (old : Members D G) → QuietLinesStandOn state old
+pub quiet_lines_stand_on : {D : Type 0} {G : Ghosts D} (state : D → DiskState) → ((d : D) → IsLawfulDisk (state d)) → (old : Members D G) → QuietLinesStandOn state old
 quiet_lines_stand_on {D} {G} state lawful old tells now turns a b new tell are h q =
     let same : q.told ≡ q.more = append_cancel_left old.net.replicas.events q.told q.more (sym q.grew ∙ q.ran.grew) in
     let none = quiet_turns_make_none turns old.net.replicas.events a b q.told (two_events state tells now old.net.replicas h.run) q.makes q.prints q.opens in
     let no_place = subst HaveNoPlace same none.0 in
     let given = subst (BeginsGiven old.net.replicas.events) same none.1 in
-    let may : MayBegin state tells None old.net.replicas = record { disks = lawful; tell = tell; members = are; low = h.low } in
+    let may : MayOpenSlots state tells None old.net.replicas = record { disks = lawful; tell = tell; members = are; low = h.low } in
     record {
       more = q.more;
       ran = q.ran;

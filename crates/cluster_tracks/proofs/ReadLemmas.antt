@@ -3,7 +3,7 @@ use Rattle.std.proofs.Common.{◌≡◌, ◌<◌, ℕ, List, [], ◌∷◌, ◌+
 use Rattle.std.specs.Prelude.{◌⊎◌, Option, Some, None, option_map}
 use Rattle.m3_model.specs.Levels.{needed_read}
 use Rattle.m3_model.specs.Reads.{read_of}
-use Rattle.m3_model.specs.Rules.{namespace_place}
+use Rattle.m3_model.specs.Rules.{namespace_position}
 use Rattle.m3_model.specs.declared.act.Act.{Act}
 use Rattle.m3_model.specs.declared.act.Act.TheVariants as act
 use Rattle.m3_model.specs.declared.act.ReadLevel.{ReadLevel}
@@ -15,21 +15,21 @@ use Rattle.m3_model.specs.declared.point.Series.{Series}
 use Rattle.m3_model.specs.declared.reason.Reason.{Reason}
 use Rattle.m3_model.specs.declared.turn.Turn.{Turn}
 use Rattle.m3_outside.specs.Depots.{Depot}
-use Rattle.m3_outside.specs.DiskState.{DiskState, IsLawful}
+use Rattle.m3_outside.specs.DiskState.{DiskState, IsLawfulDisk}
 use Rattle.m3_outside.specs.declared.disk.Disk.{Ghosts}
 use Rattle.cluster_core.specs.declared.event.Event.{Event}
 use Rattle.replica_exchange.specs.declared.call_id.CallId.{CallId}
-use Rattle.session_net.specs.Reads.{IsCutShort, IsFirstShort, IsFound, IsFull, IsStopped, Wish}
+use Rattle.session_net.specs.Reads.{IsCutShort, IsFirstShort, IsReadFound, IsFull, IsStopped, Wish}
 use Rattle.session_net.specs.Runs.{Ran}
 use Rattle.told_by.specs.Lines.{ReadLine}
 use Rattle.told_by.specs.Makes.{OpensReplicas}
 use Rattle.transcripts.specs.Calls.{call_of}
 use Rattle.transcripts.specs.Record.{line_of}
 use Rattle.call_lines.specs.Laws.{LeavesLine}
-use Rattle.call_lines.specs.ReadLaws.{IsRead}
+use Rattle.call_lines.specs.ReadLaws.{IsReadTurn}
 use Rattle.call_lines.proofs.FoundLemmas.{found_tells}
 use Rattle.call_lines.proofs.ShortLemmas.{ended_tells, first_short_tells, full_tells}
-use Rattle.cluster_members.specs.Calls.{IsFetched, IsReadAnswer, KeepsCluster, wish}
+use Rattle.cluster_members.specs.Calls.{IsFetchAnswer, IsReadAnswer, KeepsCluster, wish}
 use Rattle.cluster_members.specs.Steps.{spaces_in}
 use Rattle.cluster_members.specs.declared.calls.Range.{Range}
 use Rattle.cluster_members.specs.declared.members.Members.{Members}
@@ -46,10 +46,10 @@ use Rattle.cluster_tracks.proofs.CallLemmas.{left_due, left_so, next_is, same_ba
 record Reads (a : Act) (ns : List ℕ) (pick : ℕ → Pick) (range : Range) (level : ReadLevel) : Type 0 where
   name : Option (List ℕ)
   of_call : call_of a ≡ Some (record { id = name; version = None; needed = needed_read level })
-  of_act : (spaces : List _) (k : ℕ) → namespace_place ns spaces ≡ Some k → read_of spaces a ≡ Some (record { pick = pick k; from = range.from; to = range.to; level = level })
+  of_act : (spaces : List _) (k : ℕ) → namespace_position ns spaces ≡ Some k → read_of spaces a ≡ Some (record { pick = pick k; from = range.from; to = range.to; level = level })
   calm : OpensReplicas a → ⊥
 
-module _ {D : Type 0} {G : Ghosts D} (state : D → DiskState) (lawful : (d : D) → IsLawful (state d)) (m : Members D G) (a : Act) (ns : List ℕ) (pick : ℕ → Pick) (range : Range) (level : ReadLevel) (reads : Reads a ns pick range level)
+module _ {D : Type 0} {G : Ghosts D} (state : D → DiskState) (lawful : (d : D) → IsLawfulDisk (state d)) (m : Members D G) (a : Act) (ns : List ℕ) (pick : ℕ → Pick) (range : Range) (level : ReadLevel) (reads : Reads a ns pick range level)
     (tells : Bool) (first now : Depot D) (turns : List Turn) (calls : List ℕ) (on : MayGoOn state tells first now turns calls m) (due : (b : Answer) → SpaceDue None turns m.net.state.rules ns a b) (g : Members D G) (is_left : IsLeft tells g) where
   abbrev call : CallId
   call = next_call calls
@@ -57,14 +57,14 @@ module _ {D : Type 0} {G : Ghosts D} (state : D → DiskState) (lawful : (d : D)
   abbrev IsTracked : Answer → Type 0
   IsTracked b = Tracks state tells first now (turns ++ line_of a b ∷ []) (Some g) (numbers_by a b calls)
 
-  module _ (place : ℕ) (found : namespace_place ns (spaces_in m) ≡ Some place) (low : call.number < last_number) (keeps : KeepsCluster m g) (bag : g.net.bag ≡ m.net.bag) where
+  module _ (position : ℕ) (found : namespace_position ns (spaces_in m) ≡ Some position) (low : call.number < last_number) (keeps : KeepsCluster m g) (bag : g.net.bag ≡ m.net.bag) where
     abbrev w : Wish
-    w = wish (pick place) range
+    w = wish (pick position) range
 
     abbrev enough : ℕ
     enough = needed_read level m.net.state.place.rf
 
-    is_read : IsRead None turns m.net call a w level
+    is_read : IsReadTurn None turns m.net call a w level
     is_read = record {
       left = left_so state m tells first now turns calls on;
       ready = on.tracks.after.stands.ready;
@@ -73,15 +73,15 @@ module _ {D : Type 0} {G : Ghosts D} (state : D → DiskState) (lawful : (d : D)
       version = None;
       of_call = reads.of_call;
       uses = tt;
-      of_act = reads.of_act (spaces_in m) place found;
+      of_act = reads.of_act (spaces_in m) position found;
     }
 
     -- what came tells of the line
     told : (b : Answer) → SetsNone b → DeliversNone b → LeavesLine ReadLine None turns [] m.net a b g.net → (more : List Event) → Ran state m.net.replicas more g.net.replicas → IsTracked b
-    told b sets delivers line more ran = told_on state m tells first now turns calls on lawful a b g is_left sets reads.calm keeps ReadLine (read_on state (Some m)) (λ more made. made.makes) line ((due b).free place found) more ran
+    told b sets delivers line more ran = told_on state m tells first now turns calls on lawful a b g is_left sets reads.calm keeps ReadLine (read_on state (Some m)) (λ more made. made.makes) line ((due b).free position found) more ran
         (same_bag state m tells first now turns calls on lawful a b g is_left sets reads.calm keeps delivers bag)
 
-    answered : (series : List Series) (short : Bool) → IsFound state m.net call w level series short g.net → IsTracked (answer.Found series short)
+    answered : (series : List Series) (short : Bool) → IsReadFound state m.net call w level series short g.net → IsTracked (answer.Found series short)
     answered series short h = told (answer.Found series short) tt tt (found_tells state m.net tells None turns g.net call a w level series short is_read is_left.legal h) h.events h.ran
 
     fell_short : (got needed : ℕ) (reasons : List (ℕ × Reason)) (shard : ℕ) → IsFirstShort state m.net.state m.net.fates call w enough m.net.replicas g.net.replicas shard needed got reasons → IsTracked (answer.Consistency got needed reasons shard)
@@ -104,22 +104,22 @@ module _ {D : Type 0} {G : Ghosts D} (state : D → DiskState) (lawful : (d : D)
     asked answer.Full h = full h
     asked _ h = absurd h
 
-  fetched : (b : Answer) → call.number < last_number → IsFetched state m call ns pick range level b g → IsTracked b
+  fetched : (b : Answer) → call.number < last_number → IsFetchAnswer state m call ns pick range level b g → IsTracked b
   fetched b low (inl none) = unknown_on state m tells first now turns calls on a b g none.2 ns (due b) none.0 none.1
-  fetched b low (inr h) = asked h.place h.found low h.keeps h.bag b h.answers
+  fetched b low (inr h) = asked h.position h.found low h.keeps h.bag b h.answers
 
-  does : (b : Answer) → MayCall call.number (IsFetched state m call ns pick range level b g) b m g → IsTracked b
+  does : (b : Answer) → MayCall call.number (IsFetchAnswer state m call ns pick range level b g) b m g → IsTracked b
   does b (inl h) = fetched b h.0 h.1
   does b (inr none) = wanted_on state m tells first now turns calls on a b g none.2 none.1
 
-pub fetches_are_tracked : {D : Type 0} {G : Ghosts D} (state : D → DiskState) → ((d : D) → IsLawful (state d)) → (m : Members D G) → FetchesAreTracked state m
+pub fetches_are_tracked : {D : Type 0} {G : Ghosts D} (state : D → DiskState) → ((d : D) → IsLawfulDisk (state d)) → (m : Members D G) → FetchesAreTracked state m
 fetches_are_tracked state lawful m ns id from to level tells first now turns calls b g on is_left h =
     let range : Range = record { from = from; to = to } in
     does state lawful m (act.Fetch ns id from to level None) ns (λ k. pick.One k id) range level
     (record { name = Some id; of_call = refl; of_act = λ spaces k found. ap (option_map (λ j. record { pick = pick.One j id; from = from; to = to; level = level })) found; calm = λ opens. opens })
     tells first now turns calls on ((left_due state m tells first now turns calls on).fetch ns id from to level) g is_left b h
 
-pub matches_are_tracked : {D : Type 0} {G : Ghosts D} (state : D → DiskState) → ((d : D) → IsLawful (state d)) → (m : Members D G) → MatchesAreTracked state m
+pub matches_are_tracked : {D : Type 0} {G : Ghosts D} (state : D → DiskState) → ((d : D) → IsLawfulDisk (state d)) → (m : Members D G) → MatchesAreTracked state m
 matches_are_tracked state lawful m ns wanted from to level tells first now turns calls b g on is_left h =
     let range : Range = record { from = from; to = to } in
     does state lawful m (act.Match ns wanted from to level None) ns (λ k. pick.Match k wanted) range level

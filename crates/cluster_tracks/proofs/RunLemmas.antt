@@ -10,7 +10,7 @@ use Rattle.replica_exchange.specs.declared.slot.Slot.{Slot}
 use Rattle.replica_calls.specs.Calls.{Tracked}
 use Rattle.session_net.specs.Runs.{IsStepped, Step, steps_of}
 use Rattle.session_net.proofs.RunLemmas.{ran_then}
-use Rattle.first_cluster.specs.Depots.{place_of_slot}
+use Rattle.first_cluster.specs.Depots.{disk_slot_of}
 use Rattle.cluster_tracks.specs.Failures.{CountsFaults, failures_in}
 use Rattle.cluster_tracks.specs.Runs.{HaveRun, RoseByFailures, RunGoesOn, RunIsCounted}
 use Rattle.cluster_tracks.proofs.FailureLemmas.{count_goes_on, rose_none, stepped_from, steps_append}
@@ -55,7 +55,7 @@ module _ {D : Type 0} (state : D → DiskState) where
       rose = λ s m is.
           let from = stepped_from state (steps_of s h.more) (finite.get h.made.members s) (finite.get t.members s) m (h.ran.stepped s) is in
           let made = h.each s from.before from.was in
-          let same : (state (m.first).value).faults ≡ depot.counted (place_of_slot s) = ap (λ f. (state f.value).faults) from.first ∙ ap (λ (x : Member D). (state (x.first).value).faults) made.is_first ∙ made.counted in
+          let same : (state (m.first).value).faults ≡ depot.counted (disk_slot_of s) = ap (λ f. (state f.value).faults) from.first ∙ ap (λ (x : Member D). (state (x.first).value).faults) made.is_first ∙ made.counted in
           subst (λ n. RoseBy (failures_in (steps_of s t.events)) n (state m.machine.disk).faults) same (counts.counts s m is);
       others = counts.others;
     }

@@ -8,7 +8,7 @@ use Rattle.m3_model.specs.declared.rules.MetaState.{MetaState}
 use Rattle.m3_model.specs.declared.rules.Rules.{Rules}
 use Rattle.m3_model.specs.declared.turn.Turn.{Turn}
 use Rattle.m3_outside.specs.Depots.{Depot}
-use Rattle.m3_outside.specs.DiskState.{DiskState, IsLawful}
+use Rattle.m3_outside.specs.DiskState.{DiskState, IsLawfulDisk}
 use Rattle.m3_outside.specs.declared.disk.Disk.{Ghosts}
 use Rattle.session_net.specs.Runs.{Ran}
 use Rattle.session_net.proofs.RunLemmas.{ran_nothing}
@@ -31,7 +31,7 @@ use Rattle.cluster_tracks.proofs.StepLemmas.{clock_on, plain_on}
 use Rattle.cluster_tracks.specs.Lines.{FatesAreTracked, IsLeft, MayGoOn, MomentsAreTracked, NamespacesAreTracked}
 use Rattle.cluster_tracks.proofs.SharedLemmas.{goes_quietly, have_left, memory_tells, stays_same}
 
-module _ {D : Type 0} {G : Ghosts D} (state : D → DiskState) (lawful : (d : D) → IsLawful (state d)) (m : Members D G) where
+module _ {D : Type 0} {G : Ghosts D} (state : D → DiskState) (lawful : (d : D) → IsLawfulDisk (state d)) (m : Members D G) where
   -- ---- the rules
 
   -- a Clock came, and all but the rules stays

@@ -7,7 +7,7 @@ use Rattle.m3_model.specs.declared.answer.Answer.{Answer}
 use Rattle.m3_model.specs.declared.answer.Answer.TheVariants as answer
 use Rattle.m3_model.specs.declared.turn.Turn.{Turn}
 use Rattle.m3_outside.specs.Depots.{Depot}
-use Rattle.m3_outside.specs.DiskState.{DiskState, IsLawful}
+use Rattle.m3_outside.specs.DiskState.{DiskState, IsLawfulDisk}
 use Rattle.m3_outside.specs.declared.disk.Disk.{Ghosts}
 use Rattle.cluster_core.specs.Legal.{Legal}
 use Rattle.cluster_core.specs.declared.event.Event.{Event}
@@ -21,7 +21,7 @@ use Rattle.call_lines.proofs.ServeLemmas.{delivered_so}
 use Rattle.cluster_members.specs.declared.members.Members.{Members}
 use Rattle.act_lines.specs.Due.{HaveLeft}
 use Rattle.act_lines.specs.Settings.{LeavesNothing}
-use Rattle.act_lines.specs.Stands.{Stands}
+use Rattle.act_lines.specs.Stands.{ClusterStands}
 use Rattle.act_lines.proofs.StandLemmas.{stands_unchanged}
 use Rattle.cluster_tracks.specs.Numbers.{numbers_by}
 use Rattle.cluster_tracks.specs.Quiet.{GoesQuietly}
@@ -35,7 +35,7 @@ use Rattle.cluster_tracks.specs.Lines.{MayGoOn}
 
 -- ---- the placement and the rules that the turns left of a cluster that stands
 
-pub have_left : {D : Type 0} {G : Ghosts D} (turns : List Turn) (m : Members D G) → Stands None turns m → HaveLeft None turns (Some m.net.state.place) m.net.state.rules
+pub have_left : {D : Type 0} {G : Ghosts D} (turns : List Turn) (m : Members D G) → ClusterStands None turns m → HaveLeft None turns (Some m.net.state.place) m.net.state.rules
 have_left turns m h = record { rules_are = h.left.rules; place_is = h.left.place }
 
 -- ---- memory
@@ -66,7 +66,7 @@ module _ {D : Type 0} {G : Ghosts D} (state : D → DiskState) (m : Members D G)
     adds = adds;
     legal = legal;
     rose = rose_none now.faults now.faults (omega arith);
-    later = λ place. omega arith;
+    later = λ disk_slot. omega arith;
     after = stands_after_line state m tells now turns a b g t.after stands;
   })
 
@@ -88,6 +88,6 @@ module _ {D : Type 0} {G : Ghosts D} (state : D → DiskState) (m : Members D G)
   stays_same g same t h = subst (λ (x : Members D G). Tracks state tells first now (turns ++ line_of a b ∷ []) (Some x) (numbers_by a b calls)) (sym same) (stays t h)
 
   -- no placement was printed and no replica begun, and neither was a node stopped or restarted
-  pub goes_quietly : (Line : Kind) → TracksOn Line state (Some m) → ((d : D) → IsLawful (state d)) → (g : Members D G) (messages : List LateMessage) (on : MayGoOn state tells first now turns calls m)
+  pub goes_quietly : (Line : Kind) → TracksOn Line state (Some m) → ((d : D) → IsLawfulDisk (state d)) → (g : Members D G) (messages : List LateMessage) (on : MayGoOn state tells first now turns calls m)
       → AddsLine Line tells [] messages on.tracks.delivered turns m.net.replicas.events a b g.net.replicas.events → Legal tells g.net.replicas.events → GoesQuietly state turns m a b g → Tracks state tells first now (turns ++ line_of a b ∷ []) (Some g) (numbers_by a b calls)
   goes_quietly Line line_on lawful g messages on adds legal quiet = goes_on Line line_on g messages on.tracks adds legal (quiet_lines_stand_on state lawful m tells now turns a b g on.tracks.tell on.members on.tracks.after quiet)

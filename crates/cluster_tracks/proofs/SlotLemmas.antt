@@ -21,12 +21,12 @@ use Rattle.replica_calls.specs.Calls.{Tracked}
 use Rattle.session_net.specs.Reads.{Wish}
 use Rattle.session_net.specs.Runs.{Ran}
 use Rattle.session_net.specs.declared.net.Net.{Net}
-use Rattle.cluster_members.specs.Calls.{IsFetched, IsReadAnswer, IsWriteAnswer, IsWritten, NamedPoint, placed, wish}
-use Rattle.cluster_members.specs.Steps.{IsMoved, IsNamed}
+use Rattle.cluster_members.specs.Calls.{IsFetchAnswer, IsReadAnswer, IsWriteAnswer, IsWritten, NamedPoint, placed, wish}
+use Rattle.cluster_members.specs.Steps.{IsMoved, IsSpaceAdded}
 use Rattle.cluster_members.specs.declared.calls.Range.{Range}
 use Rattle.cluster_members.specs.declared.members.Members.{Members}
 use Rattle.upkeep_lines.specs.Halts.{HaveSameSlots}
-use Rattle.upkeep_lines.specs.Nodes.{IsBootstrapped, IsDelivered, IsFated, IsRestarted, IsStopped}
+use Rattle.upkeep_lines.specs.Nodes.{IsBootstrapAnswer, IsDeliverAnswer, IsFated, IsRestarted, IsStopped}
 use Rattle.upkeep_lines.proofs.RunLemmas.{same_itself, same_slots}
 use Rattle.cluster_upkeep.specs.Upkeep.{IsSwept, IsTold}
 use Rattle.cluster_tracks.specs.Acts.{MayCall}
@@ -53,7 +53,7 @@ module _ {D : Type 0} {G : Ghosts D} (state : D → DiskState) (m g : Members D 
 
   -- ---- the rules, the fates and late messages
 
-  named_so : (space : Space) (b : Answer) → IsNamed state m space b g → KeepsSlots m g
+  named_so : (space : Space) (b : Answer) → IsSpaceAdded state m space b g → KeepsSlots m g
   named_so space answer.Done h = steps_so _ h.1.slots h.1.ran
   named_so space answer.Order h = all_stays h.1
   named_so space (answer.Limit limit) h = all_stays h.3
@@ -74,7 +74,7 @@ module _ {D : Type 0} {G : Ghosts D} (state : D → DiskState) (m g : Members D 
   fated_so list answer.Memory h = all_stays h
   fated_so list _ h = absurd h
 
-  delivered_so : (b : Answer) → IsDelivered state m b g → KeepsSlots m g
+  delivered_so : (b : Answer) → IsDeliverAnswer state m b g → KeepsSlots m g
   delivered_so (answer.Outcomes outcomes) h = steps_so h.0.puts h.1.slots h.0.ran
   delivered_so answer.Memory h = stay_so h.1.slots h.0.0
   delivered_so answer.Full h = net_stays h.1.slots h.0.0
@@ -92,7 +92,7 @@ module _ {D : Type 0} {G : Ghosts D} (state : D → DiskState) (m g : Members D 
 
   written_so : (id : CallId) (point : NamedPoint) (level : WriteLevel) (b : Answer) → IsWritten state m id point level b g → KeepsSlots m g
   written_so id point level b (inl none) = all_stays none.2
-  written_so id point level b (inr h) = put_so id (placed point h.place) level b h.keeps.slots h.answers
+  written_so id point level b (inr h) = put_so id (placed point h.position) level b h.keeps.slots h.answers
 
   read_so : (id : CallId) (w : Wish) (level : ReadLevel) (b : Answer) → g.slots.items ≡ m.slots.items → IsReadAnswer state m.net id w level b g.net → KeepsSlots m g
   read_so id w level (answer.Found series short) slots h = steps_so h.events slots h.ran
@@ -102,9 +102,9 @@ module _ {D : Type 0} {G : Ghosts D} (state : D → DiskState) (m g : Members D 
   read_so id w level answer.Full slots h = steps_so h.events slots h.ran
   read_so id w level _ slots h = absurd h
 
-  fetched_so : (id : CallId) (ns : List ℕ) (by : ℕ → Pick) (range : Range) (level : ReadLevel) (b : Answer) → IsFetched state m id ns by range level b g → KeepsSlots m g
+  fetched_so : (id : CallId) (ns : List ℕ) (by : ℕ → Pick) (range : Range) (level : ReadLevel) (b : Answer) → IsFetchAnswer state m id ns by range level b g → KeepsSlots m g
   fetched_so id ns by range level b (inl none) = all_stays none.2
-  fetched_so id ns by range level b (inr h) = read_so id (wish (by h.place) range) level b h.keeps.slots h.answers
+  fetched_so id ns by range level b (inr h) = read_so id (wish (by h.position) range) level b h.keeps.slots h.answers
 
   -- a call is made, or there is no number for it
   called_so : (number : ℕ) (Made : Type 0) (b : Answer) → (Made → KeepsSlots m g) → MayCall number Made b m g → KeepsSlots m g
@@ -129,8 +129,8 @@ module _ {D : Type 0} {G : Ghosts D} (state : D → DiskState) (m g : Members D 
   restarted_so name answer.Full h = all_stays h.1.same
   restarted_so name _ h = absurd h
 
-  bootstrapped_so : (name : List ℕ) (asked : Option ℕ) (b : Answer) → IsBootstrapped state m name asked b g → KeepsSlots m g
-  bootstrapped_so name asked (answer.Available available place version) h = steps_so h.3.begins h.3.keeps.keeps.slots h.3.ran
+  bootstrapped_so : (name : List ℕ) (asked : Option ℕ) (b : Answer) → IsBootstrapAnswer state m name asked b g → KeepsSlots m g
+  bootstrapped_so name asked (answer.Available available position version) h = steps_so h.3.begins h.3.keeps.keeps.slots h.3.ran
   bootstrapped_so name asked (answer.Unknown unknown) h = all_stays h.1
   bootstrapped_so name asked (answer.State node) h = all_stays h.3
   bootstrapped_so name asked (answer.Disk node shard) h = steps_so h.1.begins h.1.keeps.keeps.slots h.1.ran

@@ -34,7 +34,7 @@ tracks_at_first {D} {G} state members tells first calls none zero tell bare =
       were = λ q at m i. absurd i;
       numbered = record { next = ap (λ xs. slice_index xs 0) zero; all = ap length zero };
       untaken = rose_none first.faults first.faults (omega arith);
-      later = λ place. omega arith;
+      later = λ disk_slot. omega arith;
       after = record { none = record { prints = λ turn m. absurd m; rules = refl; fates = refl; runs = λ name. refl }; bare = bare };
     })
 
@@ -55,7 +55,7 @@ module _ {D : Type 0} {G : Ghosts D} (Line : Kind) (serves : (tells : Bool) → 
         numbered = numbers_stay turns calls a b t.numbered;
         untaken = (let sum = length-append next.untaken t.taking in let one = t.untaken in let two = next.rose in
             subst (λ n. RoseBy n first.faults now.faults) (sum_is (length next.untaken) (length t.taking) (length (next.untaken ++ t.taking)) sum) (rose_both (length t.taking) (length next.untaken) first.faults before.faults now.faults one two));
-        later = λ place. (let one = t.later place in let two = next.later place in omega (arith, one, two));
+        later = λ disk_slot. (let one = t.later disk_slot in let two = next.later disk_slot in omega (arith, one, two));
         after = next.after;
       }
     where

@@ -8,7 +8,7 @@ use Rattle.m3_model.specs.declared.answer.Answer.{Answer}
 use Rattle.m3_model.specs.declared.answer.Answer.TheVariants as answer
 use Rattle.m3_model.specs.declared.turn.Turn.{Turn}
 use Rattle.m3_outside.specs.Depots.{Depot}
-use Rattle.m3_outside.specs.DiskState.{DiskState, IsLawful}
+use Rattle.m3_outside.specs.DiskState.{DiskState, IsLawfulDisk}
 use Rattle.m3_outside.specs.declared.disk.Disk.{Ghosts}
 use Rattle.cluster_core.specs.declared.event.StepCall.{StepCall}
 use Rattle.cluster_core.specs.declared.event.StepCall.TheVariants as call
@@ -26,7 +26,7 @@ use Rattle.cluster_tracks.specs.Lines.{FlushesAreTracked, IsLeft, MayGoOn, Snaps
 use Rattle.cluster_tracks.proofs.NodeLemmas.{IsTracked, full_on, halted_on, so, wanted_on}
 use Rattle.cluster_tracks.proofs.SharedLemmas.{have_left}
 
-module _ {D : Type 0} {G : Ghosts D} (state : D → DiskState) (lawful : (d : D) → IsLawful (state d)) (m : Members D G) (tells : Bool) (first now : Depot D) (turns : List Turn) (calls : List ℕ) (go : MayGoOn state tells first now turns calls m) where
+module _ {D : Type 0} {G : Ghosts D} (state : D → DiskState) (lawful : (d : D) → IsLawfulDisk (state d)) (m : Members D G) (tells : Bool) (first now : Depot D) (turns : List Turn) (calls : List ℕ) (go : MayGoOn state tells first now turns calls m) where
   -- nothing is refused
   free : (a : Act) (b : Answer) → IsUpkeepAct a → IsNotRefused None turns a b
   free a b is = upkeep_is_due None turns m.net.state.place m.net.state.rules (have_left turns m (so state m tells first now turns calls go).stands) a b is
@@ -47,14 +47,14 @@ module _ {D : Type 0} {G : Ghosts D} (state : D → DiskState) (lawful : (d : D)
   told_on answer.Full g left h = let few = h.few in full_on state m tells first now turns calls go act.Status g h.same (1 * length h.slots) (omega (arith, few)) h.room
   told_on _ g left h = absurd h
 
-pub ticks_are_tracked : {D : Type 0} {G : Ghosts D} (state : D → DiskState) → ((d : D) → IsLawful (state d)) → (m : Members D G) → TicksAreTracked state m
+pub ticks_are_tracked : {D : Type 0} {G : Ghosts D} (state : D → DiskState) → ((d : D) → IsLawfulDisk (state d)) → (m : Members D G) → TicksAreTracked state m
 ticks_are_tracked state lawful m tells first now turns calls b g go left did = swept_on state lawful m tells first now turns calls go act.Tick tt (λ o. o) (call.Tick m.net.state.rules) refl b g left did
 
-pub flushes_are_tracked : {D : Type 0} {G : Ghosts D} (state : D → DiskState) → ((d : D) → IsLawful (state d)) → (m : Members D G) → FlushesAreTracked state m
+pub flushes_are_tracked : {D : Type 0} {G : Ghosts D} (state : D → DiskState) → ((d : D) → IsLawfulDisk (state d)) → (m : Members D G) → FlushesAreTracked state m
 flushes_are_tracked state lawful m tells first now turns calls b g go left did = swept_on state lawful m tells first now turns calls go act.Flush tt (λ o. o) (call.Flush m.net.state.rules) refl b g left did
 
-pub snapshots_are_tracked : {D : Type 0} {G : Ghosts D} (state : D → DiskState) → ((d : D) → IsLawful (state d)) → (m : Members D G) → SnapshotsAreTracked state m
+pub snapshots_are_tracked : {D : Type 0} {G : Ghosts D} (state : D → DiskState) → ((d : D) → IsLawfulDisk (state d)) → (m : Members D G) → SnapshotsAreTracked state m
 snapshots_are_tracked state lawful m tells first now turns calls b g go left did = swept_on state lawful m tells first now turns calls go act.Snapshot tt (λ o. o) call.Snapshot refl b g left did
 
-pub status_is_tracked : {D : Type 0} {G : Ghosts D} (state : D → DiskState) → ((d : D) → IsLawful (state d)) → (m : Members D G) → StatusIsTracked state m
+pub status_is_tracked : {D : Type 0} {G : Ghosts D} (state : D → DiskState) → ((d : D) → IsLawfulDisk (state d)) → (m : Members D G) → StatusIsTracked state m
 status_is_tracked state lawful m tells first now turns calls b g go left did = told_on state lawful m tells first now turns calls go b g left did

@@ -10,10 +10,10 @@ use Rattle.m3_outside.specs.DiskState.{DiskState}
 use Rattle.m3_outside.specs.declared.disk.Disk.{Ghosts}
 use Rattle.cluster_core.specs.declared.event.StepCall.TheVariants as call
 use Rattle.replica_exchange.specs.declared.call_id.CallId.{CallId}
-use Rattle.cluster_members.specs.Calls.{IsFetched, IsWritten}
-use Rattle.cluster_members.specs.Steps.{IsMoved, IsNamed}
+use Rattle.cluster_members.specs.Calls.{IsFetchAnswer, IsWritten}
+use Rattle.cluster_members.specs.Steps.{IsMoved, IsSpaceAdded}
 use Rattle.cluster_members.specs.declared.members.Members.{Members}
-use Rattle.upkeep_lines.specs.Nodes.{IsBootstrapped, IsDelivered, IsFated, IsRestarted, IsStopped}
+use Rattle.upkeep_lines.specs.Nodes.{IsBootstrapAnswer, IsDeliverAnswer, IsFated, IsRestarted, IsStopped}
 use Rattle.cluster_upkeep.specs.Upkeep.{IsSwept, IsTold}
 use Rattle.first_cluster.specs.First.{IsFirst, IsRefusedInit}
 use Rattle.cluster_tracks.specs.Numbers.{last_number}
@@ -21,11 +21,11 @@ use Rattle.cluster_tracks.specs.Numbers.{last_number}
 -- ---- `init`
 
 -- `init` makes a cluster on its nodes where none stands, and takes their disks; where it is refused all are given back
-abbrev pub IsMade : {D : Type 0} {G : Ghosts D} → (D → DiskState) → Depot D → Option (Members D G) → ℕ → ℕ → ℕ → List (List ℕ × List ℕ) → Answer → Depot D → Option (Members D G) → Type 0
-IsMade {D} {G} state depot old rf shards seed nodes (answer.Placed place version) after new =
+abbrev pub IsInitAnswer : {D : Type 0} {G : Ghosts D} → (D → DiskState) → Depot D → Option (Members D G) → ℕ → ℕ → ℕ → List (List ℕ × List ℕ) → Answer → Depot D → Option (Members D G) → Type 0
+IsInitAnswer {D} {G} state depot old rf shards seed nodes (answer.Placed place version) after new =
     (old ≡ None) × (m : Members D G) × (new ≡ Some m) × IsFirst state rf shards seed nodes depot after m × (place ≡ m.net.state.place) × (version ≡ place.version)
-IsMade state depot old rf shards seed nodes answer.Order after new = IsSome old × (new ≡ old) × (after ≡ depot)
-IsMade state depot old rf shards seed nodes answered after new = (old ≡ None) × (new ≡ None) × IsRefusedInit state rf shards seed nodes depot after answered
+IsInitAnswer state depot old rf shards seed nodes answer.Order after new = IsSome old × (new ≡ old) × (after ≡ depot)
+IsInitAnswer state depot old rf shards seed nodes answered after new = (old ≡ None) × (new ≡ None) × IsRefusedInit state rf shards seed nodes depot after answered
 
 -- ---- other acts
 
@@ -35,16 +35,16 @@ MayCall number Made answered m g = ((number < last_number) × Made) ⊎ ((number
 
 -- what an act other than `init` is answered by a cluster that stands, made as this call where it is one, and what it leaves
 abbrev pub Does : {D : Type 0} {G : Ghosts D} → (D → DiskState) → CallId → Members D G → Act → Answer → Members D G → Type 0
-Does state id m (act.Namespace name block past future retention) answered g = IsNamed state m (record { name = name; block = block; past = past; future = future; retention = retention }) answered g
+Does state id m (act.Namespace name block past future retention) answered g = IsSpaceAdded state m (record { name = name; block = block; past = past; future = future; retention = retention }) answered g
 Does state id m (act.Now now) answered g = IsMoved state m now answered g
 Does state id m (act.Write ns name t v level version) answered g = MayCall id.number (IsWritten state m id (record { ns = ns; id = name; t = t; v = v }) level answered g) answered m g
-Does state id m (act.Fetch ns name from to level version) answered g = MayCall id.number (IsFetched state m id ns (λ k. pick.One k name) (record { from = from; to = to }) level answered g) answered m g
-Does state id m (act.Match ns wanted from to level version) answered g = MayCall id.number (IsFetched state m id ns (λ k. pick.Match k wanted) (record { from = from; to = to }) level answered g) answered m g
+Does state id m (act.Fetch ns name from to level version) answered g = MayCall id.number (IsFetchAnswer state m id ns (λ k. pick.One k name) (record { from = from; to = to }) level answered g) answered m g
+Does state id m (act.Match ns wanted from to level version) answered g = MayCall id.number (IsFetchAnswer state m id ns (λ k. pick.Match k wanted) (record { from = from; to = to }) level answered g) answered m g
 Does state id m (act.Fates list) answered g = IsFated m list answered g
-Does state id m act.Deliver answered g = IsDelivered state m answered g
+Does state id m act.Deliver answered g = IsDeliverAnswer state m answered g
 Does state id m (act.Stop node) answered g = IsStopped state m node answered g
 Does state id m (act.Restart node pick) answered g = IsRestarted state m node answered g
-Does state id m (act.Bootstrap node shard) answered g = IsBootstrapped state m node shard answered g
+Does state id m (act.Bootstrap node shard) answered g = IsBootstrapAnswer state m node shard answered g
 Does state id m act.Tick answered g = IsSwept state (call.Tick m.net.state.rules) m answered g
 Does state id m act.Flush answered g = IsSwept state (call.Flush m.net.state.rules) m answered g
 Does state id m act.Snapshot answered g = IsSwept state call.Snapshot m answered g
@@ -62,5 +62,5 @@ next_call calls = record { client = 0; number = slice_index calls 0 }
 
 -- `init` takes disks; any other act is done with the next call, and leaves the disks that the cluster doesn't have
 abbrev pub IsServedBy : {D : Type 0} {G : Ghosts D} → (D → DiskState) → List ℕ → Depot D → Option (Members D G) → Act → Answer → Depot D → Option (Members D G) → Type 0
-IsServedBy state calls depot old (act.Init rf shards seed nodes) answered after new = IsMade state depot old rf shards seed nodes answered after new
+IsServedBy state calls depot old (act.Init rf shards seed nodes) answered after new = IsInitAnswer state depot old rf shards seed nodes answered after new
 IsServedBy state calls depot old a answered after new = OnMembers old (λ m g. Does state (next_call calls) m a answered g) answered new × (after ≡ depot)

@@ -15,7 +15,7 @@ use Rattle.session_net.specs.declared.net.Net.{Net}
 use Rattle.told_by.specs.Lines.{PlainLine}
 use Rattle.transcripts.specs.Deliveries.{LateMessage}
 use Rattle.transcripts.specs.Faults.{Fault}
-use Rattle.transcripts.specs.Record.{TurnPlace}
+use Rattle.transcripts.specs.Record.{TurnPosition}
 use Rattle.call_lines.specs.Laws.{IsNotRefused, Kind, LeavesLine, LeavesServed}
 use Rattle.call_lines.specs.Left.{WereDelivered}
 use Rattle.cluster_members.specs.declared.members.Members.{Members}
@@ -28,25 +28,25 @@ use Rattle.cluster_tracks.specs.Steps.{AddsLine}
 -- where no refusal was due
 abbrev pub CallAdds : {D : Type 0} {G : Ghosts D} → Kind → Net D G → Type 0
 CallAdds {D} {G} Line old =
-    (tells : Bool) (turns : List Turn) (messages : List LateMessage) (was : TurnPlace → List LateMessage) (a : Act) (b : Answer) (new : Net D G) → WereDelivered turns was → IsNotRefused None turns a b → LeavesLine Line None turns messages old a b new
+    (tells : Bool) (turns : List Turn) (messages : List LateMessage) (was : TurnPosition → List LateMessage) (a : Act) (b : Answer) (new : Net D G) → WereDelivered turns was → IsNotRefused None turns a b → LeavesLine Line None turns messages old a b new
     → AddsLine Line tells [] messages was turns old.replicas.events a b new.replicas.events
 
 -- whatever refusal was due
 abbrev pub ServedAdds : Kind → Type 0
 ServedAdds Line =
-    (tells : Bool) (turns : List Turn) (messages : List LateMessage) (was : TurnPlace → List LateMessage) (events : List Event) (a : Act) (b : Answer) (later : List Event) → WereDelivered turns was → LeavesServed Line None turns messages events a b later
+    (tells : Bool) (turns : List Turn) (messages : List LateMessage) (was : TurnPosition → List LateMessage) (events : List Event) (a : Act) (b : Answer) (later : List Event) → WereDelivered turns was → LeavesServed Line None turns messages events a b later
     → AddsLine Line tells [] messages was turns events a b later
 
 -- of a line that begins replicas
 abbrev pub BegunAdds : {D : Type 0} {G : Ghosts D} → (D → DiskState) → Members D G → Type 0
 BegunAdds {D} {G} state old =
-    (tells : Bool) (turns : List Turn) (was : TurnPlace → List LateMessage) (a : Act) (b : Answer) (new : Members D G) → WereDelivered turns was → IsNotRefused None turns a b → LeavesBegun state tells None turns old a b new
+    (tells : Bool) (turns : List Turn) (was : TurnPosition → List LateMessage) (a : Act) (b : Answer) (new : Members D G) → WereDelivered turns was → IsNotRefused None turns a b → LeavesBegun state tells None turns old a b new
     → AddsLine PlainLine tells [] [] was turns old.net.replicas.events a b new.net.replicas.events
 
 -- of an `init` where no list was
 abbrev pub AnewAdds : Kind → Type 0
 AnewAdds Line =
-    (tells : Bool) (untaken : List Fault) (turns : List Turn) (was : TurnPlace → List LateMessage) (a : Act) (b : Answer) (more : List Event) → WereDelivered turns was → LeavesAnew Line tells untaken turns a b more → AddsLine Line tells untaken [] was turns [] a b more
+    (tells : Bool) (untaken : List Fault) (turns : List Turn) (was : TurnPosition → List LateMessage) (a : Act) (b : Answer) (more : List Event) → WereDelivered turns was → LeavesAnew Line tells untaken turns a b more → AddsLine Line tells untaken [] was turns [] a b more
 
 -- Each step that came is of one of the cluster's slots.
 abbrev pub StepsAreOfSlots : {D : Type 0} {G : Ghosts D} → Members D G → Type 0

@@ -8,7 +8,7 @@ use Rattle.m3_outside.specs.Causes.{RoseBy, last_count}
 use Rattle.m3_outside.specs.Depots.{Depot}
 use Rattle.m3_outside.specs.DiskState.{DiskState}
 use Rattle.m3_outside.specs.declared.disk.Disk.{Ghosts}
-use Rattle.m3_outside.specs.declared.slot.Slot.{Slot as Place}
+use Rattle.m3_outside.specs.declared.slot.DiskSlot.{DiskSlot}
 use Rattle.told_runs.specs.Lines.{life_of}
 use Rattle.transcripts.specs.Caused.{Caused}
 use Rattle.transcripts.specs.Faults.{Fault, Damaged, is_failing, is_taking}
@@ -16,7 +16,7 @@ use Rattle.transcripts.specs.Kept.{Kept}
 use Rattle.replica_exchange.specs.declared.member.Member.{Member}
 use Rattle.replica_exchange.specs.declared.slot.Slot.{Slot}
 use Rattle.cluster_members.specs.declared.members.Members.{Members}
-use Rattle.first_cluster.specs.Depots.{RisesBy, count_at, place_of_slot}
+use Rattle.first_cluster.specs.Depots.{RisesBy, count_at, disk_slot_of}
 use Rattle.cluster_tracks.specs.Tracks.{Tracks, faults_of}
 
 -- the replica at a slot, before `init` none
@@ -25,9 +25,9 @@ replica_at None s = None
 replica_at (Some m) s = finite.get m.net.replicas.members s
 
 -- The disks are given back: each slot counts what its disk did, and the count of all rose by as much as theirs did since they were taken.
-pub record AreGivenBack {D : Type 0} {G : Ghosts D} (state : D → DiskState) (mid : Depot D) (members : Option (Members D G)) (all : ℕ) (of_disk : Place → ℕ) : Type 0 where
+pub record AreGivenBack {D : Type 0} {G : Ghosts D} (state : D → DiskState) (mid : Depot D) (members : Option (Members D G)) (all : ℕ) (of_disk : DiskSlot → ℕ) : Type 0 where
   pub later : mid.faults ≤ all
-  pub counted : (s : Slot) → of_disk (place_of_slot s) ≡ count_at state mid (replica_at members s) s
+  pub counted : (s : Slot) → of_disk (disk_slot_of s) ≡ count_at state mid (replica_at members s) s
   pub rose : RisesBy state mid members all
 
 -- the kind of a fault of taking a disk or of a disk itself, and no damage
@@ -35,17 +35,17 @@ abbrev pub is_fault : Fault → Bool
 is_fault f = is_taking f.kind || is_failing f.kind
 
 -- the disk of this slot failed
-abbrev pub is_failed_at : Place → Fault → Bool
-is_failed_at place f = is_failing f.kind && (nat_eq f.node place.node && nat_eq f.shard place.shard)
+abbrev pub is_failed_at : DiskSlot → Fault → Bool
+is_failed_at disk_slot f = is_failing f.kind && (nat_eq f.node disk_slot.node && nat_eq f.shard disk_slot.shard)
 
 -- Counts of disks show these faults, each of one of so many lines: those of taking by the count of all faults, those of a slot by its disk's; where no count
 -- stands at its last value, all of them by the count of all. None is a damage where the disks tell what they hold.
-pub record AreShown {D : Type 0} (tells : Bool) (lines : ℕ) (first : Depot D) (all : ℕ) (of_disk : Place → ℕ) (faults : List Fault) : Type 0 where
+pub record AreShown {D : Type 0} (tells : Bool) (lines : ℕ) (first : Depot D) (all : ℕ) (of_disk : DiskSlot → ℕ) (faults : List Fault) : Type 0 where
   pub of_lines : (f : Fault) → IsIn faults f → f.line < lines
   pub undamaged : tells ≡ true → (f : Fault) → IsIn faults f → ¬ (f.kind ≡ Damaged)
   pub of_taking : RoseBy (count_by (λ f. is_taking f.kind) faults) first.faults all
-  pub of_disks : (place : Place) → RoseBy (count_by (is_failed_at place) faults) (first.counted place) (of_disk place)
-  pub of_all : all < last_count → ((place : Place) → of_disk place < last_count) → first.faults + count_by is_fault faults ≤ all
+  pub of_disks : (disk_slot : DiskSlot) → RoseBy (count_by (is_failed_at disk_slot) faults) (first.counted disk_slot) (of_disk disk_slot)
+  pub of_all : all < last_count → ((disk_slot : DiskSlot) → of_disk disk_slot < last_count) → first.faults + count_by is_fault faults ≤ all
 
 -- ---- laws
 
@@ -63,5 +63,5 @@ CausedWhereTracked {D} {G} state members =
 -- And these are shown by the counts, once the disks are given back.
 abbrev pub ShownWhereTracked : {D : Type 0} {G : Ghosts D} → (D → DiskState) → Option (Members D G) → Type 0
 ShownWhereTracked {D} {G} state members =
-    (tells : Bool) (first now : Depot D) (turns : List Turn) (calls : List ℕ) (all : ℕ) (of_disk : Place → ℕ) → (t : Tracks state tells first now turns members calls)
+    (tells : Bool) (first now : Depot D) (turns : List Turn) (calls : List ℕ) (all : ℕ) (of_disk : DiskSlot → ℕ) → (t : Tracks state tells first now turns members calls)
     → AreGivenBack state now members all of_disk → AreShown tells (length turns) first all of_disk (faults_of t)

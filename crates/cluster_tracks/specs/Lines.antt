@@ -21,7 +21,7 @@ use Rattle.told_moves.specs.Order.{IsInitAct}
 use Rattle.cluster_members.specs.declared.members.Members.{Members}
 use Rattle.cluster_tracks.specs.Numbers.{numbers_by}
 use Rattle.cluster_tracks.specs.Tracks.{Tracks}
-use Rattle.cluster_tracks.specs.Acts.{Does, IsMade, IsServedBy, next_call}
+use Rattle.cluster_tracks.specs.Acts.{Does, IsInitAnswer, IsServedBy, next_call}
 
 -- ---- a cluster that stands
 
@@ -102,7 +102,7 @@ OrdersAreTracked {D} state none =
 abbrev pub InitsAreTracked : {D : Type 0} {G : Ghosts D} → (D → DiskState) → Option (Members D G) → Type 0
 InitsAreTracked {D} {G} state old =
     (tells : Bool) (first before after : Depot D) (turns : List Turn) (calls : List ℕ) (rf shards seed : ℕ) (nodes : List (List ℕ × List ℕ)) (b : Answer) (new : Option (Members D G))
-    → Tracks state tells first before turns old calls → ((m : Members D G) → new ≡ Some m → IsLeft tells m) → IsMade state before old rf shards seed nodes b after new
+    → Tracks state tells first before turns old calls → ((m : Members D G) → new ≡ Some m → IsLeft tells m) → IsInitAnswer state before old rf shards seed nodes b after new
     → Tracks state tells first after (turns ++ line_of (act.Init rf shards seed nodes) b ∷ []) new (numbers_by (act.Init rf shards seed nodes) b calls)
 
 -- ---- all acts

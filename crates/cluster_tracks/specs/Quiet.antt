@@ -14,7 +14,7 @@ use Rattle.told_by.specs.Lines.{MakesAndHears}
 use Rattle.told_by.specs.Makes.{OpensReplicas}
 use Rattle.transcripts.specs.Placements.{printed}
 use Rattle.transcripts.specs.Record.{line_of}
-use Rattle.call_lines.specs.Left.{IsLeftBy}
+use Rattle.call_lines.specs.Left.{NetIsLeftBy}
 use Rattle.cluster_members.specs.declared.members.Members.{Members}
 use Rattle.act_lines.specs.Quiet.{KeepsStops}
 use Rattle.act_lines.specs.Stays.{HaveNoPlace}
@@ -39,7 +39,7 @@ pub record GoesQuietly {D : Type 0} {G : Ghosts D} (state : D → DiskState) (tu
   pub more : List Event
   pub ran : Ran state old.net.replicas more new.net.replicas
   pub others : OnlyReplicasStep old.net.replicas more
-  pub left : IsLeftBy None (turns ++ line_of a b ∷ []) new.net
+  pub left : NetIsLeftBy None (turns ++ line_of a b ∷ []) new.net
   pub ready : IsReady new.net.state new.net.replicas new.net.bag
   pub place : new.net.state.place ≡ old.net.state.place
   pub slots : new.slots.items ≡ old.slots.items

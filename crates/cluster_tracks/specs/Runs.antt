@@ -19,14 +19,14 @@ use Rattle.replica_exchange.specs.declared.slot.Slot.{Slot}
 use Rattle.replica_calls.specs.Calls.{Tracked, first_member}
 use Rattle.session_net.specs.Runs.{Ran, steps_of}
 use Rattle.first_cluster.specs.Bare.{HasNoPoints}
-use Rattle.first_cluster.specs.Depots.{place_of_slot}
+use Rattle.first_cluster.specs.Depots.{disk_slot_of}
 use Rattle.cluster_tracks.specs.Failures.{CountsFaults, OnlyReplicasStep, failures_in}
 
 -- the replica was made over a disk whose count the slot still shows, and which had no points where disks tell
-pub record IsMade {D : Type 0} (state : D → DiskState) (tells : Bool) (depot : Depot D) (s : Slot) (m : Member D) : Type 0 where
+pub record IsMadeOver {D : Type 0} (state : D → DiskState) (tells : Bool) (depot : Depot D) (s : Slot) (m : Member D) : Type 0 where
   pub disk : D
   pub is_first : m ≡ first_member disk
-  pub counted : (state disk).faults ≡ depot.counted (place_of_slot s)
+  pub counted : (state disk).faults ≡ depot.counted (disk_slot_of s)
   pub bare : tells ≡ true → EachImage (state disk) HasNoPoints
 
 -- The replicas were made so, with two events that open the list; and each took the steps of its slot since, which are all steps of the list.
@@ -35,7 +35,7 @@ pub record HaveRun {D : Type 0} (state : D → DiskState) (tells : Bool) (depot 
   pub place : Placement
   pub rules : Rules
   pub opened : made.events ≡ event.Place place [] ∷ event.Clock rules ∷ []
-  pub each : (s : Slot) (m : Member D) → finite.get made.members s ≡ Some m → IsMade state tells depot s m
+  pub each : (s : Slot) (m : Member D) → finite.get made.members s ≡ Some m → IsMadeOver state tells depot s m
   pub more : List Event
   pub ran : Ran state made more t
   pub others : OnlyReplicasStep made more
@@ -50,7 +50,7 @@ HasNoDamage events = (n s : ℕ) (c : StepCall) (damage : Damage) → IsIn event
 
 -- the count of a slot's disk rose since the disk was taken by at least as much as it failed in steps
 pub record RoseByFailures {D : Type 0} (state : D → DiskState) (depot : Depot D) (t : Tracked D) : Type 0 where
-  pub rose : (s : Slot) (m : Member D) → finite.get t.members s ≡ Some m → RoseBy (failures_in (steps_of s t.events)) (depot.counted (place_of_slot s)) (state m.machine.disk).faults
+  pub rose : (s : Slot) (m : Member D) → finite.get t.members s ≡ Some m → RoseBy (failures_in (steps_of s t.events)) (depot.counted (disk_slot_of s)) (state m.machine.disk).faults
   pub others : OnlyReplicasStep t t.events
 
 -- ---- laws

@@ -10,24 +10,24 @@ use Rattle.m3_outside.specs.Causes.{RoseBy}
 use Rattle.m3_outside.specs.Depots.{Depot, TellAll}
 use Rattle.m3_outside.specs.DiskState.{DiskState}
 use Rattle.m3_outside.specs.declared.disk.Disk.{Ghosts}
-use Rattle.m3_outside.specs.declared.slot.Slot.{Slot as Place}
+use Rattle.m3_outside.specs.declared.slot.DiskSlot.{DiskSlot}
 use Rattle.cluster_core.specs.Legal.{Legal}
 use Rattle.cluster_core.specs.declared.event.Event.{Event}
 use Rattle.session_net.specs.Runs.{Ran}
 use Rattle.told_runs.specs.Lines.{ServesOne, delivered_on}
 use Rattle.transcripts.specs.Deliveries.{LateMessage}
 use Rattle.transcripts.specs.Faults.{Fault}
-use Rattle.transcripts.specs.Record.{TurnPlace, line_of}
+use Rattle.transcripts.specs.Record.{TurnPosition, line_of}
 use Rattle.call_lines.specs.Laws.{Kind}
 use Rattle.call_lines.specs.Left.{WereDelivered}
 use Rattle.cluster_members.specs.declared.members.Members.{Members}
 use Rattle.first_cluster.specs.Bare.{AreBare}
 use Rattle.first_cluster.specs.First.{IsFirst}
-use Rattle.act_lines.specs.Stands.{NoneStands, Stands}
+use Rattle.act_lines.specs.Stands.{NoneStands, ClusterStands}
 use Rattle.act_lines.specs.Opens.{OpensLow}
 use Rattle.cluster_tracks.specs.Failures.{OnlyReplicasStep}
 use Rattle.cluster_tracks.specs.Numbers.{numbers_by}
-use Rattle.cluster_tracks.specs.Tracks.{MayStand, StandsSo, Tracks, events_of}
+use Rattle.cluster_tracks.specs.Tracks.{MayStandSo, StandsSo, Tracks, events_of}
 
 -- ---- the first run's beginning
 
@@ -39,7 +39,7 @@ TracksAtFirst {D} {G} state members =
 -- ---- one line
 
 -- what came to the list tells of the line, and serves it, with these disks that couldn't be taken; it delivers these messages
-pub record AddsLine (Line : Kind) (tells : Bool) (untaken : List Fault) (messages : List LateMessage) (was : TurnPlace → List LateMessage) (turns : List Turn) (events : List Event) (a : Act) (b : Answer) (later : List Event) : Type 0 where
+pub record AddsLine (Line : Kind) (tells : Bool) (untaken : List Fault) (messages : List LateMessage) (was : TurnPosition → List LateMessage) (turns : List Turn) (events : List Event) (a : Act) (b : Answer) (later : List Event) : Type 0 where
   pub more : List Event
   pub grew : later ≡ events ++ more
   pub line : Line None turns events a b more
@@ -47,14 +47,14 @@ pub record AddsLine (Line : Kind) (tells : Bool) (untaken : List Fault) (message
   pub delivered : WereDelivered (turns ++ line_of a b ∷ []) (delivered_on turns was (λ p. messages))
 
 -- so it does; each disk that couldn't be taken is counted, no slot's count fell, and the cluster is what the turns left, the line's with them
-pub record IsNext {D : Type 0} {G : Ghosts D} (Line : Kind) (state : D → DiskState) (tells : Bool) (was : TurnPlace → List LateMessage) (turns : List Turn) (before : Depot D) (old : Option (Members D G)) (a : Act) (b : Answer) (now : Depot D) (new : Option (Members D G)) : Type 0 where
+pub record IsNext {D : Type 0} {G : Ghosts D} (Line : Kind) (state : D → DiskState) (tells : Bool) (was : TurnPosition → List LateMessage) (turns : List Turn) (before : Depot D) (old : Option (Members D G)) (a : Act) (b : Answer) (now : Depot D) (new : Option (Members D G)) : Type 0 where
   pub untaken : List Fault
   pub messages : List LateMessage
   pub adds : AddsLine Line tells untaken messages was turns (events_of old) a b (events_of new)
   pub legal : Legal tells (events_of new)
   pub rose : RoseBy (length untaken) before.faults now.faults
-  pub later : (place : Place) → before.counted place ≤ now.counted place
-  pub after : MayStand state tells now (turns ++ line_of a b ∷ []) new
+  pub later : (disk_slot : DiskSlot) → before.counted disk_slot ≤ now.counted disk_slot
+  pub after : MayStandSo state tells now (turns ++ line_of a b ∷ []) new
 
 -- Then the turns are tracked with it.
 abbrev pub TracksOn : {D : Type 0} {G : Ghosts D} → Kind → (D → DiskState) → Option (Members D G) → Type 0
@@ -71,7 +71,7 @@ pub record StandsOn {D : Type 0} {G : Ghosts D} (state : D → DiskState) (tells
   pub ran : Ran state old.net.replicas more new.net.replicas
   pub others : OnlyReplicasStep old.net.replicas more
   pub slots : new.slots.items ≡ old.slots.items
-  pub stands : Stands None (turns ++ line_of a b ∷ []) new
+  pub stands : ClusterStands None (turns ++ line_of a b ∷ []) new
   pub low : tells ≡ true → OpensLow state None new.net.replicas
 
 -- so it stands after the line

@@ -5,19 +5,19 @@ use Rattle.m3_outside.specs.Causes.{RoseBy}
 use Rattle.m3_outside.specs.Depots.{Depot, TellAll}
 use Rattle.m3_outside.specs.DiskState.{DiskState}
 use Rattle.m3_outside.specs.declared.disk.Disk.{Ghosts}
-use Rattle.m3_outside.specs.declared.slot.Slot.{Slot as Place}
+use Rattle.m3_outside.specs.declared.slot.DiskSlot.{DiskSlot}
 use Rattle.cluster_core.specs.Legal.{Legal}
 use Rattle.cluster_core.specs.declared.event.Event.{Event}
 use Rattle.told_causes.specs.Faults.{faults_told}
 use Rattle.told_runs.specs.Lines.{IsToldAndServed}
 use Rattle.transcripts.specs.Deliveries.{LateMessage}
 use Rattle.transcripts.specs.Faults.{Fault}
-use Rattle.transcripts.specs.Record.{TurnPlace}
+use Rattle.transcripts.specs.Record.{TurnPosition}
 use Rattle.call_lines.specs.Left.{WereDelivered}
 use Rattle.cluster_members.specs.declared.members.Members.{Members}
 use Rattle.first_cluster.specs.Bare.{AreBare}
 use Rattle.first_cluster.specs.Slots.{AreApart}
-use Rattle.act_lines.specs.Stands.{NoneStands, Stands}
+use Rattle.act_lines.specs.Stands.{NoneStands, ClusterStands}
 use Rattle.act_lines.specs.Opens.{OpensLow}
 use Rattle.cluster_tracks.specs.Numbers.{IsNumbered}
 use Rattle.cluster_tracks.specs.Runs.{HaveRun}
@@ -29,7 +29,7 @@ events_of (Some m) = m.net.replicas.events
 
 -- one that stands: it is what the turns left, and its replicas did what the list says; its slots are apart, and those that never began may begin
 pub record StandsSo {D : Type 0} {G : Ghosts D} (state : D → DiskState) (tells : Bool) (now : Depot D) (turns : List Turn) (m : Members D G) : Type 0 where
-  pub stands : Stands None turns m
+  pub stands : ClusterStands None turns m
   pub run : HaveRun state tells now m.net.replicas
   pub apart : AreApart m.slots.items
   pub low : tells ≡ true → OpensLow state None m.net.replicas
@@ -40,9 +40,9 @@ pub record NoneStandsYet {D : Type 0} (state : D → DiskState) (tells : Bool) (
   pub bare : tells ≡ true → AreBare state now.held
 
 -- one stands so, or none does
-abbrev pub MayStand : {D : Type 0} {G : Ghosts D} → (D → DiskState) → Bool → Depot D → List Turn → Option (Members D G) → Type 0
-MayStand state tells now turns None = NoneStandsYet state tells now turns
-MayStand state tells now turns (Some m) = StandsSo state tells now turns m
+abbrev pub MayStandSo : {D : Type 0} {G : Ghosts D} → (D → DiskState) → Bool → Depot D → List Turn → Option (Members D G) → Type 0
+MayStandSo state tells now turns None = NoneStandsYet state tells now turns
+MayStandSo state tells now turns (Some m) = StandsSo state tells now turns m
 
 -- The list is legal, tells of the turns, and serves them; the next calls have the numbers that the turns leave; the count of all faults rose by as much as disks
 -- couldn't be taken, and no slot's fell; and the cluster is what the turns left. More is said where the disks tell what they hold.
@@ -50,13 +50,13 @@ pub record Tracks {D : Type 0} {G : Ghosts D} (state : D → DiskState) (tells :
   pub tell : tells ≡ true → TellAll state
   pub legal : Legal tells (events_of members)
   pub taking : List Fault  -- the disks that couldn't be taken
-  pub delivered : TurnPlace → List LateMessage  -- which late messages each turn delivered
+  pub delivered : TurnPosition → List LateMessage  -- which late messages each turn delivered
   pub served : IsToldAndServed tells taking delivered [] None turns None (events_of members)
   pub were : WereDelivered turns delivered
   pub numbered : IsNumbered turns calls
   pub untaken : RoseBy (length taking) first.faults now.faults
-  pub later : (place : Place) → first.counted place ≤ now.counted place
-  pub after : MayStand state tells now turns members
+  pub later : (disk_slot : DiskSlot) → first.counted disk_slot ≤ now.counted disk_slot
+  pub after : MayStandSo state tells now turns members
 
 -- all faults of a run that is tracked so: of disks that couldn't be taken, and those that its steps tell
 abbrev pub faults_of : {D : Type 0} {G : Ghosts D} {state : D → DiskState} {tells : Bool} {first now : Depot D} {turns : List Turn} {members : Option (Members D G)} {calls : List ℕ} → Tracks state tells first now turns members calls → List Fault

@@ -36,7 +36,7 @@ use Rattle.session_net.specs.Messages.{exchange}
 use Rattle.session_net.specs.Runs.{Ran, slot_at}
 use Rattle.session_net.proofs.ReadyLemmas.{AreQuiet, IsQuiet, room_after}
 use Rattle.session_net.proofs.RunLemmas.{ran_nothing, ran_then}
-use Rattle.cluster_members.specs.declared.members.Members.{Members}
+use Rattle.node_calls.specs.Members.{Members}
 use Rattle.node_calls.proofs.ListLemmas.{flat_long, flat_push}
 use Rattle.node_calls.proofs.RunLemmas.{quiet_exchange, quiet_flat}
 use Rattle.transcripts.specs.Sweeps.{AreAllMembers, Entry, done_in, failed_in, slot_of}

@@ -14,7 +14,7 @@ use Rattle.cluster_core.specs.declared.event.StepCall.{StepCall}
 use Rattle.replica_exchange.specs.MachineCalls.{HasRoom}
 use Rattle.session_net.specs.Runs.{Ran}
 use Rattle.transcripts.specs.Sweeps.{AreAllMembers, Entry, done_in, failed_in, slot_of}
-use Rattle.cluster_members.specs.declared.members.Members.{Members}
+use Rattle.node_calls.specs.Members.{Members}
 use Rattle.node_calls.specs.Nodes.{KeepsButBoots}
 use Rattle.cluster_upkeep.specs.Status.{told_at}
 use Rattle.cluster_upkeep.specs.Sweeps.{AreOfFiles, asked_at}

@@ -12,9 +12,9 @@ ghost use Rattle.cluster_upkeep.specs.Upkeep.{IsTold};
 ghost use Rattle.cluster_upkeep.specs.declared.rows.Row.{Row as Member};
 
 use crate::rows::{Row, all_rows};
-use cluster_members::Members;
 use m3_model::{Answer, Report, Seq, StatusLine};
 use m3_outside::Disk;
+use node_calls::Members;
 use replica_calls::Replicas;
 use replica_exchange::Slot;
 use std::alloc::Global;

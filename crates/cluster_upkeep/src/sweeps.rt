@@ -15,9 +15,9 @@ ghost use Rattle.cluster_upkeep.specs.declared.rows.Row.{Row as Member};
 
 use crate::findings::Findings;
 use crate::rows::{Row, all_rows};
-use cluster_members::Members;
 use m3_model::{Answer, Reason, Rules};
 use m3_outside::Disk;
+use node_calls::Members;
 use replica_calls::Replicas;
 use replica_exchange::{CallErr, Slot};
 use std::alloc::Global;

@@ -1,7 +1,7 @@
 //! The lists in requests: nodes, matchers and fates.
 ghost use Rattle.std.specs.Prelude.{◌≡◌, ◌≢◌, ℕ, List, [], ◌∷◌, ◌++◌, IfOk, OnOk, IsTrue};
 ghost use Rattle.m3_model.specs.Ascends.{Ascends};
-ghost use Rattle.m3_model.specs.Limits.{AreMatchers, IsFate, IsSameMessage, MeetsLimits};
+ghost use Rattle.m3_model.specs.Limits.{AreMatchers, IsFate, IsFateOfSameMessage, MeetsLimits};
 ghost use Rattle.m3_model.specs.Members.{IsIn};
 ghost use Rattle.m3_model.specs.declared.act.Act.TheVariants as act;
 ghost use Rattle.m3_model.specs.declared.act.Fate.{Fate as Outcome};
@@ -74,7 +74,7 @@ fn fate(alloc: Global, letters: [u8; 4]) -> Result<(u32, u64, Text, Fate), Memor
 
 // Whether none of the fates is of this message.
 fn is_apart(one: &(u32, u64, Text, Fate), others: &[(u32, u64, Text, Fate)]) -> bool
-    ensures { IsTrue result → (other : ℕ × ℕ × List ℕ × Outcome) → IsIn others.now other → ¬ IsSameMessage one.now other }
+    ensures { IsTrue result → (other : ℕ × ℕ × List ℕ × Outcome) → IsIn others.now other → ¬ IsFateOfSameMessage one.now other }
 {
     match others.split_first() {
         None => true,
@@ -85,7 +85,7 @@ fn is_apart(one: &(u32, u64, Text, Fate), others: &[(u32, u64, Text, Fate)]) -> 
 }
 
 fn are_apart(fates: &[(u32, u64, Text, Fate)]) -> bool
-    ensures { IsTrue result → Ascends (λ a b. ¬ IsSameMessage a b) fates.now }
+    ensures { IsTrue result → Ascends (λ a b. ¬ IsFateOfSameMessage a b) fates.now }
 {
     match fates.split_first() {
         None => true,

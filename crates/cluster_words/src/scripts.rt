@@ -33,8 +33,8 @@ impl Dice {
 
     // One of the letters.
     fn pick(&mut self, letters: &str) -> char {
-        let place = self.roll(letters.len().max(1) as u64) as usize;
-        match letters.as_bytes().get(place) {
+        let position = self.roll(letters.len().max(1) as u64) as usize;
+        match letters.as_bytes().get(position) {
             Some(letter) => *letter as char,
             None => '?',
         }
@@ -119,7 +119,7 @@ fn next_node(dice: &mut Dice, nodes: &[u8; 3]) -> usize
 {
     let any = dice.roll(3) as usize;
     match nodes.iter().position(|node| *node != 0) {
-        Some(place) if dice.roll(4) > 0 => place.min(2),
+        Some(position) if dice.roll(4) > 0 => position.min(2),
         _ => any,
     }
 }
@@ -134,11 +134,11 @@ fn node_after(letter: u8) -> u8 {
 
 // A stop, a restart or a bootstrap of a node.
 fn add_node(script: &mut String, dice: &mut Dice, guess: &mut Guess) -> Result<(), Memory> {
-    let place = next_node(dice, &guess.nodes);
-    let letter = next_for(dice, guess.nodes[place]);
-    guess.nodes[place] = node_after(letter);
+    let position = next_node(dice, &guess.nodes);
+    let letter = next_for(dice, guess.nodes[position]);
+    guess.nodes[position] = node_after(letter);
     script.push(letter as char)?;
-    script.push(match place {
+    script.push(match position {
         0 => 'a',
         1 => 'b',
         _ => 'c',

@@ -11,7 +11,7 @@ use Rattle.m3_outside.specs.DiskCalls.{Creates, LeavesFiles}
 use Rattle.m3_outside.proofs.Names.{get_here, get_apart}
 use Rattle.m3_outside.proofs.Moments.{elapses_as, elapses_then, becomes_both, becomes_stays}
 use Rattle.commit_log.specs.Segment.{segment, IsAtRest}
-use Rattle.commit_log.specs.LogEnd.{LogEnd, NoneFrom, NoneAbove, Stands, MayBegin, BeganOrNot}
+use Rattle.commit_log.specs.LogEnd.{LogEnd, NoneFrom, NoneAbove, LogEndStands, MayBeginSegment, BeganOrNot}
 
 module _ (number : ℕ) (name : FileName) (named : name ≡ segment number) (a b : DiskState) where
   apart : (n : ℕ) → number < n → segment n ≡ name → ⊥
@@ -26,12 +26,12 @@ module _ (number : ℕ) (name : FileName) (named : name ≡ segment number) (a b
   has_zeros : (x y : Files) → y ≡ files_with_zeros name 65536 x → get y (segment number) ≡ Some (replicate 65536 0)
   has_zeros x y e = ap (get y) (sym named) ∙ ap (λ (m : Files). get m name) e ∙ get_here x name (replicate 65536 0)
 
-  pub begun_stands : (u : ⊤) → Creates name 65536 (Ok u) a b → Told a (NoneFrom number) → Stands (record { number = number; at = 0; clean = true }) b
+  pub begun_stands : (u : ⊤) → Creates name 65536 (Ok u) a b → Told a (NoneFrom number) → LogEndStands (record { number = number; at = 0; clean = true }) b
   begun_stands u creates none =
       let back : b.tells ≡ true → a.tells ≡ true = λ h. sym creates.changes.proceeds.tells ∙ h in
       record {
         kept = λ clean. record {
-          rest = λ h. record { chunks = []; place = refl; there = has_zeros a.files b.files (creates.changes.done (back h) refl).files };
+          rest = λ h. record { chunks = []; offset = refl; there = has_zeros a.files b.files (creates.changes.done (back h) refl).files };
           synced = λ h c image.
               let done = creates.changes.done (back h) refl in
               let step = done.images c image in
@@ -55,7 +55,7 @@ pub none_from_next : (number next : ℕ) (files : Files) → next ≡ number + 1
 none_from_next number next files e none = λ n le. none n (omega arith)
 
 -- a call that leaves the files leaves the log's end
-pub stands_stays : (log : LogEnd) (failed : Type 0) (a b : DiskState) → LeavesFiles failed a b → Stands log a → Stands log b
+pub stands_stays : (log : LogEnd) (failed : Type 0) (a b : DiskState) → LeavesFiles failed a b → LogEndStands log a → LogEndStands log b
 stands_stays log failed a b leaves st =
     let back : b.tells ≡ true → a.tells ≡ true = λ h. sym leaves.proceeds.tells ∙ h in
     record {
@@ -77,7 +77,7 @@ stays_then_began number failed a b c leaves t one =
     (λ (done : Becomes (files_with_zeros (segment number) 65536) b c). inr (becomes_both (λ files. files) (files_with_zeros (segment number) 65536) (files_with_zeros (segment number) 65536) a b c (λ x y e. ap (files_with_zeros (segment number) 65536) e) same done)) one
 
 -- nothing happened
-pub elapses_none : (number : ℕ) (a : DiskState) → Elapses (MayBegin number) a a
+pub elapses_none : (number : ℕ) (a : DiskState) → Elapses (MayBeginSegment number) a a
 elapses_none number a = record {
   later = omega arith;
   images = λ c image. record { before = c; was = image; stepped = inl refl };
@@ -86,8 +86,8 @@ elapses_none number a = record {
 }
 
 -- nothing changed, and then a segment may have begun
-pub stays_then_begun : (number : ℕ) (a b c : DiskState) → Elapses Stays a b → Elapses (MayBegin number) b c → Elapses (MayBegin number) a c
-stays_then_begun number a b c one two = elapses_then a b c (λ x y image same. inl same) (λ x y z image same image1 step. subst (λ (w : Files). MayBegin number w z) same step) one two
+pub stays_then_begun : (number : ℕ) (a b c : DiskState) → Elapses Stays a b → Elapses (MayBeginSegment number) b c → Elapses (MayBeginSegment number) a c
+stays_then_begun number a b c one two = elapses_then a b c (λ x y image same. inl same) (λ x y z image same image1 step. subst (λ (w : Files). MayBeginSegment number w z) same step) one two
 
-pub stays_begun : (number : ℕ) (a b : DiskState) → Elapses Stays a b → Elapses (MayBegin number) a b
+pub stays_begun : (number : ℕ) (a b : DiskState) → Elapses Stays a b → Elapses (MayBeginSegment number) a b
 stays_begun number a b one = elapses_as a b (λ x y image same. inl same) one

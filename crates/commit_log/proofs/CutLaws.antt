@@ -8,11 +8,11 @@ use Rattle.m3_model.specs.Members.{IsIn}
 use Rattle.m3_model.specs.Ascends.{Ascends}
 use Rattle.m3_model.proofs.MemberLemmas.{IsIn-append_left, IsIn-append_right, IsIn-append_cases, map-IsIn}
 use Rattle.m3_outside.specs.Files.{Files}
-use Rattle.m3_outside.specs.DiskState.{DiskState, IsLawful, StepOf, Elapses}
+use Rattle.m3_outside.specs.DiskState.{DiskState, IsLawfulDisk, StepOf, Elapses}
 use Rattle.m3_outside.specs.Removal.{without_files, MayTakeAway, HasTakenAway}
 use Rattle.m3_outside.proofs.Removal.{none_stays, gone_none, left_same, may_take}
 use Rattle.commit_log.specs.Segment.{segment, IsAtRest}
-use Rattle.commit_log.specs.LogEnd.{LogEnd, NoneAbove, Stands}
+use Rattle.commit_log.specs.LogEnd.{LogEnd, NoneAbove, LogEndStands}
 use Rattle.commit_log.specs.Contents.{numbers, PartsHold}
 use Rattle.commit_log.specs.Cutting.{numbers_below, numbers_from, segments_below}
 use Rattle.commit_log.specs.LogLaws.{IsLog, IsCutAt, LeavesEnd, CutLeavesEnd}
@@ -117,7 +117,7 @@ cut_whole m last below from x y at is = log_left (numbers_below m x) [] (numbers
 nothing_cut : (m last : ℕ) (below from : List (List ℕ)) (x : Files) → IsCutAt m below from last x → LeavesEnd below from last x
 nothing_cut m last below from x at = cut_end m last below from x x at (record { gone = []; left = segments_below m x; split = refl; taken = refl })
 
-module _ {D : Type 0} (state : D → DiskState) (lawful : (d : D) → IsLawful (state d)) where
+module _ {D : Type 0} (state : D → DiskState) (lawful : (d : D) → IsLawfulDisk (state d)) where
   pub cut_leaves_end : CutLeavesEnd state
   cut_leaves_end = record {
     stopped = λ old new m last below from tells each same elapses c after.
@@ -132,7 +132,7 @@ module _ {D : Type 0} (state : D → DiskState) (lawful : (d : D) → IsLawful (
 
 -- the log's end stands where segments below it are taken away
 pub stands_cut : (log : LogEnd) (m : ℕ) (a b : DiskState) → m ≤ log.number → b.tells ≡ a.tells → (a.tells ≡ true → Elapses (MayTakeAway (segments_below m a.files)) a b) → (a.tells ≡ true → HasTakenAway (segments_below m a.files) a b)
-    → Stands log a → Stands log b
+    → LogEndStands log a → LogEndStands log b
 stands_cut log m a b le same elapses cuts st = record {
   kept = λ clean. let k = st.kept clean in record {
     rest = λ h. let t = sym same ∙ h in rest_stays (k.rest t) (here a.files b.files a.files (files t));
@@ -155,7 +155,7 @@ stands_cut log m a b le same elapses cuts st = record {
         ∙ left_number cut.gone x log.number (λ g. let lt = (in_below (numbers z) m log.number (subst (λ (l : List ℕ). IsIn l log.number) (sym cut.split) (IsIn-append_left cut.gone cut.left log.number g))).1 in omega (arith, lt, le))
 
     rest_stays : IsAtRest log.number log.at a.files → get b.files (segment log.number) ≡ get a.files (segment log.number) → IsAtRest log.number log.at b.files
-    rest_stays r e = record { chunks = r.chunks; place = r.place; there = e ∙ r.there }
+    rest_stays r e = record { chunks = r.chunks; offset = r.offset; there = e ∙ r.there }
 
     none_still : MayTakeAway (segments_below m a.files) a.files b.files → NoneAbove log.number a.files → NoneAbove log.number b.files
     none_still takes none = λ n lt. ap (λ (w : Files). get w (segment n)) takes.taken ∙ none_stays takes.gone a.files (segment n) (none n lt)

@@ -6,9 +6,9 @@ use Rattle.std.proofs.lemmas.Bool.{cases_lt, eqb-true, eq-eqb}
 use Rattle.std.specs.FinMap.{get}
 use Rattle.m3_outside.specs.declared.file_name.FileName.{FileName}
 use Rattle.m3_outside.specs.Files.{Files, IsPresent}
-use Rattle.wire_bytes.specs.Fields.{Begins, StopsAt}
-use Rattle.wire_bytes.proofs.FieldLemmas.{begins_take}
-use Rattle.commit_log.specs.Segment.{segment, Reads, IsSegment, HasChunks}
+use Rattle.log_chunks.specs.Fields.{Begins, StopsAt}
+use Rattle.log_chunks.proofs.FieldLemmas.{begins_take}
+use Rattle.commit_log.specs.Segment.{segment, ReadsChunks, IsSegment, HasChunks}
 use Rattle.commit_log.specs.Contents.{segment_bytes}
 use Rattle.commit_log.specs.Reading.{EndStands, IsFront}
 
@@ -16,17 +16,17 @@ begun : (bytes : List ℕ) → IsSegment bytes → Begins IsSegment bytes
 begun bytes is = record { rest = []; whole = subst IsSegment (sym (append-nil bytes)) is }
 
 -- where the front stops to be a segment's, the file does
-pub front_bad : (front file : List ℕ) (whole : Bool) (place : ℕ) → IsFront front whole file → place < length front → StopsAt IsSegment front place → StopsAt IsSegment file place
-front_bad front file whole place f lt s =
+pub front_bad : (front file : List ℕ) (whole : Bool) (offset : ℕ) → IsFront front whole file → offset < length front → StopsAt IsSegment front offset → StopsAt IsSegment file offset
+front_bad front file whole offset f lt s =
     let long : length front ≤ 65536 = (let t = length-take 65536 file in omega (arith, ap length f.is, t)) in
     let short : length front ≤ length file = (let t = length-take 65536 file in omega (arith, ap length f.is, t)) in
     let cut : (k : ℕ) → k ≤ length front → take k front ≡ take k file = λ (k : ℕ) le. ap (take k) f.is ∙ take-take k 65536 file (omega (arith, le, long)) in
-    let none : ¬ (Begins IsSegment (take (suc place) file)) = λ g. s.stops lt (subst (Begins IsSegment) (sym (cut (suc place) lt)) g) in
+    let none : ¬ (Begins IsSegment (take (suc offset) file)) = λ g. s.stops lt (subst (Begins IsSegment) (sym (cut (suc offset) lt)) g) in
     record {
       inside = omega (arith, lt, short);
-      begins = subst (Begins IsSegment) (cut place (omega (arith, lt))) s.begins;
+      begins = subst (Begins IsSegment) (cut offset (omega (arith, lt))) s.begins;
       stops = λ _ g. none g;
-      none = λ is. none (begins_take IsSegment (suc place) file (begun file is));
+      none = λ is. none (begins_take IsSegment (suc offset) file (begun file is));
     }
 
 -- a file of another size stops to be a segment's where the front ends
@@ -56,17 +56,17 @@ front_ends cs front file whole at f other_size s = by (cases_lt (length file) 65
     by (inr ge) = stop 65536 (ap length f.is ∙ length-take-le 65536 file ge) (sym f.is) ge (λ less. omega arith)
 
 -- a file of a segment's size is its front
-pub front_whole : (cs : List (List ℕ)) (front file : List ℕ) (whole : Bool) (at : ℕ) → IsFront front whole file → IsTrue whole → EndStands cs front at → (length file ≡ 65536) × Reads cs file
+pub front_whole : (cs : List (List ℕ)) (front file : List ℕ) (whole : Bool) (at : ℕ) → IsFront front whole file → IsTrue whole → EndStands cs front at → (length file ≡ 65536) × ReadsChunks cs file
 front_whole cs front file whole at f is s =
     let long = f.whole_is.0 is in
     let same : front ≡ file = f.is ∙ take_all 65536 file (omega (arith, long)) in
-    (long, subst (Reads cs) same (s.ends (ap length same ∙ long)))
+    (long, subst (ReadsChunks cs) same (s.ends (ap length same ∙ long)))
 
 -- a segment of that size is there
-pub has_chunks : (number : ℕ) (files : Files) (cs : List (List ℕ)) → length (segment_bytes number files) ≡ 65536 → Reads cs (segment_bytes number files) → HasChunks (segment number) cs files
+pub has_chunks : (number : ℕ) (files : Files) (cs : List (List ℕ)) → length (segment_bytes number files) ≡ 65536 → ReadsChunks cs (segment_bytes number files) → HasChunks (segment number) cs files
 has_chunks number files cs long reads = by (get files (segment number)) refl long reads
   where
-    by : (o : Option (List ℕ)) → get files (segment number) ≡ o → length (unwrap_or o []) ≡ 65536 → Reads cs (unwrap_or o []) → HasChunks (segment number) cs files
+    by : (o : Option (List ℕ)) → get files (segment number) ≡ o → length (unwrap_or o []) ≡ 65536 → ReadsChunks cs (unwrap_or o []) → HasChunks (segment number) cs files
     by None is long reads = absurd (let e : 0 ≡ 65536 = long in omega (arith, e))
     by (Some file) is long reads = record { file = file; there = is; size = long; reads = reads }
 

@@ -8,3 +8,7 @@ pub mod ReadLemmas
 pub mod CutLemmas
 pub mod LogLemmas
 pub mod CutLaws
+pub use Rattle.log_chunks.proofs.Chunks
+pub use Rattle.log_chunks.proofs.Fronts
+pub use Rattle.log_chunks.proofs.LawLemmas
+pub use Rattle.log_chunks.proofs.Shapes

@@ -9,10 +9,10 @@ use Rattle.m3_model.specs.Ascends.{Ascends}
 use Rattle.m3_model.proofs.MemberLemmas.{IsIn-append_left, IsIn-append_cases, IsIn-push}
 use Rattle.m3_outside.specs.declared.file_name.FileName.{FileName}
 use Rattle.m3_outside.specs.Files.{Files, IsPresent, files_with_zeros}
-use Rattle.m3_outside.specs.DiskState.{DiskState, IsLawful, StepOf, Elapses}
+use Rattle.m3_outside.specs.DiskState.{DiskState, IsLawfulDisk, StepOf, Elapses}
 use Rattle.m3_outside.proofs.Names.{get_here, get_apart}
-use Rattle.commit_log.specs.Segment.{segment, written, Reads, HasChunks, OthersStay, MayAdd, Adds, IsSegment}
-use Rattle.commit_log.specs.LogEnd.{NoneAbove, MayBegin}
+use Rattle.commit_log.specs.Segment.{segment, written, ReadsChunks, HasChunks, OthersStay, MayAdd, Adds, IsSegment}
+use Rattle.commit_log.specs.LogEnd.{NoneAbove, MayBeginSegment}
 use Rattle.commit_log.specs.Contents.{numbers, PartsHold, HasDamage}
 use Rattle.commit_log.specs.LogLaws.{NothingBehindGate, NumbersAreThere, LogIsOne, DamagedIsNone, ReaderFindsLog, IsLog, AppendGrowsLog, BeginLeavesLog}
 use Rattle.log_chunks.proofs.LawLemmas.{one_reading}
@@ -22,7 +22,7 @@ use Rattle.commit_log.proofs.Parts.{Parted, parts_split, parts_same, parts_more,
 
 pub nothing_behind_gate : NothingBehindGate
 nothing_behind_gate cs ds gate behind bytes is le shut reads =
-    one_reading ds cs bytes le reads (subst (Reads cs) (sym is) (subst (λ (l : List (List ℕ)). Reads l (written cs ++ gate ∷ behind)) (append-nil cs) (reads_written cs [] (gate ∷ behind) (inl shut))))
+    one_reading ds cs bytes le reads (subst (ReadsChunks cs) (sym is) (subst (λ (l : List (List ℕ)). ReadsChunks l (written cs ++ gate ∷ behind)) (append-nil cs) (reads_written cs [] (gate ∷ behind) (inl shut))))
 
 pub numbers_there : (files : Files) → NumbersAreThere files
 numbers_there files = record {
@@ -168,11 +168,11 @@ module _ (last number : ℕ) (lt : last < number) (chunks : List (List ℕ)) (x 
     above = λ n up. others (segment n) (apart_names n number (λ e. omega (arith, up, e))) ∙ log.above n (omega (arith, up, lt));
   }
 
-pub begun_log : (last number : ℕ) → last < number → (chunks : List (List ℕ)) (x y : Files) → IsLog chunks last x → MayBegin number x y → IsLog chunks number y
+pub begun_log : (last number : ℕ) → last < number → (chunks : List (List ℕ)) (x y : Files) → IsLog chunks last x → MayBeginSegment number x y → IsLog chunks number y
 begun_log last number lt chunks x y log (inl same) = subst (IsLog chunks number) (sym same) (record { parts = log.parts; above = λ n up. log.above n (omega (arith, up, lt)) })
 begun_log last number lt chunks x y log (inr done) = fresh_log last number lt chunks x y log done
 
-module _ {D : Type 0} (state : D → DiskState) (lawful : (d : D) → IsLawful (state d)) where
+module _ {D : Type 0} (state : D → DiskState) (lawful : (d : D) → IsLawfulDisk (state d)) where
   -- what a stop since the beginning of a run may leave was an image or is one step on
   pub since_begin : {step : Files → Files → Type 0} (old new : D) (c : Files) → Elapses step (state old) (state new) → (state new).since (state old).moment c → (state old).images c ⊎ StepOf step (state old).images c
   since_begin old new c elapses left = ⊎_elim (λ was. inl ((lawful old).only_now c was)) (λ step. inr step) (elapses.nothing_else (state old).moment c (omega arith) left)
@@ -191,5 +191,5 @@ module _ {D : Type 0} (state : D → DiskState) (lawful : (d : D) → IsLawful (
   pub begin_leaves_log : BeginLeavesLog state
   begin_leaves_log old new last number chunks tells lt each elapses c left =
       ⊎_elim (λ (was : (state old).images c). begun_log last number lt chunks c c (each tells c was) (inl refl))
-      (λ (step : StepOf (MayBegin number) (state old).images c). begun_log last number lt chunks step.before c (each tells step.before step.was) step.stepped)
+      (λ (step : StepOf (MayBeginSegment number) (state old).images c). begun_log last number lt chunks step.before c (each tells step.before step.was) step.stepped)
       (since_begin old new c elapses left)

@@ -4,7 +4,7 @@ use Rattle.std.proofs.lemmas.List.{append-nil}
 use Rattle.std.specs.FinMap.{get}
 use Rattle.m3_model.specs.Members.{IsIn}
 use Rattle.m3_outside.specs.Files.{Files}
-use Rattle.commit_log.specs.Segment.{segment, Reads, HasChunks}
+use Rattle.commit_log.specs.Segment.{segment, ReadsChunks, HasChunks}
 use Rattle.commit_log.specs.Contents.{PartsHold}
 use Rattle.log_chunks.proofs.LawLemmas.{one_reading}
 
@@ -57,7 +57,7 @@ same_some x y e = cc
 
 -- a segment has one list of chunks
 pub has_one : (n : ℕ) (files : Files) (cs ds : List (List ℕ)) → HasChunks (segment n) cs files → HasChunks (segment n) ds files → cs ≡ ds
-has_one n files cs ds a b = one_reading cs ds a.file (omega (arith, a.size)) a.reads (subst (Reads ds) (same_some b.file a.file (sym b.there ∙ a.there)) b.reads)
+has_one n files cs ds a b = one_reading cs ds a.file (omega (arith, a.size)) a.reads (subst (ReadsChunks ds) (same_some b.file a.file (sym b.there ∙ a.there)) b.reads)
 
 -- and so have all
 pub parts_one : (ns : List ℕ) (files : Files) (cs ds : List (List ℕ)) → PartsHold ns files cs → PartsHold ns files ds → cs ≡ ds

@@ -4,7 +4,7 @@ use Rattle.std.specs.List.{filter}
 use Rattle.std.specs.FinMap.{get, keys}
 use Rattle.m3_outside.specs.Files.{Files}
 use Rattle.m3_outside.specs.declared.file_name.FileName.{FileName}
-use Rattle.wire_bytes.specs.Fields.{StopsAt}
+use Rattle.log_chunks.specs.Fields.{StopsAt}
 use Rattle.commit_log.specs.Segment.{segment, HasChunks, IsSegment}
 
 -- the chunks of the first segment, and then those of the later ones
@@ -45,11 +45,11 @@ pub record LogHolds (chunks : List (List ℕ)) (next : ℕ) (files : Files) : Ty
 abbrev pub segment_bytes : ℕ → Files → List ℕ
 segment_bytes number files = unwrap_or (get files (segment number)) []
 
--- the bytes of the segment of this number are no segment's, by this place: some segment begins with those before it, and none with those up to it
+-- the bytes of the segment of this number are no segment's, by this offset: some segment begins with those before it, and none with those up to it
 abbrev pub HasDamage : ℕ → ℕ → Files → Type 0
 HasDamage number at files = StopsAt IsSegment (segment_bytes number files) at
 
--- of these segments the one of this number is damaged at the place, and those before it are whole
+-- of these segments the one of this number is damaged at the offset, and those before it are whole
 pub record FirstDamaged (ns : List ℕ) (number at : ℕ) (files : Files) : Type 0 where
   pub before : List ℕ
   pub after : List ℕ

@@ -1,4 +1,4 @@
--- The end of a log: the segment that chunks go into, and the place there.
+-- The end of a log: the segment that chunks go into, and the offset there.
 use Rattle.std.specs.Prelude.{◌≡◌, ◌⊎◌, ℕ, ◌<◌, ◌≤◌, Bool, true}
 use Rattle.m3_model.specs.declared.limits.TheConstants.{SEGMENT_BYTES}
 use Rattle.m3_outside.specs.Files.{Files, IsAbsent, DoneOrNot, files_with_zeros}
@@ -8,7 +8,7 @@ use Rattle.commit_log.specs.Segment.{segment, IsKept, IsReady}
 pub record LogEnd : Type 0 where
   pub number : ℕ  -- the segment's
   pub at : ℕ
-  pub clean : Bool  -- whether the bytes from the place on are known to be zeros
+  pub clean : Bool  -- whether the bytes from the offset on are known to be zeros
 
 -- no segment has this number or a higher one
 abbrev pub NoneFrom : ℕ → Files → Type 0
@@ -19,20 +19,20 @@ abbrev pub NoneAbove : ℕ → Files → Type 0
 NoneAbove number files = (n : ℕ) → number < n → IsAbsent (segment n) files
 
 -- the log's segment is as the log knows it, and the last
-pub record Stands (log : LogEnd) (d : DiskState) : Type 0 where
+pub record LogEndStands (log : LogEnd) (d : DiskState) : Type 0 where
   pub kept : log.clean ≡ true → IsKept log.number log.at d
   pub above : Told d (NoneAbove log.number)
   pub within : log.at ≤ SEGMENT_BYTES
 
 -- and a chunk of n bytes may be appended
 pub record IsReadyFor (log : LogEnd) (n : ℕ) (d : DiskState) : Type 0 where
-  pub stands : Stands log d
+  pub stands : LogEndStands log d
   pub clean : log.clean ≡ true
   pub ready : IsReady log.number log.at n d
 
 -- the segment of this number is made, empty, or not; all other files stay
-abbrev pub MayBegin : ℕ → Files → Files → Type 0
-MayBegin number = DoneOrNot (files_with_zeros (segment number) SEGMENT_BYTES)
+abbrev pub MayBeginSegment : ℕ → Files → Files → Type 0
+MayBeginSegment number = DoneOrNot (files_with_zeros (segment number) SEGMENT_BYTES)
 
 -- the segment of this number is there now, empty, for reads and in each image, or for neither; all other files stay
 abbrev pub BeganOrNot : ℕ → DiskState → DiskState → Type 0

@@ -6,14 +6,14 @@ use Rattle.m3_model.specs.declared.limits.TheConstants.{SEGMENT_BYTES}
 use Rattle.m3_outside.specs.Files.{Files, IsPresent}
 use Rattle.m3_outside.specs.DiskState.{DiskState, EachImage, StepOf, Elapses, Becomes}
 use Rattle.m3_outside.specs.Removal.{without_files, MayTakeAway}
-use Rattle.commit_log.specs.Segment.{segment, written, Reads, MayAdd, Adds}
-use Rattle.commit_log.specs.LogEnd.{NoneAbove, MayBegin}
+use Rattle.commit_log.specs.Segment.{segment, written, ReadsChunks, MayAdd, Adds}
+use Rattle.commit_log.specs.LogEnd.{NoneAbove, MayBeginSegment}
 use Rattle.commit_log.specs.Cutting.{numbers_below, numbers_from, segments_below}
 use Rattle.commit_log.specs.Contents.{numbers, PartsHold, LogHolds, FirstDamaged}
 
 -- what stands behind a gate that isn't open is never read
 abbrev pub NothingBehindGate : Type 0
-NothingBehindGate = (cs ds : List (List ℕ)) (gate : ℕ) (behind bytes : List ℕ) → bytes ≡ written cs ++ gate ∷ behind → length bytes ≤ SEGMENT_BYTES → ¬ (gate ≡ 1) → Reads ds bytes → ds ≡ cs
+NothingBehindGate = (cs ds : List (List ℕ)) (gate : ℕ) (behind bytes : List ℕ) → bytes ≡ written cs ++ gate ∷ behind → length bytes ≤ SEGMENT_BYTES → ¬ (gate ≡ 1) → ReadsChunks ds bytes → ds ≡ cs
 
 -- the numbers by which a log is read ascend, and are those of the segments that are there
 pub record NumbersAreThere (files : Files) : Type 0 where
@@ -48,7 +48,7 @@ pub record AppendGrowsLog {D : Type 0} (state : D → DiskState) : Type 0 where
 -- where each image is a log without segments from a number on, a stop while that segment begins, or afterwards, leaves the same chunks
 abbrev pub BeginLeavesLog : {D : Type 0} → (D → DiskState) → Type 0
 BeginLeavesLog {D} state =
-    (old new : D) (last number : ℕ) (chunks : List (List ℕ)) → (state old).tells ≡ true → last < number → EachImage (state old) (IsLog chunks last) → Elapses (MayBegin number) (state old) (state new)
+    (old new : D) (last number : ℕ) (chunks : List (List ℕ)) → (state old).tells ≡ true → last < number → EachImage (state old) (IsLog chunks last) → Elapses (MayBeginSegment number) (state old) (state new)
     → (c : Files) → (state new).since (state old).moment c → IsLog chunks number c
 
 -- the segments below the number m hold some chunks, those from it on others, and no segment has a number above the last

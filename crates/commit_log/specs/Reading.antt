@@ -2,9 +2,9 @@
 use Rattle.std.specs.Prelude.{◌≡◌, ⊤, ℕ, ◌+◌, ◌<◌, ◌↔◌, List, ◌++◌, length, take, Bool, IsTrue}
 use Rattle.m3_model.specs.declared.limits.TheConstants.{SEGMENT_BYTES}
 use Rattle.m3_outside.specs.Files.{Files}
-use Rattle.wire_bytes.specs.Fields.{StopsAt}
-use Rattle.commit_log.specs.Segment.{Reads, IsSegment}
-pub use Rattle.log_chunks.specs.Places.{ChunkStands, EndStands, BadStands, IsNext}
+use Rattle.log_chunks.specs.Fields.{StopsAt}
+use Rattle.commit_log.specs.Segment.{ReadsChunks, IsSegment}
+pub use Rattle.log_chunks.specs.Offsets.{ChunkStands, EndStands, BadStands, IsNext}
 use Rattle.commit_log.specs.Contents.{PartsHold, FirstDamaged}
 use Rattle.commit_log.specs.declared.log_err.LogErr.{LogErr}
 use Rattle.commit_log.specs.declared.log_err.LogErr.TheVariants as errors
@@ -19,9 +19,9 @@ pub record ReadsMore (bytes : List ℕ) (old new : List (List ℕ)) : Type 0 whe
   pub chunks : List (List ℕ)
   pub is : new ≡ old ++ chunks
   pub long : length bytes ≡ SEGMENT_BYTES
-  pub reads : Reads chunks bytes
+  pub reads : ReadsChunks chunks bytes
 
--- these bytes are no segment's, by the place; memory may always be wanted
+-- these bytes are no segment's, by the offset; memory may always be wanted
 abbrev pub MayBreak : ℕ → List ℕ → LogErr → Type 0
 MayBreak number bytes errors.Disk = ⊥
 MayBreak number bytes errors.Memory = ⊤
@@ -33,7 +33,7 @@ pub record FindsAll (ns : List ℕ) (files : Files) (old new : List (List ℕ)) 
   pub is : new ≡ old ++ chunks
   pub has : PartsHold ns files chunks
 
--- the first damaged one of these segments is so at the place; a fault has its own cause, and memory may always be wanted
+-- the first damaged one of these segments is so at the offset; a fault has its own cause, and memory may always be wanted
 abbrev pub MayBeFirstDamage : List ℕ → Files → LogErr → Type 0
 MayBeFirstDamage ns files errors.Disk = ⊤
 MayBeFirstDamage ns files errors.Memory = ⊤

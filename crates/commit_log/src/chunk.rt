@@ -20,7 +20,7 @@ pub(crate) fn segment_name(number: u64) -> FileName
     }
 }
 
-/// Puts a chunk at the place: its length and its bytes, synced behind a closed gate, and then the gate, synced too.
+/// Puts a chunk at the offset: its length and its bytes, synced behind a closed gate, and then the gate, synced too.
 pub(crate) fn put_chunk<D: Disk>(
     disk: &mut D,
     number: u64,

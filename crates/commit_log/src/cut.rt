@@ -4,7 +4,7 @@ ghost use Rattle.m3_outside.specs.DiskState.{DiskState, Elapses, Becomes};
 ghost use Rattle.m3_outside.specs.DiskCalls.{LeavesFiles};
 ghost use Rattle.m3_outside.specs.Removal.{without_files, MayTakeAway, HasTakenAway};
 ghost use Rattle.m3_outside.specs.declared.disk_err.DiskErr.TheVariants.{Failed as DiskFailed, Memory as WantOfMemory};
-ghost use Rattle.commit_log.specs.LogEnd.{LogEnd, Stands};
+ghost use Rattle.commit_log.specs.LogEnd.{LogEnd, LogEndStands};
 ghost use Rattle.commit_log.specs.Segment.{segment};
 ghost use Rattle.commit_log.specs.Cutting.{numbers_below, segments_below};
 
@@ -51,7 +51,7 @@ pub fn cut_before<D: Disk>(alloc: Global, disk: &mut D, number: u64) -> Result<(
     ensures ok { (D.state disk.old).tells ≡ true → OnOk result (Becomes (without_files (segments_below number (D.state disk.old).files)) (D.state disk.old) (D.state disk.new)) }
     ensures memory { (D.state disk.old).tells ≡ true → IsErrOf result WantOfMemory → Becomes (λ files. files) (D.state disk.old) (D.state disk.new) }
     ensures files { (D.state disk.old).tells ≡ true → HasTakenAway (segments_below number (D.state disk.old).files) (D.state disk.old) (D.state disk.new) }
-    ensures log_stands { (log : LogEnd) → number ≤ log.number → Stands log (D.state disk.old) → Stands log (D.state disk.new) }
+    ensures log_stands { (log : LogEnd) → number ≤ log.number → LogEndStands log (D.state disk.old) → LogEndStands log (D.state disk.new) }
     ensures tells { (D.state disk.new).tells ≡ (D.state disk.old).tells }
     ensures faults { CountsFaults (IsErrOf result DiskFailed) (D.state disk.old).faults (D.state disk.new).faults }
 {

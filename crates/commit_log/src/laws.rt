@@ -2,14 +2,14 @@
 ghost use Rattle.std.specs.Prelude.{◌≡◌, ℕ, ◌≤◌, List, length};
 ghost use Rattle.m3_model.specs.declared.limits.TheConstants.{SEGMENT_BYTES};
 ghost use Rattle.m3_outside.specs.Files.{Files};
-ghost use Rattle.commit_log.specs.Segment.{Reads};
+ghost use Rattle.commit_log.specs.Segment.{ReadsChunks};
 ghost use Rattle.commit_log.specs.LogLaws.{NothingBehindGate, NumbersAreThere, LogIsOne, DamagedIsNone, ReaderFindsLog, AppendGrowsLog, BeginLeavesLog, CutLeavesEnd};
 
 use m3_outside::Disk;
 
 /// A segment reads as at most one list of chunks.
 pub fn chunks_are_one()
-    ensures { (cs ds : List (List ℕ)) (bytes : List ℕ) → length bytes ≤ SEGMENT_BYTES → Reads cs bytes → Reads ds bytes → cs ≡ ds }
+    ensures { (cs ds : List (List ℕ)) (bytes : List ℕ) → length bytes ≤ SEGMENT_BYTES → ReadsChunks cs bytes → ReadsChunks ds bytes → cs ≡ ds }
 {}
 
 /// Nothing from behind a gate that isn't open is ever read.

@@ -6,7 +6,7 @@ ghost use Rattle.m3_outside.specs.DiskState.{DiskState, Told, Elapses, StepOf, B
 ghost use Rattle.m3_outside.specs.DiskCalls.{LeavesFiles};
 ghost use Rattle.m3_outside.specs.declared.disk_err.DiskErr.TheVariants.{Failed as DiskFailed, Memory as WantOfMemory};
 ghost use Rattle.commit_log.specs.Segment.{segment, MayAdd, Adds, OthersStay};
-ghost use Rattle.commit_log.specs.LogEnd.{NoneFrom, Stands, IsReadyFor, MayBegin, BeganOrNot};
+ghost use Rattle.commit_log.specs.LogEnd.{NoneFrom, LogEndStands, IsReadyFor, MayBeginSegment, BeganOrNot};
 
 use crate::chunk::{put_chunk, segment_name};
 use log_chunks::HEAD_BYTES;
@@ -22,7 +22,7 @@ const CALLS: u64 = 5;
 pub struct Log {
     number: u64,
     at: u64,
-    // Whether the bytes from the place on are known to be zeros.
+    // Whether the bytes from the offset on are known to be zeros.
     clean: bool,
 }
 
@@ -44,12 +44,12 @@ impl Log {
     pub fn begin<D: Disk>(disk: &mut D, number: u64) -> Result<Log, DiskErr>
         requires { Told (D.state disk.old) (NoneFrom number) }
         ensures ok { IfOk result (λ log. log ≡ record { number = number; at = 0; clean = true }) }
-        ensures stands { OnOk result (Stands (record { number = number; at = 0; clean = true }) (D.state disk.new)) }
+        ensures stands { OnOk result (LogEndStands (record { number = number; at = 0; clean = true }) (D.state disk.new)) }
         ensures limit { OnOk result (number < NUMBER_END) }
         ensures made { (D.state disk.old).tells ≡ true → OnOk result (Becomes (files_with_zeros (segment number) SEGMENT_BYTES) (D.state disk.old) (D.state disk.new)) }
         ensures memory { (D.state disk.old).tells ≡ true → IsErrOf result WantOfMemory → Becomes (λ files. files) (D.state disk.old) (D.state disk.new) }
         ensures files { (D.state disk.old).tells ≡ true → BeganOrNot number (D.state disk.old) (D.state disk.new) }
-        ensures any_moment { (D.state disk.old).tells ≡ true → Elapses (MayBegin number) (D.state disk.old) (D.state disk.new) }
+        ensures any_moment { (D.state disk.old).tells ≡ true → Elapses (MayBeginSegment number) (D.state disk.old) (D.state disk.new) }
         ensures tells { (D.state disk.new).tells ≡ (D.state disk.old).tells }
         ensures faults { CountsFaults (IsErrOf result DiskFailed) (D.state disk.old).faults (D.state disk.new).faults }
     {
@@ -81,8 +81,8 @@ impl Log {
 
     // Begins the segment of the next number. After a fault this number isn't tried again; want of memory leaves all as it was.
     fn begin_next<D: Disk>(&mut self, disk: &mut D) -> Result<(), DiskErr>
-        requires { Stands self.old (D.state disk.old) }
-        ensures stands { Stands self.new (D.state disk.new) }
+        requires { LogEndStands self.old (D.state disk.old) }
+        ensures stands { LogEndStands self.new (D.state disk.new) }
         ensures ok { OnOk result (self.new ≡ record { number = self.old.number + 1; at = 0; clean = true }) }
         ensures end { (self.new ≡ self.old) ⊎ ((self.new.number ≡ self.old.number + 1) × (self.new.at ≡ 0)) }
         ensures memory { IsErrOf result WantOfMemory → self.new ≡ self.old }
@@ -91,7 +91,7 @@ impl Log {
         ensures low { self.old.number < NUMBER_END → self.new.number < NUMBER_END }
         ensures spare { (D.state disk.old).spare ≤ (D.state disk.new).spare }
         ensures files { (D.state disk.old).tells ≡ true → BeganOrNot (self.old.number + 1) (D.state disk.old) (D.state disk.new) }
-        ensures any_moment { (D.state disk.old).tells ≡ true → Elapses (MayBegin (self.old.number + 1)) (D.state disk.old) (D.state disk.new) }
+        ensures any_moment { (D.state disk.old).tells ≡ true → Elapses (MayBeginSegment (self.old.number + 1)) (D.state disk.old) (D.state disk.new) }
         ensures tells { (D.state disk.new).tells ≡ (D.state disk.old).tells }
         ensures faults { CountsFaults (IsErrOf result DiskFailed) (D.state disk.old).faults (D.state disk.new).faults }
     {
@@ -130,9 +130,9 @@ impl Log {
     /// end and all files as they were.
     pub fn ready<D: Disk>(&mut self, disk: &mut D, len: u32) -> Result<(), DiskErr>
         requires short { 5 + len ≤ SEGMENT_BYTES }
-        requires stands { Stands self.old (D.state disk.old) }
+        requires stands { LogEndStands self.old (D.state disk.old) }
         ensures ok { OnOk result (IsReadyFor self.new len (D.state disk.new)) }
-        ensures stands { Stands self.new (D.state disk.new) }
+        ensures stands { LogEndStands self.new (D.state disk.new) }
         ensures same { self.old.clean ≡ true → self.old.at + 5 + len ≤ SEGMENT_BYTES → self.new ≡ self.old }
         ensures stays { self.old.clean ≡ true → self.old.at + 5 + len ≤ SEGMENT_BYTES → LeavesFiles (IsErrOf result DiskFailed) (D.state disk.old) (D.state disk.new) }
         ensures fresh { OnOk result ((self.new ≡ self.old) ⊎ (self.new ≡ record { number = self.old.number + 1; at = 0; clean = true })) }
@@ -141,7 +141,7 @@ impl Log {
         ensures unchanged { (D.state disk.old).tells ≡ true → IsErrOf result WantOfMemory → Becomes (λ files. files) (D.state disk.old) (D.state disk.new) }
         ensures limit { self.old.number < NUMBER_END → self.new.number < NUMBER_END }
         ensures files { (D.state disk.old).tells ≡ true → BeganOrNot (self.old.number + 1) (D.state disk.old) (D.state disk.new) }
-        ensures any_moment { (D.state disk.old).tells ≡ true → Elapses (MayBegin (self.old.number + 1)) (D.state disk.old) (D.state disk.new) }
+        ensures any_moment { (D.state disk.old).tells ≡ true → Elapses (MayBeginSegment (self.old.number + 1)) (D.state disk.old) (D.state disk.new) }
         ensures tells { (D.state disk.new).tells ≡ (D.state disk.old).tells }
         ensures faults { CountsFaults (IsErrOf result DiskFailed) (D.state disk.old).faults (D.state disk.new).faults }
     {
@@ -167,7 +167,7 @@ impl Log {
         ensures acknowledged { (D.state disk.old).tells ≡ true → OnOk result ((c : Files) → (D.state disk.new).images c → StepOf (Adds (segment self.old.number) chunk.now) (D.state disk.old).images c) }
 
         ensures others { (D.state disk.old).tells ≡ true → OthersStay (segment self.old.number) (D.state disk.old).files (D.state disk.new).files }
-        ensures stands { Stands self.new (D.state disk.new) }
+        ensures stands { LogEndStands self.new (D.state disk.new) }
         ensures number { self.new.number ≡ self.old.number }
         ensures next { OnOk result (self.new ≡ record { number = self.old.number; at = self.old.at + 5 + length chunk.now; clean = true }) }
         ensures closed { OnErr result (self.new ≡ record self.old { clean = false }) }

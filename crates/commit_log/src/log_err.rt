@@ -13,7 +13,7 @@ pub enum LogErr {
     /// Want of memory.
     #[error("out of memory")]
     Memory,
-    /// From the place `at` on the bytes of the segment are none of a log.
+    /// From the offset `at` on the bytes of the segment are none of a log.
     #[error("segment {number} is damaged at byte {at}")]
     Form { number: u64, at: u64 },
 }

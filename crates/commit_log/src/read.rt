@@ -21,7 +21,7 @@ use std::alloc::Global;
 /// What a log holds.
 #[derive(Drop)]
 pub struct Found {
-    /// The chunks of all segments, by ascending number and place.
+    /// The chunks of all segments, by ascending number and offset.
     pub chunks: Seq<Seq<u8>>,
     /// The number for the next segment: one above all that are there, and 1 where none is.
     pub next: u64,
@@ -122,7 +122,7 @@ fn read_segments<D: Disk>(
 ///
 /// # Errors
 ///
-/// A fault. Damage, which names the lowest segment that isn't in the grammar and the first place in it at which no segment
+/// A fault. Damage, which names the lowest segment that isn't in the grammar and the first offset in it at which no segment
 /// goes on. Want of memory, also where the number `next` would be `NUMBER_END` or a higher one. All files stay.
 pub fn read_all<D: Disk>(alloc: Global, disk: &mut D) -> Result<Found, LogErr>
     ensures leaves { LeavesFiles (IsErrOf result errors.Disk) (D.state disk.old) (D.state disk.new) }

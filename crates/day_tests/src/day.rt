@@ -3,9 +3,8 @@ ghost use Rattle.std.specs.Prelude.{◌≤◌};
 
 use crate::plain_series::{PlainSeries, letter};
 use cluster_words::Dice;
-use line_runs::{INIT, PLACED, ended};
+use line_runs::{INIT, PLACED, Status, ended};
 use m3_model::Memory;
-use m3_program::Status;
 use std::alloc::Global;
 use std::process::Abort;
 use std::test::Fail;

@@ -1,7 +1,6 @@
 // What lines are answered with.
 use crate::stories::{AWAY, BESIDE, CUT, KEPT_UNTIL_EXPIRY, SAVED, STATUS};
-use line_runs::{INIT, NAMESPACE, PLACED, ended, told};
-use m3_program::Status;
+use line_runs::{INIT, NAMESPACE, PLACED, Status, ended, told};
 use std::test::Fail;
 
 #[test]

@@ -1,8 +1,7 @@
 // Snapshots over disks of which one fails: what the node acknowledged, it has after a restart.
 use crate::swept_disks::reply_at;
-use line_runs::{INIT, NAMESPACE, disks_with, ended_over};
+use line_runs::{INIT, NAMESPACE, Status, disks_with, ended_over};
 use m3_model::Memory;
-use m3_program::Status;
 use mem_disk::MemDisk;
 use std::alloc::Global;
 use std::test::Fail;

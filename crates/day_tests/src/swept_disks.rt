@@ -1,6 +1,5 @@
 // Flushes and ticks over disks of which one fails: what the node acknowledged, it has after a restart.
-use line_runs::{INIT, NAMESPACE, disks_with, ended_over};
-use m3_program::Status;
+use line_runs::{INIT, NAMESPACE, Status, disks_with, ended_over};
 use mem_disk::MemDisk;
 use std::alloc::Global;
 use std::test::Fail;

@@ -9,7 +9,7 @@ use Rattle.std.proofs.Math.Bridge.{le_prop}
 use Rattle.std.specs.declared.snapshot.Snapshot.{Snapshot}
 use Rattle.m3_outside.specs.declared.file_name.FileName.{FileName}
 use Rattle.m3_outside.specs.Files.{Files, name_cmp}
-use Rattle.m3_outside.specs.DiskState.{DiskState, IsLawful}
+use Rattle.m3_outside.specs.DiskState.{DiskState, IsLawfulDisk}
 use Rattle.disk_content.specs.Writes.{PendingWrite}
 use Rattle.disk_content.specs.Contents.{Content, FitsFile, AllFit}
 
@@ -100,7 +100,7 @@ had_earlier (suc t) zero past files le had = absurd (omega arith)
 had_earlier (suc t) (suc u) [] files le had = had
 had_earlier (suc t) (suc u) (v ∷ past) files le had = had_earlier t u past files (omega arith) had
 
-pub lawful : (now : Content) (past : List (Snapshot Content)) (faults : ℕ) → IsSound now → IsLawful (disk_state now past faults)
+pub lawful : (now : Content) (past : List (Snapshot Content)) (faults : ℕ) → IsSound now → IsLawfulDisk (disk_state now past faults)
 lawful now past faults sound = record {
   read_is_image = λ tells. sound.read_is_image;
   same_names = λ tells files image q.

@@ -16,16 +16,16 @@ abbrev pub with_file : FileName → Option (List ℕ) → Files → Files
 with_file name None files = files
 with_file name (Some file) files = insert files name file
 
--- a file with these bytes at this place
+-- a file with these bytes at this offset
 abbrev pub patched_file : ℕ → List ℕ → Option (List ℕ) → Option (List ℕ)
 patched_file at bytes None = None
 patched_file at bytes (Some file) = Some (patched file at bytes)
 
--- the files with these bytes at this place of one of them
+-- the files with these bytes at this offset of one of them
 abbrev pub with_bytes : FileName → ℕ → List ℕ → Files → Files
 with_bytes name at bytes files = with_file name (patched_file at bytes (get files name)) files
 
--- so many bytes of a file from this place on
+-- so many bytes of a file from this offset on
 abbrev pub range_in : ℕ → ℕ → Option (List ℕ) → List ℕ
 range_in at n None = []
 range_in at n (Some file) = take n (drop at file)

@@ -73,7 +73,7 @@ fn add_buffers(
     Ok(())
 }
 
-// Keeps the memory of a dropped entry for a later one, where it is wide enough and there is a place for it.
+// Keeps the memory of a dropped entry for a later one, where it is wide enough and there is room for it.
 fn keep_buffer(buffers: &mut Vec<Vec<u8>>, bytes: Vec<u8>, widest: usize)
     requires { AreBuffers widest buffers.old.items }
     ensures each { AreBuffers widest buffers.new.items }
@@ -176,7 +176,7 @@ impl UndoLog {
             self.widest = widest;
         } else {
             add_buffers(self.alloc, &mut self.buffers, room, self.widest)?;
-            // Places for those of the entries.
+            // Room for those of the entries.
             self.buffers.reserve(self.entries.len())?;
         }
         self.room = room;

@@ -6,7 +6,7 @@ use m3_outside::{Disk, DiskErr, FileName};
 use std::alloc::Global;
 use wire_bytes::digest;
 
-// Writes the bytes into a file from this place on, where there is such a range.
+// Writes the bytes into a file from this offset on, where there is such a range.
 fn write_in<D: Disk>(disk: &mut D, name: FileName, at: u64, bytes: &[u8]) -> Result<bool, DiskErr> {
     disk.reserve(1)?;
     let Some(size) = disk.size(name)? else {
@@ -28,7 +28,7 @@ fn sync<D: Disk>(disk: &mut D, name: FileName) -> Result<bool, DiskErr> {
     Ok(true)
 }
 
-/// Writes the bytes into a file from this place on, where there is such a range, and syncs it.
+/// Writes the bytes into a file from this offset on, where there is such a range, and syncs it.
 pub fn put<D: Disk>(disk: &mut D, name: FileName, at: u64, bytes: &[u8]) -> Result<bool, DiskErr> {
     if !write_in(disk, name, at, bytes)? {
         return Ok(false);
@@ -75,14 +75,14 @@ fn create<D: Disk>(alloc: Global, disk: &mut D, words: &str) -> Result<bool, Dis
     make(disk, file(name), bytes.len() as u64, &bytes)
 }
 
-// `b4.2.100.1:3:ff` writes these bytes over those from the place on.
+// `b4.2.100.1:3:ff` writes these bytes over those from the offset on.
 fn overwrite<D: Disk>(alloc: Global, disk: &mut D, words: &str) -> Result<bool, DiskErr> {
     let bytes = decoded(alloc, part(words, ':', 2))?;
     let at = number(part(words, ':', 1));
     put(disk, file(part(words, ':', 0)), at, &bytes)
 }
 
-/// So many bytes of a file from this place on, and none where it has fewer.
+/// So many bytes of a file from this offset on, and none where it has fewer.
 pub fn bytes_at<D: Disk>(
     alloc: Global,
     disk: &mut D,
@@ -101,7 +101,7 @@ pub fn bytes_at<D: Disk>(
     Ok(bytes)
 }
 
-/// Turns these bits of the byte of the file at the place, where there is one.
+/// Turns these bits of the byte of the file at the offset, where there is one.
 pub fn turn<D: Disk>(
     alloc: Global,
     disk: &mut D,

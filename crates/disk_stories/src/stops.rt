@@ -18,8 +18,8 @@ const NONE: u64 = 0;
 
 const ALL: u64 = 85;
 
-fn field(row: &str, place: usize) -> &str {
-    part(row, '%', place)
+fn field(row: &str, position: usize) -> &str {
+    part(row, '%', position)
 }
 
 // One mark of two digests, in this order.
@@ -174,7 +174,7 @@ pub fn first_wrong<W: Words>(alloc: Global, rows: &str, at: At) -> Result<String
     Ok(out)
 }
 
-// Whether each of these is one of two, which stand at its place.
+// Whether each of these is one of two, which stand at its offset.
 fn are_either(told: &str, one: &str, other: &str) -> bool {
     let both = one.split('|').zip(other.split('|'));
     told.split('|').count() == one.split('|').count()

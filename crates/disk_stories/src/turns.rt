@@ -8,7 +8,7 @@ use std::alloc::Global;
 use std::ops::Range;
 use std::test::Fail;
 
-// Whether what the words tell is what is to be told, where a byte at this place has been turned.
+// Whether what the words tell is what is to be told, where a byte at this offset has been turned.
 fn are_told<W: Words>(
     alloc: Global,
     disk: &mut MemDisk,
@@ -50,10 +50,10 @@ fn first_on<W: Words>(
     disk: &mut MemDisk,
     words: &str,
     name: FileName,
-    places: Range<usize>,
+    offsets: Range<usize>,
     bits: &[u8],
 ) -> Result<Option<usize>, DiskErr> {
-    for at in places {
+    for at in offsets {
         for bit in bits {
             if !is_told::<W>(alloc, disk, words, name, at, *bit)? {
                 return Ok(Some(at));
@@ -69,14 +69,14 @@ fn first_behind<W: Words>(
     disk: &mut MemDisk,
     words: [&str; 2],
     name: FileName,
-    places: Range<usize>,
+    offsets: Range<usize>,
     bits: &[u8],
 ) -> Result<Option<usize>, DiskErr> {
     let [before, last] = words;
     if !quietly::<W>(alloc, disk, before)? {
         return Ok(Some(0));
     }
-    first_on::<W>(alloc, disk, last, name, places, bits)
+    first_on::<W>(alloc, disk, last, name, offsets, bits)
 }
 
 /// The first byte of the file among these of which one of these bits is turned and the last words don't tell what they are to; none
@@ -85,10 +85,10 @@ pub fn first_untold<W: Words>(
     alloc: Global,
     words: [&str; 2],
     name: FileName,
-    places: Range<usize>,
+    offsets: Range<usize>,
     bits: &[u8],
 ) -> Result<Option<usize>, Fail> {
     let mut disk = MemDisk::new(alloc, &[], None)?;
-    let untold = first_behind::<W>(alloc, &mut disk, words, name, places, bits);
+    let untold = first_behind::<W>(alloc, &mut disk, words, name, offsets, bits);
     Ok(untold?)
 }

@@ -16,7 +16,7 @@ pub trait Words {
     /// Whether a file of this name is among those that a word may change, which are named so.
     fn may_change(files: &str, name: FileName) -> bool;
 
-    /// Writes into the text what is to be told of damage once bits of the byte at this place of the file have been turned.
+    /// Writes into the text what is to be told of damage once bits of the byte at this position of the file have been turned.
     fn tell_turned(
         alloc: Global,
         disk: &mut MemDisk,
@@ -46,9 +46,9 @@ pub fn cut(text: &str, sign: char) -> (&str, &str) {
     text.split_once(sign).unwrap_or((text, ""))
 }
 
-/// The part of the text at this place, of those with a sign of this kind between them, from 0 on; nothing where there is none.
-pub fn part(text: &str, sign: char, place: usize) -> &str {
-    text.split(sign).nth(place).unwrap_or("")
+/// The part of the text at this position, of those with a sign of this kind between them, from 0 on; nothing where there is none.
+pub fn part(text: &str, sign: char, position: usize) -> &str {
+    text.split(sign).nth(position).unwrap_or("")
 }
 
 /// The file `4.2.100.1`: its kind, its namespace, its block and its number.

@@ -210,7 +210,7 @@ fn push_start<D: Disk>(
     })
 }
 
-// The FetchDone of the FetchStart at this place.
+// The FetchDone of the FetchStart at this position.
 fn push_done<D: Disk>(
     alloc: Global,
     double: &mut Double<D>,

@@ -59,10 +59,10 @@ pub fn open<D: Disk>(
 
 fn space_at(rules: &Rules, name: &Text) -> Option<u8> {
     let spaces = rules.spaces.as_slice();
-    let place = spaces
+    let position = spaces
         .iter()
         .position(|space| space.name.equals(name.as_str()))?;
-    u8::try_from(place).ok()
+    u8::try_from(position).ok()
 }
 
 // Each of these tells whether there is the namespace.

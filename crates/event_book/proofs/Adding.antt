@@ -7,7 +7,7 @@ use Rattle.std.proofs.lemmas.List.{append-nil}
 use Rattle.std.proofs.lemmas.Bool.Decides.{eqb_tells}
 use Rattle.std.specs.Prelude.{MatchBool}
 use Rattle.atomic_table.specs.Table.{Me, step, keeps, stepped, carried_after, Allows, Act, Valid}
-use Rattle.event_book.specs.Names.{Name, MayGive}
+use Rattle.event_book.specs.Names.{Name, MayGiveName}
 use Rattle.event_book.specs.declared.view.Made.{Made}
 use Rattle.event_book.specs.declared.view.Ended.{Ended}
 use Rattle.event_book.specs.declared.view.View.{View}
@@ -35,7 +35,7 @@ module _ {E : Type 0} (lawful : Bool → List (Made E) → Type 0) where
     told = (log ++ entry ∷ [], refl);
     made = λ n. made_by_own v.name log e ∙ ap (λ (l : List E). l ++ e ∷ []) (f.made n);
     ended = ended_stays v.ended v log e (a.gone named) f.ended;
-    fresh = λ n m o. made_by_other m v.name log e (λ same_name. a.free named named (subst (λ (x : Name). MayGive v.name v.splits x) same_name o)) ∙ f.fresh n m o;
+    fresh = λ n m o. made_by_other m v.name log e (λ same_name. a.free named named (subst (λ (x : Name). MayGiveName v.name v.splits x) same_name o)) ∙ f.fresh n m o;
     as_named = f.as_named;
     blank = λ closed. absurd (true≢false (sym opened ∙ closed));
     sole = λ n name splits. let h = f.sole n name splits in omega (arith, length-append log (entry ∷ []), length-append v.made (e ∷ []));
@@ -49,7 +49,7 @@ module _ {E : Type 0} (lawful : Bool → List (Made E) → Type 0) where
     told = prefix_append u.told log (entry ∷ []) g.told;
     made = λ live. made_by_other u.name v.name log e (λ same_name. n (a.same live named same_name)) ∙ g.made live;
     ended = ended_stays u.ended v log e (a.gone named) g.ended;
-    fresh = λ live m o. made_by_other m v.name log e (λ same_name. a.free live named (subst (λ (x : Name). MayGive u.name u.splits x) same_name o)) ∙ g.fresh live m o;
+    fresh = λ live m o. made_by_other m v.name log e (λ same_name. a.free live named (subst (λ (x : Name). MayGiveName u.name u.splits x) same_name o)) ∙ g.fresh live m o;
     as_named = g.as_named;
     blank = λ closed. absurd (n (a.blank closed));
     sole = λ live name splits. absurd (n (a.alone live name splits named));

@@ -68,7 +68,7 @@ module _ {E : Type 0} (lawful : Bool → List (Made E) → Type 0) where
   entry_added v w n e after a is = record {
     between = a.between;
     after = ap (λ (x : View E). shown x) is ∙ ap (λ (x : View E). shown (with_entry x e)) a.view;
-    place_is = sym a.count ∙ ap (λ (x : View E). length x.seen) a.view;
+    position_is = sym a.count ∙ ap (λ (x : View E). length x.seen) a.view;
   }
 
   -- a list that is no shorter than a book may be is just as long

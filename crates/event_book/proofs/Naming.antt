@@ -2,7 +2,7 @@
 use Rattle.std.proofs.Common.{◌≡◌, ℕ, suc, ◌+◌, ◌≤◌, ◌<◌, ◌⊎◌, inl, inr, Bool, true, false, cond, List, [], ◌∷◌, ◌++◌, length, refl, ap, sym, ◌∙◌, arith, zero-le, append_assoc, length-append, le_refl, ⊎_elim}
 use mathlib.Core.List.{IsPrefix}
 use lib.Pointwise.{bytes_decides}
-use Rattle.event_book.specs.Names.{Name, same_name, MayGive}
+use Rattle.event_book.specs.Names.{Name, same_name, MayGiveName}
 use Rattle.event_book.specs.declared.view.Made.{Made}
 use Rattle.event_book.specs.declared.view.Ended.{Ended}
 use Rattle.event_book.specs.Lists.{made_by, HasEnded}
@@ -31,19 +31,19 @@ snoc_below (a ∷ v) (b ∷ u) j k rest e = ⊎_elim
     (snoc_below v u j k rest (cc))
 
 -- the name that a seat gives next
-pub next_given : (name : Name) (splits : ℕ) → MayGive name splits (name ++ splits ∷ [])
+pub next_given : (name : Name) (splits : ℕ) → MayGiveName name splits (name ++ splits ∷ [])
 next_given name splits = (splits, [], le_refl splits, refl)
 
 -- what the seat that is split off may give, its parent could
-pub child_gives : (name : Name) (splits : ℕ) (m : Name) → MayGive (name ++ splits ∷ []) 0 m → MayGive name splits m
+pub child_gives : (name : Name) (splits : ℕ) (m : Name) → MayGiveName (name ++ splits ∷ []) 0 m → MayGiveName name splits m
 child_gives name splits m o = (splits, o.0 ∷ o.1, le_refl splits, o.3 ∙ append_assoc name (splits ∷ []) (o.0 ∷ o.1))
 
 -- what a seat may give after a split it could before
-pub parent_gives : (name : Name) (splits : ℕ) (m : Name) → MayGive name (splits + 1) m → MayGive name splits m
+pub parent_gives : (name : Name) (splits : ℕ) (m : Name) → MayGiveName name (splits + 1) m → MayGiveName name splits m
 parent_gives name splits m o = (o.0, o.1, (let h = o.2 in omega arith), o.3)
 
 -- who may give a seat's next name is that seat, or may give its name
-pub gives_next : (name : Name) (splits : ℕ) (other : Name) (times : ℕ) → MayGive other times (name ++ splits ∷ []) → ((other ≡ name) × (times ≤ splits)) ⊎ MayGive other times name
+pub gives_next : (name : Name) (splits : ℕ) (other : Name) (times : ℕ) → MayGiveName other times (name ++ splits ∷ []) → ((other ≡ name) × (times ≤ splits)) ⊎ MayGiveName other times name
 gives_next name splits other times o = ⊎_elim
     (λ (t : (other ≡ name) × (o.0 ≡ splits)). let h = o.2 in inl (t.0, omega (arith, t.1)))
     (λ (t : (less : Name) × (name ≡ other ++ o.0 ∷ less)). inr (o.0, t.0, o.2, t.1))
@@ -56,7 +56,7 @@ not_longer n xs ys e more =
     let g : length (n ++ xs) ≡ length n + length xs = length-append n xs in
     omega arith
 
-pub not_own : (n : Name) (splits : ℕ) → MayGive n splits n → ⊥
+pub not_own : (n : Name) (splits : ℕ) → MayGiveName n splits n → ⊥
 not_own n splits o = not_longer n (o.0 ∷ o.1) [] (o.3 ∙ sym (append-nil _)) (omega arith)
 
 pub not_first : (n : Name) (k : ℕ) → n ++ k ∷ [] ≡ [] → ⊥

@@ -4,7 +4,7 @@ use mathlib.Core.Option.{some}
 use lib.ListN.{get_elem?}
 use Rattle.std.proofs.lemmas.List.{append-nil}
 use Rattle.atomic_table.specs.Table.{Splits}
-use Rattle.event_book.specs.Names.{Name, MayGive}
+use Rattle.event_book.specs.Names.{Name, MayGiveName}
 use Rattle.event_book.specs.declared.view.Made.{Made}
 use Rattle.event_book.specs.declared.view.Ended.{Ended}
 use Rattle.event_book.specs.declared.view.View.{View}
@@ -23,7 +23,7 @@ module _ {E : Type 0} (lawful : Bool → List (Made E) → Type 0) where
   none_named_child : (xs : List (Ended E)) (v : View E) → NoneNamed xs v → NoneNamed xs (child_view v)
   none_named_child [] v a = tt
   none_named_child (x ∷ xs) v a = (
-    (λ e. a.1 (subst (λ (n : Name). MayGive v.name v.splits n) (sym e) (next_given v.name v.splits))),
+    (λ e. a.1 (subst (λ (n : Name). MayGiveName v.name v.splits n) (sym e) (next_given v.name v.splits))),
     (λ o. a.1 (child_gives v.name v.splits x.name o)),
     none_named_child xs v a.2,
   )
@@ -88,7 +88,7 @@ module _ {E : Type 0} (lawful : Bool → List (Made E) → Type 0) where
   }
 
   -- it is apart from each other seat
-  child_left : (i j : ℕ) (v u : View E) → (v.name ++ v.splits ∷ [] ≡ u.name → u.named ≡ true → i ≡ j) → (u.named ≡ true → ¬ (MayGive (v.name ++ v.splits ∷ []) 0 u.name))
+  child_left : (i j : ℕ) (v u : View E) → (v.name ++ v.splits ∷ [] ≡ u.name → u.named ≡ true → i ≡ j) → (u.named ≡ true → ¬ (MayGiveName (v.name ++ v.splits ∷ []) 0 u.name))
       → IsApart i j (child_view v) u
   child_left i j v u same free = record {
     same = λ n m e. same e m;
@@ -122,14 +122,14 @@ module _ {E : Type 0} (lawful : Bool → List (Made E) → Type 0) where
             (child_left L i v p (λ e m. absurd (own (sym e))) (λ m o. not_longer v.name (v.splits ∷ []) (o.0 ∷ o.1) o.3 (omega arith)))
             (λ j u ne at'. let a = k.apart i j v u at at' in
             child_left L j v u
-            (λ e m. absurd (a.free named m (subst (λ (x : Name). MayGive v.name v.splits x) e next)))
+            (λ e m. absurd (a.free named m (subst (λ (x : Name). MayGiveName v.name v.splits x) e next)))
             (λ m o. a.free named m (child_gives v.name v.splits u.name o))))
             (each_set (λ j u. IsApart j L u c) s.views i p
             record {
               same = λ n m e. absurd (own e);
               free = λ n m o. ⊎_elim
                   (λ (t : (v.name ≡ v.name) × (v.splits + 1 ≤ v.splits)). let le = t.1 in omega (arith, le))
-                  (λ (x : MayGive v.name (v.splits + 1) v.name). not_own v.name (v.splits + 1) x)
+                  (λ (x : MayGiveName v.name (v.splits + 1) v.name). not_own v.name (v.splits + 1) x)
                   (gives_next v.name v.splits v.name (v.splits + 1) o);
               gone = λ n. none_named_child v.ended v ((k.apart i i v v at at).gone named);
               blank = λ closed. absurd (true≢false (sym opened ∙ closed));
@@ -137,10 +137,10 @@ module _ {E : Type 0} (lawful : Bool → List (Made E) → Type 0) where
             }
             (λ j u ne at'. let a = k.apart j i u v at' at in
             record {
-              same = λ n m e. absurd ((k.apart i j v u at at').free named n (subst (λ (x : Name). MayGive v.name v.splits x) (sym e) next));
+              same = λ n m e. absurd ((k.apart i j v u at at').free named n (subst (λ (x : Name). MayGiveName v.name v.splits x) (sym e) next));
               free = λ n m o. ⊎_elim
                   (λ (t : (u.name ≡ v.name) × (u.splits ≤ v.splits)). ne (a.same n named t.0))
-                  (λ (x : MayGive u.name u.splits v.name). a.free n named x)
+                  (λ (x : MayGiveName u.name u.splits v.name). a.free n named x)
                   (gives_next v.name v.splits u.name u.splits o);
               gone = λ n. none_named_child u.ended v (a.gone named);
               blank = λ closed. absurd (none_blank lawful s.words s.views k i v at opened j u at' closed);
@@ -149,5 +149,5 @@ module _ {E : Type 0} (lawful : Bool → List (Made E) → Type 0) where
             h.apart;
       }
     where
-      not_own_below : (n : Name) → MayGive n 0 n → ⊥
+      not_own_below : (n : Name) → MayGiveName n 0 n → ⊥
       not_own_below n o = not_own n 0 o

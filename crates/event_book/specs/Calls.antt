@@ -11,11 +11,11 @@ module _ {E : Type 0} where
   MayAdd lawful tells s e =
       IsSound lawful tells s → (log : List (Made E)) → lawful tells log → IsPrefix s.seen log → made_by s.name log ≡ s.made → lawful tells (log ++ (record { by = s.name; entry = e }) ∷ [])
 
-  -- the seat's entry was added at this place, past all that it had seen, and it has then seen the list up to it
-  pub record Appended (s : Shown E) (e : E) (place : ℕ) (t : Shown E) : Type 0 where
+  -- the seat's entry was added at this position, past all that it had seen, and it has then seen the list up to it
+  pub record Appended (s : Shown E) (e : E) (position : ℕ) (t : Shown E) : Type 0 where
     pub between : List (Made E)
     pub after : t ≡ record s { seen = (s.seen ++ between) ++ (record { by = s.name; entry = e }) ∷ []; made = s.made ++ e ∷ [] }
-    pub place_is : place ≡ length (s.seen ++ between)
+    pub position_is : position ≡ length (s.seen ++ between)
 
   -- the seat has seen at least as much, and is else as it was
   pub record Looked (s t : Shown E) : Type 0 where

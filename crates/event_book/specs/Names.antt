@@ -11,5 +11,5 @@ abbrev pub same_name : Name → Name → Bool
 same_name n m = pointwise nat_eq n m
 
 -- a name that a seat of this name which was split so often may still give, or one that a seat below it may
-abbrev pub MayGive : Name → ℕ → Name → Type 0
-MayGive name splits m = (j : ℕ) × (rest : Name) × (splits ≤ j) × (m ≡ name ++ j ∷ rest)
+abbrev pub MayGiveName : Name → ℕ → Name → Type 0
+MayGiveName name splits m = (j : ℕ) × (rest : Name) × (splits ≤ j) × (m ≡ name ++ j ∷ rest)

@@ -1,6 +1,6 @@
 -- What contracts see of a seat.
 use Rattle.std.specs.Prelude.{◌≡◌, ℕ, ◌+◌, ◌≤◌, Bool, List, [], ◌∷◌, ◌++◌, length}
-use Rattle.event_book.specs.Names.{Name, MayGive}
+use Rattle.event_book.specs.Names.{Name, MayGiveName}
 use Rattle.event_book.specs.Lists.{made_by, HasEnded, most_entries}
 use Rattle.event_book.specs.declared.view.Made.{Made}
 use Rattle.event_book.specs.declared.view.Ended.{Ended}
@@ -20,7 +20,7 @@ module _ {E : Type 0} where
     pub room : length s.seen ≤ most_entries
     pub made : made_by s.name s.seen ≡ s.made
     pub ended : HasEnded s.ended s.seen
-    pub fresh : (m : Name) → MayGive s.name s.splits m → made_by m s.seen ≡ []
+    pub fresh : (m : Name) → MayGiveName s.name s.splits m → made_by m s.seen ≡ []
     pub sole : s.name ≡ [] → s.splits ≡ 0 → length s.seen ≡ length s.made
 
   -- the seat that a book is opened with

@@ -27,11 +27,11 @@ pub struct Book<E: Entries, N: BookName> {
 }
 
 impl<E: Entries, N: BookName> Book<E, N> {
-    /// Adds an entry past all that the seat had seen, and answers its place. Full is answered exactly where the list has no room.
+    /// Adds an entry past all that the seat had seen, and answers its position. Full is answered exactly where the list has no room.
     pub fn append(&self, seat: &mut Seat<E, N>, entry: &E) -> Result<u64, Full>
         requires lawful { MayAdd E.lawful N.tells seat.old entry.now }
-        ensures ok { IfOk result (λ place. Appended seat.old entry.now place seat.new) }
-        ensures room { IfOk result (λ place. place < most_entries) }
+        ensures ok { IfOk result (λ position. Appended seat.old entry.now position seat.new) }
+        ensures room { IfOk result (λ position. position < most_entries) }
         ensures full { OnErr result (Looked seat.old seat.new × (length seat.new.seen ≡ most_entries)) }
 
         // The first seat, before its first split, is alone.

@@ -58,8 +58,8 @@ pub fn add_entry<E: Entries>(
     requires lawful { MayAdd E.lawful token.old.me.0.tells (shown token.old.me.0) entry.now }
     ensures placed { IsPlaced table.now.shared.table_id token.new.table_id token.new.me }
     ensures sound { StaysSound E.lawful token.old.me.0 token.new.me.0 }
-    ensures ok { IfOk result (λ place. Appended (shown token.old.me.0) entry.now place (shown token.new.me.0)) }
-    ensures room { IfOk result (λ place. place < most_entries) }
+    ensures ok { IfOk result (λ position. Appended (shown token.old.me.0) entry.now position (shown token.new.me.0)) }
+    ensures room { IfOk result (λ position. position < most_entries) }
     ensures full { OnErr result (Looked (shown token.old.me.0) (shown token.new.me.0) × (length token.new.me.0.seen ≡ most_entries)) }
 {
     let mut seen = see_list(table, token);

@@ -5,7 +5,7 @@ ghost use Rattle.m3_model.specs.Ascends.{Ascends};
 ghost use Rattle.m3_model.specs.Contents.{key_of};
 ghost use Rattle.m3_model.specs.Reads.{IsOrdered};
 ghost use Rattle.m3_model.specs.Tags as tags;
-ghost use Rattle.cluster_core.specs.Answers.{IsBelow};
+ghost use Rattle.cluster_core.specs.Answers.{IsKeyBelow};
 
 use m3_model::{Key, Point, Series};
 use placement_core::{Order, ascend};
@@ -48,7 +48,7 @@ impl Order<Series> for ById {
 pub struct ByKey;
 
 impl Order<Point> for ByKey {
-    ghost before = { λ one other. IsBelow (key_of one) (key_of other) };
+    ghost before = { λ one other. IsKeyBelow (key_of one) (key_of other) };
 
     fn is_before(first: &Point, later: &Point) -> bool {
         let order = first
@@ -61,7 +61,7 @@ impl Order<Point> for ByKey {
 
 /// Whether the key is below the point's.
 pub fn is_below(key: &Key, point: &Point) -> bool
-    ensures { IsTrue result ↔ IsBelow key.now (key_of point.now) }
+    ensures { IsTrue result ↔ IsKeyBelow key.now (key_of point.now) }
 {
     let order = key
         .ns

@@ -3,7 +3,7 @@ ghost use Rattle.std.specs.Prelude.{◌≡◌, ◌≢◌, ◌≤◌, ◌<◌, �
 ghost use Rattle.m3_model.specs.Members.{IsIn};
 ghost use Rattle.m3_model.specs.Reads.{Matches, points_in, space_picked, Covers};
 ghost use Rattle.m3_model.specs.Rules.{InWindow, HasExpired};
-ghost use Rattle.cluster_core.specs.Answers.{HoldsOf, IsWanted};
+ghost use Rattle.cluster_core.specs.Answers.{HoldsOf, IsWantedUnexpired};
 ghost use Rattle.cluster_core.specs.Replicas.{IsGone};
 
 use cluster_core::ReplicaState;
@@ -73,7 +73,7 @@ pub fn matches(pick: &Pick, point: &Point) -> bool
 
 /// Whether a read asks for the point, and it hasn't expired.
 pub fn is_wanted(rules: &Rules, pick: &Pick, from: u64, to: u64, point: &Point) -> bool
-    ensures { IsTrue result ↔ IsWanted rules.entry.now pick.now from to point.now }
+    ensures { IsTrue result ↔ IsWantedUnexpired rules.entry.now pick.now from to point.now }
 {
     matches(pick, point) && from <= point.t && point.t < to && !has_expired(rules, point)
 }

@@ -119,15 +119,15 @@ module _ (n s : ℕ) (c : StepCall) (a : StepReply) where
             | inr other ↦ balanced_other past (event.Step m t d r) (λ two like. let is = like.1 in absurd (omega (arith, is, other))) b
             | inl shard ↦ elim (same d c) as (λ _. IsBalanced (past ++ event.Step m t d r ∷ []) own) [
               | inr other ↦ balanced_other past (event.Step m t d r) (λ two like. other like.2) b
-              | inl made ↦ at_place past law node shard made b
+              | inl made ↦ at_position past law node shard made b
             ]
           ]
         ]
       where
-        at_place : (xs : List Event) → LawfulAt tells (length xs) xs (event.Step m t d r) → m ≡ n → t ≡ s → d ≡ c → IsBalanced xs own → IsBalanced (xs ++ event.Step m t d r ∷ []) own
-        at_place [] law node shard made b = absurd law
-        at_place (y ∷ []) law node shard made b = absurd law
-        at_place (y ∷ z ∷ xs) law node shard made b = push_step (y ∷ z ∷ xs) m t d r node shard made law.0
+        at_position : (xs : List Event) → LawfulAt tells (length xs) xs (event.Step m t d r) → m ≡ n → t ≡ s → d ≡ c → IsBalanced xs own → IsBalanced (xs ++ event.Step m t d r ∷ []) own
+        at_position [] law node shard made b = absurd law
+        at_position (y ∷ []) law node shard made b = absurd law
+        at_position (y ∷ z ∷ xs) law node shard made b = push_step (y ∷ z ∷ xs) m t d r node shard made law.0
     push past _ law b = balanced_other past _ (λ two like. absurd like) b
 
     by_length : (k : ℕ) (past : List Event) → length past ≡ k → Legal tells past → IsBalanced past own

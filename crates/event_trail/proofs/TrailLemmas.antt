@@ -3,7 +3,7 @@ use Rattle.std.proofs.Common.{◌≡◌, ℕ, ◌+◌, ◌<◌, ◌≤◌, List,
 use Rattle.std.proofs.lemmas.Bool.{ltb-true}
 use Rattle.m3_outside.specs.DiskState.{DiskState}
 use Rattle.event_book.specs.Lists.{most_entries}
-use Rattle.cluster_core.specs.Legal.{LawfulAt, IsFirst, IsSecond}
+use Rattle.cluster_core.specs.Legal.{LawfulAt, IsOpeningPlace, IsSecond}
 use Rattle.cluster_core.specs.declared.event.Event.{Event}
 use Rattle.cluster_core.proofs.ExtendLemmas.{legal_push}
 use Rattle.cluster_core.proofs.ListLemmas.{at_within}
@@ -38,7 +38,7 @@ module _ {D : Type 0} (state : D → DiskState) where
       }
 
   -- a run opens with a lawful placement, and then with rules
-  pub opened_trail : (past : List Event) (place clock : Event) → past ≡ place ∷ clock ∷ [] → IsFirst place → IsSecond clock → IsTrail state 2 past
+  pub opened_trail : (past : List Event) (place clock : Event) → past ≡ place ∷ clock ∷ [] → IsOpeningPlace place → IsSecond clock → IsTrail state 2 past
   opened_trail past place clock opens first second =
       let one = longer_trail 0 [] [] (place ∷ []) place refl refl empty_trail (λ tells all. first) zero_low in
       let two = longer_trail 1 (place ∷ []) (place ∷ []) (place ∷ clock ∷ []) clock refl refl one (λ tells all. second) one_low in

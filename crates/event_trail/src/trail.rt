@@ -1,6 +1,6 @@
 ghost use Rattle.std.specs.Prelude.{◌≡◌, ◌↔◌, ◌+◌, ◌<◌, ◌≤◌, [], ◌∷◌, ◌++◌, length, IfOk, OnErr, IsErr, nat_le};
 ghost use Rattle.placement_core.specs.Lawful.{IsLawful};
-ghost use Rattle.cluster_core.specs.Core.{KeepsPoints};
+ghost use Rattle.cluster_core.specs.Core.{ListKeepsPoints};
 ghost use Rattle.cluster_core.specs.declared.event.Event.TheVariants as event;
 ghost use Rattle.event_book.specs.Lists.{most_entries};
 ghost use Rattle.m3_outside.specs.Depots.{TellAll};
@@ -60,23 +60,23 @@ impl<D: Disk> Trail<D> {
         }
     }
 
-    /// Adds an event that is lawful after the list, and answers its place. Takes no memory.
+    /// Adds an event that is lawful after the list, and answers its position. Takes no memory.
     ///
     /// # Errors
     ///
     /// Full, exactly where the list has 2^62 events. It stays as it is.
     pub fn append(&mut self, event: &EventView) -> Result<u64, Full>
         requires { IsLawfulOver D.state self.old event.now }
-        ensures ok { IfOk result (λ place. (place ≡ length self.old) × (self.new ≡ self.old ++ event.now ∷ [])) }
+        ensures ok { IfOk result (λ position. (position ≡ length self.old) × (self.new ≡ self.old ++ event.now ∷ [])) }
         ensures err { OnErr result (self.new ≡ self.old) }
         ensures full { IsErr result ↔ (length self.old ≡ most_entries) }
     {
-        let place = self.len;
-        if place == MOST_EVENTS {
+        let position = self.len;
+        if position == MOST_EVENTS {
             return Err(Full);
         }
         self.append_reserved(event);
-        Ok(place)
+        Ok(position)
     }
 
     /// Adds an event that is lawful after the list, for which there is room. Takes no memory.
@@ -116,7 +116,7 @@ impl<D: Disk> Trail<D> {
 /// Over disks that tell, the reads of the list keep what a majority took.
 pub fn reads_keep<D: Disk>(trail: &Trail<D>)
     requires { TellAll D.state }
-    ensures { KeepsPoints trail.now }
+    ensures { ListKeepsPoints trail.now }
 {
     trail.know();
 }

@@ -298,7 +298,7 @@ impl EventView {
         }
     }
 
-    /// That these nodes took the point of the Send at this place of the list.
+    /// That these nodes took the point of the Send at this position of the list.
     pub fn ack(send: u64, nodes: &Seq<u8>) -> EventView
         ensures { result ≡ event.Ack send nodes.now }
     {
@@ -330,7 +330,7 @@ impl EventView {
         }
     }
 
-    /// That these nodes answered the FetchStart at this place of the list, and these series are their answers, joined.
+    /// That these nodes answered the FetchStart at this position of the list, and these series are their answers, joined.
     pub fn fetch_done(start: u64, nodes: &Seq<u8>, series: &Seq<Series>) -> EventView
         ensures { result ≡ event.FetchDone start nodes.now series.now }
     {

@@ -24,7 +24,7 @@ use Rattle.model_laws.specs.Building.{begun, life_of, line, nodes, place}
 use Rattle.model_laws.specs.Messages.{stopped}
 use Rattle.fault_laws.specs.Faulty.{fails, untaken, write_all, all_but_c, without_c, c_restarted, c_bootstrapped, down_restarted, boot_bootstrapped, boot_covered, disk_at_once, corrupt_at_once, restart_failed, init_failed, bootstrapped_stopped, bootstrapped_missing, restarted_running, damaged_boot, back_again, no_shard_restarted, no_shard_made}
 use Rattle.model_laws.proofs.EachLemmas.{same_of_some, texts_differ}
-use Rattle.model_laws.proofs.PlaceLemmas.{place_after, due_after, only_used}
+use Rattle.model_laws.proofs.PositionLemmas.{position_after, due_after, only_used}
 use Rattle.model_laws.proofs.SampleLemmas.{call_with, of_shard}
 
 -- what is so of the name of a node that is known
@@ -32,10 +32,10 @@ pub holds_of : (Holds : List ℕ → Type 0) (node : ℕ) (one : Instance) → s
 holds_of Holds node one stood fact = subst (λ (i : Instance). Holds i.name) (same_of_some fact.instance_ one (sym fact.stands ∙ stood)) fact.holds
 
 -- why c may have refused the write that all have to take
-pub c_may : {faults : List Fault} (lines : List Turn) (why : Reason) → placement_after None (inner_turns lines) ≡ Some place → MissesLevel true faults None (place_after lines (write_all 100 (pos 5)) (all_but_c why)) 2 3 ((2, why) ∷ []) 0
-    → MayRefuse true faults None (place_after lines (write_all 100 (pos 5)) (all_but_c why)) place 0 2 why
+pub c_may : {faults : List Fault} (lines : List Turn) (why : Reason) → placement_after None (inner_turns lines) ≡ Some place → MissesLevel true faults None (position_after lines (write_all 100 (pos 5)) (all_but_c why)) 2 3 ((2, why) ∷ []) 0
+    → MayRefuse true faults None (position_after lines (write_all 100 (pos 5)) (all_but_c why)) place 0 2 why
 c_may {faults = faults} lines why stood due =
-    let p = place_after lines (write_all 100 (pos 5)) (all_but_c why) in
+    let p = position_after lines (write_all 100 (pos 5)) (all_but_c why) in
     let known : call_with (needed_write write_level.All) ≡ due.call = same_of_some (call_with (needed_write write_level.All)) due.call due.of_act in
     let used : MayUse None p None due.place = subst (λ call. MayUse None p call.version due.place) (sym known) due.may_use in
     let same : place ≡ due.place = only_used lines (write_all 100 (pos 5)) (all_but_c why) place due.place stood used in
@@ -83,7 +83,7 @@ other_line-refused caused = let bad : 2 ≡ 3 = ap (λ (f : Fault). f.line) (is_
 pub other_restart-refused : ¬ Caused true (life_of restart_failed) (fails 3 2 ∷ [])
 other_restart-refused caused =
     let lines = begun 100 (stopped (codes "c") ∷ []) in
-    let due : OnDisk (fails 3 2 ∷ []) None (place_after lines (act.Restart (codes "c") 0) (answer.Disk (codes "c") 0)) (HadReplica None (inner_turns lines) 0) (codes "c") 0 = (due_after lines (act.Restart (codes "c") 0) (answer.Disk (codes "c") 0) _ (λ e. cc) (λ e. cc) caused).1 in
+    let due : OnDisk (fails 3 2 ∷ []) None (position_after lines (act.Restart (codes "c") 0) (answer.Disk (codes "c") 0)) (HadReplica None (inner_turns lines) 0) (codes "c") 0 = (due_after lines (act.Restart (codes "c") 0) (answer.Disk (codes "c") 0) _ (λ e. cc) (λ e. cc) caused).1 in
     elim due.3 as (λ _. ⊥) [ inl e ↦ let bad : 3 ≡ 4 = ap (λ (f : Fault). f.line) e in omega (arith, bad) | inr none ↦ absurd none ]
 
 -- the failed init's fault is that of the node that it names
@@ -113,14 +113,14 @@ corrupt-refused damage caused =
 pub equal_digests-refused : (file digest : List ℕ) (faults : List Fault) → ¬ Caused true (life_of (damaged_boot (damaged.Digest file digest digest))) faults
 equal_digests-refused file digest faults caused =
     let b = answer.Corrupt (codes "c") 0 (damaged.Digest file digest digest) in
-    let due : (codes "c" ≡ codes "c") × IsTrue true × InFiles faults None (place_after back_again (act.Bootstrap (codes "c") None) b) (λ node. IsTrue (has_replica (placement_after None (inner_turns back_again)) 0 node)) (codes "c") 0 × IsShown (damaged.Digest file digest digest) =
+    let due : (codes "c" ≡ codes "c") × IsTrue true × InFiles faults None (position_after back_again (act.Bootstrap (codes "c") None) b) (λ node. IsTrue (has_replica (placement_after None (inner_turns back_again)) 0 node)) (codes "c") 0 × IsShown (damaged.Digest file digest digest) =
     due_after back_again (act.Bootstrap (codes "c") None) b _ (λ e. cc) (λ e. cc) caused in
     due.3 refl
 
 pub no_shard_restarted-refused : (faults : List Fault) → ¬ Caused true (life_of no_shard_restarted) faults
 no_shard_restarted-refused faults caused =
     let lines = begun 100 (stopped (codes "c") ∷ []) in
-    let due : OnDisk faults None (place_after lines (act.Restart (codes "c") 0) (answer.Disk (codes "c") 1)) (HadReplica None (inner_turns lines) 1) (codes "c") 1 = (due_after lines (act.Restart (codes "c") 0) (answer.Disk (codes "c") 1) _ (λ e. cc) (λ e. cc) caused).1 in
+    let due : OnDisk faults None (position_after lines (act.Restart (codes "c") 0) (answer.Disk (codes "c") 1)) (HadReplica None (inner_turns lines) 1) (codes "c") 1 = (due_after lines (act.Restart (codes "c") 0) (answer.Disk (codes "c") 1) _ (λ e. cc) (λ e. cc) caused).1 in
     elim due.2.known as (λ _. ⊥) [
       | inl same ↦ let bad : has_replica (Some place) 1 due.0 ≡ true = subst (λ x. has_replica (Some x) 1 due.0 ≡ true) (sym same) due.2.member in cc
       | inr none ↦ absurd none

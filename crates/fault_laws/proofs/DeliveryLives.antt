@@ -2,14 +2,14 @@
 use Rattle.std.proofs.Common.{◌≡◌, ◌≢◌, ◌∙◌, ℕ, suc, Bool, true, false, List, [], ◌∷◌, length, map, drop, refl, sym, subst, inl, inr, arith}
 use Rattle.std.specs.Prelude.{Option, Some, None, pos, codes, IsTrue}
 use Rattle.transcripts.specs.Caused.{Caused, CausedAt, IsDueBy}
-use Rattle.transcripts.specs.Deliveries.{LateMessage, IsLateMessage, IsLateBefore, IsDelivered, IsOutcomeOf, IsSamePlace, delivers_nothing}
+use Rattle.transcripts.specs.Deliveries.{LateMessage, IsLateMessage, IsLateBefore, IsDelivered, IsOutcomeOf, IsSamePosition, delivers_nothing}
 use Rattle.transcripts.specs.Levels.{IsAcked}
 use Rattle.transcripts.specs.Calls.{Call, call_of}
 use Rattle.transcripts.specs.Fates.{fate_at, OfNode, is_stopped}
 use Rattle.transcripts.specs.Faults.{Fault}
 use Rattle.transcripts.specs.Placements.{MayUse, placement_after, placements}
 use Rattle.transcripts.specs.Points.{point_of}
-use Rattle.transcripts.specs.Record.{Life, InnerTurn, TurnPlace, IsTurnPlace, inner_turns}
+use Rattle.transcripts.specs.Record.{Life, InnerTurn, TurnPosition, IsTurnPosition, inner_turns}
 use Rattle.transcripts.specs.Rules.{rules_at}
 use Rattle.transcripts.specs.Reasons.{MayRefuse}
 use Rattle.transcripts.specs.Refusals.{refusal_by}
@@ -31,7 +31,7 @@ use Rattle.m3_model.specs.declared.turn.Turn.{Turn}
 use Rattle.model_laws.specs.Building.{begun, wrote, write, acks, unmet, place, space, life_of}
 use Rattle.model_laws.specs.Messages.{b_came, b_then_c_late, without_b, then_b_late, stopped, delivered, delivered_beside, delivered_again, delivered_of_nobody, delivered_in_two_lines, delivered_to_stopped, after_c_lost, c_lost, tick_cut}
 use Rattle.model_laws.proofs.EachLemmas.{same_of_some, ascends_by, ◌also◌}
-use Rattle.model_laws.proofs.PlaceLemmas.{EachInRun, EachInLine, each_in_line, only_used, place_after, place_after-stands, place_in, each_place, only, due, due_beside, due_after}
+use Rattle.model_laws.proofs.PositionLemmas.{EachInRun, EachInLine, each_in_line, only_used, position_after, position_after-stands, position_in, each_position, only, due, due_beside, due_after}
 use Rattle.model_laws.proofs.SampleLemmas.{call_with}
 use Rattle.model_laws.proofs.CausedLives.{begun_delivering, counted_0, counted_2, below_0_2}
 use Rattle.fault_laws.proofs.MessageLives.{to_b, of_node, stood, in_window_near, taken_when, takes_near}
@@ -43,11 +43,11 @@ before = begun 100 (b_then_c_late ∷ without_b ∷ [])
 
 -- ---- accepted
 
--- the message to b at any place after these lines
+-- the message to b at any position after these lines
 b_late : (line : Turn) (client : ℕ) (earlier beside : List InnerTurn) (turn : InnerTurn) → IsLateMessage None (record { lines = before; line = line; client = client; earlier = earlier; beside = beside; turn = turn }) to_b
 unfolding murmur3
 b_late line client earlier beside turn = record {
-  made = inl (place_after-stands (begun 100 (b_then_c_late ∷ [])) (write 100 (pos 5)) (acks (0 ∷ 2 ∷ [])) []);
+  made = inl (position_after-stands (begun 100 (b_then_c_late ∷ [])) (write 100 (pos 5)) (acks (0 ∷ 2 ∷ [])) []);
   of_act = refl;
   was_sent = refl;
   call = call_with (needed_write write_level.Majority);
@@ -66,11 +66,11 @@ b_delivered line client earlier beside turn = record {
   each = (record { message = b_late line client earlier beside turn; node_is = refl; shard_is = refl; came = (in_window_near 100 (pos 5) (omega arith) (omega arith), of_node _ 1 _ refl refl) }, tt);
 }
 
-none_delivered : (p : TurnPlace) → IsDelivered true [] None p [] []
+none_delivered : (p : TurnPosition) → IsDelivered true [] None p [] []
 none_delivered p = record { in_order = tt; each = tt }
 
 -- the write that b's message is of
-without_b_taken : IsAcked None (place_after (begun 100 (b_then_c_late ∷ [])) (write 100 (pos 5)) (acks (0 ∷ 2 ∷ []))) (codes "hello") write_level.Majority None (0 ∷ 2 ∷ [])
+without_b_taken : IsAcked None (position_after (begun 100 (b_then_c_late ∷ [])) (write 100 (pos 5)) (acks (0 ∷ 2 ∷ []))) (codes "hello") write_level.Majority None (0 ∷ 2 ∷ [])
 without_b_taken = taken_when _ (0 ∷ 2 ∷ []) refl refl (counted_0 also counted_2 also tt) ((below_0_2 also tt) also tt also tt) (refl also refl also tt) (omega arith) (takes_near 100 (pos 5) (omega arith) (omega arith))
 
 pub beside-caused : Caused true (life_of (then_b_late (delivered_beside b_came []))) []
@@ -106,10 +106,10 @@ once-caused =
 abbrev before_stopped : List Turn
 before_stopped = begun 100 (b_then_c_late ∷ without_b ∷ stopped (codes "b") ∷ [])
 
-b_late_stopped : IsLateMessage None (place_after before_stopped act.Deliver (answer.Outcomes ((1, 0, Some reason.Down) ∷ []))) to_b
+b_late_stopped : IsLateMessage None (position_after before_stopped act.Deliver (answer.Outcomes ((1, 0, Some reason.Down) ∷ []))) to_b
 unfolding murmur3
 b_late_stopped = record {
-  made = inl (place_after-stands (begun 100 (b_then_c_late ∷ [])) (write 100 (pos 5)) (acks (0 ∷ 2 ∷ [])) (stopped (codes "b") ∷ []));
+  made = inl (position_after-stands (begun 100 (b_then_c_late ∷ [])) (write 100 (pos 5)) (acks (0 ∷ 2 ∷ [])) (stopped (codes "b") ∷ []));
   of_act = refl;
   was_sent = refl;
   call = call_with (needed_write write_level.Majority);
@@ -120,7 +120,7 @@ b_late_stopped = record {
   not_yet = λ line there. elim there as (λ _. IsTrue (delivers_nothing line)) [ inl e ↦ subst (λ l. IsTrue (delivers_nothing l)) e refl | inr none ↦ absurd none ];
 }
 
-b_down : IsDelivered true [] None (place_after before_stopped act.Deliver (answer.Outcomes ((1, 0, Some reason.Down) ∷ []))) (to_b ∷ []) ((1, 0, Some reason.Down) ∷ [])
+b_down : IsDelivered true [] None (position_after before_stopped act.Deliver (answer.Outcomes ((1, 0, Some reason.Down) ∷ []))) (to_b ∷ []) ((1, 0, Some reason.Down) ∷ [])
 unfolding murmur3
 b_down = record {
   in_order = ascends_by IsLateBefore (to_b ∷ []) (tt also tt);
@@ -138,7 +138,7 @@ down-caused =
 
 -- ---- refused
 
--- what a delivery answers is what came of the messages, at any place
+-- what a delivery answers is what came of the messages, at any position
 came_of : {tells : Bool} {faults : List Fault} {messages : List LateMessage} (lines : List Turn) (line : Turn) (client : ℕ) (earlier beside : List InnerTurn) (outcomes : List (ℕ × ℕ × Option Reason))
     → CausedAt tells faults [] None messages (record { lines = lines; line = line; client = client; earlier = earlier; beside = beside; turn = record { act = act.Deliver; answer = answer.Outcomes outcomes } })
     → IsDelivered tells faults None (record { lines = lines; line = line; client = client; earlier = earlier; beside = beside; turn = record { act = act.Deliver; answer = answer.Outcomes outcomes } }) messages outcomes
@@ -151,7 +151,7 @@ came_of {tells} {faults} {messages} lines line client earlier beside outcomes he
       ]
     ]
   where
-    p : TurnPlace
+    p : TurnPosition
     p = record { lines = lines; line = line; client = client; earlier = earlier; beside = beside; turn = record { act = act.Deliver; answer = answer.Outcomes outcomes } }
 
     by_place : (o : Option Placement) (versions : List ℕ) → IsDueBy tells faults None messages p (refusal_by o versions (rules_at None p) (is_stopped (inner_turns lines)) act.Deliver) → IsDelivered tells faults None p messages outcomes
@@ -159,35 +159,35 @@ came_of {tells} {faults} {messages} lines line client earlier beside outcomes he
     by_place (Some x) versions d = d
 
 -- the message of which the one outcome came
-one_message : {tells : Bool} {faults : List Fault} (p : TurnPlace) (messages : List LateMessage) (came : Option Reason) → IsDelivered tells faults None p messages ((1, 0, came) ∷ []) → (m : LateMessage) × IsIn messages m × IsOutcomeOf tells faults None p m (1, 0, came)
+one_message : {tells : Bool} {faults : List Fault} (p : TurnPosition) (messages : List LateMessage) (came : Option Reason) → IsDelivered tells faults None p messages ((1, 0, came) ∷ []) → (m : LateMessage) × IsIn messages m × IsOutcomeOf tells faults None p m (1, 0, came)
 one_message p [] came told = absurd told.each
 one_message p (m ∷ []) came told = (m, inl refl, told.each.0)
 one_message p (m ∷ _ ∷ _) came told = absurd told.each.1
 
 -- a turn that writes nothing
-abbrev NoPoint : TurnPlace → Type 0
+abbrev NoPoint : TurnPosition → Type 0
 NoPoint q = (point : Point) → point_of (space ∷ []) q.turn.act ≡ Some point → ⊥
 
 -- what holds of each write before the delivery holds of the write of its message
-of_message : (P : TurnPlace → Type 0) (p : TurnPlace) (m : LateMessage) → (rules_at None p).spaces ≡ space ∷ [] → EachInRun (λ q. (point : Point) → point_of (space ∷ []) q.turn.act ≡ Some point → P q) p.lines → EachInLine NoPoint p.lines p.line
-    → IsLateMessage None p m → P m.place
+of_message : (P : TurnPosition → Type 0) (p : TurnPosition) (m : LateMessage) → (rules_at None p).spaces ≡ space ∷ [] → EachInRun (λ q. (point : Point) → point_of (space ∷ []) q.turn.act ≡ Some point → P q) p.lines → EachInLine NoPoint p.lines p.line
+    → IsLateMessage None p m → P m.position
 of_message P p m spaces writes nothing late =
-    let of_act : point_of (space ∷ []) m.place.turn.act ≡ Some m.point = subst (λ s. point_of s m.place.turn.act ≡ Some m.point) spaces late.of_act in
-    elim late.made as (λ _. P m.place) [
-      | inl earlier ↦ each_place (λ q. (point : Point) → point_of (space ∷ []) q.turn.act ≡ Some point → P q) p.lines writes m.place earlier m.point of_act
-      | inr beside ↦ absurd (each_in_line NoPoint m.place (subst (λ lines. EachInLine NoPoint lines m.place.line) (sym beside.lines_are) (subst (λ line. EachInLine NoPoint p.lines line) (sym beside.line_is) nothing)) beside.stands m.point of_act)
+    let of_act : point_of (space ∷ []) m.position.turn.act ≡ Some m.point = subst (λ s. point_of s m.position.turn.act ≡ Some m.point) spaces late.of_act in
+    elim late.made as (λ _. P m.position) [
+      | inl earlier ↦ each_position (λ q. (point : Point) → point_of (space ∷ []) q.turn.act ≡ Some point → P q) p.lines writes m.position earlier m.point of_act
+      | inr beside ↦ absurd (each_in_line NoPoint m.position (subst (λ lines. EachInLine NoPoint lines m.position.line) (sym beside.lines_are) (subst (λ line. EachInLine NoPoint p.lines line) (sym beside.line_is) nothing)) beside.stands m.point of_act)
     ]
 
 -- the write that made b's message late
-abbrev IsFourth : TurnPlace → Type 0
+abbrev IsFourth : TurnPosition → Type 0
 IsFourth q = (length q.lines ≡ 4) × (q.client ≡ 0) × (length q.earlier ≡ 0)
 
 fourth_alone : EachInRun (λ q. (point : Point) → point_of (space ∷ []) q.turn.act ≡ Some point → IsFourth q) before
 fourth_alone = only (λ point e. cc) also only (λ point e. cc) also only (λ point e. cc) also only (λ point e. cc) also only (λ point e. (refl, refl, refl)) also tt
 
--- it isn't delivered at two places of one line
-not_at_two : (faults : List Fault) (life : Life) (caused : Caused true life faults) (p q : TurnPlace) → IsTurnPlace life.present.turns p → IsTurnPlace life.present.turns q → (IsSamePlace p q → ⊥)
-    → ((m : LateMessage) → IsLateMessage None p m → IsFourth m.place) → ((m : LateMessage) → IsLateMessage None q m → IsFourth m.place)
+-- it isn't delivered at two positions of one line
+not_at_two : (faults : List Fault) (life : Life) (caused : Caused true life faults) (p q : TurnPosition) → IsTurnPosition life.present.turns p → IsTurnPosition life.present.turns q → (IsSamePosition p q → ⊥)
+    → ((m : LateMessage) → IsLateMessage None p m → IsFourth m.position) → ((m : LateMessage) → IsLateMessage None q m → IsFourth m.position)
     → IsDelivered true faults None p (caused.delivered p) b_came → IsDelivered true faults None q (caused.delivered q) b_came → ⊥
 not_at_two faults life caused p q of_p of_q apart by_p by_q told_p told_q =
     let a = one_message p (caused.delivered p) None told_p in
@@ -197,19 +197,19 @@ not_at_two faults life caused p q of_p of_q apart by_p by_q told_p told_q =
     apart (caused.once p q of_p of_q a.0 b.0 a.1 b.1 ((a_at.0 ∙ sym b_at.0, a_at.1 ∙ sym b_at.1, a_at.2 ∙ sym b_at.2), sym a.2.node_is ∙ b.2.node_is))
 
 -- where the two workers deliver
-abbrev first_worker : TurnPlace
-first_worker = place_in before (delivered_beside b_came b_came) [] ((record { act = act.Deliver; answer = answer.Outcomes b_came } ∷ []) ∷ []) [] (record { act = act.Deliver; answer = answer.Outcomes b_came })
+abbrev first_worker : TurnPosition
+first_worker = position_in before (delivered_beside b_came b_came) [] ((record { act = act.Deliver; answer = answer.Outcomes b_came } ∷ []) ∷ []) [] (record { act = act.Deliver; answer = answer.Outcomes b_came })
 
-abbrev second_worker : TurnPlace
-second_worker = place_in before (delivered_beside b_came b_came) ((record { act = act.Deliver; answer = answer.Outcomes b_came } ∷ []) ∷ []) [] [] (record { act = act.Deliver; answer = answer.Outcomes b_came })
+abbrev second_worker : TurnPosition
+second_worker = position_in before (delivered_beside b_came b_came) ((record { act = act.Deliver; answer = answer.Outcomes b_came } ∷ []) ∷ []) [] [] (record { act = act.Deliver; answer = answer.Outcomes b_came })
 
-first_stands : IsTurnPlace (then_b_late (delivered_beside b_came b_came)) first_worker
+first_stands : IsTurnPosition (then_b_late (delivered_beside b_came b_came)) first_worker
 first_stands = record { after = []; in_run = refl; stands = record { front = []; later = []; back = _; in_line = refl; others = refl; client_is = refl } }
 
-second_stands : IsTurnPlace (then_b_late (delivered_beside b_came b_came)) second_worker
+second_stands : IsTurnPosition (then_b_late (delivered_beside b_came b_came)) second_worker
 second_stands = record { after = []; in_run = refl; stands = record { front = (record { act = act.Deliver; answer = answer.Outcomes b_came } ∷ []) ∷ []; later = []; back = []; in_line = refl; others = refl; client_is = refl } }
 
-workers_apart : IsSamePlace first_worker second_worker → ⊥
+workers_apart : IsSamePosition first_worker second_worker → ⊥
 workers_apart same = let bad : 1 ≡ 2 = same.1 in omega (arith, bad)
 
 no_points_beside : EachInLine NoPoint before (delivered_beside b_came b_came)
@@ -222,19 +222,19 @@ beside-refused faults caused =
     (came_of _ _ _ _ _ b_came (caused.each first_worker first_stands)) (came_of _ _ _ _ _ b_came (caused.each second_worker second_stands))
 
 -- where the one worker delivers, and delivers again
-abbrev at_first : TurnPlace
-at_first = place_in before (delivered_again b_came b_came) [] [] [] (record { act = act.Deliver; answer = answer.Outcomes b_came })
+abbrev at_first : TurnPosition
+at_first = position_in before (delivered_again b_came b_came) [] [] [] (record { act = act.Deliver; answer = answer.Outcomes b_came })
 
-abbrev at_second : TurnPlace
-at_second = place_in before (delivered_again b_came b_came) [] [] (record { act = act.Deliver; answer = answer.Outcomes b_came } ∷ []) (record { act = act.Deliver; answer = answer.Outcomes b_came })
+abbrev at_second : TurnPosition
+at_second = position_in before (delivered_again b_came b_came) [] [] (record { act = act.Deliver; answer = answer.Outcomes b_came } ∷ []) (record { act = act.Deliver; answer = answer.Outcomes b_came })
 
-at_first-stands : IsTurnPlace (then_b_late (delivered_again b_came b_came)) at_first
+at_first-stands : IsTurnPosition (then_b_late (delivered_again b_came b_came)) at_first
 at_first-stands = record { after = []; in_run = refl; stands = record { front = []; later = _; back = []; in_line = refl; others = refl; client_is = refl } }
 
-at_second-stands : IsTurnPlace (then_b_late (delivered_again b_came b_came)) at_second
+at_second-stands : IsTurnPosition (then_b_late (delivered_again b_came b_came)) at_second
 at_second-stands = record { after = []; in_run = refl; stands = record { front = []; later = []; back = []; in_line = refl; others = refl; client_is = refl } }
 
-not_again : IsSamePlace at_first at_second → ⊥
+not_again : IsSamePosition at_first at_second → ⊥
 not_again same = let bad : 0 ≡ 1 = same.2 in omega (arith, bad)
 
 no_points_again : EachInLine NoPoint before (delivered_again b_came b_came)
@@ -252,7 +252,7 @@ once_more = begun 100 (b_then_c_late ∷ without_b ∷ delivered b_came ∷ [])
 
 pub two_lines-refused : (faults : List Fault) → ¬ Caused true (life_of delivered_in_two_lines) faults
 two_lines-refused faults caused =
-    let p = place_after once_more act.Deliver (answer.Outcomes b_came) in
+    let p = position_after once_more act.Deliver (answer.Outcomes b_came) in
     let told : IsDelivered true faults None p (caused.delivered p) b_came = due_after once_more act.Deliver (answer.Outcomes b_came) [] (λ e. cc) (λ e. cc) caused in
     let m = one_message p (caused.delivered p) None told in
     let at = of_message IsFourth p m.0 refl (only (λ point e. cc) also only (λ point e. cc) also only (λ point e. cc) also only (λ point e. cc) also only (λ point e. (refl, refl, refl)) also only (λ point e. cc) also tt) (only (λ point e. cc)) m.2.message in
@@ -269,24 +269,24 @@ deliver_late e = cc
 
 pub nobody-refused : (faults : List Fault) → ¬ Caused true (life_of delivered_of_nobody) faults
 nobody-refused faults caused =
-    let p = place_after after_write act.Deliver (answer.Outcomes b_came) in
+    let p = position_after after_write act.Deliver (answer.Outcomes b_came) in
     let told : IsDelivered true faults None p (caused.delivered p) b_came = due_after after_write act.Deliver (answer.Outcomes b_came) [] (λ e. cc) (λ e. cc) caused in
     let m = one_message p (caused.delivered p) None told in
     let comes = of_message (λ q. (name : List ℕ) → fate_at q name ≡ fate.Deliver) p m.0 refl (only (λ point e. cc) also only (λ point e. cc) also only (λ point e. cc) also only (λ point e name. refl) also tt) (only (λ point e. cc)) m.2.message in
     deliver_late (sym (comes m.2.message.late.instance_.name) ∙ m.2.message.late.holds)
 
 -- the placement that the late message's write used
-used_by : (p : TurnPlace) (m : LateMessage) → (rules_at None p).spaces ≡ space ∷ [] → EachInRun (λ q. (point : Point) → point_of (space ∷ []) q.turn.act ≡ Some point → (call : Call) → call_of q.turn.act ≡ Some call → MayUse None q call.version m.used → place ≡ m.used) p.lines → EachInLine NoPoint p.lines p.line
+used_by : (p : TurnPosition) (m : LateMessage) → (rules_at None p).spaces ≡ space ∷ [] → EachInRun (λ q. (point : Point) → point_of (space ∷ []) q.turn.act ≡ Some point → (call : Call) → call_of q.turn.act ≡ Some call → MayUse None q call.version m.used → place ≡ m.used) p.lines → EachInLine NoPoint p.lines p.line
     → IsLateMessage None p m → place ≡ m.used
 used_by p m spaces writes nothing late = of_message (λ q. (call : Call) → call_of q.turn.act ≡ Some call → MayUse None q call.version m.used → place ≡ m.used) p m spaces writes nothing late late.call late.of_call late.may_use
 
 pub stopped-refused : (faults : List Fault) → ¬ Caused true (life_of (delivered_to_stopped None)) faults
 stopped-refused faults caused =
-    let p = place_after before_stopped act.Deliver (answer.Outcomes b_came) in
+    let p = position_after before_stopped act.Deliver (answer.Outcomes b_came) in
     let told : IsDelivered true faults None p (caused.delivered p) b_came = due_after before_stopped act.Deliver (answer.Outcomes b_came) [] (λ e. cc) (λ e. cc) caused in
     let m = one_message p (caused.delivered p) None told in
     let same = used_by p m.0 refl (only (λ point e. cc) also only (λ point e. cc) also only (λ point e. cc) also only (λ point e. cc)
-    also only (λ point e call is may. only_used (begun 100 (b_then_c_late ∷ [])) (write 100 (pos 5)) (acks (0 ∷ 2 ∷ [])) place m.0.used refl (subst (λ (c : Call). MayUse None (place_after (begun 100 (b_then_c_late ∷ [])) (write 100 (pos 5)) (acks (0 ∷ 2 ∷ []))) c.version m.0.used) (sym (same_of_some (call_with (needed_write write_level.Majority)) call is)) may))
+    also only (λ point e call is may. only_used (begun 100 (b_then_c_late ∷ [])) (write 100 (pos 5)) (acks (0 ∷ 2 ∷ [])) place m.0.used refl (subst (λ (c : Call). MayUse None (position_after (begun 100 (b_then_c_late ∷ [])) (write 100 (pos 5)) (acks (0 ∷ 2 ∷ []))) c.version m.0.used) (sym (same_of_some (call_with (needed_write write_level.Majority)) call is)) may))
     also only (λ point e. cc) also tt) (only (λ point e. cc)) m.2.message in
     let runs : OfNode place 1 (λ name. is_stopped (inner_turns before_stopped) name ≡ false) = subst (λ n. OfNode place n (λ name. is_stopped (inner_turns before_stopped) name ≡ false)) (sym m.2.node_is) (subst (λ x. OfNode x m.0.node (λ name. is_stopped (inner_turns before_stopped) name ≡ false)) (sym same) m.2.came.1) in
     let bad : true ≡ false = holds_of (λ name. is_stopped (inner_turns before_stopped) name ≡ false) 1 _ refl runs in
@@ -297,7 +297,7 @@ stopped-refused faults caused =
 pub call-cut : (b : Answer) → MayRefuse true [] None (after_c_lost (write 100 (pos 5)) b) place 0 2 reason.Cut
 call-cut b = (refl, of_node _ 2 _ refl refl)
 
-pub no_call-uncut : (tells : Bool) (faults : List Fault) (start : Option MetaState) (p : TurnPlace) (used : Placement) (shard node : ℕ) → is_call p.turn.act ≡ false → ¬ MayRefuse tells faults start p used shard node reason.Cut
+pub no_call-uncut : (tells : Bool) (faults : List Fault) (start : Option MetaState) (p : TurnPosition) (used : Placement) (shard node : ℕ) → is_call p.turn.act ≡ false → ¬ MayRefuse tells faults start p used shard node reason.Cut
 no_call-uncut tells faults start p used shard node none may = let bad : false ≡ true = sym none ∙ may.0 in cc
 
 pub tick-uncut : (b : Answer) (faults : List Fault) → ¬ MayRefuse true faults None (after_c_lost act.Tick b) place 0 2 reason.Cut

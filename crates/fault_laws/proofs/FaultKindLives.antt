@@ -19,7 +19,7 @@ use Rattle.model_laws.specs.Building.{begun, life_of, init, made, named, moved, 
 use Rattle.model_laws.specs.Messages.{stopped}
 use Rattle.fault_laws.specs.Faulty.{fails, untaken, damages, write_all, all_but_c, two_failed, c_down, made_then_down, disk_at_once, init_failed, restart_failed}
 use Rattle.model_laws.proofs.EachLemmas.{◌also◌}
-use Rattle.model_laws.proofs.PlaceLemmas.{caused_by_places, place_after, due, due_after, only}
+use Rattle.model_laws.proofs.PositionLemmas.{caused_by_positions, position_after, due, due_after, only}
 use Rattle.model_laws.proofs.CausedLives.{begun_caused_over, first_moment_after, first_placement, counted_0, counted_2, below_0_2}
 use Rattle.fault_laws.proofs.MessageLives.{of_node, unmet_when, takes_near}
 use Rattle.fault_laws.proofs.FaultLives.{c_had, c_missed, takes_all}
@@ -40,7 +40,7 @@ two-caused =
 pub two-both : {tells : Bool} (faults : List Fault) → Caused tells (life_of two_failed) faults → IsIn faults (fails 3 0) × IsIn faults (fails 3 2)
 two-both {tells} faults caused =
     let b = unmet 1 ((0, reason.Disk) ∷ (2, reason.Disk) ∷ []) in
-    let missed : MissesLevel tells faults None (place_after (begun 100 []) (write 100 (pos 5)) b) 1 2 ((0, reason.Disk) ∷ (2, reason.Disk) ∷ []) 0 = due_after (begun 100 []) (write 100 (pos 5)) b [] (λ e. cc) (λ e. cc) caused in
+    let missed : MissesLevel tells faults None (position_after (begun 100 []) (write 100 (pos 5)) b) 1 2 ((0, reason.Disk) ∷ (2, reason.Disk) ∷ []) 0 = due_after (begun 100 []) (write 100 (pos 5)) b [] (λ e. cc) (λ e. cc) caused in
     (missed.silent.refused (0, reason.Disk) (inl refl), missed.silent.refused (2, reason.Disk) (inr (inl refl)))
 
 pub one-refused : {tells : Bool} (fault : Fault) → ¬ Caused tells (life_of two_failed) (fault ∷ [])
@@ -64,9 +64,9 @@ taking-refused line caused =
 
 -- ---- closed
 
-closed_by : (fault : Fault) (lines : ℕ) → Caused true (life_of c_down) (fault ∷ []) → IsClosedByFault (fault ∷ []) None (place_after (begun 100 []) (write_all 100 (pos 5)) (all_but_c reason.Down)) place 0 2
+closed_by : (fault : Fault) (lines : ℕ) → Caused true (life_of c_down) (fault ∷ []) → IsClosedByFault (fault ∷ []) None (position_after (begun 100 []) (write_all 100 (pos 5)) (all_but_c reason.Down)) place 0 2
 closed_by fault lines caused =
-    elim (c_may (begun 100 []) reason.Down refl (due_after (begun 100 []) (write_all 100 (pos 5)) (all_but_c reason.Down) [] (λ e. cc) (λ e. cc) caused)) as (λ _. IsClosedByFault (fault ∷ []) None (place_after (begun 100 []) (write_all 100 (pos 5)) (all_but_c reason.Down)) place 0 2) [
+    elim (c_may (begun 100 []) reason.Down refl (due_after (begun 100 []) (write_all 100 (pos 5)) (all_but_c reason.Down) [] (λ e. cc) (λ e. cc) caused)) as (λ _. IsClosedByFault (fault ∷ []) None (position_after (begun 100 []) (write_all 100 (pos 5)) (all_but_c reason.Down)) place 0 2) [
       | inl stops ↦ let bad : false ≡ true = holds_of (λ name. is_stopped (inner_turns (begun 100 [])) name ≡ true) 2 _ refl stops in cc
       | inr closed ↦ closed
     ]
@@ -113,7 +113,7 @@ made_second = init (answer.Disk (codes "c") 0) ∷ made ∷ named ∷ moved 100 
 pub after-caused : Caused true (life_of made_then_down) (untaken 0 2 ∷ fails 1 2 ∷ [])
 after-caused =
     let faults : List Fault = untaken 0 2 ∷ fails 1 2 ∷ [] in
-    caused_by_places true faults (life_of made_then_down) ((λ h. elim h as (λ _. ⊥) [ inl e ↦ taking_fails (sym (ap (λ (f : Fault). f.kind) e)) | inr none ↦ none ]), ((λ none. none), tt)) refl (
+    caused_by_positions true faults (life_of made_then_down) ((λ h. elim h as (λ _. ⊥) [ inl e ↦ taking_fails (sym (ap (λ (f : Fault). f.kind) e)) | inr none ↦ none ]), ((λ none. none), tt)) refl (
     only (due true faults [] _ _ _ (2, (codes "g3", refl), omega arith, inl refl))
     also only (due true faults [] _ _ _ (first_placement, refl))
     also only (due true faults [] _ _ _ tt)
@@ -150,7 +150,7 @@ damaged_write-refused caused = damage_fails (ap (λ (f : Fault). f.kind) (is_lis
 pub untaken_restart-refused : ¬ Caused true (life_of restart_failed) (untaken 4 2 ∷ [])
 untaken_restart-refused caused =
     let lines = begun 100 (stopped (codes "c") ∷ []) in
-    let on_disk : OnDisk (untaken 4 2 ∷ []) None (place_after lines (act.Restart (codes "c") 0) (answer.Disk (codes "c") 0)) (HadReplica None (inner_turns lines) 0) (codes "c") 0 = (due_after lines (act.Restart (codes "c") 0) (answer.Disk (codes "c") 0) _ (λ e. cc) (λ e. cc) caused).1 in
+    let on_disk : OnDisk (untaken 4 2 ∷ []) None (position_after lines (act.Restart (codes "c") 0) (answer.Disk (codes "c") 0)) (HadReplica None (inner_turns lines) 0) (codes "c") 0 = (due_after lines (act.Restart (codes "c") 0) (answer.Disk (codes "c") 0) _ (λ e. cc) (λ e. cc) caused).1 in
     elim on_disk.3 as (λ _. ⊥) [ inl e ↦ taking_fails (ap (λ (f : Fault). f.kind) e) | inr none ↦ absurd none ]
 
 pub failed_init-refused : ¬ Caused true (life_of init_failed) (fails 0 1 ∷ [])

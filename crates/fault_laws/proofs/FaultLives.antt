@@ -11,7 +11,7 @@ use Rattle.transcripts.specs.Faults.{Fault}
 use Rattle.transcripts.specs.Fates.{reaches}
 use Rattle.m3_model.specs.Levels.{needed_write}
 use Rattle.m3_model.specs.Members.{IsIn}
-use Rattle.transcripts.specs.Record.{InnerTurn, TurnPlace, inner_turns}
+use Rattle.transcripts.specs.Record.{InnerTurn, TurnPosition, inner_turns}
 use Rattle.transcripts.specs.Rules.{rules_at}
 use Rattle.m3_model.specs.declared.act.ReadLevel.TheVariants as read_level
 use Rattle.m3_model.specs.declared.act.WriteLevel.TheVariants as write_level
@@ -21,7 +21,7 @@ use Rattle.m3_model.specs.declared.reason.Reason.{Reason}
 use Rattle.model_laws.specs.Building.{life_of, place}
 use Rattle.fault_laws.specs.Faulty.{fails, untaken, write_all, stopped_and_back, failed_and_back, restart_failed, init_failed, boot_of_another, shard_missing, damages, damaged_boot}
 use Rattle.model_laws.proofs.EachLemmas.{◌also◌}
-use Rattle.model_laws.proofs.PlaceLemmas.{caused_by_places, only, due}
+use Rattle.model_laws.proofs.PositionLemmas.{caused_by_positions, only, due}
 use Rattle.model_laws.proofs.SampleLemmas.{rules_when, call_with}
 use Rattle.model_laws.proofs.CausedLives.{begun_caused_over, first_placement, counted_0, counted_1, counted_2, below_0_1, below_0_2, below_1_2}
 use Rattle.fault_laws.proofs.MessageLives.{stood, of_node, found_when, unmet_when, taken_when, takes_near}
@@ -30,14 +30,14 @@ pub takes_all : TakesPoint (rules_when 100) (write_all 100 (pos 5))
 takes_all = let near = takes_near 100 (pos 5) (omega arith) (omega arith) in record { point = near.point; of_act = near.of_act; in_window = near.in_window }
 
 -- c alone didn't take a write that all have to take, and has its reason
-pub c_missed : {faults : List Fault} (p : TurnPlace) (why : Reason) → placement_after None (inner_turns p.lines ++ (p.earlier ++ [])) ≡ Some place → seed_at None p ≡ 0 → call_of p.turn.act ≡ Some (call_with (needed_write write_level.All))
+pub c_missed : {faults : List Fault} (p : TurnPosition) (why : Reason) → placement_after None (inner_turns p.lines ++ (p.earlier ++ [])) ≡ Some place → seed_at None p ≡ 0 → call_of p.turn.act ≡ Some (call_with (needed_write write_level.All))
     → reaches p place 0 ≡ true → reaches p place 1 ≡ true → MayServe (rules_at None p) p.turn.act → MayRefuse true faults None p place 0 2 why → MissesLevel true faults None p 2 3 ((2, why) ∷ []) 0
 c_missed p why place_is seed_is is of_a of_b serves may =
     unmet_when p (needed_write write_level.All) 2 ((2, why) ∷ []) place_is seed_is is refl (omega arith) refl (counted_2 also tt) (tt also tt)
     ((λ quiet. let bad : true ≡ false = sym of_a ∙ quiet in cc) also (λ quiet. let bad : true ≡ false = sym of_b ∙ quiet in cc) also (λ quiet. inl refl) also tt) (may also tt) (λ some. serves)
 
 -- all three took it
-all_took : (p : TurnPlace) → placement_after None (inner_turns p.lines ++ (p.earlier ++ [])) ≡ Some place → seed_at None p ≡ 0 → reaches p place 0 ≡ true → reaches p place 1 ≡ true → reaches p place 2 ≡ true → TakesPoint (rules_at None p) p.turn.act
+all_took : (p : TurnPosition) → placement_after None (inner_turns p.lines ++ (p.earlier ++ [])) ≡ Some place → seed_at None p ≡ 0 → reaches p place 0 ≡ true → reaches p place 1 ≡ true → reaches p place 2 ≡ true → TakesPoint (rules_at None p) p.turn.act
     → IsAcked None p (codes "hello") write_level.All None (0 ∷ 1 ∷ 2 ∷ [])
 all_took p place_is seed_is of_a of_b of_c takes =
     taken_when p (0 ∷ 1 ∷ 2 ∷ []) place_is seed_is (counted_0 also counted_1 also counted_2 also tt) ((below_0_1 also below_0_2 also tt) also (below_1_2 also tt) also tt also tt) (of_a also of_b also of_c also tt) (omega arith) takes
@@ -47,11 +47,11 @@ pub c_had : {turns : List InnerTurn} → IsIn (placements None turns) place → 
 c_had known = record { place = place; known = known; member = refl }
 
 -- c is the node of that name
-c_called : (p : TurnPlace) → placement_after None (inner_turns p.lines ++ (p.earlier ++ [])) ≡ Some place → IsCalled None p (codes "c") 2
+c_called : (p : TurnPosition) → placement_after None (inner_turns p.lines ++ (p.earlier ++ [])) ≡ Some place → IsCalled None p (codes "c") 2
 c_called p place_is = record { place = place; stands = stood p place place_is; named = of_node _ 2 _ refl refl }
 
 -- a bootstrap that turns nothing available leaves the placement
-bootstrapped : (p : TurnPlace) (name : List ℕ) (asked : Option ℕ) → placement_after None (inner_turns p.lines ++ (p.earlier ++ [])) ≡ Some place → placement_at None p ≡ Some place → IsBootstrapped None p name asked [] place 1
+bootstrapped : (p : TurnPosition) (name : List ℕ) (asked : Option ℕ) → placement_after None (inner_turns p.lines ++ (p.earlier ++ [])) ≡ Some place → placement_at None p ≡ Some place → IsBootstrapped None p name asked [] place 1
 bootstrapped p name asked place_is before_is = record { before = place; stands = stood p place place_is; made = inl before_is; left = refl; version_is = refl }
 
 pub stopped_and_back-caused : Caused true (life_of stopped_and_back) []
@@ -99,7 +99,7 @@ damaged_boot-caused file at =
 
 pub init_failed-caused : Caused true (life_of init_failed) (untaken 0 1 ∷ [])
 init_failed-caused =
-    caused_by_places true _ (life_of init_failed) ((λ none. none), tt) refl (
+    caused_by_positions true _ (life_of init_failed) ((λ none. none), tt) refl (
     only (due true (untaken 0 1 ∷ []) [] _ _ _ (1, (codes "g2", refl), omega arith, inl refl))
     also only (due true (untaken 0 1 ∷ []) [] _ _ _ refl)
     also only (due true (untaken 0 1 ∷ []) [] _ _ _ (first_placement, refl))

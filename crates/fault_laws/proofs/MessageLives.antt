@@ -14,7 +14,7 @@ use Rattle.m3_model.specs.Hash.{murmur3, shard_of}
 use Rattle.transcripts.specs.Faults.{Fault}
 use Rattle.m3_model.specs.Levels.{needed_write, needed_read}
 use Rattle.m3_model.specs.Members.{IsIn}
-use Rattle.transcripts.specs.Record.{TurnPlace, inner_turns}
+use Rattle.transcripts.specs.Record.{TurnPosition, inner_turns}
 use Rattle.transcripts.specs.Rules.{rules_at}
 use Rattle.m3_model.specs.Rules.{InWindow}
 use Rattle.m3_model.specs.declared.act.Act.TheVariants as act
@@ -29,7 +29,7 @@ use Rattle.m3_model.specs.declared.reason.Reason.TheVariants as reason
 use Rattle.model_laws.specs.Building.{begun, life_of, wrote, write, acks, series_of, place, space}
 use Rattle.model_laws.specs.Messages.{stopped, unstrict, b_then_c_late, without_b, without_c, lost_messages, stopped_nodes, late_messages}
 use Rattle.model_laws.proofs.EachLemmas.{Each, EachPair, each_in, ascends_by, ◌also◌}
-use Rattle.model_laws.proofs.PlaceLemmas.{place_after, place_after-stands, only, due}
+use Rattle.model_laws.proofs.PositionLemmas.{position_after, position_after-stands, only, due}
 use Rattle.model_laws.proofs.SampleLemmas.{rules_when, call_with, hello}
 use Rattle.model_laws.proofs.CausedLives.{begun_caused, begun_delivering, takes_by, counted_0, counted_1, counted_2, below_0_1, below_0_2, below_1_2}
 
@@ -38,20 +38,20 @@ pub of_node : (Holds : List ℕ → Type 0) (node : ℕ) (one : Instance) → sl
 of_node Holds node one stood holds = record { instance_ = one; stands = stood; holds = holds }
 
 -- a placement that stands after all that is before a turn is one that stands
-pub stood : (p : TurnPlace) (x : Placement) → placement_after None (inner_turns p.lines ++ (p.earlier ++ [])) ≡ Some x → MayStand None p x
+pub stood : (p : TurnPosition) (x : Placement) → placement_after None (inner_turns p.lines ++ (p.earlier ++ [])) ≡ Some x → MayStand None p x
 stood p x stands = (inner_turns p.lines ++ (p.earlier ++ []), record { others = []; some_of = tt; are = refl }, stands)
 
 -- the only shard is that of `hello`
-pub hello_shard : (p : TurnPlace) → seed_at None p ≡ 0 → (shard : ℕ) → AsksShard None p place (Some (codes "hello")) shard → shard ≡ 0
+pub hello_shard : (p : TurnPosition) → seed_at None p ≡ 0 → (shard : ℕ) → AsksShard None p place (Some (codes "hello")) shard → shard ≡ 0
 unfolding murmur3
 hello_shard p seed_is shard asked = subst (λ seed. shard ≡ shard_of (codes "hello") seed 1) seed_is asked
 
-asks_hello : (p : TurnPlace) → seed_at None p ≡ 0 → AsksShard None p place (Some (codes "hello")) 0
+asks_hello : (p : TurnPosition) → seed_at None p ≡ 0 → AsksShard None p place (Some (codes "hello")) 0
 unfolding murmur3
 asks_hello p seed_is = subst (λ seed. 0 ≡ shard_of (codes "hello") seed 1) (sym seed_is) refl
 
 -- some counted replicas didn't answer, each of which has its reason
-pub silent_when : {tells : Bool} {faults : List Fault} (p : TurnPlace) (reasons : List (ℕ × Reason)) → Each (λ r. IsCounted place 0 r.0) reasons → EachPair (λ r s. IsNamedBelow place r.0 s.0) reasons
+pub silent_when : {tells : Bool} {faults : List Fault} (p : TurnPosition) (reasons : List (ℕ × Reason)) → Each (λ r. IsCounted place 0 r.0) reasons → EachPair (λ r s. IsNamedBelow place r.0 s.0) reasons
     → Each (λ node. reaches p place node ≡ false → IsIn (map (λ r. r.0) reasons) node) (0 ∷ 1 ∷ 2 ∷ []) → Each (λ r. MayRefuse tells faults None p place 0 r.0 r.1) reasons → AreSilent tells faults None p place 0 reasons
 silent_when {tells = tells} {faults = faults} p reasons counted by_name unreached refused = record {
   counted = each_in (λ r. IsCounted place 0 r.0) reasons counted;
@@ -60,8 +60,8 @@ silent_when {tells = tells} {faults = faults} p reasons counted by_name unreache
   refused = each_in (λ r. MayRefuse tells faults None p place 0 r.0 r.1) reasons refused;
 }
 
--- a read of `hello` at a place from which it reaches so many replicas
-pub found_when : {faults : List Fault} (p : TurnPlace) (level : ReadLevel) (short : Bool) (n : ℕ) → placement_after None (inner_turns p.lines ++ (p.earlier ++ [])) ≡ Some place → seed_at None p ≡ 0 → reached_of p place 0 ≡ n → needed_read level 3 ≤ n
+-- a read of `hello` at a position from which it reaches so many replicas
+pub found_when : {faults : List Fault} (p : TurnPosition) (level : ReadLevel) (short : Bool) (n : ℕ) → placement_after None (inner_turns p.lines ++ (p.earlier ++ [])) ≡ Some place → seed_at None p ≡ 0 → reached_of p place 0 ≡ n → needed_read level 3 ≤ n
     → (short ≡ true → (level ≡ read_level.Unstrict) × IsShort true faults None p place 0) → (short ≡ false → level ≡ read_level.Unstrict → 2 ≤ n) → IsFoundFor true faults None p (Some (codes "hello")) level None short
 found_when {faults = faults} p level short n place_is seed_is reached enough may_be_short not_short = record {
   place = place;
@@ -71,8 +71,8 @@ found_when {faults = faults} p level short n place_is seed_is reached enough may
   not_short = λ whole is shard asked. subst (λ k. 2 ≤ reached_of p place k) (sym (hello_shard p seed_is shard asked)) (subst (λ m. 2 ≤ m) (sym reached) (not_short whole is));
 }
 
--- a call of `hello` at a place from which fewer than the replicas that it needs did as it asked
-pub unmet_when : {tells : Bool} {faults : List Fault} {n : ℕ} (p : TurnPlace) (needed : ℕ → ℕ) (got : ℕ) (reasons : List (ℕ × Reason)) → placement_after None (inner_turns p.lines ++ (p.earlier ++ [])) ≡ Some place → seed_at None p ≡ 0 → call_of p.turn.act ≡ Some (call_with needed) → needed 3 ≡ n
+-- a call of `hello` at a position from which fewer than the replicas that it needs did as it asked
+pub unmet_when : {tells : Bool} {faults : List Fault} {n : ℕ} (p : TurnPosition) (needed : ℕ → ℕ) (got : ℕ) (reasons : List (ℕ × Reason)) → placement_after None (inner_turns p.lines ++ (p.earlier ++ [])) ≡ Some place → seed_at None p ≡ 0 → call_of p.turn.act ≡ Some (call_with needed) → needed 3 ≡ n
     → got < n → got + length reasons ≡ 3 → Each (λ r. IsCounted place 0 r.0) reasons → EachPair (λ r s. IsNamedBelow place r.0 s.0) reasons → Each (λ node. reaches p place node ≡ false → IsIn (map (λ r. r.0) reasons) node) (0 ∷ 1 ∷ 2 ∷ [])
     → Each (λ r. MayRefuse tells faults None p place 0 r.0 r.1) reasons → (0 < got → MayServe (rules_at None p) p.turn.act) → MissesLevel tells faults None p got n reasons 0
 unmet_when p needed got reasons place_is seed_is is needs fewer others counted by_name unreached refused served = record {
@@ -90,7 +90,7 @@ unmet_when p needed got reasons place_is seed_is is needs fewer others counted b
 }
 
 -- a write of `hello` that these nodes took, each of which it reached
-pub taken_when : {level : WriteLevel} (p : TurnPlace) (taken : List ℕ) → placement_after None (inner_turns p.lines ++ (p.earlier ++ [])) ≡ Some place → seed_at None p ≡ 0 → Each (IsCounted place 0) taken → EachPair (IsNamedBelow place) taken → Each (λ node. reaches p place node ≡ true) taken → needed_write level 3 ≤ length taken
+pub taken_when : {level : WriteLevel} (p : TurnPosition) (taken : List ℕ) → placement_after None (inner_turns p.lines ++ (p.earlier ++ [])) ≡ Some place → seed_at None p ≡ 0 → Each (IsCounted place 0) taken → EachPair (IsNamedBelow place) taken → Each (λ node. reaches p place node ≡ true) taken → needed_write level 3 ≤ length taken
     → TakesPoint (rules_at None p) p.turn.act → IsAcked None p (codes "hello") level None taken
 taken_when p taken place_is seed_is counted by_name reached enough takes = record {
   place = place;
@@ -119,7 +119,7 @@ lost_messages-caused =
     also tt)
 
 -- two of the three are stopped, and so one answers
-two_down : IsShort true [] None (place_after (begun 100 (wrote 100 (pos 5) ∷ stopped (codes "b") ∷ stopped (codes "c") ∷ [])) (unstrict 0 200) (answer.Found (series_of ((100, pos 5) ∷ [])) true)) place 0
+two_down : IsShort true [] None (position_after (begun 100 (wrote 100 (pos 5) ∷ stopped (codes "b") ∷ stopped (codes "c") ∷ [])) (unstrict 0 200) (answer.Found (series_of ((100, pos 5) ∷ [])) true)) place 0
 two_down = record {
   reasons = (1, reason.Down) ∷ (2, reason.Down) ∷ [];
   silent = silent_when _ _ (counted_1 also counted_2 also tt) ((below_1_2 also tt) also tt also tt) ((λ quiet. cc) also (λ quiet. inl refl) also (λ quiet. inr (inl refl)) also tt)
@@ -145,14 +145,14 @@ stopped_nodes-caused =
 
 -- the late message to b, and the one to c
 abbrev pub to_b : LateMessage
-to_b = record { place = place_after (begun 100 (b_then_c_late ∷ [])) (write 100 (pos 5)) (acks (0 ∷ 2 ∷ [])); used = place; node = 1; point = hello 100 (pos 5) }
+to_b = record { position = position_after (begun 100 (b_then_c_late ∷ [])) (write 100 (pos 5)) (acks (0 ∷ 2 ∷ [])); used = place; node = 1; point = hello 100 (pos 5) }
 
 abbrev to_c : LateMessage
-to_c = record { place = place_after (begun 100 (b_then_c_late ∷ without_b ∷ [])) (write 110 (pos 6)) (acks (0 ∷ 1 ∷ [])); used = place; node = 2; point = hello 110 (pos 6) }
+to_c = record { position = position_after (begun 100 (b_then_c_late ∷ without_b ∷ [])) (write 110 (pos 6)) (acks (0 ∷ 1 ∷ [])); used = place; node = 2; point = hello 110 (pos 6) }
 
 -- where both are delivered
-abbrev delivery : TurnPlace
-delivery = place_after (begun 100 (b_then_c_late ∷ without_b ∷ without_c ∷ [])) act.Deliver (answer.Outcomes ((1, 0, None) ∷ (2, 0, None) ∷ []))
+abbrev delivery : TurnPosition
+delivery = position_after (begun 100 (b_then_c_late ∷ without_b ∷ without_c ∷ [])) act.Deliver (answer.Outcomes ((1, 0, None) ∷ (2, 0, None) ∷ []))
 
 -- a point of `hello` near 100 is inside the window
 pub in_window_near : (t : ℕ) (v : ℤ) → 0 < t → t < 150 → InWindow (rules_when 100) (hello t v)
@@ -161,7 +161,7 @@ in_window_near t v above below = record { space = space; stands = refl; not_past
 to_b-late : IsLateMessage None delivery to_b
 unfolding murmur3
 to_b-late = record {
-  made = inl (place_after-stands (begun 100 (b_then_c_late ∷ [])) (write 100 (pos 5)) (acks (0 ∷ 2 ∷ [])) (without_c ∷ []));
+  made = inl (position_after-stands (begun 100 (b_then_c_late ∷ [])) (write 100 (pos 5)) (acks (0 ∷ 2 ∷ [])) (without_c ∷ []));
   of_act = refl;
   was_sent = refl;
   call = call_with (needed_write write_level.Majority);
@@ -175,7 +175,7 @@ to_b-late = record {
 to_c-late : IsLateMessage None delivery to_c
 unfolding murmur3
 to_c-late = record {
-  made = inl (place_after-stands (begun 100 (b_then_c_late ∷ without_b ∷ [])) (write 110 (pos 6)) (acks (0 ∷ 1 ∷ [])) []);
+  made = inl (position_after-stands (begun 100 (b_then_c_late ∷ without_b ∷ [])) (write 110 (pos 6)) (acks (0 ∷ 1 ∷ [])) []);
   of_act = refl;
   was_sent = refl;
   call = call_with (needed_write write_level.Majority);

@@ -18,14 +18,14 @@ use Rattle.transcripts.specs.Faults.{Fault}
 use Rattle.transcripts.specs.Levels.{IsAcked, AreSilent, MissesLevel, IsShort, IsFoundFor}
 use Rattle.transcripts.specs.Moves.{IsNew, IsUnowned}
 use Rattle.transcripts.specs.Reasons.{MayFail, MayRefuse}
-use Rattle.transcripts.specs.Record.{Life, Record, TurnPlace}
+use Rattle.transcripts.specs.Record.{Life, Record, TurnPosition}
 use Rattle.transcripts.specs.Sweeps.{IsSwept}
 use Rattle.transcripts.specs.Waiting.{Replica}
 use Rattle.model_laws.specs.Building.{begun, life_of, place, write, acks, unmet, by_each}
 use Rattle.model_laws.specs.Uncaused.{write_answered}
 use Rattle.fault_laws.specs.Untold.{MayAnswer}
 use Rattle.model_laws.proofs.EachLemmas.{◌also◌}
-use Rattle.model_laws.proofs.PlaceLemmas.{place_after, only, due, due_after, only_used, caused_by_places}
+use Rattle.model_laws.proofs.PositionLemmas.{position_after, only, due, due_after, only_used, caused_by_positions}
 use Rattle.model_laws.proofs.SampleLemmas.{stands}
 use Rattle.model_laws.proofs.CausedLives.{first_placement, first_moment, counted_0, counted_1, counted_2, below_0_1, below_0_2, below_1_2}
 use Rattle.fault_laws.proofs.MessageLives.{unmet_when}
@@ -33,17 +33,17 @@ use Rattle.model_laws.proofs.UncausedLives.{each_refuses}
 
 -- ---- less is said
 
-new_less : (x : Replica) (start : Option MetaState) (p : TurnPlace) → IsNew true x start p → IsNew false x start p
+new_less : (x : Replica) (start : Option MetaState) (p : TurnPosition) → IsNew true x start p → IsNew false x start p
 new_less x start p new = record { lines = new.lines; earlier = new.earlier; assigned = new.assigned; not_since = λ told. cc; not_beside = λ told. cc }
 
-unowned_less : (start : Option MetaState) (p : TurnPlace) (used : Placement) (shard node : ℕ) → IsUnowned true start p used shard node → IsUnowned false start p used shard node
+unowned_less : (start : Option MetaState) (p : TurnPosition) (used : Placement) (shard node : ℕ) → IsUnowned true start p used shard node → IsUnowned false start p used shard node
 unowned_less start p used shard node may =
     elim may as (λ _. IsUnowned false start p used shard node) [
       | inl not ↦ inl not
       | inr new ↦ inr (record { instance_ = new.instance_; stands = new.stands; holds = new_less (record { shard = shard; node = node; name = new.instance_.name }) start p new.holds })
     ]
 
-fail_less : (faults : List Fault) (start : Option MetaState) (p : TurnPlace) (used : Placement) (shard node : ℕ) (why : Reason) → MayFail true faults start p used shard node why → MayFail false faults start p used shard node why
+fail_less : (faults : List Fault) (start : Option MetaState) (p : TurnPosition) (used : Placement) (shard node : ℕ) (why : Reason) → MayFail true faults start p used shard node why → MayFail false faults start p used shard node why
 fail_less faults start p used shard node reason.Boot may = λ told. cc
 fail_less faults start p used shard node reason.NotOwned may = unowned_less start p used shard node may
 fail_less faults start p used shard node (reason.Stale fence) may = λ told. cc
@@ -53,7 +53,7 @@ fail_less faults start p used shard node (reason.Corrupt damage) may = may
 fail_less faults start p used shard node reason.Memory may = tt
 fail_less faults start p used shard node _ may = absurd may
 
-refuse_less : (faults : List Fault) (start : Option MetaState) (p : TurnPlace) (used : Placement) (shard node : ℕ) (why : Reason) → MayRefuse true faults start p used shard node why → MayRefuse false faults start p used shard node why
+refuse_less : (faults : List Fault) (start : Option MetaState) (p : TurnPosition) (used : Placement) (shard node : ℕ) (why : Reason) → MayRefuse true faults start p used shard node why → MayRefuse false faults start p used shard node why
 refuse_less faults start p used shard node reason.Cut may = may
 refuse_less faults start p used shard node reason.Past may = may
 refuse_less faults start p used shard node reason.Future may = may
@@ -65,7 +65,7 @@ refuse_less faults start p used shard node reason.Disk may = may
 refuse_less faults start p used shard node (reason.Corrupt damage) may = may
 refuse_less faults start p used shard node reason.Memory may = tt
 
-come_less : (faults : List Fault) (start : Option MetaState) (p : TurnPlace) (m : LateMessage) (shard : ℕ) (came : Option Reason) → MayComeOf true faults start p m shard came → MayComeOf false faults start p m shard came
+come_less : (faults : List Fault) (start : Option MetaState) (p : TurnPosition) (m : LateMessage) (shard : ℕ) (came : Option Reason) → MayComeOf true faults start p m shard came → MayComeOf false faults start p m shard came
 come_less faults start p m shard None may = may
 come_less faults start p m shard (Some reason.Past) may = may
 come_less faults start p m shard (Some reason.Future) may = may
@@ -78,7 +78,7 @@ come_less faults start p m shard (Some (reason.Corrupt damage)) may = may
 come_less faults start p m shard (Some reason.Memory) may = tt
 come_less faults start p m shard (Some _) may = absurd may
 
-silent_less : (faults : List Fault) (start : Option MetaState) (p : TurnPlace) (used : Placement) (shard : ℕ) (reasons : List (ℕ × Reason)) → AreSilent true faults start p used shard reasons → AreSilent false faults start p used shard reasons
+silent_less : (faults : List Fault) (start : Option MetaState) (p : TurnPosition) (used : Placement) (shard : ℕ) (reasons : List (ℕ × Reason)) → AreSilent true faults start p used shard reasons → AreSilent false faults start p used shard reasons
 silent_less faults start p used shard reasons silent = record {
   counted = silent.counted;
   by_name = silent.by_name;
@@ -86,7 +86,7 @@ silent_less faults start p used shard reasons silent = record {
   refused = λ r m. refuse_less faults start p used shard r.0 r.1 (silent.refused r m);
 }
 
-misses_less : (faults : List Fault) (start : Option MetaState) (p : TurnPlace) (got needed : ℕ) (reasons : List (ℕ × Reason)) (shard : ℕ) → MissesLevel true faults start p got needed reasons shard → MissesLevel false faults start p got needed reasons shard
+misses_less : (faults : List Fault) (start : Option MetaState) (p : TurnPosition) (got needed : ℕ) (reasons : List (ℕ × Reason)) (shard : ℕ) → MissesLevel true faults start p got needed reasons shard → MissesLevel false faults start p got needed reasons shard
 misses_less faults start p got needed reasons shard missed = record {
   call = missed.call;
   of_act = missed.of_act;
@@ -101,10 +101,10 @@ misses_less faults start p got needed reasons shard missed = record {
   served = missed.served;
 }
 
-short_less : (faults : List Fault) (start : Option MetaState) (p : TurnPlace) (used : Placement) (shard : ℕ) → IsShort true faults start p used shard → IsShort false faults start p used shard
+short_less : (faults : List Fault) (start : Option MetaState) (p : TurnPosition) (used : Placement) (shard : ℕ) → IsShort true faults start p used shard → IsShort false faults start p used shard
 short_less faults start p used shard short = record { reasons = short.reasons; silent = silent_less faults start p used shard short.reasons short.silent; got = short.got; others = short.others; some = short.some; fewer = short.fewer }
 
-found_less : (faults : List Fault) (start : Option MetaState) (p : TurnPlace) (id : Option (List ℕ)) (level : ReadLevel) (version : Option ℕ) (short : Bool) → IsFoundFor true faults start p id level version short → IsFoundFor false faults start p id level version short
+found_less : (faults : List Fault) (start : Option MetaState) (p : TurnPosition) (id : Option (List ℕ)) (level : ReadLevel) (version : Option ℕ) (short : Bool) → IsFoundFor true faults start p id level version short → IsFoundFor false faults start p id level version short
 found_less faults start p id level version short found = record {
   place = found.place;
   may_use = found.may_use;
@@ -113,17 +113,17 @@ found_less faults start p id level version short found = record {
   not_short = found.not_short;
 }
 
-outcomes_less : (faults : List Fault) (start : Option MetaState) (p : TurnPlace) (messages : List LateMessage) (outcomes : List (ℕ × ℕ × Option Reason)) → AreOutcomes true faults start p messages outcomes → AreOutcomes false faults start p messages outcomes
+outcomes_less : (faults : List Fault) (start : Option MetaState) (p : TurnPosition) (messages : List LateMessage) (outcomes : List (ℕ × ℕ × Option Reason)) → AreOutcomes true faults start p messages outcomes → AreOutcomes false faults start p messages outcomes
 outcomes_less faults start p [] [] each = tt
 outcomes_less faults start p [] (o ∷ outcomes) each = absurd each
 outcomes_less faults start p (m ∷ messages) [] each = absurd each
 outcomes_less faults start p (m ∷ messages) (o ∷ outcomes) each =
     (record { message = each.0.message; node_is = each.0.node_is; shard_is = each.0.shard_is; came = come_less faults start p m o.1 o.2 each.0.came }, outcomes_less faults start p messages outcomes each.1)
 
-swept_less : (faults : List Fault) (start : Option MetaState) (p : TurnPlace) (done : List (ℕ × ℕ × ℕ)) (failed : List (ℕ × ℕ × Reason)) → IsSwept true faults start p done failed → IsSwept false faults start p done failed
+swept_less : (faults : List Fault) (start : Option MetaState) (p : TurnPosition) (done : List (ℕ × ℕ × ℕ)) (failed : List (ℕ × ℕ × Reason)) → IsSwept true faults start p done failed → IsSwept false faults start p done failed
 swept_less faults start p done failed h = record { over = h.over; refused = λ x m. fail_less faults start p (h.over).place x.1 x.0 x.2 (h.refused x m) }
 
-own_less : (faults : List Fault) (start : Option MetaState) (messages : List LateMessage) (p : TurnPlace) (a : Act) (b : Answer) → IsOwn true faults start messages p a b → IsOwn false faults start messages p a b
+own_less : (faults : List Fault) (start : Option MetaState) (messages : List LateMessage) (p : TurnPosition) (a : Act) (b : Answer) → IsOwn true faults start messages p a b → IsOwn false faults start messages p a b
 own_less faults start messages p (act.Init rf shards seed nodes) (answer.Placed used version) own = own
 own_less faults start messages p (act.Init rf shards seed nodes) (answer.Group shard) own = own
 own_less faults start messages p (act.Init rf shards seed nodes) (answer.Disk name shard) own = own
@@ -154,11 +154,11 @@ own_less faults start messages p act.Snapshot (answer.Swept done failed) own = s
 own_less faults start messages p act.Status (answer.Status now lines version) own = own
 own_less faults start messages p _ _ own = absurd own
 
-due_less : (faults : List Fault) (start : Option MetaState) (messages : List LateMessage) (p : TurnPlace) (refusal : Option Answer) → IsDueBy true faults start messages p refusal → IsDueBy false faults start messages p refusal
+due_less : (faults : List Fault) (start : Option MetaState) (messages : List LateMessage) (p : TurnPosition) (refusal : Option Answer) → IsDueBy true faults start messages p refusal → IsDueBy false faults start messages p refusal
 due_less faults start messages p (Some refusal) told = told
 due_less faults start messages p None told = own_less faults start messages p p.turn.act p.turn.answer told
 
-at_less : (faults : List Fault) (past : List Record) (start : Option MetaState) (messages : List LateMessage) (p : TurnPlace) → CausedAt true faults past start messages p → CausedAt false faults past start messages p
+at_less : (faults : List Fault) (past : List Record) (start : Option MetaState) (messages : List LateMessage) (p : TurnPosition) → CausedAt true faults past start messages p → CausedAt false faults past start messages p
 at_less faults past start messages p here =
     elim here as (λ _. CausedAt false faults past start messages p) [
       | inl memory ↦ inl memory
@@ -180,10 +180,10 @@ caused_less life faults caused = record {
 -- ---- boots and fences
 
 -- what each of the three nodes may refuse the write for
-each_may : (why : Reason) → ((p : TurnPlace) (node : ℕ) → MayRefuse false [] None p place 0 node why) → MayAnswer false (unmet 0 (by_each why))
+each_may : (why : Reason) → ((p : TurnPosition) (node : ℕ) → MayRefuse false [] None p place 0 node why) → MayAnswer false (unmet 0 (by_each why))
 each_may why may =
-    let p = place_after (begun 100 []) (write 100 (pos 5)) (unmet 0 (by_each why)) in
-    caused_by_places false [] (life_of (write_answered (unmet 0 (by_each why)))) tt refl (
+    let p = position_after (begun 100 []) (write 100 (pos 5)) (unmet 0 (by_each why)) in
+    caused_by_positions false [] (life_of (write_answered (unmet 0 (by_each why)))) tt refl (
     only (at_less [] [] None [] _ (due true [] [] _ _ _ (first_placement, refl)))
     also only (at_less [] [] None [] _ (due true [] [] _ _ _ tt))
     also only (at_less [] [] None [] _ (first_moment [] [] 100))
@@ -209,15 +209,15 @@ order-untold caused = due_after (begun 100 []) (write 100 (pos 5)) answer.Order 
 
 pub too_few-untold : ¬ MayAnswer false (acks (0 ∷ []))
 too_few-untold caused =
-    let taken : IsAcked None (place_after (begun 100 []) (write 100 (pos 5)) (acks (0 ∷ []))) (codes "hello") write_level.Majority None (0 ∷ []) = due_after (begun 100 []) (write 100 (pos 5)) (acks (0 ∷ [])) [] (λ e. cc) (λ e. cc) caused in
+    let taken : IsAcked None (position_after (begun 100 []) (write 100 (pos 5)) (acks (0 ∷ []))) (codes "hello") write_level.Majority None (0 ∷ []) = due_after (begun 100 []) (write 100 (pos 5)) (acks (0 ∷ [])) [] (λ e. cc) (λ e. cc) caused in
     let same : place ≡ taken.place = only_used (begun 100 []) (write 100 (pos 5)) (acks (0 ∷ [])) place taken.place refl taken.may_use in
     let enough : 2 ≤ 1 = subst (λ (x : Placement). needed_write write_level.Majority x.rf ≤ 1) (sym same) taken.enough in
     omega arith
 
 -- what a may have refused the write for
-a_may : (why : Reason) → MayAnswer false (unmet 0 (by_each why)) → (used : Placement) × MayRefuse false [] None (place_after (begun 100 []) (write 100 (pos 5)) (unmet 0 (by_each why))) used 0 0 why
+a_may : (why : Reason) → MayAnswer false (unmet 0 (by_each why)) → (used : Placement) × MayRefuse false [] None (position_after (begun 100 []) (write 100 (pos 5)) (unmet 0 (by_each why))) used 0 0 why
 a_may why caused =
-    let missed : MissesLevel false [] None (place_after (begun 100 []) (write 100 (pos 5)) (unmet 0 (by_each why))) 0 2 (by_each why) 0 = due_after (begun 100 []) (write 100 (pos 5)) (unmet 0 (by_each why)) [] (λ e. cc) (λ e. cc) caused in
+    let missed : MissesLevel false [] None (position_after (begun 100 []) (write 100 (pos 5)) (unmet 0 (by_each why))) 0 2 (by_each why) 0 = due_after (begun 100 []) (write 100 (pos 5)) (unmet 0 (by_each why)) [] (λ e. cc) (λ e. cc) caused in
     (missed.place, missed.silent.refused (0, why) (inl refl))
 
 pub disk-untold : ¬ MayAnswer false (unmet 0 (by_each reason.Disk))

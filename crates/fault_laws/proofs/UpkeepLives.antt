@@ -18,21 +18,21 @@ use Rattle.placement_core.proofs.ListLemmas.{Any-from_IsIn}
 use Rattle.transcripts.specs.Caused.{Caused}
 use Rattle.transcripts.specs.Faults.{Fault}
 use Rattle.transcripts.specs.Reasons.{MayFail}
-use Rattle.transcripts.specs.Record.{TurnPlace}
+use Rattle.transcripts.specs.Record.{TurnPosition}
 use Rattle.transcripts.specs.Sweeps.{AreAllMembers, Entry, IsSlotBelow, IsStatus, IsSwept, IsSweptOver, done_in, failed_in, slot_of}
 use Rattle.transcripts.proofs.SweepLemmas.{done_entry, entry_slot}
-use Rattle.model_laws.specs.Building.{begun, life_of, place, place_after}
+use Rattle.model_laws.specs.Building.{begun, life_of, place, position_after}
 use Rattle.fault_laws.specs.Faulty.{fails}
 use Rattle.fault_laws.specs.Upkeep.{open_line, status_at, ticked}
 use Rattle.model_laws.proofs.EachLemmas.{◌also◌}
-use Rattle.model_laws.proofs.PlaceLemmas.{due, due_after, only, only_used, stands_then}
+use Rattle.model_laws.proofs.PositionLemmas.{due, due_after, only, only_used, stands_then}
 use Rattle.model_laws.proofs.CausedLives.{at_moment-caused, begun_caused_over, below_0_1, below_0_2, below_1_2}
 
 abbrev before : List Turn
 before = begun 100 []
 
-abbrev here : Answer → TurnPlace
-here b = place_after before act.Tick b
+abbrev here : Answer → TurnPosition
+here b = position_after before act.Tick b
 
 -- the three nodes with the only shard
 abbrev three : List (ℕ × ℕ)
@@ -168,7 +168,7 @@ now-caused = at_moment-caused 100 act.Status (answer.Status 100 lines 1) (due tr
     states line (inr (inr (inl is))) = subst HasState is (Any-from_IsIn (λ a. (a.node ≡ 2) × (a.state ≡ (open_line 2).state)) (shard_at place 0) _ (inr (inr (inl refl))) (refl, refl))
     states line (inr (inr (inr none))) = absurd none
 
-status_told : {faults : List Fault} (now version : ℕ) → Caused true (life_of (status_at now version)) faults → IsStatus None (place_after before act.Status (answer.Status now lines version)) now lines version
+status_told : {faults : List Fault} (now version : ℕ) → Caused true (life_of (status_at now version)) faults → IsStatus None (position_after before act.Status (answer.Status now lines version)) now lines version
 status_told now version caused = due_after before act.Status (answer.Status now lines version) [] (λ e. cc) (λ e. cc) caused
 
 pub other_moment-refused : (faults : List Fault) → ¬ Caused true (life_of (status_at 99 1)) faults

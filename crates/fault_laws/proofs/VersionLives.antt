@@ -29,7 +29,7 @@ use Rattle.model_laws.specs.Building.{begun, at_moment, life_of, line, acks, pla
 use Rattle.fault_laws.specs.Faulty.{write_all, all_but_c}
 use Rattle.fault_laws.specs.Versions.{at_version, held_2, reopened, c_left, waits_from_start, waits_after_boot, write_at, two_on}
 use Rattle.model_laws.proofs.EachLemmas.{each_in, ascends_by, same_of_some, ◌also◌}
-use Rattle.model_laws.proofs.PlaceLemmas.{place_after, place_after-stands, after_all, only, due, due_from, due_here, due_after, used_from, caused_by_places}
+use Rattle.model_laws.proofs.PositionLemmas.{position_after, position_after-stands, after_all, only, due, due_from, due_here, due_after, used_from, caused_by_positions}
 use Rattle.model_laws.proofs.SampleLemmas.{call_with, of_shard}
 use Rattle.model_laws.proofs.CausedLives.{at_moment-caused, first_placement_of_two, counted_0, counted_1, counted_2, below_0_1, below_0_2, below_1_2}
 use Rattle.fault_laws.proofs.FaultLives.{takes_all}
@@ -38,20 +38,20 @@ use Rattle.fault_laws.proofs.BrokenFaults.{holds_of}
 
 -- what is due of the first line of a run that begins with version 2
 first_due : {faults : List Fault} (a : Act) (b : Answer) (after : List Turn) → b ≢ answer.Memory → b ≢ answer.Full → (caused : Caused true (reopened (line a b ∷ after)) faults)
-    → IsDueBy true faults (Some held_2) (caused.delivered (place_after [] a b)) (place_after [] a b) (refusal_after (Some held_2) (place_after [] a b) [])
-first_due {faults} a b after not_memory not_full caused = due_here true faults [] (Some held_2) (caused.delivered (place_after [] a b)) [] a b not_memory not_full (caused.each (place_after [] a b) (place_after-stands [] a b after))
+    → IsDueBy true faults (Some held_2) (caused.delivered (position_after [] a b)) (position_after [] a b) (refusal_after (Some held_2) (position_after [] a b) [])
+first_due {faults} a b after not_memory not_full caused = due_here true faults [] (Some held_2) (caused.delivered (position_after [] a b)) [] a b not_memory not_full (caused.each (position_after [] a b) (position_after-stands [] a b after))
 
 abbrev boot_c : Act
 boot_c = act.Bootstrap (codes "c") None
 
 pub stays-caused : Caused true (reopened (c_left 2 2 ∷ [])) []
-stays-caused = caused_by_places true [] (reopened (c_left 2 2 ∷ [])) tt refl (only (due_from true [] [] (Some held_2) [] [] _ _ record { before = at_version 2; stands = ([], after_all [] _ _, refl); made = inl refl; left = refl; version_is = refl }) also tt)
+stays-caused = caused_by_positions true [] (reopened (c_left 2 2 ∷ [])) tt refl (only (due_from true [] [] (Some held_2) [] [] _ _ record { before = at_version 2; stands = ([], after_all [] _ _, refl); made = inl refl; left = refl; version_is = refl }) also tt)
 
 -- what a bootstrap leaves
 left_is : (faults : List Fault) (version told : ℕ) → Caused true (reopened (c_left version told ∷ [])) faults → (at_version 2 ≡ at_version version) × (told ≡ version)
 left_is faults version told caused =
     let b = answer.Available [] (at_version version) told in
-    let left : IsBootstrapped (Some held_2) (place_after [] boot_c b) (codes "c") None [] (at_version version) told = first_due boot_c b [] (λ e. cc) (λ e. cc) caused in
+    let left : IsBootstrapped (Some held_2) (position_after [] boot_c b) (codes "c") None [] (at_version version) told = first_due boot_c b [] (λ e. cc) (λ e. cc) caused in
     (used_from (Some held_2) [] boot_c b (at_version 2) left.before refl left.stands ∙ sym left.left, left.version_is)
 
 pub back-refused : (faults : List Fault) → ¬ Caused true (reopened (c_left 1 1 ∷ [])) faults
@@ -65,13 +65,13 @@ told-refused faults caused = let bad : 1 ≡ 2 = (left_is faults 2 1 caused).1 i
 
 -- ---- versions of calls
 
-printed_taken : IsAcked None (place_after (begun 100 []) (write_at 1 100 (pos 5)) (acks (0 ∷ 1 ∷ 2 ∷ []))) (codes "hello") write_level.Majority (Some 1) (0 ∷ 1 ∷ 2 ∷ [])
+printed_taken : IsAcked None (position_after (begun 100 []) (write_at 1 100 (pos 5)) (acks (0 ∷ 1 ∷ 2 ∷ []))) (codes "hello") write_level.Majority (Some 1) (0 ∷ 1 ∷ 2 ∷ [])
 printed_taken = record {
   place = place;
   may_use = (inl refl, refl);
-  counted = λ shard asked. subst (λ k. (node : ℕ) → IsIn (0 ∷ 1 ∷ 2 ∷ []) node → IsCounted place k node) (sym (hello_shard (place_after (begun 100 []) (write_at 1 100 (pos 5)) (acks (0 ∷ 1 ∷ 2 ∷ []))) refl shard asked)) (each_in (IsCounted place 0) (0 ∷ 1 ∷ 2 ∷ []) (counted_0 also counted_1 also counted_2 also tt));
+  counted = λ shard asked. subst (λ k. (node : ℕ) → IsIn (0 ∷ 1 ∷ 2 ∷ []) node → IsCounted place k node) (sym (hello_shard (position_after (begun 100 []) (write_at 1 100 (pos 5)) (acks (0 ∷ 1 ∷ 2 ∷ []))) refl shard asked)) (each_in (IsCounted place 0) (0 ∷ 1 ∷ 2 ∷ []) (counted_0 also counted_1 also counted_2 also tt));
   by_name = ascends_by (IsNamedBelow place) (0 ∷ 1 ∷ 2 ∷ []) ((below_0_1 also below_0_2 also tt) also (below_1_2 also tt) also tt also tt);
-  reached = each_in (λ node. reaches (place_after (begun 100 []) (write_at 1 100 (pos 5)) (acks (0 ∷ 1 ∷ 2 ∷ []))) place node ≡ true) (0 ∷ 1 ∷ 2 ∷ []) (refl also refl also refl also tt);
+  reached = each_in (λ node. reaches (position_after (begun 100 []) (write_at 1 100 (pos 5)) (acks (0 ∷ 1 ∷ 2 ∷ []))) place node ≡ true) (0 ∷ 1 ∷ 2 ∷ []) (refl also refl also refl also tt);
   enough = omega arith;
   takes = record { point = takes_all.point; of_act = takes_all.of_act; in_window = takes_all.in_window };
 }
@@ -87,7 +87,7 @@ unprinted-refused faults caused =
 -- ---- first placements
 
 pub least-caused : Caused true (life_of (two_on 0 1)) []
-least-caused = caused_by_places true [] (life_of (two_on 0 1)) tt refl (only (due true [] [] _ _ _ (first_placement_of_two, refl)) also tt)
+least-caused = caused_by_positions true [] (life_of (two_on 0 1)) tt refl (only (due true [] [] _ _ _ (first_placement_of_two, refl)) also tt)
 
 -- the placement of two shards on these nodes
 abbrev on : ℕ → ℕ → Placement
@@ -117,7 +117,7 @@ later_name-refused faults caused =
 -- ---- waiting from the start
 
 -- c alone didn't take the write, since it waits for a bootstrap
-c_waits : MissesLevel true [] (Some held_2) (place_after [] (write_all 100 (pos 5)) (all_but_c reason.Boot)) 2 3 ((2, reason.Boot) ∷ []) 0
+c_waits : MissesLevel true [] (Some held_2) (position_after [] (write_all 100 (pos 5)) (all_but_c reason.Boot)) 2 3 ((2, reason.Boot) ∷ []) 0
 unfolding murmur3
 c_waits = record {
   call = call_with (needed_write write_level.All);
@@ -132,24 +132,24 @@ c_waits = record {
   silent = record {
     counted = each_in (λ r. IsCounted (at_version 2) 0 r.0) ((2, reason.Boot) ∷ []) (inr (inr (inl refl)) also tt);
     by_name = ascends_by (λ r s. IsNamedBelow (at_version 2) r.0 s.0) ((2, reason.Boot) ∷ []) (tt also tt);
-    unreached = each_in (λ n. reaches (place_after [] (write_all 100 (pos 5)) (all_but_c reason.Boot)) (at_version 2) n ≡ false → IsIn (2 ∷ []) n) (0 ∷ 1 ∷ 2 ∷ []) ((λ quiet. cc) also (λ quiet. cc) also (λ quiet. inl refl) also tt);
-    refused = each_in (λ r. MayRefuse true [] (Some held_2) (place_after [] (write_all 100 (pos 5)) (all_but_c reason.Boot)) (at_version 2) 0 r.0 r.1) ((2, reason.Boot) ∷ []) ((λ told. record { instance_ = _; stands = refl; holds = refl }) also tt);
+    unreached = each_in (λ n. reaches (position_after [] (write_all 100 (pos 5)) (all_but_c reason.Boot)) (at_version 2) n ≡ false → IsIn (2 ∷ []) n) (0 ∷ 1 ∷ 2 ∷ []) ((λ quiet. cc) also (λ quiet. cc) also (λ quiet. inl refl) also tt);
+    refused = each_in (λ r. MayRefuse true [] (Some held_2) (position_after [] (write_all 100 (pos 5)) (all_but_c reason.Boot)) (at_version 2) 0 r.0 r.1) ((2, reason.Boot) ∷ []) ((λ told. record { instance_ = _; stands = refl; holds = refl }) also tt);
   };
   served = λ some. takes_all;
 }
 
 pub opened-caused : Caused true waits_from_start []
-opened-caused = caused_by_places true [] waits_from_start tt refl (only (due_from true [] [] (Some held_2) [] [] _ _ c_waits) also tt)
+opened-caused = caused_by_positions true [] waits_from_start tt refl (only (due_from true [] [] (Some held_2) [] [] _ _ c_waits) also tt)
 
 pub booted-refused : (faults : List Fault) → ¬ Caused true waits_after_boot faults
 booted-refused faults caused =
     let lines = c_left 2 2 ∷ [] in
     let a = write_all 100 (pos 5) in
     let b = all_but_c reason.Boot in
-    let missed : MissesLevel true faults (Some held_2) (place_after lines a b) 2 3 ((2, reason.Boot) ∷ []) 0 = due_here true faults [] (Some held_2) (caused.delivered (place_after lines a b)) lines a b (λ e. cc) (λ e. cc) (caused.each (place_after lines a b) (place_after-stands lines a b [])) in
+    let missed : MissesLevel true faults (Some held_2) (position_after lines a b) 2 3 ((2, reason.Boot) ∷ []) 0 = due_here true faults [] (Some held_2) (caused.delivered (position_after lines a b)) lines a b (λ e. cc) (λ e. cc) (caused.each (position_after lines a b) (position_after-stands lines a b [])) in
     let call = call_with (needed_write write_level.All) in
     let known : call ≡ missed.call = same_of_some call missed.call missed.of_act in
-    let same : at_version 2 ≡ missed.place = used_from (Some held_2) lines a b (at_version 2) missed.place refl (subst (λ c. MayUse (Some held_2) (place_after lines a b) c.version missed.place) (sym known) missed.may_use) in
-    let waits = subst (λ x. MayRefuse true faults (Some held_2) (place_after lines a b) x 0 2 reason.Boot) (sym same) (missed.silent.refused (2, reason.Boot) (inl refl)) refl in
+    let same : at_version 2 ≡ missed.place = used_from (Some held_2) lines a b (at_version 2) missed.place refl (subst (λ c. MayUse (Some held_2) (position_after lines a b) c.version missed.place) (sym known) missed.may_use) in
+    let waits = subst (λ x. MayRefuse true faults (Some held_2) (position_after lines a b) x 0 2 reason.Boot) (sym same) (missed.silent.refused (2, reason.Boot) (inl refl)) refl in
     let bad : false ≡ true = holds_of (λ name. (waiting_after (of_shard 2 name) (Some held_2) lines).waits ≡ true) 2 _ refl (record { instance_ = waits.instance_; stands = waits.stands; holds = waits.holds }) in
     cc

@@ -10,7 +10,7 @@ ghost use Rattle.std.specs.Prelude.{pos};
 ghost use Rattle.transcripts.specs.Caused.{Caused};
 ghost use Rattle.transcripts.specs.Faults.{Fault};
 ghost use Rattle.transcripts.specs.Reasons.{MayRefuse};
-ghost use Rattle.transcripts.specs.Record.{TurnPlace};
+ghost use Rattle.transcripts.specs.Record.{TurnPosition};
 ghost use Rattle.model_laws.specs.Building.{life_of, place, write};
 ghost use Rattle.model_laws.specs.Messages.{b_came, then_b_late, delivered, delivered_beside, delivered_again, delivered_of_nobody, delivered_in_two_lines, delivered_to_stopped, after_c_lost, tick_cut};
 
@@ -48,5 +48,5 @@ pub fn cut_of_no_call()
     ensures call { (b : Answer) → MayRefuse true [] None (after_c_lost (write 100 (pos 5)) b) place 0 2 reason.Cut }
     ensures tick { (b : Answer) → (faults : List Fault) → ¬ MayRefuse true faults None (after_c_lost act.Tick b) place 0 2 reason.Cut }
     ensures answered { (faults : List Fault) → ¬ Caused true (life_of tick_cut) faults }
-    ensures any { (tells : Bool) → (faults : List Fault) → (start : Option MetaState) → (p : TurnPlace) → (used : Placement) → (shard node : ℕ) → is_call p.turn.act ≡ false → ¬ MayRefuse tells faults start p used shard node reason.Cut }
+    ensures any { (tells : Bool) → (faults : List Fault) → (start : Option MetaState) → (p : TurnPosition) → (used : Placement) → (shard node : ℕ) → is_call p.turn.act ≡ false → ¬ MayRefuse tells faults start p used shard node reason.Cut }
 {}

@@ -8,14 +8,14 @@ ghost use Rattle.m3_model.specs.declared.reason.Reason.TheVariants as reason;
 ghost use Rattle.transcripts.specs.Caused.{Caused};
 ghost use Rattle.transcripts.specs.Levels.{IsShort};
 ghost use Rattle.model_laws.specs.Building.{life_of, place};
-ghost use Rattle.model_laws.specs.Uncaused.{unstrict_found, unstrict_place, short_at, answered_by_nobody};
+ghost use Rattle.model_laws.specs.Uncaused.{unstrict_found, unstrict_position, short_at, answered_by_nobody};
 ghost use Rattle.transcripts.specs.Faults.{Fault};
 
 /// A read whose nodes all answered isn't short. Where one is that reached each node, with no node stopped and no fault,
 /// at least two of three wanted memory.
 pub fn short_for_nothing()
     ensures whole { Caused true (life_of (unstrict_found ((100, pos 5) ∷ []) false)) [] }
-    ensures all_answered { (short : IsShort true [] None (unstrict_place true) place 0) → short.reasons ≢ [] }
+    ensures all_answered { (short : IsShort true [] None (unstrict_position true) place 0) → short.reasons ≢ [] }
     ensures memory { Caused true (life_of (unstrict_found [] true)) [] → (reasons : List (ℕ × Reason)) × (2 ≤ length reasons) × ((r : ℕ × Reason) → IsIn reasons r → r.1 ≡ reason.Memory) }
 {}
 

@@ -25,7 +25,7 @@ pub fn boot_and_fence_untold()
     ensures fence_told { (fence : ℕ) → ¬ MayAnswer true (unmet 0 (by_each (reason.Stale fence))) }
 {}
 
-/// Where disks don't tell, no less is asked of places among the lines, of acks, of faults, of cuts and of stops.
+/// Where disks don't tell, no less is asked of positions among the lines, of acks, of faults, of cuts and of stops.
 pub fn no_less_where_untold()
     ensures order { ¬ MayAnswer false answer.Order }
     ensures too_few { ¬ MayAnswer false (acks (0 ∷ [])) }

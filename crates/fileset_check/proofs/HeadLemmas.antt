@@ -165,7 +165,7 @@ info_to ns start number bytes s =
 pub info_stops : (ns start number : ℕ) (bytes : List ℕ) (at : ℕ) → IsInside ns start number → StopsAt (AreNumbers (info_fields ns start number)) bytes at → StopsAt (IsSomeInfo ns start number) bytes at
 info_stops ns start number bytes at i s = stops_as (AreNumbers (info_fields ns start number)) (IsSomeInfo ns start number) bytes at (λ b x. info_from ns start number b i x) (λ b x. info_to ns start number b x) s
 
--- the size of the block stands in its place
+-- the size of the block stands at its offset
 pub size_stands : (v : VolumeHead) (series points : ℕ) (bytes : List ℕ) → bytes ≡ info_of v series points → Stands (big_bytes 8 v.size) bytes 10 18
 size_stands v series points bytes is =
     let one = number_stands 1 v.format _ bytes 0 (omega arith) is in

@@ -8,7 +8,7 @@ use Rattle.m3_outside.specs.declared.file_name.FileName.{FileName}
 use Rattle.commit_log.specs.Contents.{numbers}
 use Rattle.wire_bytes.specs.Volumes.{Part, Info, Summaries, Index, Data, Bloom, Digests, Checkpoint}
 use Rattle.shard_files.specs.Parts.{part_name, counted_volumes, counted_snapshots, IsKnown}
-use Rattle.shard_files.specs.Damage.{Damage, OfForm, Look, AtForm, AtDigest, AtHead, LookFinds, FirstFound, looks, bytes_at, Place, InVolume, InSnapshot, InSegment, PlaceFinds, last_of, places}
+use Rattle.shard_files.specs.Damage.{Damage, OfForm, Look, AtForm, AtDigest, AtHead, LookFinds, FirstFound, looks, bytes_at, Location, InVolume, InSnapshot, InSegment, LocationFinds, last_of, locations}
 use Rattle.shard_files.proofs.FirstDamageLemmas.{whole_volume}
 use Rattle.shard_files.proofs.VolumeSteps.{of_name}
 use Rattle.fileset_check.specs.Told.{LookTells, HeadStops, IsInside, VolumesTell, BreaksHead}
@@ -60,8 +60,8 @@ module _ (ns start number : ℕ) (files : Files) where
     found = tells_finds f.one d other inside f.found;
   }
 
-whole_place : (files : Files) (name : FileName) (k : Rattle.shard_files.specs.Parts.KnownVolume) → IsKnown files name k → (d : Damage) → PlaceFinds files (InVolume name) d → ⊥
-whole_place files name k known d f = let g = subst (λ (q : FileName). PlaceFinds files (InVolume q) d) known.named f in whole_volume k.head k.rows files known.holds g.one d g.found
+whole_location : (files : Files) (name : FileName) (k : Rattle.shard_files.specs.Parts.KnownVolume) → IsKnown files name k → (d : Damage) → LocationFinds files (InVolume name) d → ⊥
+whole_location files name k known d f = let g = subst (λ (q : FileName). LocationFinds files (InVolume q) d) known.named f in whole_volume k.head k.rows files known.holds g.one d g.found
 
 pub told_is_first : ToldIsFirst
 told_is_first files damage t other inside =
@@ -70,10 +70,10 @@ told_is_first files damage t other inside =
       before = map InVolume t.before;
       one = InVolume t.one;
       after = map InVolume t.after ++ rest;
-      split = ap (λ (l : List FileName). map InVolume l ++ rest) t.split ∙ ap (λ (l : List Place). l ++ rest) (map-append InVolume t.before (t.one ∷ t.after)) ∙ append_assoc (map InVolume t.before) (InVolume t.one ∷ map InVolume t.after) rest;
-      none = λ place m o f.
-          let at = IsIn-map InVolume t.before place m in
+      split = ap (λ (l : List FileName). map InVolume l ++ rest) t.split ∙ ap (λ (l : List Location). l ++ rest) (map-append InVolume t.before (t.one ∷ t.after)) ∙ append_assoc (map InVolume t.before) (InVolume t.one ∷ map InVolume t.after) rest;
+      none = λ location m o f.
+          let at = IsIn-map InVolume t.before location m in
           let k = of_name files t.before t.known t.whole at.0 at.1 in
-          whole_place files at.0 k.0 k.2 o (subst (λ (q : Place). PlaceFinds files q o) (sym at.2) f);
+          whole_location files at.0 k.0 k.2 o (subst (λ (q : Location). LocationFinds files q o) (sym at.2) f);
       found = first_finds t.one.ns t.one.block t.one.number files damage t.told other inside;
     }

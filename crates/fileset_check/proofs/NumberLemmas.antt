@@ -10,7 +10,7 @@ use Rattle.wire_bytes.specs.declared.wire_err.WireErr.TheVariants as errors
 use Rattle.wire_bytes.proofs.FieldLemmas.{front_of, begins_take}
 use Rattle.wire_bytes.proofs.NumberLemmas.{length_number}
 use Rattle.wire_bytes.proofs.PointLemmas.{both_parts}
-use Rattle.fileset_check.specs.Numbers.{IsField, AreFields, NumberThen, AreNumbers, place_of}
+use Rattle.fileset_check.specs.Numbers.{IsField, AreFields, NumberThen, AreNumbers, offset_of}
 use Rattle.fileset_check.specs.declared.numbers.Field.{Field}
 
 -- the least numbers
@@ -134,15 +134,15 @@ carries_short fs f later bytes at c g =
     let sum : at + length (drop at bytes) ≡ length bytes = omega (arith, inside, left) in
     subst (StopsAt (AreNumbers fs) bytes) sum (c.stops (length (drop at bytes)) (stops_short f (AreNumbers later) (some_numbers later c.fields.1) (drop at bytes) g))
 
-carries_bad : (fs : List Field) (f : Field) (later : List Field) (bytes : List ℕ) (at place : ℕ) → Carries fs (f ∷ later) bytes at → IsFault (ANumber f.width f.low f.high) bytes at (errors.Bad place) → StopsAt (AreNumbers fs) bytes place
-carries_bad fs f later bytes at place c g =
+carries_bad : (fs : List Field) (f : Field) (later : List Field) (bytes : List ℕ) (at offset : ℕ) → Carries fs (f ∷ later) bytes at → IsFault (ANumber f.width f.low f.high) bytes at (errors.Bad offset) → StopsAt (AreNumbers fs) bytes offset
+carries_bad fs f later bytes at offset c g =
     let after = g.0 in
-    let sum : at + (place - at) ≡ place = omega (arith, after) in
-    subst (StopsAt (AreNumbers fs) bytes) sum (c.stops (place - at) (stops_within f (AreNumbers later) (some_numbers later c.fields.1) (drop at bytes) (place - at) g.1))
+    let sum : at + (offset - at) ≡ offset = omega (arith, after) in
+    subst (StopsAt (AreNumbers fs) bytes) sum (c.stops (offset - at) (stops_within f (AreNumbers later) (some_numbers later c.fields.1) (drop at bytes) (offset - at) g.1))
 
-pub carries_err : (fs : List Field) (f : Field) (later : List Field) (bytes : List ℕ) (at : ℕ) (e : WireErr) → Carries fs (f ∷ later) bytes at → IsFault (ANumber f.width f.low f.high) bytes at e → StopsAt (AreNumbers fs) bytes (place_of (length bytes) e)
+pub carries_err : (fs : List Field) (f : Field) (later : List Field) (bytes : List ℕ) (at : ℕ) (e : WireErr) → Carries fs (f ∷ later) bytes at → IsFault (ANumber f.width f.low f.high) bytes at e → StopsAt (AreNumbers fs) bytes (offset_of (length bytes) e)
 carries_err fs f later bytes at errors.Short c g = carries_short fs f later bytes at c g
-carries_err fs f later bytes at (errors.Bad place) c g = carries_bad fs f later bytes at place c g
+carries_err fs f later bytes at (errors.Bad offset) c g = carries_bad fs f later bytes at offset c g
 
 pub carries_long : (fs : List Field) (bytes : List ℕ) (at : ℕ) → Carries fs [] bytes at → at < length bytes → StopsAt (AreNumbers fs) bytes at
 carries_long fs bytes at c lt =

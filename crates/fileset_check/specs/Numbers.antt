@@ -30,10 +30,10 @@ abbrev pub AreNumbers : List Field → List ℕ → Type 0
 AreNumbers [] bytes = bytes ≡ []
 AreNumbers (f ∷ fs) bytes = NumberThen f (AreNumbers fs) bytes
 
--- the place of a fault in so many bytes
-abbrev pub place_of : ℕ → WireErr → ℕ
-place_of long errors.Short = long
-place_of long (errors.Bad at) = at
+-- the offset of a fault in so many bytes
+abbrev pub offset_of : ℕ → WireErr → ℕ
+offset_of long errors.Short = long
+offset_of long (errors.Bad at) = at
 
 -- the fields of the info of a volume of this name
 abbrev pub info_fields : ℕ → ℕ → ℕ → List Field

@@ -52,12 +52,12 @@ pub record BreaksHead (ns start number : ℕ) (files : Files) (damage : Damage) 
   pub stops : HeadStops ns start number (bytes_at files (part_name Info ns start number)) at
   pub is : damage ≡ OfForm (part_name Info ns start number) at
 
--- the data is that of no volume of the info's head; the place in it isn't looked for
+-- the data is that of no volume of the info's head; the offset in it isn't looked for
 pub record IsUnfit (ns start number : ℕ) (files : Files) (damage : Damage) : Type 0 where
   pub none : ¬ (FormOf Data ns start number files (bytes_at files (part_name Data ns start number)))
   pub is : damage ≡ OfForm (part_name Data ns start number) 0
 
--- What each look tells: the damage that it finds, of data without its place; and that no volume has the name.
+-- What each look tells: the damage that it finds, of data without its offset; and that no volume has the name.
 abbrev pub LookTells : ℕ → ℕ → ℕ → Files → Look → Damage → Type 0
 LookTells ns start number files AtHead damage = BreaksHead ns start number files damage
 LookTells ns start number files (AtDigest part) damage = LookFinds ns start number files (AtDigest part) damage

@@ -20,7 +20,7 @@ pub enum CheckErr {
         found: [u8; 32],
     },
     /// The file isn't that of a volume. `at` is the first byte with which no such file goes on, or its end; 0 where it isn't
-    /// there. Of data that keeps to its digest, and of the info of a name that no volume has, it is 0, too: no place in them is
+    /// there. Of data that keeps to its digest, and of the info of a name that no volume has, it is 0, too: no offset in them is
     /// looked for.
     #[error("{file:?} is damaged at byte {at}")]
     Form {

@@ -16,7 +16,7 @@ const DIGEST_BYTES: usize = 32;
 
 const FIVE_DIGESTS: usize = 160;
 
-// The digest at the place.
+// The digest at the offset.
 fn digest_at(bytes: &[u8], at: usize) -> [u8; DIGEST_BYTES]
     requires { at + 32 ≤ length bytes.now }
     ensures { result ≡ take 32 (drop at bytes.now) }

@@ -70,7 +70,7 @@ fn check_bloom(
 ///
 /// # Errors
 ///
-/// Want of memory. The first of these files that has other bytes, and the first place at which it has.
+/// Want of memory. The first of these files that has other bytes, and the first offset at which it has.
 pub(crate) fn check_derived(
     alloc: Global,
     of: FileName,

@@ -9,7 +9,7 @@ const OPEN: u8 = 1;
 // How many bytes a checkpoint has: its gate and a digest.
 const CHECKPOINT_BYTES: usize = 33;
 
-/// The place at which the bytes stop to be those of a checkpoint with an open gate; none where they are such.
+/// The offset at which the bytes stop to be those of a checkpoint with an open gate; none where they are such.
 pub(crate) fn gate_stop(bytes: &[u8]) -> Option<usize>
     ensures none { IfNone result (IsGate bytes.now) }
     ensures some { IfSome result (StopsAt IsGate bytes.now) }
@@ -23,7 +23,7 @@ pub(crate) fn gate_stop(bytes: &[u8]) -> Option<usize>
     Some(bytes.len().min(CHECKPOINT_BYTES))
 }
 
-/// The first place at which the bytes are others than are due, or at which one of both ends; none where they are the same.
+/// The first offset at which the bytes are others than are due, or at which one of both ends; none where they are the same.
 pub(crate) fn first_difference(due: &[u8], bytes: &[u8]) -> Option<usize>
     ensures none { IfNone result (Spells due.now bytes.now) }
     ensures some { IfSome result (StopsAt (Spells due.now) bytes.now) }

@@ -17,7 +17,7 @@ const FORMAT: u64 = 1;
 // Above the numbers of series that fit their field.
 const SERIES_END: u64 = 1 << 32;
 
-// The place of the block's size in the info.
+// The offset of the block's size in the info.
 const SIZE: usize = 10;
 
 // Whether a volume may have the numbers of this name.
@@ -43,7 +43,7 @@ fn info_fields(of: FileName) -> [Field; 7]
     ]
 }
 
-// The place at which the bytes stop to be the info of a volume of this name; none where they are such.
+// The offset at which the bytes stop to be the info of a volume of this name; none where they are such.
 fn info_stop(of: FileName, bytes: &[u8]) -> Option<usize>
     requires { IsInside of.ns of.block of.number }
     ensures none { IfNone result (IsSomeInfo of.ns of.block of.number bytes.now) }
@@ -56,7 +56,7 @@ fn info_stop(of: FileName, bytes: &[u8]) -> Option<usize>
 ///
 /// # Errors
 ///
-/// The place at which the bytes stop to be the info of a volume of this name: 0 where no volume has the name.
+/// The offset at which the bytes stop to be the info of a volume of this name: 0 where no volume has the name.
 pub(crate) fn read_head(of: FileName, bytes: &[u8]) -> Result<Head, usize>
     ensures ok { IfOk result (HasHead of bytes.now) }
     ensures err { IfErr result (HeadStops of.ns of.block of.number bytes.now) }

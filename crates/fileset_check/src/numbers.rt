@@ -1,6 +1,6 @@
 ghost use Rattle.std.specs.Prelude.{◌≡◌, IfNone, IfSome};
 ghost use Rattle.wire_bytes.specs.Fields.{StopsAt};
-ghost use Rattle.fileset_check.specs.Numbers.{AreFields, AreNumbers, place_of};
+ghost use Rattle.fileset_check.specs.Numbers.{AreFields, AreNumbers, offset_of};
 
 use wire_bytes::{WireErr, get_between};
 
@@ -19,9 +19,9 @@ pub(crate) fn field_of(width: usize, low: u64, high: u64) -> Field
     Field { width, low, high }
 }
 
-// The place of the fault in so many bytes.
-fn place_of(e: WireErr, length: usize) -> usize
-    ensures { result ≡ place_of length e }
+// The offset of the fault in so many bytes.
+fn offset_of(e: WireErr, length: usize) -> usize
+    ensures { result ≡ offset_of length e }
 {
     match e {
         WireErr::Short => length,
@@ -29,7 +29,7 @@ fn place_of(e: WireErr, length: usize) -> usize
     }
 }
 
-/// The place at which the bytes stop to be numbers of these fields, one after another; none where they are such. Takes no
+/// The offset at which the bytes stop to be numbers of these fields, one after another; none where they are such. Takes no
 /// memory.
 pub(crate) fn number_stop(fields: &[Field], bytes: &[u8]) -> Option<usize>
     requires { AreFields fields.now }
@@ -40,7 +40,7 @@ pub(crate) fn number_stop(fields: &[Field], bytes: &[u8]) -> Option<usize>
     for field in fields {
         match get_between(bytes, at, field.width, field.low, field.high) {
             Ok(_) => at += field.width,
-            Err(e) => return Some(place_of(e, bytes.len())),
+            Err(e) => return Some(offset_of(e, bytes.len())),
         }
     }
     if at < bytes.len() {

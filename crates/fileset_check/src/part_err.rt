@@ -12,7 +12,7 @@ pub(crate) enum PartErr {
         kept: [u8; 32],
         found: [u8; 32],
     },
-    /// The file isn't that of a volume, by this place.
+    /// The file isn't that of a volume, by this offset.
     Form {
         file: FileName,
         at: u64,

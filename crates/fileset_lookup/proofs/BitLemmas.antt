@@ -41,10 +41,10 @@ bit_of_number m rows start (suc count) zero h =
     ap (λ (n : ℕ). n % 2 == 1) whole ∙ ap (λ (n : ℕ). n == 1) (first_bit (is_set m rows start) later) ∙ one_or_none (is_set m rows start) ∙ ap (is_set m rows) here
 bit_of_number m rows start (suc count) (suc i) h =
     let later = number_of_bits m rows (start + 1) count in
-    let place : start + 1 + i ≡ start + suc i = omega arith in
+    let offset : start + 1 + i ≡ start + suc i = omega arith in
     ap (λ (n : ℕ). n == 1) (next_bit ((if is_set m rows start then 1 else 0) + 2 * later) i ∙ ap (λ (n : ℕ). bit_at n i) (other_bits (is_set m rows start) later))
     ∙ bit_of_number m rows (start + 1) count i (omega (arith, h))
-    ∙ ap (is_set m rows) place
+    ∙ ap (is_set m rows) offset
 
 -- ---- bits of bytes
 
@@ -71,11 +71,11 @@ byte_more m rows start count i h behind = by (nat_lt i 8) refl
         let large : 8 ≤ i = ltb-false i 8 is in
         let more : i / 8 ≡ suc ((i - 8) / 8) = omega (arith, large) in
         let same : i % 8 ≡ (i - 8) % 8 = omega (arith, large) in
-        let place : start + 8 + (i - 8) ≡ start + i = omega (arith, large) in
+        let offset : start + 8 + (i - 8) ≡ start + i = omega (arith, large) in
         ap (λ (n : ℕ). bit_at n (i % 8) == 1) (get_suc (number_of_bits m rows start 8) (bits_from m rows (start + 8) count) (i / 8) ((i - 8) / 8) more)
         ∙ ap (λ (k : ℕ). bit_at (get_or (bits_from m rows (start + 8) count) ((i - 8) / 8) 0) k == 1) same
         ∙ behind (i - 8) (omega (arith, h, large))
-        ∙ ap (is_set m rows) place
+        ∙ ap (is_set m rows) offset
 
 -- each bit of the bytes is that of the rows
 bit_is : (m : ℕ) (rows : List Series) (start count i : ℕ) → i < 8 * count → bit_in (bits_from m rows start count) i ≡ is_set m rows (start + i)
@@ -159,8 +159,8 @@ bits_are rows bits id some few is =
     ap (λ (n : ℕ). list_all (bit_in (drop 4 bits)) (bits_of n id)) p.number
     ∙ all_same (bit_in (drop 4 bits)) (is_set m rows) (bits_of m id) (λ b own.
     let below = bits_below m id (omega (arith, some)) b own in
-    let place : 0 + b ≡ b = omega arith in
-    ap (λ (l : List ℕ). bit_in l b) p.rest ∙ bit_is m rows 0 (2 * length rows) b (omega (arith, below)) ∙ ap (is_set m rows) place)
+    let offset : 0 + b ≡ b = omega arith in
+    ap (λ (l : List ℕ). bit_in l b) p.rest ∙ bit_is m rows 0 (2 * length rows) b (omega (arith, below)) ∙ ap (is_set m rows) offset)
 
 pub in_filter : (bits id : List ℕ) → is_filter bits ≡ true → may_hold bits id ≡ list_all (bit_in (drop 4 bits)) (bits_of (big_number 4 bits) id)
 in_filter bits id is = ap (λ (b : Bool). if b then list_all (bit_in (drop 4 bits)) (bits_of (big_number 4 bits) id) else true) is

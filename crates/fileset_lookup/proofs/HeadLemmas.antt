@@ -15,14 +15,14 @@ number_first w n bytes rest e =
     let long = length_number w n in
     let sum = length-append (big_bytes w n) rest in
     let all : length bytes ≡ length (big_bytes w n ++ rest) = ap length e in
-    let place : 0 + w ≡ w = omega arith in
+    let offset : 0 + w ≡ w = omega arith in
     record {
-      split = e ∙ ap (λ (l : List ℕ). big_bytes w n ++ l) (sym (ap (λ (k : ℕ). drop k bytes) place ∙ behind_number w n bytes rest e));
+      split = e ∙ ap (λ (l : List ℕ). big_bytes w n ++ l) (sym (ap (λ (k : ℕ). drop k bytes) offset ∙ behind_number w n bytes rest e));
       ends = omega (arith, long);
       within = omega (arith, long, sum, all);
     }
 
--- the rest of a slice from a place on is what is behind it
+-- the rest of a slice from an offset on is what is behind it
 pub rest_of : (w : ℕ) (bytes : List ℕ) → take (length bytes - w) (drop w bytes) ≡ drop w bytes
 rest_of w bytes = take_all (length bytes - w) (drop w bytes) (rw length-drop (omega arith))
 

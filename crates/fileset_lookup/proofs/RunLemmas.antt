@@ -8,12 +8,12 @@ use Rattle.m3_model.specs.Tags.{IsBelow}
 use Rattle.m3_model.specs.declared.point.Series.{Series}
 use Rattle.m3_model.proofs.MemberLemmas.{IsIn-append_right}
 use Rattle.wire_bytes.specs.Volumes.{VolumeHead, IsVolume, id_bytes, index_entry, summaries_from}
-use Rattle.fileset_lookup.specs.Runs.{Run, AreAbove, place_of, piece_from, FindsPiece}
+use Rattle.fileset_lookup.specs.Runs.{Run, AreAbove, offset_of, piece_from, FindsPiece}
 use Rattle.fileset_lookup.proofs.OrderLemmas.{Before, below_reached, ascends_before, above_from}
-use Rattle.fileset_lookup.proofs.SizeLemmas.{length_id, length_from, size, size_append, skip, places_fit}
+use Rattle.fileset_lookup.proofs.SizeLemmas.{length_id, length_from, size, size_append, skip, offsets_fit}
 
 -- the rows of the last summary that is passed
-pub record LastRun (format : ℕ) (id : List ℕ) (done : List Series) (place : ℕ) : Type 0 where
+pub record LastRun (format : ℕ) (id : List ℕ) (done : List Series) (offset : ℕ) : Type 0 where
   pub before : List Series
   pub first : Series
   pub others : List Series
@@ -21,11 +21,11 @@ pub record LastRun (format : ℕ) (id : List ℕ) (done : List Series) (place : 
   pub named : length before % 16 ≡ 0
   pub few : length others ≤ 15
   pub reached : ¬ IsBelow id first.id
-  pub is : place ≡ size format before
+  pub is : offset ≡ size format before
 
 abbrev pub LastIs : ℕ → List ℕ → List Series → Option ℕ → Type 0
 LastIs format id done None = done ≡ []
-LastIs format id done (Some place) = LastRun format id done place
+LastIs format id done (Some offset) = LastRun format id done offset
 
 -- some rows are passed, and the summaries of the others are left
 pub record Passed (format : ℕ) (id : List ℕ) (rows : List Series) (rest : List ℕ) (last : Option ℕ) : Type 0 where
@@ -58,14 +58,14 @@ next_summary v id rows rest last is k more = by k.later k.split k.stands
       after = after;
       later_is = refl;
       short = (let most = (is.row s (subst (λ (l : List Series). IsIn l s) (sym split) (IsIn-append_right k.done (s ∷ after) s (inl refl)))).most in omega (arith, most));
-      fits = places_fit v rows k.done (s ∷ after) is split;
+      fits = offsets_fit v rows k.done (s ∷ after) is split;
       stands = stands;
     }
 
 -- one more is passed
-pub summary_passed : (v : VolumeHead) (id : List ℕ) (rows : List Series) (rest new : List ℕ) (last : Option ℕ) (place : ℕ) → (k : Passed v.format id rows rest last) → (n : NextSummary v.format k.done k.later rest)
-    → ¬ IsBelow id n.one.id → place ≡ size v.format k.done → new ≡ summaries_from v.format 15 (size v.format k.done + length (index_entry v.format 0 n.one)) n.after → Passed v.format id rows new (Some place)
-summary_passed v id rows rest new last place k n reached here left =
+pub summary_passed : (v : VolumeHead) (id : List ℕ) (rows : List Series) (rest new : List ℕ) (last : Option ℕ) (offset : ℕ) → (k : Passed v.format id rows rest last) → (n : NextSummary v.format k.done k.later rest)
+    → ¬ IsBelow id n.one.id → offset ≡ size v.format k.done → new ≡ summaries_from v.format 15 (size v.format k.done + length (index_entry v.format 0 n.one)) n.after → Passed v.format id rows new (Some offset)
+summary_passed v id rows rest new last offset k n reached here left =
     let others = take 15 n.after in
     let later = drop 15 n.after in
     let long = length-drop 15 n.after in
@@ -93,8 +93,8 @@ summary_passed v id rows rest new last place k n reached here left =
       };
     }
 
-run_of : (v : VolumeHead) (id : List ℕ) (rows : List Series) (rest : List ℕ) (place : ℕ) → IsVolume v rows → (k : Passed v.format id rows rest (Some place)) → AreAbove id k.later → Run id rows
-run_of v id rows rest place is k above =
+run_of : (v : VolumeHead) (id : List ℕ) (rows : List Series) (rest : List ℕ) (offset : ℕ) → IsVolume v rows → (k : Passed v.format id rows rest (Some offset)) → AreAbove id k.later → Run id rows
+run_of v id rows rest offset is k above =
     let r = k.last_is in
     let split : rows ≡ r.before ++ (r.first ∷ r.others ++ k.later) = k.split ∙ ap (λ (l : List Series). l ++ k.later) r.split ∙ append_assoc r.before (r.first ∷ r.others) k.later in
     record {
@@ -118,32 +118,32 @@ run_of v id rows rest place is k above =
     }
 
 -- where none of the summaries that are left is reached, the last that is passed is found
-pub piece_found : (v : VolumeHead) (id : List ℕ) (rows : List Series) (rest : List ℕ) (last to : Option ℕ) → IsVolume v rows → (k : Passed v.format id rows rest last) → AreAbove id k.later → to ≡ place_of k.later (size v.format k.done)
+pub piece_found : (v : VolumeHead) (id : List ℕ) (rows : List Series) (rest : List ℕ) (last to : Option ℕ) → IsVolume v rows → (k : Passed v.format id rows rest last) → AreAbove id k.later → to ≡ offset_of k.later (size v.format k.done)
     → FindsPiece v.format id rows (piece_from last to)
 unfolding run_of
 piece_found v id rows rest None to is k above ends =
     subst (AreAbove id) (sym (k.split ∙ ap (λ (l : List Series). l ++ k.later) k.last_is)) above
-piece_found v id rows rest (Some place) to is k above ends =
+piece_found v id rows rest (Some offset) to is k above ends =
     let r = k.last_is in
     record {
-      run = run_of v id rows rest place is k above;
+      run = run_of v id rows rest offset is k above;
       from = r.is ∙ sym (length_from v.format 0 r.before);
-      to = ends ∙ ap (place_of k.later) (ap (size v.format) r.split ∙ sym (length_from v.format 0 (r.before ++ r.first ∷ r.others)));
+      to = ends ∙ ap (offset_of k.later) (ap (size v.format) r.split ∙ sym (length_from v.format 0 (r.before ++ r.first ∷ r.others)));
     }
 
 -- the first of those left is above
-pub piece_before : (v : VolumeHead) (id : List ℕ) (rows : List Series) (rest : List ℕ) (last : Option ℕ) (place : ℕ) → IsVolume v rows → (k : Passed v.format id rows rest last) → (n : NextSummary v.format k.done k.later rest)
-    → IsBelow id n.one.id → place ≡ size v.format k.done → FindsPiece v.format id rows (piece_from last (Some place))
-piece_before v id rows rest last place is k n below here =
+pub piece_before : (v : VolumeHead) (id : List ℕ) (rows : List Series) (rest : List ℕ) (last : Option ℕ) (offset : ℕ) → IsVolume v rows → (k : Passed v.format id rows rest last) → (n : NextSummary v.format k.done k.later rest)
+    → IsBelow id n.one.id → offset ≡ size v.format k.done → FindsPiece v.format id rows (piece_from last (Some offset))
+piece_before v id rows rest last offset is k n below here =
     let split : rows ≡ k.done ++ n.one ∷ n.after = k.split ∙ ap (λ (l : List Series). k.done ++ l) n.later_is in
-    piece_found v id rows rest last (Some place) is k
+    piece_found v id rows rest last (Some offset) is k
     (subst (AreAbove id) (sym n.later_is) (above_from id k.done n.one n.after (subst (Ascends Before) split is.ids) below))
-    (ap Some here ∙ ap (λ (l : List Series). place_of l (size v.format k.done)) (sym n.later_is))
+    (ap Some here ∙ ap (λ (l : List Series). offset_of l (size v.format k.done)) (sym n.later_is))
 
 -- none is left
 pub piece_at_end : (v : VolumeHead) (id : List ℕ) (rows : List Series) (rest : List ℕ) (last : Option ℕ) → IsVolume v rows → (k : Passed v.format id rows rest last) → length rest ≡ 0 → FindsPiece v.format id rows (piece_from last None)
 piece_at_end v id rows rest last is k all =
-    piece_found v id rows rest last None is k (subst (AreAbove id) (sym none) (λ s m. absurd m)) (ap (λ (l : List Series). place_of l (size v.format k.done)) (sym none))
+    piece_found v id rows rest last None is k (subst (AreAbove id) (sym none) (λ s m. absurd m)) (ap (λ (l : List Series). offset_of l (size v.format k.done)) (sym none))
   where
     by : (later : List Series) → rest ≡ summaries_from v.format 0 (size v.format k.done) later → later ≡ []
     by [] stands = refl

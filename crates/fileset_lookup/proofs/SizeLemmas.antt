@@ -75,9 +75,9 @@ most_size format (s ∷ rows) most =
     let id = most s (inl refl) in
     omega (arith, later, here, span, id)
 
--- places in the index of a volume fit eight bytes
-pub places_fit : (v : VolumeHead) (rows done later : List Series) → IsVolume v rows → rows ≡ done ++ later → size v.format done < 2 ^ 64
-places_fit v rows done later is split =
+-- offsets in the index of a volume fit eight bytes
+pub offsets_fit : (v : VolumeHead) (rows done later : List Series) → IsVolume v rows → rows ≡ done ++ later → size v.format done < 2 ^ 64
+offsets_fit v rows done later is split =
     let all = most_size v.format rows (λ s m. (is.row s m).most) in
     let some : size v.format rows ≡ size v.format done + size v.format later = ap (size v.format) split ∙ size_append v.format done later in
     let few = is.counted in

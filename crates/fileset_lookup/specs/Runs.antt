@@ -30,16 +30,16 @@ pub record Run (id : List ℕ) (rows : List Series) : Type 0 where
   pub reached : ¬ IsBelow id first.id
   pub above : AreAbove id later
 
--- the place, where there are rows behind it
-abbrev pub place_of : List Series → ℕ → Option ℕ
-place_of [] place = None
-place_of (s ∷ later) place = Some place
+-- the offset, where there are rows behind it
+abbrev pub offset_of : List Series → ℕ → Option ℕ
+offset_of [] offset = None
+offset_of (s ∷ later) offset = Some offset
 
 -- the piece is where the entries of the run stand in the index
 pub record IsPiece (format : ℕ) (id : List ℕ) (rows : List Series) (piece : Piece) : Type 0 where
   pub run : Run id rows
   pub from : piece.from ≡ length (index_bytes format run.before)
-  pub to : piece.to ≡ place_of run.later (length (index_bytes format (run.before ++ run.first ∷ run.others)))
+  pub to : piece.to ≡ offset_of run.later (length (index_bytes format (run.before ++ run.first ∷ run.others)))
 
 -- there is such a piece, or each row is above the identifier
 abbrev pub FindsPiece : ℕ → List ℕ → List Series → Option Piece → Type 0
@@ -55,7 +55,7 @@ abbrev pub FindsStart : ℕ → List ℕ → List Series → Option ℕ → Type
 FindsStart format id rows (Some at) = IsStart format id rows at
 FindsStart format id rows None = AreAbove id rows
 
--- the piece from one place to the other, where there is the first
+-- the piece from one offset to the other, where there is the first
 abbrev pub piece_from : Option ℕ → Option ℕ → Option Piece
 piece_from None to = None
 piece_from (Some from) to = Some (record { from = from; to = to })

@@ -17,7 +17,7 @@ fn bit_in(bytes: &[u8], bit: usize) -> bool
     (bytes[bit / 8] >> (bit % 8)) % 2 == 1
 }
 
-// Whether the bit is set whose number the four bytes at the place of the digest give, modulo the count of bits.
+// Whether the bit is set whose number the four bytes at the offset of the digest give, modulo the count of bits.
 fn is_set(bytes: &[u8], count: usize, digest: &[u8; 32], at: usize) -> bool
     requires some { 0 < length bytes.now }
     requires count { count ≡ 8 * length bytes.now }

@@ -9,7 +9,7 @@ use crate::fields::{split_id, split_number};
 use std::cmp::Ordering;
 use wire_bytes::WireErr;
 
-/// Where the record of a series stands in the data of a volume: its place, and how many bytes it has.
+/// Where the record of a series stands in the data of a volume: its offset, and how many bytes it has.
 #[derive(Clone, Copy, Debug, PartialEq, Eq)]
 pub struct Spot {
     pub at: u64,
@@ -50,8 +50,8 @@ fn rest_at(bytes: &[u8], at: u64) -> &[u8]
     }
 }
 
-/// Where the series of the identifier stands in the data of a volume of format 1, by the entries of an index from this place on. They
-/// are those of some rows of the volume, one after another: of a piece that `span` gives, or of an index from a place that
+/// Where the series of the identifier stands in the data of a volume of format 1, by the entries of an index from this offset on. They
+/// are those of some rows of the volume, one after another: of a piece that `span` gives, or of an index from an offset that
 /// `from_summary` gives. None exactly where no entry from there on has the identifier. Takes no memory, and time in proportion to
 /// the entries up to the first that isn't below the identifier.
 ///

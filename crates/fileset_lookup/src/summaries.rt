@@ -8,14 +8,14 @@ use crate::fields::{split_id, split_number};
 use std::cmp::Ordering;
 use wire_bytes::WireErr;
 
-/// A piece of an index: from one place to another, or to its end.
+/// A piece of an index: from one offset to another, or to its end.
 #[derive(Clone, Copy, Debug, PartialEq, Eq)]
 pub struct Piece {
     pub from: u64,
     pub to: Option<u64>,
 }
 
-// A summary: an identifier and the place of its entry in the index; and what follows it.
+// A summary: an identifier and the offset of its entry in the index; and what follows it.
 fn split_summary(bytes: &[u8]) -> Result<(&[u8], u64, &[u8]), WireErr>
     ensures shorter { IfOk result (λ parts. length parts.2.now < length bytes.now) }
     ensures whole { (id : List ℕ) (at : ℕ) (rest : List ℕ) → length id < 2 ^ 16 → at < 2 ^ 64 → bytes.now ≡ (id_bytes id ++ big_bytes 8 at) ++ rest → Gives result (λ parts. (parts.0.now ≡ id) × (parts.1 ≡ at) × (parts.2.now ≡ rest)) }
@@ -25,7 +25,7 @@ fn split_summary(bytes: &[u8]) -> Result<(&[u8], u64, &[u8]), WireErr>
     Ok((id, at, rest))
 }
 
-// The piece from one place to the other, where there is the first.
+// The piece from one offset to the other, where there is the first.
 fn piece_from(from: Option<u64>, to: Option<u64>) -> Option<Piece>
     ensures { result ≡ piece_from from to }
 {
@@ -33,7 +33,7 @@ fn piece_from(from: Option<u64>, to: Option<u64>) -> Option<Piece>
 }
 
 /// Where the entry of the identifier stands in the index of a volume of these summaries, if the volume has it: the piece of the
-/// index from the place that the last summary not above the identifier keeps to the place in the next one, or to the end where
+/// index from the offset that the last summary not above the identifier keeps to the offset in the next one, or to the end where
 /// there is none. It has 16 entries at most. None exactly where each summary is above the identifier; the volume doesn't have it
 /// then. Takes no memory, and time in proportion to the summaries up to the first that is above.
 ///
@@ -56,7 +56,7 @@ pub fn span(summaries: &[u8], id: &[u8]) -> Result<Option<Piece>, WireErr>
     Ok(piece_from(last, None))
 }
 
-/// From where in the index of a volume of these summaries a search for the identifier begins: the place that the last summary not
+/// From where in the index of a volume of these summaries a search for the identifier begins: the offset that the last summary not
 /// above the identifier keeps. None exactly where each summary is above it; the volume doesn't have it then. Takes no memory.
 ///
 /// # Errors

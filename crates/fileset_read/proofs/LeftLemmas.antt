@@ -20,14 +20,14 @@ use Rattle.fileset_read.proofs.RowLemmas.{number_stands}
 
 -- ---- pairs
 
--- some of the pairs are read, and the others stand from the place on
+-- some of the pairs are read, and the others stand from the offset on
 pub record PairsLeft (xs done : List (ℕ × ℤ)) (rest bytes : List ℕ) (at : ℕ) : Type 0 where
   pub later : List (ℕ × ℤ)
   pub split : xs ≡ done ++ later
   pub pairs : ArePairs later
   pub stands : drop at bytes ≡ flat_map pair_bytes later ++ rest
 
--- one of them stands at the place
+-- one of them stands at the offset
 pub record NextPair (xs done : List (ℕ × ℤ)) (rest bytes : List ℕ) (at : ℕ) : Type 0 where
   pub one : ℕ × ℤ
   pub later : List (ℕ × ℤ)
@@ -88,14 +88,14 @@ pairs_end xs done rest bytes at left same = by left.later left.split
 
 -- ---- rows
 
--- some of the rows are passed, and the others stand from the place on
+-- some of the rows are passed, and the others stand from the offset on
 pub record RowsLeft (rows done : List Series) (bytes : List ℕ) (at : ℕ) : Type 0 where
   pub later : List Series
   pub split : rows ≡ done ++ later
   pub spelled : AreSpelled later
   pub stands : drop at bytes ≡ data_bytes later
 
--- one of them stands at the place
+-- one of them stands at the offset
 pub record NextRow (rows done : List Series) (bytes : List ℕ) (at : ℕ) : Type 0 where
   pub one : Series
   pub later : List Series
@@ -136,7 +136,7 @@ rows_end rows done bytes at left all = by left.later left.split left.stands
         omega (arith, e, sum, long)
         )
 
--- the rows before the place are passed, and none of them has the identifier
+-- the rows before the offset are passed, and none of them has the identifier
 pub record RowsSkipped (id : List ℕ) (rows : List Series) (bytes : List ℕ) (at : ℕ) : Type 0 where
   pub done : List Series
   pub left : RowsLeft rows done bytes at
@@ -166,7 +166,7 @@ skipped_end id rows bytes at k all = subst (λ (l : List Series). (s : Series) �
 pub next_is_in : (rows done : List Series) (bytes : List ℕ) (at : ℕ) → (n : NextRow rows done bytes at) → IsIn rows n.one
 next_is_in rows done bytes at n = subst (λ (l : List Series). IsIn l n.one) (sym n.split) (IsIn-append_right done (n.one ∷ n.later) n.one (inl refl))
 
--- whether the next one has the identifier is a matter of the bytes between its two places
+-- whether the next one has the identifier is a matter of the bytes between its two offsets
 pub same_id : (s : Series) (rest bytes : List ℕ) (r : RowAt) → RowStands s rest bytes r → take (r.id_to - r.id_from) (drop r.id_from bytes) ≡ s.id
 same_id s rest bytes r st =
     let long : r.id_to - r.id_from ≡ length s.id = let e = st.id_to in omega (arith, e) in

@@ -6,7 +6,7 @@ ghost use Rattle.fileset_read.specs.Rows.{AreInside, FindsRow, IsSpelled};
 use wire_bytes::{WireErr, get_number};
 
 /// The record of a series in the data of a volume: its identifier is the bytes from `id_from` to `id_to`, `count` times with
-/// their values stand from `from` on, and `next` is the place behind them.
+/// their values stand from `from` on, and `next` is the offset behind them.
 #[derive(Clone, Copy)]
 pub(crate) struct RowAt {
     pub id_from: usize,
@@ -19,7 +19,7 @@ pub(crate) struct RowAt {
 // How many bytes a time and its value have.
 const PAIR_BYTES: usize = 16;
 
-/// Where the parts of the record at the place stand. Takes no memory.
+/// Where the parts of the record at the offset stand. Takes no memory.
 ///
 /// # Errors
 ///

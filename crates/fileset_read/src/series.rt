@@ -9,7 +9,7 @@ use m3_model::{Seq, Series, Text};
 use std::alloc::Global;
 use wire_bytes::get_number;
 
-// So many times and values, from the place on.
+// So many times and values, from the offset on.
 fn read_pairs(
     alloc: Global,
     bytes: &[u8],

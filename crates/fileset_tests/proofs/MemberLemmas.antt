@@ -1,4 +1,4 @@
--- Members by their places.
+-- Members by their offsets.
 use Rattle.std.proofs.Common.{◌<◌, ℕ, zero, suc, List, [], ◌∷◌, length, get_or, refl, inl, inr, arith}
 use Rattle.m3_model.specs.Members.{IsIn}
 

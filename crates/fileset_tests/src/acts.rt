@@ -9,7 +9,7 @@ use std::alloc::Global;
 use volume_bytes::Head;
 use wire_bytes::digest;
 
-// Writes the bytes into a file from this place on, where there is such a range.
+// Writes the bytes into a file from this offset on, where there is such a range.
 fn write_in<D: Disk>(disk: &mut D, name: FileName, at: u64, bytes: &[u8]) -> Result<bool, DiskErr> {
     disk.reserve(1)?;
     let Some(size) = disk.size(name)? else {
@@ -31,7 +31,7 @@ fn sync<D: Disk>(disk: &mut D, name: FileName) -> Result<bool, DiskErr> {
     Ok(true)
 }
 
-/// Writes the bytes into a file from this place on, where there is such a range, and syncs it.
+/// Writes the bytes into a file from this offset on, where there is such a range, and syncs it.
 pub fn put<D: Disk>(disk: &mut D, name: FileName, at: u64, bytes: &[u8]) -> Result<bool, DiskErr> {
     if !write_in(disk, name, at, bytes)? {
         return Ok(false);
@@ -94,7 +94,7 @@ fn create<D: Disk>(alloc: Global, disk: &mut D, words: &str) -> Result<bool, Dis
     make(disk, file(name), &bytes)
 }
 
-// `b4.2.100.1:3:ff` writes these bytes over those from the place on.
+// `b4.2.100.1:3:ff` writes these bytes over those from the offset on.
 fn overwrite<D: Disk>(alloc: Global, disk: &mut D, words: &str) -> Result<bool, DiskErr> {
     let (name, rest) = words.split_once(':').unwrap_or((words, ""));
     let (at, digits) = rest.split_once(':').unwrap_or((rest, ""));

@@ -139,7 +139,7 @@ fn byte_at<D: Disk>(
     }
 }
 
-// Turns a bit of the byte at the place. False where there is none.
+// Turns a bit of the byte at the offset. False where there is none.
 fn turn<D: Disk>(alloc: Global, disk: &mut D, name: FileName, at: usize) -> Result<bool, DiskErr> {
     let Some(byte) = byte_at(alloc, disk, name, at)? else {
         return Ok(false);
@@ -184,7 +184,7 @@ fn turned_in_memory(
     Ok(turned(alloc, &mut disk, name, at, out)?)
 }
 
-// The letters for each byte of the file, each with the first place of those that have it, and last the number of bytes.
+// The letters for each byte of the file, each with the first offset of those that have it, and last the number of bytes.
 fn letters(alloc: Global, name: FileName, out: &mut String) -> Result<(), Fail> {
     let mut last = None;
     let mut scratch = String::new(alloc);
@@ -212,9 +212,9 @@ const LETTERS: &str = "1.2.100.1 => 01 38.
 
 fn all_letters(alloc: Global) -> Result<String, Fail> {
     let mut out = String::new(alloc);
-    for (place, row) in LETTERS.lines().enumerate() {
+    for (position, row) in LETTERS.lines().enumerate() {
         let (name, _) = row.split_once(" => ").unwrap_or((row, ""));
-        write!(out, "{}{name} => ", if place == 0 { "" } else { "\n" })?;
+        write!(out, "{}{name} => ", if position == 0 { "" } else { "\n" })?;
         letters(alloc, file(name), &mut out)?;
     }
     Ok(out)

@@ -8,8 +8,8 @@ use std::alloc::Global;
 use std::test::Fail;
 
 // A part of a row; the parts have `%` between them.
-fn field(row: &str, place: usize) -> &str {
-    row.split('%').nth(place).unwrap_or("")
+fn field(row: &str, position: usize) -> &str {
+    row.split('%').nth(position).unwrap_or("")
 }
 
 fn is_of(name: FileName, volume: FileName) -> bool {

@@ -22,7 +22,7 @@ one_there name files b is = ap (λ (v : Bool). cond v (name ∷ []) []) is
 
 module _ (names olds news : List FileName) (i count result : ℕ) (name d : FileName) (files : Files) (is_there : Bool)
     (lt : i < length olds) (few : count ≤ i) (rest : drop i names ≡ drop i olds) (same : name ≡ get_or names i d) where
-  -- the name at the place is still the old one
+  -- the name at the offset is still the old one
   old_name : name ≡ get_or olds i d
   old_name =
       let zero : i + 0 ≡ i = omega arith in
@@ -38,7 +38,7 @@ module _ (names olds news : List FileName) (i count result : ℕ) (name d : File
       ∙ sym (filter-append (λ (n : FileName). is_some (get files n)) (take i olds) (name ∷ []))
       ∙ ap (λ (l : List FileName). those_there l files) (sym named)
 
--- what is behind a place, from a later place on
+-- what is behind an offset, from a later offset on
 pub rest_more : (xs ys : List FileName) (count i : ℕ) → count ≤ i → drop (count + 1) xs ≡ drop (count + 1) ys → drop (i + 1) xs ≡ drop (i + 1) ys
 rest_more xs ys count i le same =
     let at : i + 1 ≡ count + 1 + (i - count) = omega (arith, le) in

@@ -9,7 +9,7 @@ use Rattle.m3_model.proofs.MemberLemmas.{IsIn-map, map-IsIn}
 use Rattle.m3_model.specs.declared.point.Series.{Series}
 use Rattle.m3_outside.specs.declared.file_name.FileName.{FileName}
 use Rattle.m3_outside.specs.Files.{Files, IsAbsent}
-use Rattle.m3_outside.specs.DiskState.{DiskState, StepOf, Elapses, Becomes, IsLawful}
+use Rattle.m3_outside.specs.DiskState.{DiskState, StepOf, Elapses, Becomes, IsLawfulDisk}
 use Rattle.m3_outside.specs.DiskCalls.{LeavesFiles}
 use Rattle.m3_outside.proofs.Names.{get_here, get_apart}
 use Rattle.m3_outside.proofs.Moments.{elapses_as, elapses_then}
@@ -155,13 +155,13 @@ module _ (ns start size number : ℕ) (rows : List Series) where
         let p = named q m in
         ap (get a.files) (p.is ∙ ap (λ n. part_of p.part (record { format = 1; ns = ns; start = start; size = size; number = n })) number_is) ∙ next_volume_is_new 1 ns start size a.files p.part
 
-    pub absent_each : IsLawful a → a.tells ≡ true → (x : Files) → a.images x → IsAbsent name x
+    pub absent_each : IsLawfulDisk a → a.tells ≡ true → (x : Files) → a.images x → IsAbsent name x
     absent_each lawful t x image = (lawful.same_names t x image name).0 (absent name (inl refl))
 
     abbrev next : VolumeHead
     next = volume_after 1 ns start size a.files
 
-    module _ (F : Type 0) (lawful : IsLawful a) (b : DiskState) (one : LeavesFiles F a b) (told : a.tells ≡ true) where
+    module _ (F : Type 0) (lawful : IsLawfulDisk a) (b : DiskState) (one : LeavesFiles F a b) (told : a.tells ≡ true) where
       as_next : (P : VolumeHead → Type 0) → P v → P next
       as_next P = subst (λ n. P (record { format = 1; ns = ns; start = start; size = size; number = n })) number_is
 

@@ -5,7 +5,7 @@ use Rattle.m3_model.specs.Members.{IsIn}
 use Rattle.m3_model.specs.declared.point.Point.{Point}
 use Rattle.m3_model.specs.declared.reason.Reason.TheVariants as reason
 use Rattle.m3_outside.specs.Depots.{Depot, TellAll}
-use Rattle.m3_outside.specs.DiskState.{DiskState, EachImage, IsEmpty, IsLawful as IsLawfulDisk}
+use Rattle.m3_outside.specs.DiskState.{DiskState, EachImage, IsEmpty, IsLawfulDisk}
 use Rattle.m3_outside.specs.Files.{Files}
 use Rattle.m3_outside.specs.Slots.{Held, Unused, Here, Out, MayGive}
 use Rattle.m3_outside.specs.declared.disk.Disk.{Ghosts}
@@ -30,7 +30,7 @@ use Rattle.replica_calls.specs.Calls.{first_member}
 use Rattle.cluster_members.specs.declared.members.Members.{Members}
 use Rattle.first_cluster.specs.Bare.{BeginsBare, FirstBeginsBare, HasNoPoints, IsBare, ReturnedBare}
 use Rattle.first_cluster.specs.Begins.{Said}
-use Rattle.first_cluster.specs.Depots.{place_of_slot}
+use Rattle.first_cluster.specs.Depots.{disk_slot_of}
 use Rattle.first_cluster.specs.Lending.{IsOpened}
 use Rattle.first_cluster.specs.declared.start.Start.{Start}
 use Rattle.first_cluster.proofs.PlacedSlots.{start_slot, tenure_first}
@@ -104,7 +104,7 @@ first_begins_bare {D} {G} state lawful m rf shards seed nodes old new tell bare 
     let was = (first.opened.taken).taken start.slot (subst (λ xs. IsIn xs start.slot) (sym first.slots) (start_slot place start i)) in
     let begun = first.opened.begun.each start i in
     let same : begun.before ≡ first_member was.disk = same_some begun.before (first_member was.disk) (sym begun.was ∙ was.stands) in
-    let none = given_bare state (old.held (place_of_slot start.slot)) was.disk (bare (place_of_slot start.slot)) was.given in
+    let none = given_bare state (old.held (disk_slot_of start.slot)) was.disk (bare (disk_slot_of start.slot)) was.given in
     let tells = tell was.disk in
     let files = none tells (state was.disk).files ((lawful was.disk).read_is_image tells) in
     promised_bare state was.disk start begun.after.machine (first.opened.begun.said start.slot) (tenure_first place rf shards nodes first.place start i) files tells
@@ -163,9 +163,9 @@ module _ {D : Type 0} (state : D → DiskState) (disk : D) (bare : (c : Files) �
   left_bare (reply.Refused why) step = unbegun [] low_none ((step.follows disk fresh (first_follows state disk)).unbegun refl)
   left_bare a step = unbegun [] low_none ((step.follows disk fresh (first_follows state disk)).unbegun refl)
 
-pub opened_bare : {D : Type 0} (state : D → DiskState) → TellAll state → (depot : Depot D) (s : Slot) (m : Member D) → IsBare state (depot.held (place_of_slot s)) → IsOpened state depot s m → EachImage (state m.machine.disk) HasNoPoints
+pub opened_bare : {D : Type 0} (state : D → DiskState) → TellAll state → (depot : Depot D) (s : Slot) (m : Member D) → IsBare state (depot.held (disk_slot_of s)) → IsOpened state depot s m → EachImage (state m.machine.disk) HasNoPoints
 opened_bare {D} state tell depot s m bare opened =
-    let none = given_bare state (depot.held (place_of_slot s)) opened.disk bare opened.given in
+    let none = given_bare state (depot.held (disk_slot_of s)) opened.disk bare opened.given in
     let tells = tell opened.disk in
     elim opened.begun as (λ _. EachImage (state m.machine.disk) HasNoPoints) [
       | inl same ↦ subst (λ (x : Member D). EachImage (state x.machine.disk) HasNoPoints) (sym same) none
@@ -179,9 +179,9 @@ opened_bare {D} state tell depot s m bare opened =
 
 -- disks that were given back have no points still
 pub returned_bare : {D : Type 0} (state : D → DiskState) → ReturnedBare state
-returned_bare {D} state old new tell bare returned place =
-    let s : Slot = record { shard = place.shard; node = place.node } in
-    elim (returned.each s) as (λ _. IsBare state (new.held place)) [
-      | inl untouched ↦ subst (IsBare state) (sym untouched.held) (bare place)
-      | inr back ↦ subst (IsBare state) (sym back.held) (opened_bare state tell old s back.member (bare place) back.opened)
+returned_bare {D} state old new tell bare returned disk_slot =
+    let s : Slot = record { shard = disk_slot.shard; node = disk_slot.node } in
+    elim (returned.each s) as (λ _. IsBare state (new.held disk_slot)) [
+      | inl untouched ↦ subst (IsBare state) (sym untouched.held) (bare disk_slot)
+      | inr back ↦ subst (IsBare state) (sym back.held) (opened_bare state tell old s back.member (bare disk_slot) back.opened)
     ]

@@ -19,7 +19,7 @@ use Rattle.placement_plan.specs.First.{IsFirstPlacement}
 use Rattle.m3_outside.specs.Depots.{Depot}
 use Rattle.m3_outside.specs.DiskState.{DiskState}
 use Rattle.m3_outside.specs.Slots.{Out}
-use Rattle.m3_outside.specs.declared.slot.Slot.{Slot as Place}
+use Rattle.m3_outside.specs.declared.slot.DiskSlot.{DiskSlot}
 use Rattle.cluster_core.specs.declared.event.Event.{Event}
 use Rattle.cluster_core.specs.declared.event.StepReply.{StepReply}
 use Rattle.net_plan.specs.declared.late_write.LateWrite.{LateWrite}
@@ -34,7 +34,7 @@ use Rattle.session_net.specs.Ready.{IsReady}
 use Rattle.session_net.specs.Runs.{IsStepped, Step, slot_at, steps_of}
 use Rattle.session_net.proofs.ReadyLemmas.{AreQuiet, IsQuiet, ready_after, quiet_both, quiet_none, there_after}
 use Rattle.first_cluster.specs.Begins.{Said, begin_of, begins_of, HaveBegun, HaveSomeBegun}
-use Rattle.first_cluster.specs.Depots.{AreOut, place_of_slot}
+use Rattle.first_cluster.specs.Depots.{AreOut, disk_slot_of}
 use Rattle.first_cluster.specs.First.{IsDiskAnswer, IsRefusedInit, opening_of}
 use Rattle.first_cluster.specs.Lending.{AreOpened, HasTaken, IsGivenBack, IsLent, IsUnopened, IsUntouched, MayHaveTaken, first_begin, first_tenure}
 use Rattle.first_cluster.specs.Slots.{AreApart, slots_in, slots_of, start_at, starts_of}
@@ -79,7 +79,7 @@ one_begin state steps disk new (inr one) h =
 pub taken_begun : {D : Type 0} (state : D → DiskState) (slots : List Slot) (starts : List Start) (old new : Depot D) (mid replicas : Tracked D) → AreApart slots → slots ≡ slots_in starts → ((s : Start) → IsIn starts s → s.tenure ≡ first_tenure)
     → HasTaken state slots old mid.members new → HaveSomeBegun state starts mid replicas → MayHaveTaken state slots old replicas.members new unopened.Memory
 taken_begun {D = D} state slots starts old new mid replicas apart same first had some = record {
-  each = λ s. by_place s (in_or_out slots s);
+  each = λ s. by_list s (in_or_out slots s);
   later = had.later;
   cause = tt;
 }
@@ -87,14 +87,14 @@ taken_begun {D = D} state slots starts old new mid replicas apart same first had
     apart_some : AreApart (slots_in (take some.many starts))
     apart_some = subst AreApart (sym (take_slots some.many starts)) (ascends_take (λ (a b : Slot). a ≢ b) some.many (slots_in starts) (subst AreApart same apart))
 
-    by_place : (s : Slot) → (IsIn slots s ⊎ ¬ IsIn slots s) → IsUntouched old replicas.members new s ⊎ ((IsIn slots s × IsLent state old replicas.members new s) ⊎ IsGivenBack state old replicas.members new s)
-    by_place s (inl i) =
+    by_list : (s : Slot) → (IsIn slots s ⊎ ¬ IsIn slots s) → IsUntouched old replicas.members new s ⊎ ((IsIn slots s × IsLent state old replicas.members new s) ⊎ IsGivenBack state old replicas.members new s)
+    by_list s (inl i) =
         let was = had.taken s i in
         let steps = steps_once some.said (take some.many starts) apart_some (λ x j. first x (take_in some.many starts x j)) s in
         let own = one_begin state (steps_of s (begins_of some.said (take some.many starts))) was.disk (get replicas.members s) steps
         (subst (λ o. IsStepped state (steps_of s (begins_of some.said (take some.many starts))) o (get replicas.members s)) was.stands ((some.ran).stepped s)) in
         inr (inl (i, record { member = own.0; stands = own.1; opened = record { disk = was.disk; given = was.given; counted = was.disk_faults; begun = own.2 }; held = was.held; counted = was.counted }))
-    by_place s (inr out) =
+    by_list s (inr out) =
         let was = had.others s out in
         inl (record { no_member = none_stays state (steps_of s (begins_of some.said (take some.many starts))) (get mid.members s) (get replicas.members s) was.no_member ((some.ran).stepped s); held = was.held; counted = was.counted })
 
@@ -157,17 +157,17 @@ refused_by state rf shards seed nodes place slots slot old new _ first same un h
 
 -- ---- whose disks are out
 
-pub first_out : {D : Type 0} (state : D → DiskState) (slots : List Slot) (starts : List Start) (events : List Event) (old new : Depot D) (replicas : Tracked D) → ((place : Place) → old.held place ≢ Out) → AreOpened state slots starts events old new replicas
+pub first_out : {D : Type 0} (state : D → DiskState) (slots : List Slot) (starts : List Start) (events : List Event) (old new : Depot D) (replicas : Tracked D) → ((disk_slot : DiskSlot) → old.held disk_slot ≢ Out) → AreOpened state slots starts events old new replicas
     → AreOut slots replicas.members new.held
 first_out {D} state slots starts events old new replicas free opened = record {
   only = λ s out. none_at s out;
-  lent = λ s m there. elim (in_or_out slots s) as (λ _. new.held (place_of_slot s) ≡ Out) [
+  lent = λ s m there. elim (in_or_out slots s) as (λ _. new.held (disk_slot_of s) ≡ Out) [
     | inl i ↦ ((opened.taken).taken s i).held
     | inr out ↦ absurd (let bad : None ≡ Some m = sym (none_at s out) ∙ there in cc)
   ];
   there = λ s gone held. elim (in_or_out slots s) as (λ _. ⊥) [
     | inl i ↦ there_after state made replicas (begins_of opened.begun.said starts) s opened.begun.ran (λ none. (let was = (opened.taken).taken s i in let bad : Some (first_member was.disk) ≡ None = sym was.stands ∙ none in cc)) gone
-    | inr out ↦ free (place_of_slot s) (sym ((opened.taken).others s out).held ∙ held)
+    | inr out ↦ free (disk_slot_of s) (sym ((opened.taken).others s out).held ∙ held)
   ];
 }
   where

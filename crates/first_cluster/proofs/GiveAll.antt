@@ -7,19 +7,19 @@ use Rattle.m3_model.proofs.MemberLemmas.{IsIn-append_cases, IsIn-append_left, Is
 use Rattle.m3_outside.specs.Causes.{RoseBy, last_count}
 use Rattle.m3_outside.specs.DiskState.{DiskState}
 use Rattle.m3_outside.specs.Slots.{Here, Out, OthersStay}
-use Rattle.m3_outside.specs.declared.slot.Slot.{Slot as Place}
+use Rattle.m3_outside.specs.declared.slot.DiskSlot.{DiskSlot}
 use Rattle.replica_exchange.specs.declared.member.Member.{Member}
 use Rattle.replica_calls.specs.Slots.{MemberMap, slot_cmp}
 use Rattle.session_net.specs.Runs.{slot_at}
 use Rattle.replica_exchange.specs.declared.slot.Slot.{Slot}
 use Rattle.m3_outside.specs.Depots.{Depot}
-use Rattle.first_cluster.specs.Depots.{AreOut, count_at, place_of_slot, risen}
+use Rattle.first_cluster.specs.Depots.{AreOut, count_at, disk_slot_of, risen}
 use Rattle.first_cluster.specs.Slots.{AreApart}
 use Rattle.first_cluster.specs.Lending.{IsUntouched, IsLent, IsGivenBack, HasReturned, MayNotOpen, IsKept, IsBack, HasGivenBack, MayHaveTaken, IsUnopened}
 use Rattle.first_cluster.specs.declared.unopened.Unopened.{Unopened}
 use Rattle.first_cluster.specs.declared.unopened.Unopened.TheVariants as unopened
 use Rattle.first_cluster.proofs.ListLemmas.{take_at}
-use Rattle.first_cluster.proofs.SlotCases.{other_place, get-remove_here, get-remove_other}
+use Rattle.first_cluster.proofs.SlotCases.{other_disk_slot, get-remove_here, get-remove_other}
 use Rattle.first_cluster.proofs.SlotLists.{slot_or_other}
 use Rattle.first_cluster.proofs.TakeAll.{rose_to}
 
@@ -49,7 +49,7 @@ apart_parts (x ∷ done) s apart =
     )
 
 risen_push : {D : Type 0} (state : D → DiskState) (depot : Depot D) (members : MemberMap D) (done : List Slot) (s : Slot)
-    → risen state depot members (done ++ s ∷ []) ≡ risen state depot members done + (count_at state depot (get members s) s - depot.counted (place_of_slot s))
+    → risen state depot members (done ++ s ∷ []) ≡ risen state depot members done + (count_at state depot (get members s) s - depot.counted (disk_slot_of s))
 risen_push state depot members [] s = omega arith
 risen_push state depot members (x ∷ done) s = let rest = risen_push state depot members done s in omega (arith, rest)
 
@@ -67,9 +67,9 @@ given_none state depot members = record {
 
 -- a replica that is there has its disk still
 pub given_out : {D : Type 0} (state : D → DiskState) (done : List Slot) (s : Slot) (m : Member D) (old now : Depot D) (members left : MemberMap D) → HasGivenBack state done old members now left
-    → ((t : Slot) (n : Member D) → get members t ≡ Some n → old.held (place_of_slot t) ≡ Out) → get left s ≡ Some m → now.held (place_of_slot s) ≡ Out
+    → ((t : Slot) (n : Member D) → get members t ≡ Some n → old.held (disk_slot_of t) ≡ Out) → get left s ≡ Some m → now.held (disk_slot_of s) ≡ Out
 given_out state done s m old now members left had out there =
-    elim (had.each s) as (λ _. now.held (place_of_slot s) ≡ Out) [
+    elim (had.each s) as (λ _. now.held (disk_slot_of s) ≡ Out) [
       | inl kept ↦ kept.held ∙ out s m (sym kept.member ∙ there)
       | inr back ↦ absurd (clash (get left s) m back.gone there)
     ]
@@ -95,7 +95,7 @@ given_not state done s old now members left after had none is = record {
       let parts = apart_parts done s apart in
       let empty_there : get members s ≡ None = sym (had.others s parts.1) ∙ none in
       let stays : risen state old members (done ++ s ∷ []) ≡ risen state old members done =
-      risen_push state old members done s ∙ ap (λ o. risen state old members done + (count_at state old o s - old.counted (place_of_slot s))) empty_there ∙ none_more (risen state old members done) (old.counted (place_of_slot s)) in
+      risen_push state old members done s ∙ ap (λ o. risen state old members done + (count_at state old o s - old.counted (disk_slot_of s))) empty_there ∙ none_more (risen state old members done) (old.counted (disk_slot_of s)) in
       subst (λ n. RoseBy n old.faults now.faults) (sym stays) (had.rose parts.0);
 }
   where
@@ -110,8 +110,8 @@ given_not state done s old now members left after had none is = record {
 
 -- the disk of the slot's replica was given back
 pub given_more : {D : Type 0} (state : D → DiskState) (done : List Slot) (s : Slot) (m : Member D) (old now new : Depot D) (members left after : MemberMap D) → HasGivenBack state done old members now left → get left s ≡ Some m
-    → after ≡ remove left s → new.held (place_of_slot s) ≡ Here m.machine.disk → OthersStay (place_of_slot s) now.held new.held → new.counted (place_of_slot s) ≡ (state m.machine.disk).faults → OthersStay (place_of_slot s) now.counted new.counted
-    → now.faults ≤ new.faults → RoseBy ((state m.machine.disk).faults - now.counted (place_of_slot s)) now.faults new.faults → HasGivenBack state (done ++ s ∷ []) old members new after
+    → after ≡ remove left s → new.held (disk_slot_of s) ≡ Here m.machine.disk → OthersStay (disk_slot_of s) now.held new.held → new.counted (disk_slot_of s) ≡ (state m.machine.disk).faults → OthersStay (disk_slot_of s) now.counted new.counted
+    → now.faults ≤ new.faults → RoseBy ((state m.machine.disk).faults - now.counted (disk_slot_of s)) now.faults new.faults → HasGivenBack state (done ++ s ∷ []) old members new after
 given_more {D = D} state done s m old now new members left after had there is here others counted counted_others later more = record {
   each = λ t. elim (slot_or_other s t) as (λ _. Left t) [
     | inl same ↦ subst Left same back
@@ -132,15 +132,15 @@ given_more {D = D} state done s m old now new members left after had there is he
   rose = λ apart.
       let parts = apart_parts done s apart in
       let was : get members s ≡ Some m = sym (had.others s parts.1) ∙ there in
-      let term : count_at state old (get members s) s - old.counted (place_of_slot s) ≡ (state m.machine.disk).faults - now.counted (place_of_slot s) =
-      ap (λ o. count_at state old o s - old.counted (place_of_slot s)) was ∙ ap (λ n. (state m.machine.disk).faults - n) (sym uncounted) in
-      let all : risen state old members (done ++ s ∷ []) ≡ risen state old members done + ((state m.machine.disk).faults - now.counted (place_of_slot s)) =
+      let term : count_at state old (get members s) s - old.counted (disk_slot_of s) ≡ (state m.machine.disk).faults - now.counted (disk_slot_of s) =
+      ap (λ o. count_at state old o s - old.counted (disk_slot_of s)) was ∙ ap (λ n. (state m.machine.disk).faults - n) (sym uncounted) in
+      let all : risen state old members (done ++ s ∷ []) ≡ risen state old members done + ((state m.machine.disk).faults - now.counted (disk_slot_of s)) =
       risen_push state old members done s ∙ ap (λ n. risen state old members done + n) term in
-      subst (λ n. RoseBy n old.faults new.faults) (sym all) (rose_more (risen state old members done) ((state m.machine.disk).faults - now.counted (place_of_slot s)) old.faults now.faults new.faults (had.rose parts.0) more);
+      subst (λ n. RoseBy n old.faults new.faults) (sym all) (rose_more (risen state old members done) ((state m.machine.disk).faults - now.counted (disk_slot_of s)) old.faults now.faults new.faults (had.rose parts.0) more);
 }
   where
-    uncounted : now.counted (place_of_slot s) ≡ old.counted (place_of_slot s)
-    uncounted = elim (had.each s) as (λ _. now.counted (place_of_slot s) ≡ old.counted (place_of_slot s)) [
+    uncounted : now.counted (disk_slot_of s) ≡ old.counted (disk_slot_of s)
+    uncounted = elim (had.each s) as (λ _. now.counted (disk_slot_of s) ≡ old.counted (disk_slot_of s)) [
       | inl kept ↦ kept.counted
       | inr back ↦ absurd (clash (get left s) m back.gone there)
     ]
@@ -159,16 +159,16 @@ given_more {D = D} state done s m old now new members left after had there is he
 
     stays : (t : Slot) → ¬ (t ≡ s) → Left t
     stays t other =
-        let apart = other_place t s other in
+        let apart = other_disk_slot t s other in
         let same : get after t ≡ get left t = ap (λ n. get n t) is ∙ get-remove_other left s t other in
         elim (had.each t) as (λ _. Left t) [
-          | inl kept ↦ inl (record { member = same ∙ kept.member; held = others (place_of_slot t) apart ∙ kept.held; counted = counted_others (place_of_slot t) apart ∙ kept.counted })
+          | inl kept ↦ inl (record { member = same ∙ kept.member; held = others (disk_slot_of t) apart ∙ kept.held; counted = counted_others (disk_slot_of t) apart ∙ kept.counted })
           | inr before ↦ inr (record {
             member = before.member;
             was = before.was;
             gone = same ∙ before.gone;
-            held = others (place_of_slot t) apart ∙ before.held;
-            counted = counted_others (place_of_slot t) apart ∙ before.counted;
+            held = others (disk_slot_of t) apart ∙ before.held;
+            counted = counted_others (disk_slot_of t) apart ∙ before.counted;
           })
         ]
 
@@ -176,11 +176,11 @@ given_more {D = D} state done s m old now new members left after had there is he
 
 -- each replica that stands has its disk
 pub taken_out : {D : Type 0} (state : D → DiskState) (slots : List Slot) (old new : Depot D) (members : MemberMap D) (why : Unopened) → MayHaveTaken state slots old members new why
-    → (s : Slot) (m : Member D) → get members s ≡ Some m → new.held (place_of_slot s) ≡ Out
+    → (s : Slot) (m : Member D) → get members s ≡ Some m → new.held (disk_slot_of s) ≡ Out
 taken_out state slots old new members why may s m there =
-    elim (may.each s) as (λ _. new.held (place_of_slot s) ≡ Out) [
+    elim (may.each s) as (λ _. new.held (disk_slot_of s) ≡ Out) [
       | inl untouched ↦ absurd (clash (get members s) m untouched.no_member there)
-      | inr rest ↦ elim rest as (λ _. new.held (place_of_slot s) ≡ Out) [
+      | inr rest ↦ elim rest as (λ _. new.held (disk_slot_of s) ≡ Out) [
         | inl lent ↦ lent.1.held
         | inr back ↦ absurd (clash (get members s) m back.no_member there)
       ]
@@ -240,11 +240,11 @@ all_returned {D = D} state slots old mid new members left why may given = record
 
 -- no replica is left, so no disk is out
 pub none_out : {D : Type 0} (state : D → DiskState) (slots : List Slot) (old new : Depot D) (members left : MemberMap D) → AreOut slots members old.held → HasGivenBack state slots old members new left
-    → (place : Place) → new.held place ≢ Out
-none_out {D = D} state slots old new members left own given place out = by_slot (given.each at)
+    → (disk_slot : DiskSlot) → new.held disk_slot ≢ Out
+none_out {D = D} state slots old new members left own given disk_slot out = by_slot (given.each at)
   where
     at : Slot
-    at = slot_at place.node place.shard
+    at = slot_at disk_slot.node disk_slot.shard
 
     nowhere : (m : Member D) → get members at ≡ Some m → get left at ≡ get members at → ⊥
     nowhere m there same = clash (get members at) m (own.only at (λ i. clash (get left at) m (given.gone at i) (same ∙ there))) there
@@ -259,30 +259,30 @@ none_out {D = D} state slots old new members left own given place out = by_slot 
 
 -- the count in each slot is its disk's
 pub counts_given : {D : Type 0} (state : D → DiskState) (slots : List Slot) (old new : Depot D) (members left : MemberMap D) → AreOut slots members old.held → HasGivenBack state slots old members new left
-    → (s : Slot) → new.counted (place_of_slot s) ≡ count_at state old (get members s) s
+    → (s : Slot) → new.counted (disk_slot_of s) ≡ count_at state old (get members s) s
 counts_given {D = D} state slots old new members left own given s = by_slot (given.each s)
   where
-    kept_in : (o : Option (Member D)) → get members s ≡ o → IsKept old members new left s → new.counted (place_of_slot s) ≡ count_at state old (get members s) s
+    kept_in : (o : Option (Member D)) → get members s ≡ o → IsKept old members new left s → new.counted (disk_slot_of s) ≡ count_at state old (get members s) s
     kept_in None e kept = kept.counted ∙ ap (λ o. count_at state old o s) (sym e)
     kept_in (Some m) e kept = absurd (clash (get members s) m (own.only s (λ i. clash (get left s) m (given.gone s i) (kept.member ∙ e))) e)
 
-    by_slot : (IsKept old members new left s ⊎ IsBack state members new left s) → new.counted (place_of_slot s) ≡ count_at state old (get members s) s
+    by_slot : (IsKept old members new left s ⊎ IsBack state members new left s) → new.counted (disk_slot_of s) ≡ count_at state old (get members s) s
     by_slot (inl kept) = kept_in (get members s) refl kept
     by_slot (inr back) = back.counted ∙ ap (λ o. count_at state old o s) (sym back.was)
 
 -- ---- as a loop goes over the slots
 
 -- the disk of the next slot's replica was given back
-pub given_by : {D : Type 0} (state : D → DiskState) (slots : List Slot) (i : ℕ) (d : Slot) (place : Place) (disk : D) (m : Member D) (old now new : Depot D) (members left after : MemberMap D) → i < length slots
-    → HasGivenBack state (take i slots) old members now left → Some m ≡ get left (get_or slots i d) → after ≡ remove left (get_or slots i d) → place ≡ place_of_slot (get_or slots i d) → disk ≡ m.machine.disk → new.held place ≡ Here disk
-    → OthersStay place now.held new.held → new.counted place ≡ (state disk).faults → OthersStay place now.counted new.counted → now.faults ≤ new.faults → RoseBy ((state disk).faults - now.counted place) now.faults new.faults
+pub given_by : {D : Type 0} (state : D → DiskState) (slots : List Slot) (i : ℕ) (d : Slot) (disk_slot : DiskSlot) (disk : D) (m : Member D) (old now new : Depot D) (members left after : MemberMap D) → i < length slots
+    → HasGivenBack state (take i slots) old members now left → Some m ≡ get left (get_or slots i d) → after ≡ remove left (get_or slots i d) → disk_slot ≡ disk_slot_of (get_or slots i d) → disk ≡ m.machine.disk → new.held disk_slot ≡ Here disk
+    → OthersStay disk_slot now.held new.held → new.counted disk_slot ≡ (state disk).faults → OthersStay disk_slot now.counted new.counted → now.faults ≤ new.faults → RoseBy ((state disk).faults - now.counted disk_slot) now.faults new.faults
     → HasGivenBack state (take (i + 1) slots) old members new after
-given_by {D} state slots i d place disk m old now new members left after low had there is at own here others counted counted_others later more =
+given_by {D} state slots i d disk_slot disk m old now new members left after low had there is at own here others counted counted_others later more =
     let s = get_or slots i d in
     subst (λ done. HasGivenBack state done old members new after) (sym (take_at slots i d low))
     (given_more state (take i slots) s m old now new members left after had (sym there) is (subst (λ p. new.held p ≡ Here disk) at here ∙ ap Here own) (subst (λ p. OthersStay p now.held new.held) at others)
     (subst (λ p. new.counted p ≡ (state disk).faults) at counted ∙ ap (λ x. (state x).faults) own) (subst (λ p. OthersStay p now.counted new.counted) at counted_others) later
-    (subst (λ x. RoseBy ((state x).faults - now.counted (place_of_slot s)) now.faults new.faults) own (subst (λ p. RoseBy ((state disk).faults - now.counted p) now.faults new.faults) at more)))
+    (subst (λ x. RoseBy ((state x).faults - now.counted (disk_slot_of s)) now.faults new.faults) own (subst (λ p. RoseBy ((state disk).faults - now.counted p) now.faults new.faults) at more)))
 
 -- it has none
 pub given_none_at : {D : Type 0} (state : D → DiskState) (slots : List Slot) (i : ℕ) (d : Slot) (old now : Depot D) (members left after : MemberMap D) → i < length slots → HasGivenBack state (take i slots) old members now left

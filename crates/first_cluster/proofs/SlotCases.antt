@@ -3,16 +3,16 @@ use Rattle.std.proofs.Common.{◌≡◌, refl, ap, ◌∙◌, Bool, true, false,
 use Rattle.std.specs.Prelude.{None}
 use Rattle.std.specs.FinMap.{get, remove, get-remove}
 use Rattle.std.specs.Ordering.{eq_by_cmp}
-use Rattle.m3_outside.specs.declared.slot.Slot.{Slot as Place}
+use Rattle.m3_outside.specs.declared.slot.DiskSlot.{DiskSlot}
 use Rattle.replica_exchange.specs.declared.slot.Slot.{Slot}
 use Rattle.replica_calls.specs.Slots.{MemberMap, slot_cmp}
 use Rattle.replica_calls.proofs.SlotLemmas.{slot_cmp_total, same_slot}
-use Rattle.first_cluster.specs.Depots.{place_of_slot}
+use Rattle.first_cluster.specs.Depots.{disk_slot_of}
 use Rattle.first_cluster.proofs.SlotLists.{own_slot}
 
--- slots that differ have places that differ
-pub other_place : (s t : Slot) → ¬ (s ≡ t) → ¬ (place_of_slot s ≡ place_of_slot t)
-other_place s t apart same = apart (λ k. record { shard = ap (λ (p : Place). p.shard) same k; node = ap (λ (p : Place). p.node) same k })
+-- slots that differ have disks in slots that differ
+pub other_disk_slot : (s t : Slot) → ¬ (s ≡ t) → ¬ (disk_slot_of s ≡ disk_slot_of t)
+other_disk_slot s t apart same = apart (λ k. record { shard = ap (λ (p : DiskSlot). p.shard) same k; node = ap (λ (p : DiskSlot). p.node) same k })
 
 -- the slot that was taken out has no replica
 pub get-remove_here : {D : Type 0} (members : MemberMap D) (s : Slot) → get (remove members s) s ≡ None

@@ -11,9 +11,9 @@ use Rattle.replica_exchange.specs.declared.slot.Slot.{Slot}
 use Rattle.replica_calls.specs.Calls.{first_member}
 use Rattle.replica_calls.specs.Slots.{MemberMap, slot_cmp}
 use Rattle.m3_outside.specs.Depots.{Depot}
-use Rattle.first_cluster.specs.Depots.{place_of_slot}
+use Rattle.first_cluster.specs.Depots.{disk_slot_of}
 use Rattle.first_cluster.specs.Slots.{AreApart}
-use Rattle.first_cluster.specs.Lending.{IsUntouched, IsLent, IsGivenBack, MayNotOpen, IsFree, IsNew, HasTaken, KeepsOthers, MayHaveTaken}
+use Rattle.first_cluster.specs.Lending.{IsUntouched, IsLent, IsGivenBack, MayNotOpen, IsFree, IsNewlyTaken, HasTaken, KeepsOthers, MayHaveTaken}
 use Rattle.first_cluster.specs.declared.unopened.Unopened.{Unopened}
 use Rattle.first_cluster.specs.declared.unopened.Unopened.TheVariants as unopened
 use Rattle.first_cluster.proofs.ListLemmas.{not_before, parted, take_at}
@@ -49,7 +49,7 @@ taken_none state depot members is = record {
 away_from : (done later : List Slot) (s : Slot) → AreApart (done ++ s ∷ later) → ¬ IsIn done s
 away_from done later s apart i = not_before (λ a b. a ≢ b) done later s apart i refl
 
-pub next_free : {D : Type 0} (state : D → DiskState) (done later : List Slot) (s : Slot) (old now : Depot D) (members : MemberMap D) → AreApart (done ++ s ∷ later) → ((t : Slot) → old.held (place_of_slot t) ≢ Out)
+pub next_free : {D : Type 0} (state : D → DiskState) (done later : List Slot) (s : Slot) (old now : Depot D) (members : MemberMap D) → AreApart (done ++ s ∷ later) → ((t : Slot) → old.held (disk_slot_of t) ≢ Out)
     → HasTaken state done old members now → IsFree now.held members s
 next_free state done later s old now members apart free had =
     let rest = had.others s (away_from done later s apart) in
@@ -57,12 +57,12 @@ next_free state done later s old now members apart free had =
 
 -- one more was taken
 pub taken_more : {D : Type 0} (state : D → DiskState) (done later : List Slot) (s : Slot) (old now new : Depot D) (members after : MemberMap D) → AreApart (done ++ s ∷ later) → HasTaken state done old members now
-    → IsNew state now after new s → KeepsOthers s now members new after → HasTaken state (done ++ s ∷ []) old after new
+    → IsNewlyTaken state now after new s → KeepsOthers s now members new after → HasTaken state (done ++ s ∷ []) old after new
 taken_more state done later s old now new members after apart had one keeps = record {
-  taken = λ t i. elim (IsIn-append_cases done (s ∷ []) t i) as (λ _. IsNew state old after new t) [
+  taken = λ t i. elim (IsIn-append_cases done (s ∷ []) t i) as (λ _. IsNewlyTaken state old after new t) [
     | inl before ↦ kept t before
-    | inr last ↦ elim last as (λ _. IsNew state old after new t) [
-      | inl same ↦ subst (λ x. IsNew state old after new x) same here
+    | inr last ↦ elim last as (λ _. IsNewlyTaken state old after new t) [
+      | inl same ↦ subst (λ x. IsNewlyTaken state old after new x) same here
       | inr none ↦ absurd none
     ]
   ];
@@ -73,7 +73,7 @@ taken_more state done later s old now new members after apart had one keeps = re
   later = omega (arith, had.later, keeps.later);
 }
   where
-    here : IsNew state old after new s
+    here : IsNewlyTaken state old after new s
     here =
         let rest = had.others s (away_from done later s apart) in
         record {
@@ -85,7 +85,7 @@ taken_more state done later s old now new members after apart had one keeps = re
           counted = one.counted ∙ rest.counted;
         }
 
-    kept : (t : Slot) → IsIn done t → IsNew state old after new t
+    kept : (t : Slot) → IsIn done t → IsNewlyTaken state old after new t
     kept t before =
         let same = keeps.others t (λ e. away_from done later s apart (subst (IsIn done) e before)) in
         let was = had.taken t before in
@@ -101,7 +101,7 @@ taken_more state done later s old now new members after apart had one keeps = re
 -- ---- a refusal
 
 -- a replica that wasn't begun yet is lent
-pub lent_new : {D : Type 0} (state : D → DiskState) (s : Slot) (old new : Depot D) (members : MemberMap D) → IsNew state old members new s → IsLent state old members new s
+pub lent_new : {D : Type 0} (state : D → DiskState) (s : Slot) (old new : Depot D) (members : MemberMap D) → IsNewlyTaken state old members new s → IsLent state old members new s
 lent_new state s old new members n = record {
   member = first_member n.disk;
   stands = n.stands;
@@ -169,12 +169,12 @@ taken_but {D = D} state done later s old now new members after why apart had ref
 apart_at : (slots : List Slot) (i : ℕ) (d : Slot) → i < length slots → AreApart slots → AreApart (take i slots ++ get_or slots i d ∷ drop (suc i) slots)
 apart_at slots i d low apart = subst AreApart (parted slots i d low) apart
 
-pub free_at : {D : Type 0} (state : D → DiskState) (slots : List Slot) (i : ℕ) (d : Slot) (old now : Depot D) (members : MemberMap D) → i < length slots → AreApart slots → ((t : Slot) → old.held (place_of_slot t) ≢ Out)
+pub free_at : {D : Type 0} (state : D → DiskState) (slots : List Slot) (i : ℕ) (d : Slot) (old now : Depot D) (members : MemberMap D) → i < length slots → AreApart slots → ((t : Slot) → old.held (disk_slot_of t) ≢ Out)
     → HasTaken state (take i slots) old members now → IsFree now.held members (get_or slots i d)
 free_at state slots i d old now members low apart free had = next_free state (take i slots) (drop (suc i) slots) (get_or slots i d) old now members (apart_at slots i d low apart) free had
 
 pub taken_at : {D : Type 0} (state : D → DiskState) (slots : List Slot) (i : ℕ) (d : Slot) (old now new : Depot D) (members after : MemberMap D) → i < length slots → AreApart slots → HasTaken state (take i slots) old members now
-    → IsNew state now after new (get_or slots i d) → KeepsOthers (get_or slots i d) now members new after → HasTaken state (take (i + 1) slots) old after new
+    → IsNewlyTaken state now after new (get_or slots i d) → KeepsOthers (get_or slots i d) now members new after → HasTaken state (take (i + 1) slots) old after new
 taken_at state slots i d old now new members after low apart had one keeps =
     subst (λ done. HasTaken state done old after new) (sym (take_at slots i d low)) (taken_more state (take i slots) (drop (suc i) slots) (get_or slots i d) old now new members after (apart_at slots i d low apart) had one keeps)
 

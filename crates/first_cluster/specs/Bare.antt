@@ -9,7 +9,7 @@ use Rattle.m3_outside.specs.DiskState.{DiskState, EachImage}
 use Rattle.m3_outside.specs.Files.{Files}
 use Rattle.m3_outside.specs.Slots.{Held, Unused, Here, Out}
 use Rattle.m3_outside.specs.declared.disk.Disk.{Ghosts}
-use Rattle.m3_outside.specs.declared.slot.Slot.{Slot as Place}
+use Rattle.m3_outside.specs.declared.slot.DiskSlot.{DiskSlot}
 use Rattle.shard_files.specs.FilesHold.{FilesHold}
 use Rattle.cluster_members.specs.declared.members.Members.{Members}
 use Rattle.first_cluster.specs.Begins.{Said}
@@ -33,8 +33,8 @@ IsBare state (Here disk) = EachImage (state disk) HasNoPoints
 IsBare state Out = ⊤
 
 -- each slot's is so
-abbrev pub AreBare : {D : Type 0} → (D → DiskState) → (Place → Held D) → Type 0
-AreBare state held = (place : Place) → IsBare state (held place)
+abbrev pub AreBare : {D : Type 0} → (D → DiskState) → (DiskSlot → Held D) → Type 0
+AreBare state held = (disk_slot : DiskSlot) → IsBare state (held disk_slot)
 
 -- where it began, its tenure is its fence and it has no points; and it isn't refused as not owned, nor for damage
 pub record BeginsBare (start : Start) (said : Said) : Type 0 where

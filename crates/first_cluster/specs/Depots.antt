@@ -7,7 +7,7 @@ use Rattle.m3_outside.specs.Depots.{Depot}
 use Rattle.m3_outside.specs.DiskState.{DiskState}
 use Rattle.m3_outside.specs.Slots.{Held, Out}
 use Rattle.m3_outside.specs.declared.disk.Disk.{Ghosts}
-use Rattle.m3_outside.specs.declared.slot.Slot.{Slot as Place}
+use Rattle.m3_outside.specs.declared.slot.DiskSlot.{DiskSlot}
 use Rattle.replica_exchange.specs.declared.member.Member.{Member}
 use Rattle.replica_exchange.specs.declared.slot.Slot.{Slot}
 use Rattle.replica_calls.specs.Slots.{MemberMap}
@@ -15,33 +15,33 @@ use Rattle.cluster_members.specs.declared.members.Members.{Members}
 use Rattle.first_cluster.specs.Slots.{AreApart}
 
 -- what disks show, by what lies in their slots, the counts in these and the count of all faults
-abbrev pub depot_by : {D X : Type 0} → (X → Place → Held D) → (X → Place → ℕ) → (X → ℕ) → X → Depot D
+abbrev pub depot_by : {D X : Type 0} → (X → DiskSlot → Held D) → (X → DiskSlot → ℕ) → (X → ℕ) → X → Depot D
 depot_by held counted faults disks = record { held = held disks; counted = counted disks; faults = faults disks }
 
--- the place of a slot's disk
-abbrev pub place_of_slot : Slot → Place
-place_of_slot s = record { node = s.node; shard = s.shard }
+-- the slot of a replica's disk
+abbrev pub disk_slot_of : Slot → DiskSlot
+disk_slot_of s = record { node = s.node; shard = s.shard }
 
 -- replicas stand at these slots alone; their disks are out, and those of all other slots are not
-pub record AreOut {D : Type 0} (slots : List Slot) (members : MemberMap D) (held : Place → Held D) : Type 0 where
+pub record AreOut {D : Type 0} (slots : List Slot) (members : MemberMap D) (held : DiskSlot → Held D) : Type 0 where
   pub only : (s : Slot) → ¬ IsIn slots s → get members s ≡ None
-  pub lent : (s : Slot) (m : Member D) → get members s ≡ Some m → held (place_of_slot s) ≡ Out
-  pub there : (s : Slot) → get members s ≡ None → held (place_of_slot s) ≢ Out
+  pub lent : (s : Slot) (m : Member D) → get members s ≡ Some m → held (disk_slot_of s) ≡ Out
+  pub there : (s : Slot) → get members s ≡ None → held (disk_slot_of s) ≢ Out
 
 -- before `init` no disk is out
-abbrev pub OwnedBy : {D : Type 0} {G : Ghosts D} → Option (Members D G) → (Place → Held D) → Type 0
-OwnedBy None held = (place : Place) → held place ≢ Out
+abbrev pub OwnedBy : {D : Type 0} {G : Ghosts D} → Option (Members D G) → (DiskSlot → Held D) → Type 0
+OwnedBy None held = (disk_slot : DiskSlot) → held disk_slot ≢ Out
 OwnedBy (Some m) held = AreOut m.slots.items m.net.replicas.members held
 
 -- the count of a slot's disk: where a replica has it, that of the disk, and else the one in the slot
 abbrev pub count_at : {D : Type 0} → (D → DiskState) → Depot D → Option (Member D) → Slot → ℕ
-count_at state depot None s = depot.counted (place_of_slot s)
+count_at state depot None s = depot.counted (disk_slot_of s)
 count_at state depot (Some member) s = (state member.machine.disk).faults
 
 -- how much the counts of the disks of the replicas at these slots rose since they were taken
 abbrev pub risen : {D : Type 0} → (D → DiskState) → Depot D → MemberMap D → List Slot → ℕ
 risen state depot members [] = 0
-risen state depot members (s ∷ slots) = (count_at state depot (get members s) s - depot.counted (place_of_slot s)) + risen state depot members slots
+risen state depot members (s ∷ slots) = (count_at state depot (get members s) s - depot.counted (disk_slot_of s)) + risen state depot members slots
 
 -- the count of all faults rises by as much as those of the members' disks rose since they were taken
 abbrev pub RisesBy : {D : Type 0} {G : Ghosts D} → (D → DiskState) → Depot D → Option (Members D G) → ℕ → Type 0

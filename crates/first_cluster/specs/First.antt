@@ -55,7 +55,7 @@ pub record IsFirst {D : Type 0} {G : Ghosts D} (state : D → DiskState) (rf sha
   pub stopped : m.stopped.items ≡ replicate (length m.net.state.place.instances) false
 
 -- a disk of one of the placement's slots couldn't be taken
-pub record IsUntaken {D : Type 0} (rf shards seed : ℕ) (nodes : List (List ℕ × List ℕ)) (name : List ℕ) (shard : ℕ) (old new : Depot D) : Type 0 where
+pub record IsDiskUntaken {D : Type 0} (rf shards seed : ℕ) (nodes : List (List ℕ × List ℕ)) (name : List ℕ) (shard : ℕ) (old new : Depot D) : Type 0 where
   pub place : Placement
   pub first : IsFirstPlacement rf shards nodes place
   pub node : ℕ
@@ -73,6 +73,6 @@ IsDiskAnswer place slot _ = ⊥
 
 -- `init` is refused, and no disk is out
 abbrev pub IsRefusedInit : {D : Type 0} → (D → DiskState) → ℕ → ℕ → ℕ → List (List ℕ × List ℕ) → Depot D → Depot D → Answer → Type 0
-IsRefusedInit state rf shards seed nodes old new (answer.Disk name shard) = IsUntaken rf shards seed nodes name shard old new × HasReturned state old empty new
+IsRefusedInit state rf shards seed nodes old new (answer.Disk name shard) = IsDiskUntaken rf shards seed nodes name shard old new × HasReturned state old empty new
 IsRefusedInit state rf shards seed nodes old new answer.Memory = HasReturned state old empty new
 IsRefusedInit state rf shards seed nodes old new _ = ⊥

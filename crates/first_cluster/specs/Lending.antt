@@ -6,7 +6,7 @@ use Rattle.m3_outside.specs.Causes.{Rose, RoseBy}
 use Rattle.m3_outside.specs.Depots.{Depot}
 use Rattle.m3_outside.specs.DiskState.{DiskState, IsEmpty}
 use Rattle.m3_outside.specs.Slots.{Held, Here, Out, MayGive}
-use Rattle.m3_outside.specs.declared.slot.Slot.{Slot as Place}
+use Rattle.m3_outside.specs.declared.slot.DiskSlot.{DiskSlot}
 use Rattle.cluster_core.specs.declared.event.Event.{Event}
 use Rattle.cluster_core.specs.declared.event.StepCall.TheVariants as call
 use Rattle.cluster_core.specs.declared.event.StepReply.{StepReply}
@@ -16,7 +16,7 @@ use Rattle.replica_calls.specs.Calls.{Tracked, first_member}
 use Rattle.replica_calls.specs.Slots.{MemberMap}
 use Rattle.session_net.specs.Runs.{Step, IsStepped}
 use Rattle.first_cluster.specs.Begins.{HaveBegun}
-use Rattle.first_cluster.specs.Depots.{place_of_slot, risen}
+use Rattle.first_cluster.specs.Depots.{disk_slot_of, risen}
 use Rattle.first_cluster.specs.Slots.{AreApart}
 use Rattle.first_cluster.specs.declared.start.Start.{Start}
 use Rattle.first_cluster.specs.declared.unopened.Unopened.{Unopened}
@@ -35,31 +35,31 @@ first_begin answered = record { call = call.Begin first_tenure; reply = answered
 -- a replica over the disk that its slot gave, begun once with the first tenure or not at all
 pub record IsOpened {D : Type 0} (state : D → DiskState) (depot : Depot D) (s : Slot) (m : Member D) : Type 0 where
   pub disk : D
-  pub given : MayGive (λ d. IsEmpty (state d)) (depot.held (place_of_slot s)) disk
-  pub counted : (state disk).faults ≡ depot.counted (place_of_slot s)
+  pub given : MayGive (λ d. IsEmpty (state d)) (depot.held (disk_slot_of s)) disk
+  pub counted : (state disk).faults ≡ depot.counted (disk_slot_of s)
   pub begun : (m ≡ first_member disk) ⊎ ((answer : StepReply) × IsStepped state (first_begin answer ∷ []) (Some (first_member disk)) (Some m))
 
 -- nothing was done at the slot
 pub record IsUntouched {D : Type 0} (old : Depot D) (members : MemberMap D) (new : Depot D) (s : Slot) : Type 0 where
   pub no_member : get members s ≡ None
-  pub held : new.held (place_of_slot s) ≡ old.held (place_of_slot s)
-  pub counted : new.counted (place_of_slot s) ≡ old.counted (place_of_slot s)
+  pub held : new.held (disk_slot_of s) ≡ old.held (disk_slot_of s)
+  pub counted : new.counted (disk_slot_of s) ≡ old.counted (disk_slot_of s)
 
 -- its disk is out, and a replica stands over it
 pub record IsLent {D : Type 0} (state : D → DiskState) (old : Depot D) (members : MemberMap D) (new : Depot D) (s : Slot) : Type 0 where
   pub member : Member D
   pub stands : get members s ≡ Some member
   pub opened : IsOpened state old s member
-  pub held : new.held (place_of_slot s) ≡ Out
-  pub counted : new.counted (place_of_slot s) ≡ old.counted (place_of_slot s)
+  pub held : new.held (disk_slot_of s) ≡ Out
+  pub counted : new.counted (disk_slot_of s) ≡ old.counted (disk_slot_of s)
 
 -- its disk was taken and given back
 pub record IsGivenBack {D : Type 0} (state : D → DiskState) (old : Depot D) (members : MemberMap D) (new : Depot D) (s : Slot) : Type 0 where
   pub member : Member D
   pub no_member : get members s ≡ None
   pub opened : IsOpened state old s member
-  pub held : new.held (place_of_slot s) ≡ Here member.machine.disk
-  pub counted : new.counted (place_of_slot s) ≡ (state member.machine.disk).faults
+  pub held : new.held (disk_slot_of s) ≡ Here member.machine.disk
+  pub counted : new.counted (disk_slot_of s) ≡ (state member.machine.disk).faults
 
 -- no disk is out: each slot's was given back, or wasn't taken
 pub record HasReturned {D : Type 0} (state : D → DiskState) (old : Depot D) (members : MemberMap D) (new : Depot D) : Type 0 where
@@ -74,15 +74,15 @@ MayNotOpen slots old new unopened.Memory = Unit {0}
 -- ---- disks taken
 
 -- the slot's disk isn't out, and the slot has no replica
-pub record IsFree {D : Type 0} (held : Place → Held D) (members : MemberMap D) (s : Slot) : Type 0 where
-  pub not_out : held (place_of_slot s) ≢ Out
+pub record IsFree {D : Type 0} (held : DiskSlot → Held D) (members : MemberMap D) (s : Slot) : Type 0 where
+  pub not_out : held (disk_slot_of s) ≢ Out
   pub no_member : get members s ≡ None
 
 -- at the slot all is as before
 pub record IsKept {D : Type 0} (old : Depot D) (members : MemberMap D) (new : Depot D) (left : MemberMap D) (s : Slot) : Type 0 where
   pub member : get left s ≡ get members s
-  pub held : new.held (place_of_slot s) ≡ old.held (place_of_slot s)
-  pub counted : new.counted (place_of_slot s) ≡ old.counted (place_of_slot s)
+  pub held : new.held (disk_slot_of s) ≡ old.held (disk_slot_of s)
+  pub counted : new.counted (disk_slot_of s) ≡ old.counted (disk_slot_of s)
 
 -- at all other slots it is, and the count of faults doesn't fall
 pub record KeepsOthers {D : Type 0} (slot : Slot) (old : Depot D) (members : MemberMap D) (new : Depot D) (left : MemberMap D) : Type 0 where
@@ -90,24 +90,24 @@ pub record KeepsOthers {D : Type 0} (slot : Slot) (old : Depot D) (members : Mem
   pub later : old.faults ≤ new.faults
 
 -- the slot's disk is out, and a replica stands over it, which wasn't begun yet
-pub record IsNew {D : Type 0} (state : D → DiskState) (old : Depot D) (members : MemberMap D) (new : Depot D) (s : Slot) : Type 0 where
+pub record IsNewlyTaken {D : Type 0} (state : D → DiskState) (old : Depot D) (members : MemberMap D) (new : Depot D) (s : Slot) : Type 0 where
   pub disk : D
-  pub given : MayGive (λ d. IsEmpty (state d)) (old.held (place_of_slot s)) disk
-  pub disk_faults : (state disk).faults ≡ old.counted (place_of_slot s)
+  pub given : MayGive (λ d. IsEmpty (state d)) (old.held (disk_slot_of s)) disk
+  pub disk_faults : (state disk).faults ≡ old.counted (disk_slot_of s)
   pub stands : get members s ≡ Some (first_member disk)
-  pub held : new.held (place_of_slot s) ≡ Out
-  pub counted : new.counted (place_of_slot s) ≡ old.counted (place_of_slot s)
+  pub held : new.held (disk_slot_of s) ≡ Out
+  pub counted : new.counted (disk_slot_of s) ≡ old.counted (disk_slot_of s)
 
 -- each of these slots has such a replica, and nothing was done at all others
 pub record HasTaken {D : Type 0} (state : D → DiskState) (slots : List Slot) (old : Depot D) (members : MemberMap D) (new : Depot D) : Type 0 where
-  pub taken : (s : Slot) → IsIn slots s → IsNew state old members new s
+  pub taken : (s : Slot) → IsIn slots s → IsNewlyTaken state old members new s
   pub others : (s : Slot) → ¬ IsIn slots s → IsUntouched old members new s
   pub later : old.faults ≤ new.faults
 
 -- the slot's disk was taken; or it wasn't, or is back
-abbrev pub IsTaken : {D : Type 0} → (D → DiskState) → Slot → Depot D → Depot D → MemberMap D → Result Unit Unopened → Type 0
-IsTaken state slot old new members (Ok u) = IsNew state old members new slot
-IsTaken state slot old new members (Err why) = (IsUntouched old members new slot ⊎ IsGivenBack state old members new slot) × MayNotOpen (slot ∷ []) old new why
+abbrev pub IsDiskTaken : {D : Type 0} → (D → DiskState) → Slot → Depot D → Depot D → MemberMap D → Result Unit Unopened → Type 0
+IsDiskTaken state slot old new members (Ok u) = IsNewlyTaken state old members new slot
+IsDiskTaken state slot old new members (Err why) = (IsUntouched old members new slot ⊎ IsGivenBack state old members new slot) × MayNotOpen (slot ∷ []) old new why
 
 -- some of these slots have a replica over their disk, the disks of others are back, and nothing was done at all others; and why no more were lent
 pub record MayHaveTaken {D : Type 0} (state : D → DiskState) (slots : List Slot) (old : Depot D) (members : MemberMap D) (new : Depot D) (why : Unopened) : Type 0 where
@@ -133,8 +133,8 @@ pub record IsBack {D : Type 0} (state : D → DiskState) (members : MemberMap D)
   pub member : Member D
   pub was : get members s ≡ Some member
   pub gone : get left s ≡ None
-  pub held : new.held (place_of_slot s) ≡ Here member.machine.disk
-  pub counted : new.counted (place_of_slot s) ≡ (state member.machine.disk).faults
+  pub held : new.held (disk_slot_of s) ≡ Here member.machine.disk
+  pub counted : new.counted (disk_slot_of s) ≡ (state member.machine.disk).faults
 
 -- the replicas of these slots are gone and their disks back, and all else is as before
 pub record HasGivenBack {D : Type 0} (state : D → DiskState) (slots : List Slot) (old : Depot D) (members : MemberMap D) (new : Depot D) (left : MemberMap D) : Type 0 where

@@ -3,7 +3,7 @@ ghost use Rattle.std.specs.Prelude.{◌≡◌, ◌≢◌, ◌<◌, length, IfOk,
 ghost use Rattle.m3_model.specs.Limits.{IsInit};
 ghost use Rattle.served_acts.specs.NotYet.{fills_its_nodes};
 ghost use Rattle.m3_outside.specs.Slots.{Out};
-ghost use Rattle.m3_outside.specs.declared.slot.Slot.{Slot as Place};
+ghost use Rattle.m3_outside.specs.declared.slot.DiskSlot.{DiskSlot};
 ghost use Rattle.session_net.specs.Ready.{IsReady};
 ghost use Rattle.first_cluster.specs.Depots.{AreOut, depot_by};
 ghost use Rattle.first_cluster.specs.First.{IsFirst, IsDiskAnswer, IsRefusedInit};
@@ -52,7 +52,7 @@ pub fn first_members<D: Disk, X: Disks<D = D>>(
 ) -> Result<(Members<D>, Placement), Answer>
     requires limits { IsInit rf shards seed nodes }
     requires apart { IsTrue (fills_its_nodes rf nodes) }
-    requires free { (place : Place) → X.held disks.old place ≢ Out }
+    requires free { (slot : DiskSlot) → X.held disks.old slot ≢ Out }
     ensures members { IfOk result (λ made. IsFirst D.state rf shards seed nodes (depot_by X.held X.counted X.all_faults disks.old) (depot_by X.held X.counted X.all_faults disks.new) made.0) }
     ensures ready { IfOk result (λ made. IsReady made.0.net.state made.0.net.replicas made.0.net.bag) }
     ensures owned { IfOk result (λ made. AreOut made.0.slots.items made.0.net.replicas.members (X.held disks.new)) }

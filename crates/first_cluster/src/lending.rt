@@ -9,9 +9,9 @@ ghost use Rattle.cluster_core.specs.Replicas.{replica, fresh};
 ghost use Rattle.replica_exchange.specs.MachineCalls.{HasRoom};
 ghost use Rattle.replica_exchange.specs.declared.member.Member.{Member as Replica};
 ghost use Rattle.replica_exchange.specs.declared.slot.Slot.{Slot as AtSlot};
-ghost use Rattle.first_cluster.specs.Depots.{depot_by, place_of_slot};
+ghost use Rattle.first_cluster.specs.Depots.{depot_by, disk_slot_of};
 ghost use Rattle.first_cluster.specs.First.{opening_of};
-ghost use Rattle.first_cluster.specs.Lending.{IsFree, IsTaken, KeepsOthers, HasTaken, MayHaveTaken, AreOpened, IsUnopened, HasGivenBack, first_tenure};
+ghost use Rattle.first_cluster.specs.Lending.{IsFree, IsDiskTaken, KeepsOthers, HasTaken, MayHaveTaken, AreOpened, IsUnopened, HasGivenBack, first_tenure};
 ghost use Rattle.first_cluster.specs.Slots.{AreApart, slots_in, starts_of};
 ghost use Rattle.first_cluster.specs.declared.start.Start.{Start as AtStart};
 
@@ -21,16 +21,16 @@ use crate::start::Start;
 use crate::unopened::Unopened;
 use event_trail::Trail;
 use m3_model::{Memory, MetaState};
-use m3_outside::{Disk, DiskErr, Disks, Slot as Place};
+use m3_outside::{Disk, DiskErr, DiskSlot, Disks};
 use replica_calls::Replicas;
 use replica_exchange::{Member, Slot};
 use std::alloc::Global;
 
-// The place of a slot's disk.
-fn place_of(slot: Slot) -> Place
-    ensures { result ≡ place_of_slot slot }
+// The slot of a replica's disk.
+fn disk_slot(slot: Slot) -> DiskSlot
+    ensures { result ≡ disk_slot_of slot }
 {
-    Place {
+    DiskSlot {
         node: slot.node,
         shard: slot.shard,
     }
@@ -53,11 +53,11 @@ fn take_one<D: Disk, X: Disks<D = D>>(
 ) -> Result<(), Unopened>
     requires free { IsFree (X.held disks.old) replicas.old.members slot }
     requires new { replica slot.node slot.shard replicas.old.events ≡ fresh }
-    ensures taken { IsTaken D.state slot (depot_by X.held X.counted X.all_faults disks.old) (depot_by X.held X.counted X.all_faults disks.new) replicas.new.members result }
+    ensures taken { IsDiskTaken D.state slot (depot_by X.held X.counted X.all_faults disks.old) (depot_by X.held X.counted X.all_faults disks.new) replicas.new.members result }
     ensures others { KeepsOthers slot (depot_by X.held X.counted X.all_faults disks.old) replicas.old.members (depot_by X.held X.counted X.all_faults disks.new) replicas.new.members }
     ensures list { replicas.new.events ≡ replicas.old.events }
 {
-    let disk = match disks.take(place_of(slot)) {
+    let disk = match disks.take(disk_slot(slot)) {
         Ok(disk) => disk,
         Err(DiskErr::Failed) => return Err(Unopened::Disk(slot)),
         Err(DiskErr::Memory) => return Err(Unopened::Memory),
@@ -65,7 +65,7 @@ fn take_one<D: Disk, X: Disks<D = D>>(
     match replicas.insert(alloc, slot, disk) {
         Ok(()) => Ok(()),
         Err(back) => {
-            disks.give(place_of(slot), back);
+            disks.give(disk_slot(slot), back);
             Err(Unopened::Memory)
         }
     }
@@ -81,7 +81,7 @@ fn take_all<D: Disk, X: Disks<D = D>>(
     requires apart { AreApart slots.now }
     requires none { replicas.old.members ≡ finite.empty }
     requires new { (n s : ℕ) → replica n s replicas.old.events ≡ fresh }
-    requires free { (s : AtSlot) → X.held disks.old (place_of_slot s) ≢ Out }
+    requires free { (s : AtSlot) → X.held disks.old (disk_slot_of s) ≢ Out }
     ensures ok { OnOk result (HasTaken D.state slots.now (depot_by X.held X.counted X.all_faults disks.old) replicas.new.members (depot_by X.held X.counted X.all_faults disks.new)) }
     ensures err { IfErr result (MayHaveTaken D.state slots.now (depot_by X.held X.counted X.all_faults disks.old) replicas.new.members (depot_by X.held X.counted X.all_faults disks.new)) }
     ensures list { replicas.new.events ≡ replicas.old.events }
@@ -94,13 +94,13 @@ fn take_all<D: Disk, X: Disks<D = D>>(
 
 /// Gives the disks of all replicas at the slots back, and lets these go. The list of events stays.
 pub fn give_all<D: Disk, X: Disks<D = D>>(disks: &mut X, slots: &[Slot], replicas: &mut Replicas<D>)
-    requires { (s : AtSlot) (m : Replica D) → finite.get replicas.old.members s ≡ Some m → X.held disks.old (place_of_slot s) ≡ Out }
+    requires { (s : AtSlot) (m : Replica D) → finite.get replicas.old.members s ≡ Some m → X.held disks.old (disk_slot_of s) ≡ Out }
     ensures given { HasGivenBack D.state slots.now (depot_by X.held X.counted X.all_faults disks.old) replicas.old.members (depot_by X.held X.counted X.all_faults disks.new) replicas.new.members }
     ensures list { replicas.new.events ≡ replicas.old.events }
 {
     for slot in slots {
         match replicas.take(*slot) {
-            Some(member) => disks.give(place_of(*slot), disk_of(member)),
+            Some(member) => disks.give(disk_slot(*slot), disk_of(member)),
             None => {}
         }
     }
@@ -121,7 +121,7 @@ fn open_all<D: Disk, X: Disks<D = D>>(
     requires room { HasRoom (2 * length starts.now) replicas.old.events }
     requires none { replicas.old.members ≡ finite.empty }
     requires new { (n s : ℕ) → replica n s replicas.old.events ≡ fresh }
-    requires free { (s : AtSlot) → X.held disks.old (place_of_slot s) ≢ Out }
+    requires free { (s : AtSlot) → X.held disks.old (disk_slot_of s) ≢ Out }
     ensures ok { OnOk result (AreOpened D.state slots.now starts.now replicas.old.events (depot_by X.held X.counted X.all_faults disks.old) (depot_by X.held X.counted X.all_faults disks.new) replicas.new) }
     ensures err { IfErr result (MayHaveTaken D.state slots.now (depot_by X.held X.counted X.all_faults disks.old) replicas.new.members (depot_by X.held X.counted X.all_faults disks.new)) }
 {
@@ -154,7 +154,7 @@ pub(crate) fn opened<D: Disk, X: Disks<D = D>>(
     requires slots { plan.now.slots.items ≡ slots_in plan.now.starts.items }
     requires first { (s : AtStart) → IsIn (starts_of plan.now.state.place) s → s.tenure ≡ first_tenure }
     requires few { length (starts_of plan.now.state.place) ≤ 1024 }
-    requires free { (s : AtSlot) → X.held disks.old (place_of_slot s) ≢ Out }
+    requires free { (s : AtSlot) → X.held disks.old (disk_slot_of s) ≢ Out }
     ensures ok { IfOk result (AreOpened D.state plan.now.slots.items plan.now.starts.items (opening_of plan.now.state) (depot_by X.held X.counted X.all_faults disks.old) (depot_by X.held X.counted X.all_faults disks.new)) }
     ensures err { IfErr result (IsUnopened D.state plan.now.slots.items (depot_by X.held X.counted X.all_faults disks.old) (depot_by X.held X.counted X.all_faults disks.new)) }
 {

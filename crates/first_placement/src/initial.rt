@@ -2,7 +2,7 @@
 ghost use Rattle.std.specs.Prelude.{◌≡◌, ◌≢◌, ◌<◌, ◌≤◌, ◌^◌, ◌↔◌, ℕ, List, [], ◌∷◌, ◌++◌, All, IfOk, IfErr, IfSome, IfNone, IsTrue, Some, length, slice_get, slice_index, take};
 ghost use Rattle.m3_model.specs.Limits.{IsInit};
 ghost use Rattle.m3_model.specs.declared.limits.TheConstants.{MOST_REPLICAS, MOST_SHARDS, MOST_NODES};
-ghost use Rattle.placement_plan.specs.First.{first_instances, IsFirstPlacement, MayHold, IsPlacedShard, IsInitial, HasGroups, IsShort, RefusesInitial};
+ghost use Rattle.placement_plan.specs.First.{first_instances, IsFirstPlacement, MayHold, IsPlacedShard, IsInitial, HasGroups, LacksGroups, RefusesInitial};
 ghost use Rattle.placement_core.specs.Shards.{Shard};
 ghost use Rattle.placement_core.specs.Lawful.{IsLawful};
 ghost use Rattle.isolation_groups.specs.Groups.{group_of};
@@ -90,7 +90,7 @@ fn placed_shards(
     requires replicas { rf ≤ MOST_REPLICAS }
     ensures count { IfOk result (λ next. length next ≡ shards) }
     ensures each { IfOk result (λ next. (s : ℕ) (shard : Shard) → slice_get next s ≡ Some shard → IsPlacedShard rf instances.now (take s next) shard) }
-    ensures stuck { IfErr result (IsShort rf instances.now) }
+    ensures stuck { IfErr result (LacksGroups rf instances.now) }
 {
     let mut next: Vec<Seq<Assignment>> = Vec::new(alloc);
     let mut loads = loads_of(alloc, instances.len(), next.as_slice())?;

@@ -15,7 +15,7 @@ use Rattle.tag_index.specs.declared.entry.Entry.{Entry}
 use Rattle.tag_index.specs.Listed.{Listed, IsAt}
 use Rattle.series_slots.specs.Ranges.{IsRangeOf}
 use Rattle.series_slots.proofs.AnswerLemmas.{point_in, in_points}
-use Rattle.held_points.specs.Matched.{IsMatched, MeetsUnequal, MeetsEqual, HasNoEqual, AreCandidates, IsNamed}
+use Rattle.held_points.specs.Matched.{IsMatched, MeetsUnequal, MeetsEqual, HasNoEqual, AreCandidates, IsMatchedBy}
 use Rattle.held_points.specs.Selected.{IsSelection}
 use Rattle.held_points.specs.Indexed.{IsIndexed}
 use Rattle.held_points.proofs.IndexLemmas.{at_entry}
@@ -48,7 +48,7 @@ unequal_answer c ns from to wanted found kept none range ordered exact = record 
 
 -- every matcher holds for the identifier of a candidate that no matcher rules out
 named_matched : (c : Contents) (index : Listed) (wanted : List Matcher) (ordinals : List ℕ) (id : List ℕ) → IsIndexed c index → AreCandidates index wanted ordinals
-    → IsNamed index wanted ordinals id → IsMatched wanted id
+    → IsMatchedBy index wanted ordinals id → IsMatched wanted id
 named_matched c index wanted ordinals id h candidates is tags has m in_wanted = by_kind m.equal refl
   where
     by_kind : (b : Bool) → m.equal ≡ b → MatcherHolds tags m
@@ -63,7 +63,7 @@ named_matched c index wanted ordinals id h candidates is tags has m in_wanted = 
 
 -- and one that has a point and for which every matcher holds is the identifier of such a candidate
 matched_named : (c : Contents) (index : Listed) (wanted : List Matcher) (ordinals : List ℕ) (id : List ℕ) (o : ℕ) → IsIndexed c index → AreCandidates index wanted ordinals
-    → IsAt index o id → IsMatched wanted id → IsNamed index wanted ordinals id
+    → IsAt index o id → IsMatched wanted id → IsMatchedBy index wanted ordinals id
 matched_named c index wanted ordinals id o h candidates at matched =
     let entry = at_entry index o id at in
     let own : HasTags id entry.0.tags = subst (λ x. HasTags x entry.0.tags) entry.2 (h.tagged o entry.0 entry.1) in
@@ -72,7 +72,7 @@ matched_named c index wanted ordinals id o h candidates at matched =
 
 -- the series of a namespace whose identifiers are those of the candidates that no matcher rules out
 pub named_answer : (c : Contents) (index : Listed) (ns from to : ℕ) (wanted : List Matcher) (ordinals : List ℕ) (ids : List (List ℕ)) (series : List Series) → IsIndexed c index → AreCandidates index wanted ordinals
-    → ((id : List ℕ) → IsIn ids id ↔ IsNamed index wanted ordinals id) → IsSelection c ns (IsIn ids) from to series → IsAnswer c (pick.Match ns wanted) from to series
+    → ((id : List ℕ) → IsIn ids id ↔ IsMatchedBy index wanted ordinals id) → IsSelection c ns (IsIn ids) from to series → IsAnswer c (pick.Match ns wanted) from to series
 named_answer c index ns from to wanted ordinals ids series h candidates named is = record {
   ordered = is.ordered;
   nothing_else = λ p m.

@@ -8,19 +8,19 @@ use Rattle.m3_model.specs.declared.point.Key.{Key}
 use Rattle.m3_model.specs.declared.point.Point.{Point}
 use Rattle.m3_model.specs.Contents.{raised, key_of, higher}
 use Rattle.m3_model.specs.Keys.{key_cmp, key_cmp_total}
-use Rattle.block_buffer.specs.Held.{Held}
+use Rattle.block_buffer.specs.Held.{InMemory}
 use Rattle.block_buffer.proofs.ContentLemmas.{len_removed}
 use Rattle.held_points.specs.Counted.{IsCounted}
 
-pub none_counted : (held : Held) → held ≡ record { points = finite.empty; room = None } → IsCounted 0 false held
+pub none_counted : (held : InMemory) → held ≡ record { points = finite.empty; room = None } → IsCounted 0 false held
 none_counted held is = subst (IsCounted 0 false) (sym is) (record { counted = sym (len-empty key_cmp ℤ); limit = omega arith; fits = tt })
 
 -- without room the same are held
-pub counted_still : (count : ℕ) (adds : Bool) (held new : Held) → new ≡ record { points = held.points; room = None } → IsCounted count adds held → IsCounted count adds new
+pub counted_still : (count : ℕ) (adds : Bool) (held new : InMemory) → new ≡ record { points = held.points; room = None } → IsCounted count adds held → IsCounted count adds new
 counted_still count adds held new is h = subst (IsCounted count adds) (sym is) (record { counted = h.counted; limit = h.limit; fits = tt })
 
 -- with room for a point at this key
-pub counted_room : (count : ℕ) (adds stands : Bool) (held new : Held) (key : Key) → new ≡ record { points = held.points; room = Some key } → stands ≡ is_some (finite.get held.points key) → (stands ≡ false → count < MOST_REPLICA_POINTS) → IsCounted count adds held
+pub counted_room : (count : ℕ) (adds stands : Bool) (held new : InMemory) (key : Key) → new ≡ record { points = held.points; room = Some key } → stands ≡ is_some (finite.get held.points key) → (stands ≡ false → count < MOST_REPLICA_POINTS) → IsCounted count adds held
     → IsCounted count (not stands) new
 counted_room count adds stands held new key is there fits h = subst (IsCounted count (not stands)) (sym is) (record { counted = h.counted; limit = h.limit; fits = (ap not there, λ e. fits (off stands e)) })
   where
@@ -29,11 +29,11 @@ counted_room count adds stands held new key is there fits h = subst (IsCounted c
     off false e = refl
 
 -- what room says of the point for which it is
-pub room_fits : (count : ℕ) (adds : Bool) (held : Held) (key : Key) → held.room ≡ Some key → IsCounted count adds held → (adds ≡ not (is_some (finite.get held.points key))) × (adds ≡ true → count < MOST_REPLICA_POINTS)
+pub room_fits : (count : ℕ) (adds : Bool) (held : InMemory) (key : Key) → held.room ≡ Some key → IsCounted count adds held → (adds ≡ not (is_some (finite.get held.points key))) × (adds ≡ true → count < MOST_REPLICA_POINTS)
 room_fits count adds held key is h = subst (λ (o : Option Key). IfSome o (λ k. (adds ≡ not (is_some (finite.get held.points k))) × (adds ≡ true → count < MOST_REPLICA_POINTS))) is h.fits
 
 -- with the point
-pub counted_more : (count next : ℕ) (adds : Bool) (held new : Held) (p : Point) → held.room ≡ Some (key_of p) → new ≡ record { points = raised held.points p; room = None } → next ≡ cond adds (count + 1) count → IsCounted count adds held → IsCounted next adds new
+pub counted_more : (count next : ℕ) (adds : Bool) (held new : InMemory) (p : Point) → held.room ≡ Some (key_of p) → new ≡ record { points = raised held.points p; room = None } → next ≡ cond adds (count + 1) count → IsCounted count adds held → IsCounted next adds new
 counted_more count next adds held new p room is more h =
     let fits = room_fits count adds held (key_of p) room h in
     let longer = len-insert key_cmp_total held.points (key_of p) (higher (finite.get held.points (key_of p)) p.v) in
@@ -47,15 +47,15 @@ counted_more count next adds held new p room is more h =
 
 -- ---- one point fewer
 
-one_less : (held : Held) (key : Key) (v : ℤ) → finite.get held.points key ≡ Some v → 1 + finite.len (finite.remove held.points key) ≡ finite.len held.points
+one_less : (held : InMemory) (key : Key) (v : ℤ) → finite.get held.points key ≡ Some v → 1 + finite.len (finite.remove held.points key) ≡ finite.len held.points
 one_less held key v stands = let less = len_removed held.points key v stands in omega (arith, less)
 
 -- where a point stands, there is one
-pub some_counted : (count : ℕ) (adds : Bool) (held : Held) (key : Key) (v : ℤ) → finite.get held.points key ≡ Some v → IsCounted count adds held → 1 ≤ count
+pub some_counted : (count : ℕ) (adds : Bool) (held : InMemory) (key : Key) (v : ℤ) → finite.get held.points key ≡ Some v → IsCounted count adds held → 1 ≤ count
 some_counted count adds held key v stands h = let less = one_less held key v stands in let was = h.counted in omega (arith, less, was)
 
 -- without it
-pub counted_fewer : (count : ℕ) (adds : Bool) (held new : Held) (key : Key) (v : ℤ) → finite.get held.points key ≡ Some v → new.points ≡ finite.remove held.points key → new.room ≡ None → IsCounted count adds held → IsCounted (count - 1) adds new
+pub counted_fewer : (count : ℕ) (adds : Bool) (held new : InMemory) (key : Key) (v : ℤ) → finite.get held.points key ≡ Some v → new.points ≡ finite.remove held.points key → new.room ≡ None → IsCounted count adds held → IsCounted (count - 1) adds new
 counted_fewer count adds held new key v stands left room h =
     let less = one_less held key v stands in
     let was = h.counted in
@@ -68,7 +68,7 @@ counted_fewer count adds held new key v stands left room h =
     }
 
 -- with the same points, and no room
-pub counted_same : (count : ℕ) (adds : Bool) (held new : Held) → new.points ≡ held.points → new.room ≡ None → IsCounted count adds held → IsCounted count adds new
+pub counted_same : (count : ℕ) (adds : Bool) (held new : InMemory) → new.points ≡ held.points → new.room ≡ None → IsCounted count adds held → IsCounted count adds new
 counted_same count adds held new same room h = record {
   counted = h.counted ∙ ap finite.len (sym same);
   limit = h.limit;

@@ -11,7 +11,7 @@ use Rattle.m3_model.specs.Contents.{Contents}
 use Rattle.m3_model.proofs.Keyed.{key_cmp-IsAntisymmetric, equal_of}
 use Rattle.series_slots.specs.declared.series_key.SeriesKey.{SeriesKey}
 use Rattle.series_slots.specs.SeriesKeys.{series_of, key_at}
-use Rattle.block_buffer.specs.Held.{Held, without}
+use Rattle.block_buffer.specs.Held.{InMemory, without}
 use Rattle.block_buffer.proofs.ContentLemmas.{without_removed, without_none, len_removed}
 use Rattle.block_buffer.specs.Taken.{HasSeries, IsTaken}
 use Rattle.block_buffer.specs.declared.taken.Taken.{Taken}
@@ -118,36 +118,36 @@ pub indexed_for : (room : Option Key) (newly : Bool) (c : Contents) (index : Lis
 indexed_for room newly c index none given = subst (λ (o : Option Key). IsIndexedFor o newly c index) (sym none) given
 
 -- a point was taken out, and the index forgot its identifier if need be
-pub taken_indexed : (old new : Held) (newly : Bool) (P : Key → Type 0) (x : Taken) (index after : Listed) → old.room ≡ None → new.room ≡ None → IsIndexedFor old.room newly old.points index → IsTaken old.points new.points P x
+pub taken_indexed : (old new : InMemory) (newly : Bool) (P : Key → Type 0) (x : Taken) (index after : Listed) → old.room ≡ None → new.room ≡ None → IsIndexedFor old.room newly old.points index → IsTaken old.points new.points P x
     → IsForgotten new.points x.gone index after → IsIndexedFor new.room newly new.points after
 taken_indexed old new newly P x index after was none given h is =
     indexed_for new.room newly new.points after none (forgotten old.points new.points h.key x.v x.gone index after (indexed_of old.room newly old.points index was given) h.stands h.left h.gone is)
 
-pub same_indexed : (old new : Held) (newly : Bool) (index : Listed) → old.room ≡ None → new.room ≡ None → new.points ≡ old.points → IsIndexedFor old.room newly old.points index → IsIndexedFor new.room newly new.points index
+pub same_indexed : (old new : InMemory) (newly : Bool) (index : Listed) → old.room ≡ None → new.room ≡ None → new.points ≡ old.points → IsIndexedFor old.room newly old.points index → IsIndexedFor new.room newly new.points index
 same_indexed old new newly index was none same given =
     indexed_for new.room newly new.points index none (subst (λ (c : Contents). IsIndexed c index) (sym same) (indexed_of old.room newly old.points index was given))
 
-pub takes_one : (old new : Held) (P : Key → Type 0) (x : Taken) → new.room ≡ None → IsTaken old.points new.points P x → TakesOne old new P
+pub takes_one : (old new : InMemory) (P : Key → Type 0) (x : Taken) → new.room ≡ None → IsTaken old.points new.points P x → TakesOne old new P
 takes_one old new P x none h = record { key = h.key; value = x.v; holds = h.holds; stands = h.stands; left = λ i. record { points = h.left i; room = none i } }
 
-pub no_other : (h : Held) (c : Contents) → h.points ≡ c → h.room ≡ None → h ≡ record { points = c; room = None }
+pub no_other : (h : InMemory) (c : Contents) → h.points ≡ c → h.room ≡ None → h ≡ record { points = c; room = None }
 no_other h c points room = λ i. record { points = points i; room = room i }
 
 -- ---- where points leave one after the other
 
-pub kept_one : (old new : Held) (first : Contents) (test : Key → Bool) → TakesOne old new (λ k. test k ≡ true) → without old.points test ≡ without first test → without new.points test ≡ without first test
-kept_one old new first test h kept = ap (λ (x : Held). without x.points test) h.left ∙ without_removed old.points h.key test h.holds ∙ kept
+pub kept_one : (old new : InMemory) (first : Contents) (test : Key → Bool) → TakesOne old new (λ k. test k ≡ true) → without old.points test ≡ without first test → without new.points test ≡ without first test
+kept_one old new first test h kept = ap (λ (x : InMemory). without x.points test) h.left ∙ without_removed old.points h.key test h.holds ∙ kept
 
-pub one_fewer : (old new : Held) (P : Key → Type 0) → TakesOne old new P → finite.len new.points + 1 ≡ finite.len old.points
-one_fewer old new P h = ap (λ (x : Held). finite.len x.points + 1) h.left ∙ len_removed old.points h.key h.value h.stands
+pub one_fewer : (old new : InMemory) (P : Key → Type 0) → TakesOne old new P → finite.len new.points + 1 ≡ finite.len old.points
+one_fewer old new P h = ap (λ (x : InMemory). finite.len x.points + 1) h.left ∙ len_removed old.points h.key h.value h.stands
 
-pub no_room_left : (old new : Held) (P : Key → Type 0) → TakesOne old new P → new.room ≡ None
-no_room_left old new P h = ap (λ (x : Held). x.room) h.left
+pub no_room_left : (old new : InMemory) (P : Key → Type 0) → TakesOne old new P → new.room ≡ None
+no_room_left old new P h = ap (λ (x : InMemory). x.room) h.left
 
-pub weaken_one : (old new : Held) (P Q : Key → Type 0) → ((k : Key) → P k → Q k) → TakesOne old new P → TakesOne old new Q
+pub weaken_one : (old new : InMemory) (P Q : Key → Type 0) → ((k : Key) → P k → Q k) → TakesOne old new P → TakesOne old new Q
 weaken_one old new P Q to h = record { key = h.key; value = h.value; holds = to h.key h.holds; stands = h.stands; left = h.left }
 
 -- none of them is left
-pub ended : (old new : Held) (first : Contents) (test : Key → Bool) → new ≡ old → ((k : Key) (v : ℤ) → finite.get old.points k ≡ Some v → test k ≡ true → ⊥) → old.room ≡ None → without old.points test ≡ without first test
+pub ended : (old new : InMemory) (first : Contents) (test : Key → Bool) → new ≡ old → ((k : Key) (v : ℤ) → finite.get old.points k ≡ Some v → test k ≡ true → ⊥) → old.room ≡ None → without old.points test ≡ without first test
     → new ≡ record { points = without first test; room = None }
 ended old new first test same none room kept = same ∙ no_other old (without first test) (without_none old.points test none ∙ kept) room

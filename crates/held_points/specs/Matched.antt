@@ -28,5 +28,5 @@ pub record AreCandidates (index : Listed) (wanted : List Matcher) (ordinals : Li
   pub exact : (o : ℕ) → IsIn ordinals o ↔ MeetsEqual index wanted o
 
 -- it is the identifier of one of the ordinals, and every matcher of inequality holds for it
-abbrev pub IsNamed : Listed → List Matcher → List ℕ → List ℕ → Type 0
-IsNamed index wanted ordinals id = (o : ℕ) × IsIn ordinals o × IsAt index o id × MeetsUnequal wanted id
+abbrev pub IsMatchedBy : Listed → List Matcher → List ℕ → List ℕ → Type 0
+IsMatchedBy index wanted ordinals id = (o : ℕ) × IsIn ordinals o × IsAt index o id × MeetsUnequal wanted id

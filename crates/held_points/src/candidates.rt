@@ -3,7 +3,7 @@ ghost use Rattle.m3_model.specs.Ascends.{Ascends};
 ghost use Rattle.m3_model.specs.Members.{IsIn};
 ghost use Rattle.m3_model.specs.Tags.{IsBelow};
 ghost use Rattle.tag_index.specs.Listed.{IsAt, HasTagAt};
-ghost use Rattle.held_points.specs.Matched.{HasNoEqual, AreCandidates, MeetsUnequal, IsNamed};
+ghost use Rattle.held_points.specs.Matched.{HasNoEqual, AreCandidates, MeetsUnequal, IsMatchedBy};
 
 use crate::matching::meets_unequal;
 use m3_model::{Duplicate, Matcher, Memory, Seq, Text};
@@ -83,7 +83,7 @@ pub(crate) fn names(
     ordinals: &[u32],
 ) -> Result<Seq<Text>, Memory>
     ensures ascend { IfOk result (Ascends IsBelow) }
-    ensures exact { IfOk result (λ ids. (id : List ℕ) → IsIn ids id ↔ IsNamed index.now wanted.now ordinals.now id) }
+    ensures exact { IfOk result (λ ids. (id : List ℕ) → IsIn ids id ↔ IsMatchedBy index.now wanted.now ordinals.now id) }
 {
     let mut ids = BTreeSet::new(alloc);
     for ordinal in ordinals {

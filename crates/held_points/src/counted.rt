@@ -30,10 +30,10 @@ pub(crate) struct CountedBuffer {
 
 impl Model for CountedBuffer {
     ghost use Rattle.block_buffer.specs.Spots.{IsKeyWithin};
-    ghost use Rattle.block_buffer.specs.Held.{Held, held_code};
+    ghost use Rattle.block_buffer.specs.Held.{InMemory, held_code};
     ghost use Rattle.held_points.specs.Counted.{IsCounted};
 
-    ghost Value = { Held };
+    ghost Value = { InMemory };
 
     ghost coded = { held_code };
 

@@ -40,10 +40,10 @@ pub struct HeldPoints {
 
 impl Model for HeldPoints {
     ghost use Rattle.block_buffer.specs.Spots.{IsKeyWithin};
-    ghost use Rattle.block_buffer.specs.Held.{Held, held_code};
+    ghost use Rattle.block_buffer.specs.Held.{InMemory, held_code};
     ghost use Rattle.held_points.specs.Indexed.{IsIndexedFor};
 
-    ghost Value = { Held };
+    ghost Value = { InMemory };
 
     ghost coded = { held_code };
 

@@ -5,7 +5,7 @@ ghost use Rattle.std.specs.Prelude.{◌≡◌, ◌↔◌, IsTrue, IfOk};
 ghost use Rattle.std.specs.List.{All};
 ghost use Rattle.m3_model.specs.Contents.{key_of};
 ghost use Rattle.m3_model.specs.Members.{IsIn};
-ghost use Rattle.cluster_core.specs.Answers.{IsWanted, IsFound, AsksFor, IsPast, IsUpTo, GoesOn, IsPage};
+ghost use Rattle.cluster_core.specs.Answers.{IsWantedUnexpired, IsFoundBy, AsksFor, IsPastKey, IsUpTo, GoesOn, IsPage};
 ghost use Rattle.lawful_answers.specs.Shows.{IsAnswered, IsPaged};
 
 use cluster_core::{ReplicaState, StepCall};
@@ -27,7 +27,7 @@ fn finds_only(
     to: u64,
     points: &[Point],
 ) -> bool
-    ensures { IsTrue result ↔ All (λ p. IsIn r.now.sure p × IsWanted rules.entry.now pick.now from to p) points.now }
+    ensures { IsTrue result ↔ All (λ p. IsIn r.now.sure p × IsWantedUnexpired rules.entry.now pick.now from to p) points.now }
 {
     let sure = r.sure.as_slice();
     points.iter().all(|p| has_point(sure, p) && is_wanted(rules, pick, from, to, p))
@@ -82,7 +82,7 @@ pub fn is_found(
     to: u64,
     series: &[Series],
 ) -> Result<bool, Memory>
-    ensures { IfOk result (λ b. IsTrue b ↔ IsFound r.now rules.entry.now pick.now from to series.now) }
+    ensures { IfOk result (λ b. IsTrue b ↔ IsFoundBy r.now rules.entry.now pick.now from to series.now) }
 {
     let points = points_in(alloc, space_picked(pick), series)?;
     let only = finds_only(r, rules, pick, from, to, &points);
@@ -91,7 +91,7 @@ pub fn is_found(
 }
 
 fn is_past(from: &Option<Key>, point: &Point) -> bool
-    ensures { IsTrue result ↔ IsPast from.now (key_of point.now) }
+    ensures { IsTrue result ↔ IsPastKey from.now (key_of point.now) }
 {
     match from {
         None => true,

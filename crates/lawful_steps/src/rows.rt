@@ -4,7 +4,7 @@ ghost use Rattle.std.specs.List.{All, Any};
 ghost use Rattle.m3_model.specs.Members.{IsIn};
 ghost use Rattle.cluster_core.specs.Refusals.{first_refusal};
 ghost use Rattle.cluster_core.specs.Replicas.{greater};
-ghost use Rattle.cluster_core.specs.Rows.{IsOwned, IsOwner, IsServing, IsReport, MayFence, IsLoaded, IsBegan, NoneHigher, MayBeHigher, IsTaken, TicksByClock, TakesWhatIsThere, MayFail, MayFindDamage, MayBeUnowned, MayRefuse, MayBegin, MayTake, LawfulStep};
+ghost use Rattle.cluster_core.specs.Rows.{IsOwned, IsOwner, IsServingAt, IsReport, MayFence, IsLoaded, IsBegan, NoneHigher, MayBeHigher, IsTakenCall, TicksByClock, TakesWhatIsThere, DiskMayFail, MayFindDamage, MayBeUnowned, ReplicaMayRefuse, MayBegin, MayTake, LawfulStep};
 ghost use Rattle.lawful_steps.specs.NoSums.{GivesNoSums};
 ghost use Rattle.lawful_steps.specs.Shows.{IsCovered};
 ghost use Rattle.cluster_core.specs.declared.event.StepReply.TheVariants as reply;
@@ -35,7 +35,7 @@ fn is_owner(r: &ReplicaState, version: u64) -> bool
 }
 
 fn is_serving(r: &ReplicaState, version: u64) -> bool
-    ensures { IsTrue result ↔ IsServing r.now version }
+    ensures { IsTrue result ↔ IsServingAt r.now version }
 {
     is_owner(r, version) && r.fence <= version
 }
@@ -121,7 +121,7 @@ fn may_be_higher(r: &ReplicaState, tenure: u64) -> bool
 }
 
 fn is_taken(r: &ReplicaState, call: &StepCall) -> bool
-    ensures { IsTrue result ↔ IsTaken true r.now call.now }
+    ensures { IsTrue result ↔ IsTakenCall true r.now call.now }
 {
     first_refusal(r, call).is_none()
         && match call {
@@ -150,7 +150,7 @@ fn takes_what_is_there(past: &[Event], shard: u32, call: &StepCall) -> bool
 }
 
 fn may_fail(past: &[Event], shard: u32, r: &ReplicaState, call: &StepCall) -> bool
-    ensures { IsTrue result ↔ MayFail true past.now shard r.now call.now }
+    ensures { IsTrue result ↔ DiskMayFail true past.now shard r.now call.now }
 {
     uses_disk(call)
         && is_taken(r, call)
@@ -176,7 +176,7 @@ fn may_be_unowned(r: &ReplicaState, call: &StepCall) -> bool
 }
 
 fn may_refuse(past: &[Event], shard: u32, r: &ReplicaState, call: &StepCall, why: &Reason) -> bool
-    ensures { IsTrue result ↔ MayRefuse true past.now shard r.now call.now why.now }
+    ensures { IsTrue result ↔ ReplicaMayRefuse true past.now shard r.now call.now why.now }
 {
     match why {
         Reason::Memory => true,

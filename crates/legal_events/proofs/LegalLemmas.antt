@@ -179,7 +179,7 @@ so_far_reached since fetch ns nodes so_far joined h =
 
 -- ---- the whole list
 
--- the first events are lawful in their places, and no answers of digests
+-- the first events are lawful at their positions, and no answers of digests
 abbrev pub LegalBelow : List Event → ℕ → Type 0
 LegalBelow events n = (i : ℕ) (e : Event) → i < n → At events i e → LawfulAt true i (take i events) e × HasNoSums e
 

@@ -4,7 +4,7 @@ ghost use Rattle.std.specs.List.{All};
 ghost use Rattle.m3_model.specs.Members.{IsIn};
 ghost use Rattle.m3_model.specs.Reads.{points_in, Covers};
 ghost use Rattle.cluster_core.specs.Asks.{StepWasAsked};
-ghost use Rattle.cluster_core.specs.Core.{KeepsPoints};
+ghost use Rattle.cluster_core.specs.Core.{ListKeepsPoints};
 ghost use Rattle.cluster_core.specs.Earlier.{GaveAnswer};
 ghost use Rattle.legal_events.specs.Fetches.{CanJoin};
 ghost use Rattle.past_events.specs.Takes.{HasTaken};
@@ -376,11 +376,16 @@ fn is_lawful_event(alloc: Global, past: &[Event], event: &Event) -> Result<bool,
     }
 }
 
-// Whether the event is lawful at this place, and no answer of digests.
-fn is_lawful_at(alloc: Global, place: usize, past: &[Event], event: &Event) -> Result<bool, Memory>
-    ensures { IfOk result (λ b. IsTrue b ↔ (LawfulAt true place past.now event.now × HasNoSums event.now)) }
+// Whether the event is lawful at this position, and no answer of digests.
+fn is_lawful_at(
+    alloc: Global,
+    position: usize,
+    past: &[Event],
+    event: &Event,
+) -> Result<bool, Memory>
+    ensures { IfOk result (λ b. IsTrue b ↔ (LawfulAt true position past.now event.now × HasNoSums event.now)) }
 {
-    match place {
+    match position {
         0 => match event {
             Event::Place { place, done } => Ok(done.len() == 0 && is_lawful(place)),
             _ => Ok(false),
@@ -392,7 +397,7 @@ fn is_lawful_at(alloc: Global, place: usize, past: &[Event], event: &Event) -> R
 
 // The core theorem, of every list and not just of those that memory can hold.
 fn lists_keep()
-    ensures { (list : List Event) → Legal true list → KeepsPoints list }
+    ensures { (list : List Event) → Legal true list → ListKeepsPoints list }
 {}
 
 /// Whether the list is legal, each event being lawful after those before it, and no call for digests in it was answered:
@@ -403,12 +408,12 @@ fn lists_keep()
 /// that memory can hold.
 pub fn any_legal(alloc: Global, events: &Seq<Event>) -> Result<bool, Memory>
     ensures legal { IfOk result (λ b. IsTrue b ↔ (Legal true events.now × All HasNoSums events.now)) }
-    ensures keeps { (list : List Event) → Legal true list → KeepsPoints list }
+    ensures keeps { (list : List Event) → Legal true list → ListKeepsPoints list }
 {
     lists_keep();
     let events = events.as_slice();
-    for (place, event) in events.iter().enumerate() {
-        if !is_lawful_at(alloc, place, &events[..place], event)? {
+    for (position, event) in events.iter().enumerate() {
+        if !is_lawful_at(alloc, position, &events[..position], event)? {
             return Ok(false);
         }
     }

@@ -20,7 +20,7 @@ count_of_values (value ∷ values) = ap suc (count_of_values values)
 abbrev pub with_front : {A : Type 0} → List A → Result (List A) LineErr → Result (List A) LineErr
 with_front front rest = rest >>= λ entries. Ok (front ++ entries)
 
--- what stands from the i-th place on begins with what stands there
+-- what stands from the i-th position on begins with what stands there
 pub drop_at : {A : Type 0} (xs : List A) (i : ℕ) (x : A) → i < length xs → x ≡ get_or xs i x → drop i xs ≡ x ∷ drop (suc i) xs
 drop_at xs i x h e = drop-cons xs i x h ∙ ap (λ one. one ∷ drop (suc i) xs) (sym e)
 

@@ -6,7 +6,7 @@ use Rattle.std.proofs.lemmas.Bool.{and_parts, and_from, ltb-true, eqb-true, eq-e
 use Rattle.serde_json.specs.Data.{Data, Items, no_items, item}
 use Rattle.serde_json.specs.Find.{as_array}
 use Rattle.m3_model.specs.Ascends.{Ascends}
-use Rattle.m3_model.specs.Limits.{MeetsLimits, IsFate, IsSameMessage}
+use Rattle.m3_model.specs.Limits.{MeetsLimits, IsFate, IsFateOfSameMessage}
 use Rattle.m3_model.specs.declared.act.Act.TheVariants as act
 use Rattle.m3_model.specs.declared.act.Fate.{Fate}
 use Rattle.m3_model.specs.declared.act.Fate.TheVariants as fates
@@ -64,22 +64,22 @@ data_fate : (d : Data) (fate : ℕ × ℕ × List ℕ × Fate) → fate_of d ≡
 unfolding fate_of
 data_fate d fate e = let steps = from_steps (needed (as_array d)) fate_of_items fate e in items_fate steps.0 fate steps.2
 
-tells_message : (a b : ℕ × ℕ × List ℕ × Fate) → IsTrue (is_same_message a b) ↔ IsSameMessage a b
+tells_message : (a b : ℕ × ℕ × List ℕ × Fate) → IsTrue (is_same_message a b) ↔ IsFateOfSameMessage a b
 tells_message a b = (there, back)
   where
-    there : IsTrue (is_same_message a b) → IsSameMessage a b
+    there : IsTrue (is_same_message a b) → IsFateOfSameMessage a b
     there same =
         let parts = and_parts (nat_eq a.0 b.0 && nat_eq a.1 b.1) (pointwise nat_eq a.2 b.2) same in
         let numbers = and_parts (nat_eq a.0 b.0) (nat_eq a.1 b.1) parts.0 in
         (eqb-true a.0 b.0 numbers.0, eqb-true a.1 b.1 numbers.1, (bytes_decides a.2 b.2).0 parts.1)
 
-    back : IsSameMessage a b → IsTrue (is_same_message a b)
+    back : IsFateOfSameMessage a b → IsTrue (is_same_message a b)
     back same =
         and_from (nat_eq a.0 b.0 && nat_eq a.1 b.1) (pointwise nat_eq a.2 b.2) (and_from (nat_eq a.0 b.0) (nat_eq a.1 b.1) (eq-eqb a.0 b.0 same.0) (eq-eqb a.1 b.1 same.1)) ((bytes_decides a.2 b.2).1 same.2)
 
 -- the test of fates tells whether each two of them are of different messages
-pub messages_differ-Ascends : (list : List (ℕ × ℕ × List ℕ × Fate)) → IsTrue (messages_differ list) ↔ Ascends (λ a b. ¬ IsSameMessage a b) list
-messages_differ-Ascends = differ_by-Ascends is_same_message IsSameMessage tells_message
+pub messages_differ-Ascends : (list : List (ℕ × ℕ × List ℕ × Fate)) → IsTrue (messages_differ list) ↔ Ascends (λ a b. ¬ IsFateOfSameMessage a b) list
+messages_differ-Ascends = differ_by-Ascends is_same_message IsFateOfSameMessage tells_message
 
 -- the fates that are read
 pub fates_at-MeetsLimits : (key : List ℕ) (d : Data) (list : List (ℕ × ℕ × List ℕ × Fate)) → fates_at key d ≡ Ok list → MeetsLimits (act.Fates list)

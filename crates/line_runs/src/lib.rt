@@ -5,4 +5,6 @@ pub mod disks;
 pub mod script;
 
 pub use disks::{OF_C, disks_with};
+pub use m3_program::Status;
+pub use m3_program::run::run;
 pub use script::{INIT, NAMESPACE, PLACED, ended, ended_over, told};

@@ -1,7 +1,7 @@
 //! The lines and replies that scripts begin with, and runs over them.
 ghost use Rattle.std.specs.Prelude.{◌≡◌};
 ghost use Rattle.m3_outside.specs.Slots.{Out};
-ghost use Rattle.m3_outside.specs.declared.slot.Slot.{Slot as AtSlot};
+ghost use Rattle.m3_outside.specs.declared.slot.DiskSlot.{DiskSlot as AtSlot};
 ghost use Rattle.mem_disk.specs.Slots.{held_of};
 
 use m3_model::Memory;

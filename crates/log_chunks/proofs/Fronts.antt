@@ -1,4 +1,4 @@
--- What stands at a place in the first bytes of a segment.
+-- What stands at an offset in the first bytes of a segment.
 use Rattle.std.proofs.Common.{◌≡◌, inl, inr, ℕ, suc, ◌+◌, ◌-◌, ◌<◌, ◌≤◌, List, [], ◌∷◌, ◌++◌, length, take, drop, get_or, replicate, refl, sym, ap, subst, ◌∙◌, arith, append_assoc, append-nil, length-append, length-take, length-drop}
 use Rattle.std.proofs.lemmas.List.{take_at, drop-drop, drop_more, length-replicate, length-take-le, take-append-drop, take-append-le}
 use Rattle.std.proofs.Math.ListN.{drop_of_length-le}
@@ -6,10 +6,10 @@ use Rattle.byteorder.specs.Endian.{big_bytes}
 use Rattle.wire_bytes.specs.Fields.{Stands, Begins, GoesOn, Misfits}
 use Rattle.wire_bytes.specs.Numbers.{ANumber}
 use Rattle.wire_bytes.proofs.FieldLemmas.{front_of, begins_take}
-use Rattle.log_chunks.specs.Segment.{chunk_bytes, written, IsEnd, Reads, IsSegment}
+use Rattle.log_chunks.specs.Segment.{chunk_bytes, written, IsEnd, ReadsChunks, IsSegment}
 use Rattle.log_chunks.specs.declared.chunk_read.ChunkAt.{ChunkAt}
 use Rattle.log_chunks.specs.declared.chunk_read.ChunkAt.TheVariants as found
-use Rattle.log_chunks.specs.Places.{ChunkStands, EndStands, BadStands, IsNext}
+use Rattle.log_chunks.specs.Offsets.{ChunkStands, EndStands, BadStands, IsNext}
 use Rattle.log_chunks.proofs.Chunks.{cut_at, end_few, reads_all, take_sum, written_push}
 use Rattle.log_chunks.proofs.LawLemmas.{both_parts, same_length, same_chunk, no_chunk, chunk_long}
 use Rattle.log_chunks.proofs.Shapes.{reads_written, zeros_end}
@@ -18,7 +18,7 @@ pub length_chunk : (c : List ℕ) → length (chunk_bytes c) ≡ 5 + length c
 length_chunk c = omega (arith, length-append (big_bytes 4 (length c)) c)
 
 -- what is read of bytes that begin with whole chunks begins with these
-pub reads_behind : (cs ds : List (List ℕ)) (y : List ℕ) → length (written cs ++ y) ≤ 65536 → Reads ds (written cs ++ y) → (es : List (List ℕ)) × (ds ≡ cs ++ es) × Reads es y
+pub reads_behind : (cs ds : List (List ℕ)) (y : List ℕ) → length (written cs ++ y) ≤ 65536 → ReadsChunks ds (written cs ++ y) → (es : List (List ℕ)) × (ds ≡ cs ++ es) × ReadsChunks es y
 reads_behind [] ds y le r = (ds, refl, r)
 reads_behind (c ∷ cs) [] y le r = absurd (no_chunk c (written cs ++ y) (subst IsEnd (append_assoc (chunk_bytes c) (written cs) y) r))
 reads_behind (c ∷ cs) (d ∷ ds) y le r =
@@ -26,7 +26,7 @@ reads_behind (c ∷ cs) (d ∷ ds) y le r =
     let one = chunk_long c (written cs ++ y) (written (c ∷ cs) ++ y) le here in
     let two = chunk_long d r.0 (written (c ∷ cs) ++ y) le r.1 in
     let same = same_chunk c d (written cs ++ y) r.0 one.0 two.0 (sym here ∙ r.1) in
-    let later = reads_behind cs ds y one.1 (subst (Reads ds) (sym same.1) r.2) in
+    let later = reads_behind cs ds y one.1 (subst (ReadsChunks ds) (sym same.1) r.2) in
     (later.0, (λ i. sym same.0 i ∷ later.1 i), later.2)
 
 -- zeros behind an end make a segment
@@ -39,8 +39,8 @@ end_fits cs b bytes split le ends =
       whole = record {
         chunks = cs;
         long = (let a = length-append bytes zeros in let z = length-replicate {A = ℕ} n 0 in omega (arith, a, z, le));
-        reads = subst (Reads cs) (sym (ap (λ (l : List ℕ). l ++ zeros) split ∙ append_assoc (written cs) b zeros))
-            (subst (λ (ds : List (List ℕ)). Reads ds (written cs ++ (b ++ zeros))) (append-nil cs) (reads_written cs [] (b ++ zeros) ends));
+        reads = subst (ReadsChunks cs) (sym (ap (λ (l : List ℕ). l ++ zeros) split ∙ append_assoc (written cs) b zeros))
+            (subst (λ (ds : List (List ℕ)). ReadsChunks ds (written cs ++ (b ++ zeros))) (append-nil cs) (reads_written cs [] (b ++ zeros) ends));
       };
     }
 
@@ -56,7 +56,7 @@ chunk_fits cs b w c bytes split is le =
       whole = record {
         chunks = cs ++ c ∷ [];
         long = (let l = ap length whole in let a = length-append (written cs) (chunk_bytes c ++ zeros) in let d = length-append (chunk_bytes c) zeros in let z = length-replicate {A = ℕ} n 0 in let e = length_chunk c in omega (arith, l, a, d, z, e, le));
-        reads = subst (Reads (cs ++ c ∷ [])) (sym whole) (reads_written cs (c ∷ []) (chunk_bytes c ++ zeros) (zeros, refl, zeros_end n));
+        reads = subst (ReadsChunks (cs ++ c ∷ [])) (sym whole) (reads_written cs (c ∷ []) (chunk_bytes c ++ zeros) (zeros, refl, zeros_end n));
       };
     }
 
@@ -65,8 +65,8 @@ chunk_room : (bytes : List ℕ) (at from next : ℕ) (s : ChunkStands bytes at f
 chunk_room bytes at from next s = (let e = s.stands.ends in let l = length_chunk s.payload in omega (arith, e, l), s.stands.within)
 
 module _ (cs : List (List ℕ)) (bytes : List ℕ) (at : ℕ) (short : length bytes ≤ 65536) (inside : at ≤ length bytes) (done : take at bytes ≡ written cs) where
-  place : length (written cs) ≡ at
-  place = sym (ap length done) ∙ length-take-le at bytes inside
+  offset : length (written cs) ≡ at
+  offset = sym (ap length done) ∙ length-take-le at bytes inside
 
   -- no chunk stands there, and reading ends
   nothing : ((from next : ℕ) → ¬ (ChunkStands bytes at from next)) → IsEnd (drop at bytes ++ replicate (65536 - length bytes) 0) → IsEnd (drop at bytes) → EndStands cs bytes at
@@ -110,7 +110,7 @@ module _ (cs : List (List ℕ)) (bytes : List ℕ) (at : ℕ) (short : length by
         let zeros = replicate n 0 in
         let z = length-replicate {A = ℕ} n 0 in
         chunk_fits cs (1 ∷ l) (w ++ zeros) zeros front whole
-        (ap (λ (x : List ℕ). 1 ∷ x) (sym (append_assoc l w zeros) ∙ ap (λ (x : List ℕ). x ++ zeros) is ∙ ap (λ (k : ℕ). big_bytes 4 k ++ zeros) (sym z))) (omega (arith, z, place, le, room))
+        (ap (λ (x : List ℕ). 1 ∷ x) (sym (append_assoc l w zeros) ∙ ap (λ (x : List ℕ). x ++ zeros) is ∙ ap (λ (k : ℕ). big_bytes 4 k ++ zeros) (sym z))) (omega (arith, z, offset, le, room))
 
     -- the bytes end within the length
     pub short_length : GoesOn (ANumber 4 0 (65536 - at - 5)) (drop (at + 1) bytes) → EndStands cs bytes at
@@ -155,7 +155,7 @@ module _ (cs : List (List ℕ)) (bytes : List ℕ) (at : ℕ) (short : length by
                 omega (arith, a, b, n, less);
             fits = chunk_fits cs (1 ∷ later) w c bytes split
                 (ap (λ (x : List ℕ). 1 ∷ x) (ap (λ (x : List ℕ). x ++ w) spelled_body ∙ append_assoc (big_bytes 4 len) body w ∙ ap (λ (k : ℕ). big_bytes 4 k ++ c) (sym long)))
-                (omega (arith, long, place, few, room));
+                (omega (arith, long, offset, few, room));
             ends = λ all. absurd (omega (arith, all, less, few, room));
           }
 
@@ -195,7 +195,7 @@ module _ (cs : List (List ℕ)) (bytes : List ℕ) (at : ℕ) (short : length by
           let one : take 1 (drop at bytes) ≡ 1 ∷ [] = ap (λ (d : List ℕ). take 1 d) opened in
           take_sum bytes (at + 1) k ∙ ap (λ (h : List ℕ). h ++ take k later) (take_sum bytes at 1 ∙ ap (λ (h : List ℕ). take at bytes ++ h) one ∙ ap (λ (h : List ℕ). h ++ 1 ∷ []) done) ∙ append_assoc (written cs) (1 ∷ []) (take k later)
 
-      begins_number : (es : List (List ℕ)) (x r : List ℕ) → length x ≤ 4 → at + suc (length (x ++ r)) ≡ 65536 → Reads es (1 ∷ (x ++ r)) → Begins (ANumber 4 0 (65536 - at - 5)) x
+      begins_number : (es : List (List ℕ)) (x r : List ℕ) → length x ≤ 4 → at + suc (length (x ++ r)) ≡ 65536 → ReadsChunks es (1 ∷ (x ++ r)) → Begins (ANumber 4 0 (65536 - at - 5)) x
       begins_number [] x r le total (inl shut) = absurd (shut refl)
       begins_number [] x r le total (inr less) = absurd (omega (arith, less, total, room))
       begins_number (d ∷ ds) x r le total reads =
@@ -210,8 +210,8 @@ module _ (cs : List (List ℕ)) (bytes : List ℕ) (at : ℕ) (short : length by
           let e : suc bad ≡ at + 1 + suc n = omega (arith, behind) in
           let whole : take (suc bad) bytes ++ g.rest ≡ written cs ++ (1 ∷ (x ++ g.rest)) = ap (λ (l : List ℕ). l ++ g.rest) (ap (λ (k : ℕ). take k bytes) e ∙ front (suc n)) ∙ append_assoc (written cs) (1 ∷ x) g.rest in
           let long : length (written cs ++ (1 ∷ (x ++ g.rest))) ≡ 65536 = sym (ap length whole) ∙ g.whole.long in
-          let read = reads_behind cs g.whole.chunks (1 ∷ (x ++ g.rest)) (omega (arith, long)) (subst (Reads g.whole.chunks) whole g.whole.reads) in
-          m.none (begins_number read.0 x g.rest (let t = length-take (suc n) later in omega (arith, t, n_few)) (let a = length-append (written cs) (1 ∷ (x ++ g.rest)) in omega (arith, a, long, place)) read.2)
+          let read = reads_behind cs g.whole.chunks (1 ∷ (x ++ g.rest)) (omega (arith, long)) (subst (ReadsChunks g.whole.chunks) whole g.whole.reads) in
+          m.none (begins_number read.0 x g.rest (let t = length-take (suc n) later in omega (arith, t, n_few)) (let a = length-append (written cs) (1 ∷ (x ++ g.rest)) in omega (arith, a, long, offset)) read.2)
 
       no_chunk_there : (from next : ℕ) → ¬ (ChunkStands bytes at from next)
       no_chunk_there from next s =
@@ -247,17 +247,17 @@ chunk_push cs bytes at from next s done =
     ∙ ap (λ (h : List ℕ). h ++ take (length c) (drop at bytes)) done
     ∙ ap (λ (h : List ℕ). written cs ++ h) (ap (λ (d : List ℕ). take (length c) d) s.stands.split ∙ take_at c (drop next bytes) (length c) refl) ∙ sym (written_push cs s.payload)
 
--- the bytes between the two places
+-- the bytes between the two offsets
 pub payload_is : (bytes : List ℕ) (at from next : ℕ) (s : ChunkStands bytes at from next) → take (next - from) (drop from bytes) ≡ s.payload
 payload_is bytes at from next s =
     let e : next - from ≡ length s.payload = (let h = s.named.ends in omega (arith, h)) in
     ap (λ (k : ℕ). take k (drop from bytes)) e ∙ ap (λ (d : List ℕ). take (length s.payload) d) s.named.split ∙ take_at s.payload (drop next bytes) (length s.payload) refl
 
 -- neither a chunk nor a length that doesn't fit
-pub end_stands : (cs : List (List ℕ)) (bytes : List ℕ) (at : ℕ) (x : ChunkAt) → IsNext cs bytes at x → ((from next : ℕ) → x ≡ found.Chunk from next → ⊥) → ((place : ℕ) → x ≡ found.Bad place → ⊥) → EndStands cs bytes at
+pub end_stands : (cs : List (List ℕ)) (bytes : List ℕ) (at : ℕ) (x : ChunkAt) → IsNext cs bytes at x → ((from next : ℕ) → x ≡ found.Chunk from next → ⊥) → ((offset : ℕ) → x ≡ found.Bad offset → ⊥) → EndStands cs bytes at
 end_stands cs bytes at (found.Chunk from next) is chunk bad = absurd (chunk from next refl)
 end_stands cs bytes at found.End is chunk bad = is
-end_stands cs bytes at (found.Bad place) is chunk bad = absurd (bad place refl)
+end_stands cs bytes at (found.Bad offset) is chunk bad = absurd (bad offset refl)
 
 -- whole chunks begin a segment, where it has room for them
 pub chunks_fit : (cs : List (List ℕ)) → length (written cs) ≤ 65536 → Begins IsSegment (written cs)

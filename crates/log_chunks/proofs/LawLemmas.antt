@@ -3,7 +3,7 @@ use Rattle.std.proofs.Common.{◌≡◌, inl, inr, ℕ, suc, ◌+◌, ◌^◌, �
 use Rattle.std.proofs.lemmas.List.{take_at, drop_at}
 use Rattle.byteorder.specs.Endian.{big_bytes, big_from}
 use Rattle.byteorder.specs.Numbers.{big_number-reads_back}
-use Rattle.log_chunks.specs.Segment.{chunk_bytes, IsEnd, Reads}
+use Rattle.log_chunks.specs.Segment.{chunk_bytes, IsEnd, ReadsChunks}
 
 -- a chunk at the head of bytes that reach to a segment's end has a length that its field can say
 head_same : (x y : ℕ) (r s : List ℕ) → x ∷ r ≡ y ∷ s → (x ≡ y) × (r ≡ s)
@@ -37,11 +37,11 @@ chunk_long c r bytes le e =
     (omega (arith, le, l, length-append (big_bytes 4 (length c)) c), omega (arith, le, l))
 
 -- a segment reads as at most one list of chunks
-pub one_reading : (cs ds : List (List ℕ)) (bytes : List ℕ) → length bytes ≤ 65536 → Reads cs bytes → Reads ds bytes → cs ≡ ds
+pub one_reading : (cs ds : List (List ℕ)) (bytes : List ℕ) → length bytes ≤ 65536 → ReadsChunks cs bytes → ReadsChunks ds bytes → cs ≡ ds
 one_reading [] [] bytes le a b = refl
 one_reading [] (d ∷ ds) bytes le a b = absurd (no_chunk d b.0 (subst IsEnd b.1 a))
 one_reading (c ∷ cs) [] bytes le a b = absurd (no_chunk c a.0 (subst IsEnd a.1 b))
 one_reading (c ∷ cs) (d ∷ ds) bytes le a b =
     let same = same_chunk c d a.0 b.0 (chunk_long c a.0 bytes le a.1).0 (chunk_long d b.0 bytes le b.1).0 (sym a.1 ∙ b.1) in
-    let rest = one_reading cs ds a.0 (chunk_long c a.0 bytes le a.1).1 a.2 (subst (Reads ds) (sym same.1) b.2) in
+    let rest = one_reading cs ds a.0 (chunk_long c a.0 bytes le a.1).1 a.2 (subst (ReadsChunks ds) (sym same.1) b.2) in
     λ i. same.0 i ∷ rest i

@@ -10,7 +10,7 @@ use Rattle.m3_outside.proofs.Names.{get_here, get_apart, insert_over}
 use Rattle.m3_outside.proofs.Patches.{patched_parts}
 use Rattle.m3_outside.proofs.Moments.{elapses_as, elapses_then}
 use Rattle.byteorder.specs.Endian.{big_bytes}
-use Rattle.log_chunks.specs.Segment.{chunk_bytes, written, Reads, HasChunks, MayAdd, Adds}
+use Rattle.log_chunks.specs.Segment.{chunk_bytes, written, ReadsChunks, HasChunks, MayAdd, Adds}
 
 -- old with another file there
 pub record Over (name : FileName) (P : List ℕ → Type 0) (old new : Files) : Type 0 where
@@ -26,14 +26,14 @@ one_byte (x ∷ y ∷ l) e = absurd (omega arith)
 stay : {P : List ℕ → Type 0} (name : FileName) (x y z : Files) → Over name P x y → z ≡ y → Over name P x z
 stay {P} name x y z over same = record { file = over.file; has = over.has; after = same ∙ over.after }
 
-pub reads_written : (chunks more : List (List ℕ)) (rest : List ℕ) → Reads more rest → Reads (chunks ++ more) (written chunks ++ rest)
+pub reads_written : (chunks more : List (List ℕ)) (rest : List ℕ) → ReadsChunks more rest → ReadsChunks (chunks ++ more) (written chunks ++ rest)
 reads_written [] more rest ends = ends
 reads_written (c ∷ chunks) more rest ends = (written chunks ++ rest, append_assoc (chunk_bytes c) (written chunks) rest, reads_written chunks more rest ends)
 
-pub zeros_end : (n : ℕ) → Reads [] (replicate n 0)
+pub zeros_end : (n : ℕ) → ReadsChunks [] (replicate n 0)
 zeros_end n = ends n (replicate n 0) refl
   where
-    ends : (n : ℕ) (l : List ℕ) → l ≡ replicate n 0 → Reads [] l
+    ends : (n : ℕ) (l : List ℕ) → l ≡ replicate n 0 → ReadsChunks [] l
     ends n [] e = tt
     ends zero (x ∷ l) e = absurd (cc)
     ends (suc n) (x ∷ l) e = inl (λ one. absurd (cc))
@@ -42,8 +42,8 @@ some_same : (x y : List ℕ) → Some x ≡ Some y → x ≡ y
 some_same x y e = cc
 
 module _ (name : FileName) (chunks : List (List ℕ)) (at n behind : ℕ) (field chunk : List ℕ)
-    (place : length (written chunks) ≡ at) (field_is : length field ≡ 4) (chunk_is : length chunk ≡ n) (field_eq : field ≡ big_bytes 4 (length chunk)) (total : at + (5 + (n + behind)) ≡ 65536) where
-  -- a closed gate, any n bytes behind the field's place, and zeros
+    (offset : length (written chunks) ≡ at) (field_is : length field ≡ 4) (chunk_is : length chunk ≡ n) (field_eq : field ≡ big_bytes 4 (length chunk)) (total : at + (5 + (n + behind)) ≡ 65536) where
+  -- a closed gate, any n bytes behind the field's offset, and zeros
   abbrev pub closed : List ℕ → List ℕ → List ℕ
   closed f b = written chunks ++ (0 ∷ (f ++ (b ++ replicate behind 0)))
 
@@ -58,21 +58,21 @@ module _ (name : FileName) (chunks : List (List ℕ)) (at n behind : ℕ) (field
   field_patch f b bytes f_is bytes_is =
       let split : (g : List ℕ) → closed g b ≡ (written chunks ++ 0 ∷ []) ++ (g ++ (b ++ replicate behind 0)) = λ (g : List ℕ). sym (append_assoc (written chunks) (0 ∷ []) (g ++ (b ++ replicate behind 0))) in
       ap (λ (l : List ℕ). patched l (at + 1) bytes) (split f)
-      ∙ patched_parts (written chunks ++ 0 ∷ []) f (b ++ replicate behind 0) (at + 1) bytes (omega (arith, length-append (written chunks) (0 ∷ []), place)) (bytes_is ∙ sym f_is)
+      ∙ patched_parts (written chunks ++ 0 ∷ []) f (b ++ replicate behind 0) (at + 1) bytes (omega (arith, length-append (written chunks) (0 ∷ []), offset)) (bytes_is ∙ sym f_is)
       ∙ sym (split bytes)
 
   body_patch : (f b bytes : List ℕ) → length f ≡ 4 → length b ≡ n → length bytes ≡ n → patched (closed f b) (at + 5) bytes ≡ closed f bytes
   body_patch f b bytes f_is b_is bytes_is =
       let split : (g : List ℕ) → closed f g ≡ (written chunks ++ (0 ∷ f)) ++ (g ++ replicate behind 0) = λ (g : List ℕ). sym (append_assoc (written chunks) (0 ∷ f) (g ++ replicate behind 0)) in
       ap (λ (l : List ℕ). patched l (at + 5) bytes) (split b)
-      ∙ patched_parts (written chunks ++ (0 ∷ f)) b (replicate behind 0) (at + 5) bytes (omega (arith, length-append (written chunks) (0 ∷ f), place, f_is)) (bytes_is ∙ sym b_is)
+      ∙ patched_parts (written chunks ++ (0 ∷ f)) b (replicate behind 0) (at + 5) bytes (omega (arith, length-append (written chunks) (0 ∷ f), offset, f_is)) (bytes_is ∙ sym b_is)
       ∙ sym (split bytes)
 
   abbrev pub gated : ℕ → List ℕ
   gated gate = written chunks ++ (gate ∷ (field ++ (chunk ++ replicate behind 0)))
 
   gate_patch : (bytes : List ℕ) → length bytes ≡ 1 → patched (closed field chunk) at bytes ≡ written chunks ++ (bytes ++ (field ++ (chunk ++ replicate behind 0)))
-  gate_patch bytes bytes_is = patched_parts (written chunks) (0 ∷ []) (field ++ (chunk ++ replicate behind 0)) at bytes place bytes_is
+  gate_patch bytes bytes_is = patched_parts (written chunks) (0 ∷ []) (field ++ (chunk ++ replicate behind 0)) at bytes offset bytes_is
 
   -- the steps, on files
   pub field_step : (x y : Files) → (f b : List ℕ) → get x name ≡ Some (closed f b) → length f ≡ 4 → length b ≡ n → Torn name (at + 1) 4 x y → Over name IsClosed x y
@@ -98,15 +98,15 @@ module _ (name : FileName) (chunks : List (List ℕ)) (at n behind : ℕ) (field
   abbrev pub begun : List ℕ
   begun = closed (replicate 4 0) (replicate n 0)
 
-  closed_reads : (f b : List ℕ) → Reads chunks (closed f b)
-  closed_reads f b = subst (λ (cs : List (List ℕ)). Reads cs (closed f b)) (append-nil chunks) (reads_written chunks [] (0 ∷ (f ++ (b ++ replicate behind 0))) (inl (λ e. absurd (omega arith))))
+  closed_reads : (f b : List ℕ) → ReadsChunks chunks (closed f b)
+  closed_reads f b = subst (λ (cs : List (List ℕ)). ReadsChunks cs (closed f b)) (append-nil chunks) (reads_written chunks [] (0 ∷ (f ++ (b ++ replicate behind 0))) (inl (λ e. absurd (omega arith))))
 
-  open_reads : Reads (chunks ++ chunk ∷ []) (gated 1)
+  open_reads : ReadsChunks (chunks ++ chunk ∷ []) (gated 1)
   open_reads = reads_written chunks (chunk ∷ []) (1 ∷ (field ++ (chunk ++ replicate behind 0)))
       (replicate behind 0, ap (λ (l : List ℕ). 1 ∷ l) (sym (append_assoc field chunk (replicate behind 0)) ∙ ap (λ (l : List ℕ). (l ++ chunk) ++ replicate behind 0) field_eq), zeros_end behind)
 
-  shut_reads : (gate : ℕ) → (gate ≡ 1 → ⊥) → Reads chunks (gated gate)
-  shut_reads gate shut = subst (λ (cs : List (List ℕ)). Reads cs (gated gate)) (append-nil chunks) (reads_written chunks [] (gate ∷ (field ++ (chunk ++ replicate behind 0))) (inl shut))
+  shut_reads : (gate : ℕ) → (gate ≡ 1 → ⊥) → ReadsChunks chunks (gated gate)
+  shut_reads gate shut = subst (λ (cs : List (List ℕ)). ReadsChunks cs (gated gate)) (append-nil chunks) (reads_written chunks [] (gate ∷ (field ++ (chunk ++ replicate behind 0))) (inl shut))
 
   pub record IsGated (file : List ℕ) : Type 0 where
     pub gate : ℕ
@@ -131,10 +131,10 @@ module _ (name : FileName) (chunks : List (List ℕ)) (at n behind : ℕ) (field
   others_of {P} x y over q apart = ap (λ (m : Files). get m q) over.after ∙ get_apart x name over.file q apart
 
   pub length-closed : (f b : List ℕ) → length f ≡ 4 → length b ≡ n → length (closed f b) ≡ at + (5 + (n + behind))
-  length-closed f b f_is b_is = simp (length-append, length-replicate) (omega (arith, place, f_is, b_is))
+  length-closed f b f_is b_is = simp (length-append, length-replicate) (omega (arith, offset, f_is, b_is))
 
   length-gated : (gate : ℕ) → length (gated gate) ≡ at + (5 + (n + behind))
-  length-gated gate = simp (length-append, length-replicate) (omega (arith, place, field_is, chunk_is))
+  length-gated gate = simp (length-append, length-replicate) (omega (arith, offset, field_is, chunk_is))
 
   had : (x : Files) → get x name ≡ Some begun → HasChunks name chunks x
   had x there = record { file = begun; there = there; size = length-closed (replicate 4 0) (replicate n 0) (length-replicate {A = ℕ} 4 0) (length-replicate {A = ℕ} n 0) ∙ total; reads = closed_reads (replicate 4 0) (replicate n 0) }
@@ -143,7 +143,7 @@ module _ (name : FileName) (chunks : List (List ℕ)) (at n behind : ℕ) (field
   closed_may x y there over = record {
     chunks = chunks;
     before = had x there;
-    after = inl (record { file = over.file; there = there_of x y over; size = ap length over.has.file_is ∙ length-closed over.has.f over.has.b over.has.f_is over.has.b_is ∙ total; reads = subst (λ (l : List ℕ). Reads chunks l) (sym over.has.file_is) (closed_reads over.has.f over.has.b) });
+    after = inl (record { file = over.file; there = there_of x y over; size = ap length over.has.file_is ∙ length-closed over.has.f over.has.b over.has.f_is over.has.b_is ∙ total; reads = subst (λ (l : List ℕ). ReadsChunks chunks l) (sym over.has.file_is) (closed_reads over.has.f over.has.b) });
     others = others_of x y over;
   }
 
@@ -152,8 +152,8 @@ module _ (name : FileName) (chunks : List (List ℕ)) (at n behind : ℕ) (field
     chunks = chunks;
     before = had x there;
     after = ⊎_elim
-        (λ (one : over.has.gate ≡ 1). inr (record { file = over.file; there = there_of x y over; size = ap length over.has.file_is ∙ length-gated over.has.gate ∙ total; reads = subst (λ (l : List ℕ). Reads (chunks ++ chunk ∷ []) l) (sym (over.has.file_is ∙ ap gated one)) open_reads }))
-        (λ (shut : over.has.gate ≡ 1 → ⊥). inl (record { file = over.file; there = there_of x y over; size = ap length over.has.file_is ∙ length-gated over.has.gate ∙ total; reads = subst (λ (l : List ℕ). Reads chunks l) (sym over.has.file_is) (shut_reads over.has.gate shut) }))
+        (λ (one : over.has.gate ≡ 1). inr (record { file = over.file; there = there_of x y over; size = ap length over.has.file_is ∙ length-gated over.has.gate ∙ total; reads = subst (λ (l : List ℕ). ReadsChunks (chunks ++ chunk ∷ []) l) (sym (over.has.file_is ∙ ap gated one)) open_reads }))
+        (λ (shut : over.has.gate ≡ 1 → ⊥). inl (record { file = over.file; there = there_of x y over; size = ap length over.has.file_is ∙ length-gated over.has.gate ∙ total; reads = subst (λ (l : List ℕ). ReadsChunks chunks l) (sym over.has.file_is) (shut_reads over.has.gate shut) }))
         (cases_eq over.has.gate 1);
     others = others_of x y over;
   }

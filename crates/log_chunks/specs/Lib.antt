@@ -1,2 +1,3 @@
 pub mod Segment
-pub mod Places
+pub mod Offsets
+pub use Rattle.wire_bytes.specs.Fields

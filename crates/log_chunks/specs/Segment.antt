@@ -20,22 +20,22 @@ IsEnd [] = ⊤
 IsEnd (gate ∷ rest) = (gate ≡ 1 → ⊥) ⊎ (length rest < 4)
 
 -- these bytes are these chunks, and then an end
-abbrev pub Reads : List (List ℕ) → List ℕ → Type 0
-Reads [] bytes = IsEnd bytes
-Reads (chunk ∷ chunks) bytes = (rest : List ℕ) × (bytes ≡ chunk_bytes chunk ++ rest) × Reads chunks rest
+abbrev pub ReadsChunks : List (List ℕ) → List ℕ → Type 0
+ReadsChunks [] bytes = IsEnd bytes
+ReadsChunks (chunk ∷ chunks) bytes = (rest : List ℕ) × (bytes ≡ chunk_bytes chunk ++ rest) × ReadsChunks chunks rest
 
 -- the bytes of a segment: so many, chunks and then an end
 pub record IsSegment (bytes : List ℕ) : Type 0 where
   pub chunks : List (List ℕ)
   pub long : length bytes ≡ SEGMENT_BYTES
-  pub reads : Reads chunks bytes
+  pub reads : ReadsChunks chunks bytes
 
 -- the segment is there and has these chunks
 pub record HasChunks (name : FileName) (chunks : List (List ℕ)) (files : Files) : Type 0 where
   pub file : List ℕ
   pub there : get files name ≡ Some file
   pub size : length file ≡ SEGMENT_BYTES
-  pub reads : Reads chunks file
+  pub reads : ReadsChunks chunks file
 
 abbrev pub OthersStay : FileName → Files → Files → Type 0
 OthersStay name old new = (q : FileName) → (q ≡ name → ⊥) → get new q ≡ get old q
@@ -59,10 +59,10 @@ abbrev pub written : List (List ℕ) → List ℕ
 written [] = []
 written (chunk ∷ chunks) = chunk_bytes chunk ++ written chunks
 
--- the log's segment is whole chunks up to the log's place, and zeros behind it
+-- the log's segment is whole chunks up to the log's offset, and zeros behind it
 pub record IsAtRest (number at : ℕ) (files : Files) : Type 0 where
   pub chunks : List (List ℕ)
-  pub place : length (written chunks) ≡ at
+  pub offset : length (written chunks) ≡ at
   pub there : get files (segment number) ≡ Some (written chunks ++ replicate (SEGMENT_BYTES - at) 0)
 
 -- the log's segment is at rest, and a stop leaves it so

@@ -1,16 +1,16 @@
 ghost use Rattle.std.specs.Prelude.{◌≡◌, ℕ, ◌≤◌, List, length, take};
 ghost use Rattle.m3_model.specs.declared.limits.TheConstants.{SEGMENT_BYTES};
 ghost use Rattle.log_chunks.specs.Segment.{written};
-ghost use Rattle.log_chunks.specs.Places.{IsNext};
+ghost use Rattle.log_chunks.specs.Offsets.{IsNext};
 
 use crate::head::{HEAD_BYTES, OPEN};
 use m3_model::limits::SEGMENT_BYTES;
 use wire_bytes::{WireErr, get_between};
 
-/// What stands at a place in the first bytes of a segment.
+/// What stands at an offset in the first bytes of a segment.
 #[derive(Clone, Copy, Debug, PartialEq, Eq)]
 pub enum ChunkAt {
-    /// A whole chunk: its payload is the bytes from `from` to `next`, which is the place behind it.
+    /// A whole chunk: its payload is the bytes from `from` to `next`, which is the offset behind it.
     Chunk { from: usize, next: usize },
     /// No whole chunk. Reading ends here.
     End,
@@ -19,7 +19,7 @@ pub enum ChunkAt {
     Bad { at: usize },
 }
 
-/// What stands at the place, behind whole chunks, in the first bytes of a segment. Where there are fewer bytes than a
+/// What stands at the offset, behind whole chunks, in the first bytes of a segment. Where there are fewer bytes than a
 /// segment has, a chunk that reaches beyond them isn't whole. Takes no memory.
 pub fn get_chunk(bytes: &[u8], at: usize) -> ChunkAt
     requires short { length bytes.now ≤ SEGMENT_BYTES }

@@ -1,4 +1,4 @@
-//! Chunks in the bytes of a log's segment, and what stands at a place there.
+//! Chunks in the bytes of a log's segment, and what stands at an offset there.
 #![tactic(auto)]
 
 mod chunk_read;

@@ -240,7 +240,7 @@ fn a_chunk_is_spelled_so(rt: HostRuntime) -> Result<(), Fail> {
     Ok(())
 }
 
-// The beginnings of segments, and how many chunks are read there, or the place of the damage.
+// The beginnings of segments, and how many chunks are read there, or the offset of the damage.
 const SEGMENTS: [(&[u8], Result<usize, u64>); 10] = [
     (&[], Ok(0)),
     (&CHUNK, Ok(1)),
@@ -269,7 +269,7 @@ fn read_behind<D: Disk>(alloc: Global, disk: &mut D, bytes: &[u8]) -> Result<(us
 fn is_read(found: Result<(usize, u64), LogErr>, read: Result<usize, u64>) -> bool {
     match (found, read) {
         (Ok(found), Ok(count)) => found == (count, 2),
-        (Err(LogErr::Form { number, at }), Err(place)) => number == 1 && at == place,
+        (Err(LogErr::Form { number, at }), Err(offset)) => number == 1 && at == offset,
         _ => false,
     }
 }

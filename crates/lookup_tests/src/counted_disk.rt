@@ -22,8 +22,8 @@ pub struct CountedDisk {
     pub failing: Option<u64>,
 }
 
-fn put_bytes(files: &mut [File], place: usize, at: usize, bytes: &[u8]) -> bool {
-    let Some(file) = files.get_mut(place) else {
+fn put_bytes(files: &mut [File], position: usize, at: usize, bytes: &[u8]) -> bool {
+    let Some(file) = files.get_mut(position) else {
         return false;
     };
     let len = file.bytes.len();
@@ -64,29 +64,29 @@ impl CountedDisk {
         self.failing = None;
     }
 
-    // The place of the file among the files.
-    fn place(&self, name: FileName) -> Option<usize> {
+    // The position of the file among the files.
+    fn position(&self, name: FileName) -> Option<usize> {
         self.files.iter().position(|file| file.name == name)
     }
 
     fn file(&self, name: FileName) -> Option<&File> {
-        match self.place(name) {
-            Some(place) => self.files.get(place),
+        match self.position(name) {
+            Some(position) => self.files.get(position),
             None => None,
         }
     }
 
-    /// Writes over the bytes from a place on. Says whether there are so many.
+    /// Writes over the bytes from an offset on. Says whether there are so many.
     pub fn put(&mut self, name: FileName, at: usize, bytes: &[u8]) -> bool
         ensures { self.new.faults ≡ self.old.faults }
     {
-        let Some(place) = self.place(name) else {
+        let Some(position) = self.position(name) else {
             return false;
         };
-        put_bytes(&mut self.files, place, at, bytes)
+        put_bytes(&mut self.files, position, at, bytes)
     }
 
-    // Fills the buffer with the bytes from a place on. Says whether there are so many.
+    // Fills the buffer with the bytes from an offset on. Says whether there are so many.
     fn get(&self, name: FileName, at: usize, buf: &mut [u8]) -> bool {
         let Some(file) = self.file(name) else {
             return false;
@@ -147,9 +147,9 @@ impl Disk for CountedDisk {
     }
 
     fn remove(&mut self, name: FileName) -> Result<(), Failed> {
-        let place = self.place(name).unwrap_or(self.files.len());
-        if place < self.files.len() {
-            self.files.remove(place);
+        let position = self.position(name).unwrap_or(self.files.len());
+        if position < self.files.len() {
+            self.files.remove(position);
         }
         Ok(())
     }

@@ -31,7 +31,8 @@ pub fn series_of(alloc: Global, number: u64) -> Result<Series, Memory> {
     })
 }
 
-fn evens(alloc: Global, count: u64) -> Result<Seq<Series>, Memory> {
+/// The series of the even numbers, so many of them.
+pub fn evens(alloc: Global, count: u64) -> Result<Seq<Series>, Memory> {
     let mut rows = Vec::new(alloc);
     for number in 0..count.min(50_000) {
         rows.push(series_of(alloc, 2 * number)?)?;
@@ -83,7 +84,8 @@ pub fn told(
     }
 }
 
-fn value_of(alloc: Global, row: &Series) -> Result<String, Memory> {
+/// The only value of the series and its time.
+pub fn value_of(alloc: Global, row: &Series) -> Result<String, Memory> {
     match row.points.as_slice() {
         [point] => {
             let (t, value) = *point;

@@ -2,7 +2,7 @@
 use Rattle.std.specs.Prelude.{◌≡◌, ◌≢◌, ◌↔◌, ◌⊎◌, ℕ, List, Result, Ok, Err, IsTrue, codes}
 use Rattle.serde_json.specs.Data.{Data}
 use Rattle.m3_model.specs.Ascends.{Ascends}
-use Rattle.m3_model.specs.Limits.{IsSameMessage}
+use Rattle.m3_model.specs.Limits.{IsFateOfSameMessage}
 use Rattle.m3_model.specs.declared.act.Act.{Act}
 use Rattle.m3_model.specs.declared.act.Fate.{Fate}
 use Rattle.m3_model.specs.declared.turn.Request.{Request}
@@ -24,7 +24,7 @@ TellsNamesApart nodes = IsTrue (names_differ nodes) ↔ Ascends (λ a b. a.0 ≢
 
 -- the test of the fates tells whether each two of them are of different messages
 abbrev pub TellsMessagesApart : List (ℕ × ℕ × List ℕ × Fate) → Type 0
-TellsMessagesApart list = IsTrue (messages_differ list) ↔ Ascends (λ a b. ¬ IsSameMessage a b) list
+TellsMessagesApart list = IsTrue (messages_differ list) ↔ Ascends (λ a b. ¬ IsFateOfSameMessage a b) list
 
 -- the object's op is one that is put off
 abbrev pub HasLaterOp : Data → Type 0

@@ -67,10 +67,10 @@ pub record IsFate (fate : ℕ × ℕ × List ℕ × Fate) : Type 0 where
   pub not_deliver : fate.3 ≢ Deliver
 
 -- the same call to the same node
-abbrev pub IsSameMessage : ℕ × ℕ × List ℕ × Fate → ℕ × ℕ × List ℕ × Fate → Type 0
-IsSameMessage a b = (a.0 ≡ b.0) × (a.1 ≡ b.1) × (a.2 ≡ b.2)
+abbrev pub IsFateOfSameMessage : ℕ × ℕ × List ℕ × Fate → ℕ × ℕ × List ℕ × Fate → Type 0
+IsFateOfSameMessage a b = (a.0 ≡ b.0) × (a.1 ≡ b.1) × (a.2 ≡ b.2)
 
--- the request of one line, or of one place of a `par` line, keeps to the limits
+-- the request of one line, or of one position of a `par` line, keeps to the limits
 abbrev pub MeetsLimits : Act → Type 0
 MeetsLimits (act.Init rf shards seed nodes) = IsInit rf shards seed nodes
 MeetsLimits (act.Namespace name block past future retention) = IsSpace name block past future retention
@@ -78,7 +78,7 @@ MeetsLimits (act.Now now) = IsMoment now
 MeetsLimits (act.Write ns id t v level version) = IsCall ns version × IsIdentifier id × IsMoment t
 MeetsLimits (act.Fetch ns id from to level version) = IsCall ns version × IsIdentifier id × IsRange from to
 MeetsLimits (act.Match ns wanted from to level version) = IsCall ns version × AreMatchers wanted × IsRange from to
-MeetsLimits (act.Fates list) = (length list ≤ MOST_FATES) × ((fate : _) → IsIn list fate → IsFate fate) × Ascends (λ a b. ¬ IsSameMessage a b) list
+MeetsLimits (act.Fates list) = (length list ≤ MOST_FATES) × ((fate : _) → IsIn list fate → IsFate fate) × Ascends (λ a b. ¬ IsFateOfSameMessage a b) list
 MeetsLimits (act.Stop node) = IsTrue (is_name node)
 MeetsLimits (act.Restart node pick) = IsTrue (is_name node) × IsMoment pick
 MeetsLimits (act.Bootstrap node shard) = IsTrue (is_name node) × IfSome shard (λ s. s < MOST_SHARDS)

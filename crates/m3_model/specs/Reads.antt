@@ -4,7 +4,7 @@ use Rattle.std.specs.List.{flat_map}
 use Rattle.m3_model.specs.Ascends.{Ascends}
 use Rattle.m3_model.specs.Members.{IsIn}
 use Rattle.m3_model.specs.Tags.{IsBelow, HasTags, MatcherHolds}
-use Rattle.m3_model.specs.Rules.{namespace_place, IsLive}
+use Rattle.m3_model.specs.Rules.{namespace_position, IsLive}
 use Rattle.m3_model.specs.declared.point.Point.{Point}
 use Rattle.m3_model.specs.declared.point.Series.{Series}
 use Rattle.m3_model.specs.declared.point.Matcher.{Matcher}
@@ -28,9 +28,9 @@ pub record Read : Type 0 where
 -- the read that a fetch or a match of a namespace that is there asks for
 abbrev pub read_of : List Space → Act → Option Read
 read_of spaces (act.Fetch ns id from to level version) =
-    option_map (λ k. record { pick = pick.One k id; from = from; to = to; level = level }) (namespace_place ns spaces)
+    option_map (λ k. record { pick = pick.One k id; from = from; to = to; level = level }) (namespace_position ns spaces)
 read_of spaces (act.Match ns wanted from to level version) =
-    option_map (λ k. record { pick = pick.Match k wanted; from = from; to = to; level = level }) (namespace_place ns spaces)
+    option_map (λ k. record { pick = pick.Match k wanted; from = from; to = to; level = level }) (namespace_position ns spaces)
 read_of spaces _ = None
 
 -- What a read found.

@@ -5,10 +5,10 @@ use Rattle.m3_model.specs.declared.point.Point.{Point}
 use Rattle.m3_model.specs.declared.rules.Space.{Space}
 use Rattle.m3_model.specs.declared.rules.Rules.{Rules}
 
--- the place of a namespace among the namespaces, by its name
-abbrev pub namespace_place : List ℕ → List Space → Option ℕ
-namespace_place name [] = None
-namespace_place name (space ∷ spaces) = if pointwise nat_eq name space.name then Some 0 else option_map suc (namespace_place name spaces)
+-- the position of a namespace among the namespaces, by its name
+abbrev pub namespace_position : List ℕ → List Space → Option ℕ
+namespace_position name [] = None
+namespace_position name (space ∷ spaces) = if pointwise nat_eq name space.name then Some 0 else option_map suc (namespace_position name spaces)
 
 -- the point's namespace is there, and a write of it is taken at this moment
 pub record InWindow (rules : Rules) (point : Point) : Type 0 where

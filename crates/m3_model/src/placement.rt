@@ -20,7 +20,7 @@ pub enum ShardState {
 /// One shard on one node.
 #[derive(Clone, Copy, Debug)]
 pub struct Assignment {
-    /// The place of the node in the placement's instances.
+    /// The position of the node in the placement's instances.
     pub node: u8,
     /// The placement version that assigned the shard to the node.
     pub tenure: u64,

@@ -10,7 +10,7 @@ use std::cmp::Ordering;
 /// A value of a series at a time.
 #[derive(Drop)]
 pub struct Point {
-    /// The place of the namespace among the namespaces.
+    /// The position of the namespace among the namespaces.
     pub ns: u8,
     pub id: Text,
     pub t: u64,

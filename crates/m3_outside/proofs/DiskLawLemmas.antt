@@ -5,7 +5,7 @@ use Rattle.std.specs.FinMap.{get}
 use Rattle.std.proofs.lemmas.List.{take_all}
 use Rattle.m3_outside.specs.declared.file_name.FileName.{FileName}
 use Rattle.m3_outside.specs.Files.{Files, Torn, Stays, DoneOrNot}
-use Rattle.m3_outside.specs.DiskState.{DiskState, IsLawful, StepOf, Elapses}
+use Rattle.m3_outside.specs.DiskState.{DiskState, IsLawfulDisk, StepOf, Elapses}
 use Rattle.m3_outside.specs.DiskLaws.{SyncedIsRead, WritesOneFile, ImagesComeFromImages}
 use Rattle.m3_outside.proofs.Names.{get_apart}
 
@@ -35,7 +35,7 @@ module _ {D : Type 0} (state : D → DiskState) where
     images = λ c image. let step = (writes.proceeds.told tells).images c image in record { before = step.before; was = step.was; same = torn_other name other at (length bytes) _ _ apart step.stepped };
   }
 
-  module _ (lawful : (d : D) → IsLawful (state d)) where
+  module _ (lawful : (d : D) → IsLawfulDisk (state d)) where
     since_begin : {step : Files → Files → Type 0} (old new : D) (c : Files) → Elapses step (state old) (state new) → (state new).since (state old).moment c → (state old).images c ⊎ StepOf step (state old).images c
     since_begin old new c elapses left = ⊎_elim (λ was. inl ((lawful old).only_now c was)) (λ step. inr step) (elapses.nothing_else (state old).moment c (omega arith) left)
 

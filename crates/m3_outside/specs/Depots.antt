@@ -2,12 +2,12 @@
 use Rattle.std.specs.Prelude.{◌≡◌, ℕ, true}
 use Rattle.m3_outside.specs.DiskState.{DiskState}
 use Rattle.m3_outside.specs.Slots.{Held}
-use Rattle.m3_outside.specs.declared.slot.Slot.{Slot}
+use Rattle.m3_outside.specs.declared.slot.DiskSlot.{DiskSlot}
 
 -- What the disks of a run show: what lies in each slot, how many faults of its disk are counted in it, and how many in all.
 pub record Depot (D : Type 0) : Type 0 where
-  pub held : Slot → Held D
-  pub counted : Slot → ℕ
+  pub held : DiskSlot → Held D
+  pub counted : DiskSlot → ℕ
   pub faults : ℕ
 
 -- each disk of this kind tells what it holds

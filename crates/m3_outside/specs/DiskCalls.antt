@@ -46,7 +46,7 @@ pub record Syncs (name : FileName) (result : Result ⊤ Failed) (old new : DiskS
   pub synced : old.tells ≡ true → OnOk result ((c : Files) → new.images c → get c name ≡ get new.files name)
   pub spare : old.spare ≤ new.spare + 1
 
--- the bytes from this place on
+-- the bytes from this offset on
 pub record Reads (name : FileName) (at : ℕ) (buf : List ℕ) (result : Result ⊤ Failed) (old new : DiskState) : Type 0 where
   pub leaves : LeavesFiles (IsErr result) old new
   pub bytes : old.tells ≡ true → OnOk result ((file : List ℕ) → get old.files name ≡ Some file → buf ≡ take (length buf) (drop at file))

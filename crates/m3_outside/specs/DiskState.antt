@@ -32,7 +32,7 @@ abbrev pub HaveSameNames : Files → Files → Type 0
 HaveSameNames files others = (name : FileName) → IsAbsent name files ↔ IsAbsent name others
 
 -- what holds of every disk
-pub record IsLawful (d : DiskState) : Type 0 where
+pub record IsLawfulDisk (d : DiskState) : Type 0 where
   pub read_is_image : Told d d.images  -- what reads give, a stop may leave
   pub same_names : EachImage d (HaveSameNames d.files)  -- a stop between two calls makes no file and takes none away
   pub counts_now : (t : ℕ) (c : Files) → t ≤ d.moment → d.images c → d.since t c  -- what a stop may leave now, it may leave since any earlier moment

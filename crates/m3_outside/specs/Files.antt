@@ -20,7 +20,7 @@ pub record IsPresent (name : FileName) (files : Files) : Type 0 where
   pub file : List ℕ
   pub there : get files name ≡ Some file
 
--- the file is there, and the n bytes from this place on lie in it
+-- the file is there, and the n bytes from this offset on lie in it
 pub record IsInside (name : FileName) (at n : ℕ) (files : Files) : Type 0 where
   pub file : List ℕ
   pub there : get files name ≡ Some file
@@ -34,17 +34,17 @@ files_with_zeros name size files = insert files name (replicate size 0)
 abbrev pub files_without : FileName → Files → Files
 files_without name files = remove files name
 
--- with these bytes at this place
+-- with these bytes at this offset
 abbrev pub patched : List ℕ → ℕ → List ℕ → List ℕ
 patched file at bytes = take at file ++ bytes ++ drop (at + length bytes) file
 
--- new is old with these bytes at this place of the file
+-- new is old with these bytes at this offset of the file
 pub record Wrote (name : FileName) (at : ℕ) (bytes : List ℕ) (old new : Files) : Type 0 where
   pub file : List ℕ
   pub there : get old name ≡ Some file
   pub after : new ≡ insert old name (patched file at bytes)
 
--- new is old with any n bytes at this place of the file
+-- new is old with any n bytes at this offset of the file
 pub record Torn (name : FileName) (at n : ℕ) (old new : Files) : Type 0 where
   pub bytes : List ℕ
   pub same_length : length bytes ≡ n

@@ -1,6 +1,6 @@
 -- What lies in the slots of a set of disks.
 use Rattle.std.specs.Prelude.{◌≡◌}
-use Rattle.m3_outside.specs.declared.slot.Slot.{Slot}
+use Rattle.m3_outside.specs.declared.slot.DiskSlot.{DiskSlot}
 
 -- a slot was never used, holds the disk that was given back, or its disk is out
 pub data Held (D : Type 0) : Type 0 where
@@ -15,5 +15,5 @@ MayGive empty (Here there) disk = disk ≡ there
 MayGive empty Out disk = ⊥
 
 -- all other slots are as before
-abbrev pub OthersStay : {X : Type 0} → Slot → (Slot → X) → (Slot → X) → Type 0
-OthersStay slot old new = (s : Slot) → ¬ (s ≡ slot) → new s ≡ old s
+abbrev pub OthersStay : {X : Type 0} → DiskSlot → (DiskSlot → X) → (DiskSlot → X) → Type 0
+OthersStay slot old new = (s : DiskSlot) → ¬ (s ≡ slot) → new s ≡ old s

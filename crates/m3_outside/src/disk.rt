@@ -15,7 +15,7 @@ use crate::name_list::NameList;
 pub trait Disk: Drop + Send {
     ghost use Rattle.std.specs.Prelude.{◌≡◌, ◌≤◌, length};
     ghost use Rattle.m3_outside.specs.Files.{IsAbsent, IsPresent, IsInside};
-    ghost use Rattle.m3_outside.specs.DiskState.{DiskState, Told, IsLawful};
+    ghost use Rattle.m3_outside.specs.DiskState.{DiskState, Told, IsLawfulDisk};
     ghost use Rattle.m3_outside.specs.DiskCalls.{Reserves, Creates, Writes, Syncs, Reads, Sizes, Removes, Lists, Restarts};
 
     /// What the disk holds, what a stop may leave of it, its room and its count of faults.
@@ -108,5 +108,5 @@ pub trait Disk: Drop + Send {
         ensures { result ≡ (state self.now).faults };
 
     /// What holds of every disk: what reads give a stop may leave, and no moment is forgotten.
-    ghost lawful: { (d : Self) → IsLawful (state d) };
+    ghost lawful: { (d : Self) → IsLawfulDisk (state d) };
 }

@@ -25,5 +25,5 @@ pub use mem_sink::MemSink;
 pub use mem_source::MemSource;
 pub use name_list::NameList;
 pub use sink::Sink;
-pub use slot::Slot;
+pub use slot::DiskSlot;
 pub use source::Source;

@@ -93,7 +93,7 @@ impl Source for MemSource {
     }
 }
 
-// Copies as much as there is room for from this place on.
+// Copies as much as there is room for from this offset on.
 fn copy_from(bytes: &[u8], at: usize, buf: &mut [u8]) -> usize
     requires { at ≤ length bytes.now }
     ensures within { at + result ≤ length bytes.now }

@@ -5,7 +5,7 @@ ghost use Rattle.m3_outside.specs.Causes.{HasCause, CountsStalls};
 
 use crate::failed::Failed;
 
-/// A place for bytes. An object in memory tells what was written, and a real one tells nothing.
+/// Where bytes go. An object in memory tells what was written, and a real one tells nothing.
 pub trait Sink {
     /// The bytes that were written, where they are told.
     ghost written: { Self → Option (List ℕ) };

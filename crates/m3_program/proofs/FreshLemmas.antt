@@ -3,13 +3,13 @@ use Rattle.std.proofs.Common.{◌≡◌, [], Bool, true, sym, subst}
 use Rattle.std.specs.Prelude.{None}
 use Rattle.m3_outside.specs.DiskState.{DiskState}
 use Rattle.m3_outside.specs.declared.disk.Disk.{Ghosts}
-use Rattle.m3_outside.specs.declared.slot.Slot.{Slot}
+use Rattle.m3_outside.specs.declared.slot.DiskSlot.{DiskSlot}
 use Rattle.m3_outside.specs.Slots.{Held, Unused, Here, Out}
 use Rattle.m3_outside.specs.Depots.{Depot, TellAll}
 use Rattle.first_cluster.specs.Bare.{AreBare, IsBare}
 use Rattle.first_cluster.specs.Depots.{OwnedBy}
 use Rattle.first_cluster.proofs.BareLemmas.{given_bare}
-use Rattle.served_cluster.specs.Owned.{AreReady, MayServe, TracksTurns}
+use Rattle.served_cluster.specs.Owned.{AreReady, MayServeCluster, TracksTurns}
 use Rattle.served_cluster.specs.declared.cluster.Cluster.{Cluster}
 use Rattle.m3_program.specs.Faults.{IsUnwritten}
 use Rattle.m3_program.specs.Streams.{IsFresh}
@@ -27,5 +27,5 @@ is_fresh state c tracks = record {
 }
 
 -- no disk is out, and no call is to be made
-pub may_serve : {D : Type 0} {G : Ghosts D} (c : Cluster D G) (held : Slot → Held D) → c.members ≡ None → ((slot : Slot) → held slot ≡ Out → ⊥) → MayServe c held
+pub may_serve : {D : Type 0} {G : Ghosts D} (c : Cluster D G) (held : DiskSlot → Held D) → c.members ≡ None → ((slot : DiskSlot) → held slot ≡ Out → ⊥) → MayServeCluster c held
 may_serve c held none all = record { owned = subst (λ m. OwnedBy m held) (sym none) all; ready = subst AreReady (sym none) tt }

@@ -7,13 +7,13 @@ use Rattle.m3_model.specs.Members.{IsIn}
 use Rattle.m3_program.specs.Streams.{NoNewline}
 use Rattle.m3_program.proofs.WrittenLemmas.{take_enough}
 
-place_in : (n : ℕ) (xs : List ℕ) (b : ℕ) → IsIn (take n xs) b → (j : ℕ) × (j < n) × (j < length xs) × (get_or xs j 0 ≡ b)
-place_in zero xs b h = absurd h
-place_in (suc n) [] b h = absurd h
-place_in (suc n) (x ∷ xs) b h =
+position_in : (n : ℕ) (xs : List ℕ) (b : ℕ) → IsIn (take n xs) b → (j : ℕ) × (j < n) × (j < length xs) × (get_or xs j 0 ≡ b)
+position_in zero xs b h = absurd h
+position_in (suc n) [] b h = absurd h
+position_in (suc n) (x ∷ xs) b h =
     elim h as (λ _. (j : ℕ) × (j < suc n) × (j < suc (length xs)) × (get_or (x ∷ xs) j 0 ≡ b)) [
       | inl e ↦ (0, omega arith, omega arith, e)
-      | inr m ↦ let found = place_in n xs b m in (suc found.0, let less = found.1 in omega arith, let less = found.2 in omega arith, found.3)
+      | inr m ↦ let found = position_in n xs b m in (suc found.0, let less = found.1 in omega arith, let less = found.2 in omega arith, found.3)
     ]
 
 split_here : (xs : List ℕ) (k b : ℕ) → k < length xs → get_or xs k 0 ≡ b → xs ≡ (take k xs ++ b ∷ []) ++ drop (k + 1) xs
@@ -26,14 +26,14 @@ split_here (x ∷ xs) (suc k) b h e =
 -- no newline stands before the first one
 pub before_newline : (hay : List ℕ) (k : ℕ) → IsFirstByte (is_byte 10) hay (Some k) → NoNewline (take k hay)
 before_newline hay k h m =
-    let at = place_in k hay 10 m in
+    let at = position_in k hay 10 m in
     h.0.before at.0 (omega arith) at.1 (eq-eqb (get_or hay at.0 0) 10 at.3)
 
 -- where there is none, none is in it
 pub without_newline : (hay : List ℕ) → IsFirstByte (is_byte 10) hay None → NoNewline hay
 without_newline hay h m =
     let whole : take (length hay) hay ≡ hay = take_enough (length hay) hay (omega arith) in
-    let at = place_in (length hay) hay 10 (subst (λ l. IsIn l 10) (sym whole) m) in
+    let at = position_in (length hay) hay 10 (subst (λ l. IsIn l 10) (sym whole) m) in
     h at.0 (omega arith) at.2 (eq-eqb (get_or hay at.0 0) 10 at.3)
 
 -- the first line of a piece, its newline and the rest

@@ -8,7 +8,7 @@ use Rattle.m3_model.proofs.SplitLemmas.{not_empty}
 use Rattle.placement_core.proofs.ListLemmas.{All-from_each}
 use Rattle.transcripts.specs.Kept.{Kept}
 use Rattle.m3_outside.specs.Causes.{RoseBy}
-use Rattle.m3_outside.specs.DiskState.{DiskState, IsLawful}
+use Rattle.m3_outside.specs.DiskState.{DiskState, IsLawfulDisk}
 use Rattle.m3_outside.specs.declared.disk.Disk.{Ghosts}
 use Rattle.m3_outside.specs.Depots.{Depot}
 use Rattle.served_cluster.specs.Ends.{AreGivenBack}
@@ -18,7 +18,7 @@ use Rattle.served_cluster.specs.Owned.{TracksTurns}
 use Rattle.m3_program.specs.Exchanges.{Exchange, turns_of}
 use Rattle.m3_program.specs.Faults.{Counts, IsOfRun, counts_of, one_for}
 use Rattle.m3_program.specs.Runs.{HasCauses, life_with, record_of}
-use Rattle.m3_program.specs.Streams.{IsServed, Progress, PromisesSo, Stage}
+use Rattle.m3_program.specs.Streams.{AreExchangesServed, Progress, PromisesSo, Stage}
 
 -- ---- while the disks are out
 
@@ -28,13 +28,13 @@ promised state first now xs unanswered p = λ tells empty. record { more = []; f
 
 -- after these exchanges and one more request that was served
 pub promised_more : {D : Type 0} {G : Ghosts D} (state : D → DiskState) (tells : Bool) (first : Depot D) (now : Stage D G) (xs : List Exchange) (turn : Turn) (request : Request) → TracksTurns state tells first now.depot (turns_of xs ++ turn ∷ []) now.cluster
-    → IsServed state tells first now xs (Some request)
+    → AreExchangesServed state tells first now xs (Some request)
 promised_more state tells first now xs turn request t = record { more = turn ∷ []; few = omega arith; tracks = t }
 
 -- ---- when the disks are given back
 
 -- what the reads had to keep
-pub kept_closed : {D : Type 0} {G : Ghosts D} (state : D → DiskState) (first : Depot D) (mid : Stage D G) (xs : List Exchange) (unanswered : Option Request) → IsServed state true first mid xs unanswered → Kept (life_with [] None xs unanswered)
+pub kept_closed : {D : Type 0} {G : Ghosts D} (state : D → DiskState) (first : Depot D) (mid : Stage D G) (xs : List Exchange) (unanswered : Option Request) → AreExchangesServed state true first mid xs unanswered → Kept (life_with [] None xs unanswered)
 kept_closed state first mid xs unanswered served = kept_where_tracked state mid.cluster.members first mid.depot (turns_of xs) served.more mid.cluster.calls unanswered served.tracks
 
 -- a line of these turns is one of a request that was taken
@@ -42,8 +42,8 @@ line_taken : (turns more : List Turn) (unanswered : Option Request) (line : ℕ)
 line_taken turns more unanswered line few low = let all = length-append turns more in omega (arith, few, low, all)
 
 -- the causes, shown by the counts
-pub causes_closed : {D : Type 0} {G : Ghosts D} (state : D → DiskState) → ((d : D) → IsLawful (state d)) → (tells : Bool) (first : Depot D) (mid : Stage D G) (now : Counts) (xs : List Exchange) (unanswered : Option Request)
-    → AreGivenBack state mid.depot mid.cluster.members now.all now.of_disk → IsServed state tells first mid xs unanswered → HasCauses tells (counts_of first) now (life_with [] None xs unanswered)
+pub causes_closed : {D : Type 0} {G : Ghosts D} (state : D → DiskState) → ((d : D) → IsLawfulDisk (state d)) → (tells : Bool) (first : Depot D) (mid : Stage D G) (now : Counts) (xs : List Exchange) (unanswered : Option Request)
+    → AreGivenBack state mid.depot mid.cluster.members now.all now.of_disk → AreExchangesServed state tells first mid xs unanswered → HasCauses tells (counts_of first) now (life_with [] None xs unanswered)
 causes_closed state lawful tells first mid now xs unanswered back served =
     let members = mid.cluster.members in
     let calls = mid.cluster.calls in

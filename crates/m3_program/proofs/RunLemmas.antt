@@ -3,7 +3,7 @@ use Rattle.std.proofs.Common.{◌≡◌, ℕ, ◌+◌, ◌<◌, ◌≤◌, List,
 use Rattle.m3_model.specs.declared.limits.TheConstants.{INPUT_END}
 use Rattle.std.specs.Prelude.{Option, Some, None}
 use Rattle.std.specs.Io.KnownBytes.{Appends, Consumes, IsAtEnd}
-use Rattle.m3_outside.specs.DiskState.{DiskState, IsLawful}
+use Rattle.m3_outside.specs.DiskState.{DiskState, IsLawfulDisk}
 use Rattle.m3_outside.specs.declared.disk.Disk.{Ghosts}
 use Rattle.m3_model.proofs.SplitLemmas.{not_empty}
 use Rattle.m3_outside.specs.Depots.{Depot}
@@ -312,7 +312,7 @@ step_told state first now status.Memory a b x y u v k input before left written 
 step_told state first now _ a b x y u v k input before left written written2 text fault h wrote = absurd k
 
 -- the disks are given back
-pub told_closes : {D : Type 0} {G : Ghosts D} (state : D → DiskState) → ((d : D) → IsLawful (state d)) → (first : Depot D) (mid : Stage D G) (last : Counts) (s : Status) → AreGivenBack state mid.depot mid.cluster.members last.all last.of_disk
+pub told_closes : {D : Type 0} {G : Ghosts D} (state : D → DiskState) → ((d : D) → IsLawfulDisk (state d)) → (first : Depot D) (mid : Stage D G) (last : Counts) (s : Status) → AreGivenBack state mid.depot mid.cluster.members last.all last.of_disk
     → (input before : List ℕ) (left written : Option (List ℕ)) → Told state first mid s input before left written
     → (rest told : List ℕ) × (left ≡ Some rest) × (written ≡ Some (before ++ told)) × HasRun state first last [] None s input rest told
 told_closes state lawful first mid last s back input before left written (rest, told, l, w, run) = (

@@ -7,7 +7,7 @@ use Rattle.m3_model.specs.declared.turn.Request.{Request}
 use Rattle.m3_outside.specs.Causes.{RoseBy, last_count}
 use Rattle.m3_outside.specs.DiskState.{DiskState, IsEmpty}
 use Rattle.m3_outside.specs.Slots.{Held, Unused, Here, Out}
-use Rattle.m3_outside.specs.declared.slot.Slot.{Slot}
+use Rattle.m3_outside.specs.declared.slot.DiskSlot.{DiskSlot}
 use Rattle.m3_outside.specs.Depots.{Depot, TellAll}
 
 -- the slot was never used, or the disk that lies there is empty
@@ -17,14 +17,14 @@ IsUnwritten state (Here disk) = IsEmpty (state disk)
 IsUnwritten state Out = ⊥
 
 -- each disk of this kind tells what it holds, and those of the slots are empty
-pub record AreEmpty {D : Type 0} (state : D → DiskState) (held : Slot → Held D) : Type 0 where
+pub record AreEmpty {D : Type 0} (state : D → DiskState) (held : DiskSlot → Held D) : Type 0 where
   pub tell : TellAll state
-  pub unwritten : (slot : Slot) → IsUnwritten state (held slot)
+  pub unwritten : (slot : DiskSlot) → IsUnwritten state (held slot)
 
 -- How many faults are counted in all, and how many of each slot's disk.
 pub record Counts : Type 0 where
   pub all : ℕ
-  pub of_disk : Slot → ℕ
+  pub of_disk : DiskSlot → ℕ
 
 -- those that the disks of a run show
 abbrev pub counts_of : {D : Type 0} → Depot D → Counts
@@ -35,7 +35,7 @@ abbrev pub times_untaken : List Fault → ℕ
 times_untaken faults = count_by (λ f. is_taking f.kind) faults
 
 -- how often the disk of this slot failed, of these faults
-abbrev pub times_failed : Slot → List Fault → ℕ
+abbrev pub times_failed : DiskSlot → List Fault → ℕ
 times_failed slot faults = count_by (λ f. is_failing f.kind && (nat_eq f.node slot.node && nat_eq f.shard slot.shard)) faults
 
 -- how many of these are faults of disks, and no damages
@@ -61,5 +61,5 @@ pub record IsOfRun (tells : Bool) (run : Record) (fault : Fault) : Type 0 where
 pub record AreCauses (tells : Bool) (run : Record) (before now : Counts) (faults : List Fault) : Type 0 where
   pub of_run : All (IsOfRun tells run) faults
   pub of_taking : RoseBy (times_untaken faults) before.all now.all
-  pub of_disks : (slot : Slot) → RoseBy (times_failed slot faults) (before.of_disk slot) (now.of_disk slot)
-  pub of_all : now.all < last_count → ((slot : Slot) → now.of_disk slot < last_count) → before.all + times_faulted faults ≤ now.all
+  pub of_disks : (slot : DiskSlot) → RoseBy (times_failed slot faults) (before.of_disk slot) (now.of_disk slot)
+  pub of_all : now.all < last_count → ((slot : DiskSlot) → now.of_disk slot < last_count) → before.all + times_faulted faults ≤ now.all

@@ -6,7 +6,7 @@ use Rattle.m3_model.specs.declared.turn.Turn.{Turn}
 use Rattle.m3_outside.specs.DiskState.{DiskState}
 use Rattle.m3_outside.specs.declared.disk.Disk.{Ghosts}
 use Rattle.m3_outside.specs.Slots.{Held}
-use Rattle.m3_outside.specs.declared.slot.Slot.{Slot}
+use Rattle.m3_outside.specs.declared.slot.DiskSlot.{DiskSlot}
 use Rattle.m3_json.specs.Requests.{LineMeans}
 use Rattle.m3_outside.specs.Depots.{Depot}
 use Rattle.served_cluster.specs.declared.cluster.Cluster.{Cluster}
@@ -23,7 +23,7 @@ pub record Stage (D : Type 0) (G : Ghosts D) : Type 0 where
   pub cluster : Cluster D G
   pub depot : Depot D
 
-abbrev pub stage : {D : Type 0} {G : Ghosts D} → Cluster D G → (Slot → Held D) → (Slot → ℕ) → ℕ → Stage D G
+abbrev pub stage : {D : Type 0} {G : Ghosts D} → Cluster D G → (DiskSlot → Held D) → (DiskSlot → ℕ) → ℕ → Stage D G
 stage cluster held counted faults = record { cluster = cluster; depot = record { held = held; counted = counted; faults = faults } }
 
 -- no request was served yet, so that there are no turns to be tracked
@@ -36,14 +36,14 @@ pub record Progress {D : Type 0} {G : Ghosts D} (state : D → DiskState) (first
   pub tracks : (tells : Bool) → (tells ≡ true → AreEmpty state first.held) → TracksTurns state tells first now.depot (turns_of xs) now.cluster
 
 -- the turns of these exchanges were served, and one more at most, of the request that was taken and got no reply
-pub record IsServed {D : Type 0} {G : Ghosts D} (state : D → DiskState) (tells : Bool) (first : Depot D) (now : Stage D G) (xs : List Exchange) (unanswered : Option Request) : Type 0 where
+pub record AreExchangesServed {D : Type 0} {G : Ghosts D} (state : D → DiskState) (tells : Bool) (first : Depot D) (now : Stage D G) (xs : List Exchange) (unanswered : Option Request) : Type 0 where
   pub more : List Turn
   pub few : length more ≤ one_for unanswered
   pub tracks : TracksTurns state tells first now.depot (turns_of xs ++ more) now.cluster
 
 -- so it is over any disks, and more where they tell and were empty
 abbrev pub PromisesSo : {D : Type 0} {G : Ghosts D} → (D → DiskState) → Depot D → Stage D G → List Exchange → Option Request → Type 0
-PromisesSo state first now xs unanswered = (tells : Bool) → (tells ≡ true → AreEmpty state first.held) → IsServed state tells first now xs unanswered
+PromisesSo state first now xs unanswered = (tells : Bool) → (tells ≡ true → AreEmpty state first.held) → AreExchangesServed state tells first now xs unanswered
 
 -- ---- one line
 

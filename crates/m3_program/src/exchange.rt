@@ -1,6 +1,6 @@
 ghost use Rattle.std.specs.Prelude.{◌≡◌, ℕ, List, ◌++◌, Option, OnOk, OnErr};
 ghost use Rattle.std.specs.Option.{option_copied};
-ghost use Rattle.served_cluster.specs.Owned.{MayServe};
+ghost use Rattle.served_cluster.specs.Owned.{MayServeCluster};
 ghost use Rattle.m3_program.specs.Exchanges.{is_blank, reply_line};
 ghost use Rattle.m3_program.specs.Streams.{Advances, Drops, stage};
 
@@ -53,14 +53,14 @@ pub fn answer_line<X: Disks>(
     replies: &mut Vec<u8>,
     line: &[u8],
 ) -> Result<(), Memory>
-    requires owned { MayServe cluster.old (X.held disks.old) }
+    requires owned { MayServeCluster cluster.old (X.held disks.old) }
     ensures ok { OnOk result ((text : List ℕ) × (replies.new.items ≡ replies.old.items ++ text)
         × Advances X.D.state (stage cluster.old (X.held disks.old) (X.counted disks.old) (X.all_faults disks.old)) line.now text
         (stage cluster.new (X.held disks.new) (X.counted disks.new) (X.all_faults disks.new))) }
     ensures err { OnErr result (Drops X.D.state (stage cluster.old (X.held disks.old) (X.counted disks.old) (X.all_faults disks.old)) line.now
         (stage cluster.new (X.held disks.new) (X.counted disks.new) (X.all_faults disks.new))) }
     ensures nothing { OnErr result (replies.new.items ≡ replies.old.items) }
-    ensures owned { MayServe cluster.new (X.held disks.new) }
+    ensures owned { MayServeCluster cluster.new (X.held disks.new) }
 {
     if is_blank(line) {
         return Ok(());

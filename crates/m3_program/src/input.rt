@@ -1,6 +1,6 @@
 ghost use Rattle.std.specs.Prelude.{◌≡◌, ◌<◌, ◌≤◌, ℕ, List, [], ◌∷◌, ◌++◌, length, OnOk, OnErr, IfErr};
 ghost use Rattle.std.specs.Io.KnownBytes.{Appends};
-ghost use Rattle.served_cluster.specs.Owned.{MayServe};
+ghost use Rattle.served_cluster.specs.Owned.{MayServeCluster};
 ghost use Rattle.m3_program.specs.Streams.{NoNewline, TakesOn, Cuts, stage};
 ghost use Rattle.m3_program.specs.Writing.{Gathers, WritesUntil};
 ghost use Rattle.m3_program.specs.Causes.{EndsLine};
@@ -24,14 +24,14 @@ fn serve_rest<X: Disks>(
     rest: &[u8],
 ) -> Result<(), Memory>
     requires whole { NoNewline rest.now }
-    requires owned { MayServe cluster.old (X.held disks.old) }
+    requires owned { MayServeCluster cluster.old (X.held disks.old) }
     ensures ok { OnOk result ((text : List ℕ) × (replies.new.items ≡ replies.old.items ++ text)
         × TakesOn X.D.state (stage cluster.old (X.held disks.old) (X.counted disks.old) (X.all_faults disks.old)) line.old.items (rest.now ++ 10 ∷ []) text
         (stage cluster.new (X.held disks.new) (X.counted disks.new) (X.all_faults disks.new)) line.new.items) }
     ensures err { OnErr result (Cuts X.D.state (stage cluster.old (X.held disks.old) (X.counted disks.old) (X.all_faults disks.old)) line.old.items (rest.now ++ 10 ∷ []) []
         (stage cluster.new (X.held disks.new) (X.counted disks.new) (X.all_faults disks.new))) }
     ensures nothing { OnErr result (replies.new.items ≡ replies.old.items) }
-    ensures owned { MayServe cluster.new (X.held disks.new) }
+    ensures owned { MayServeCluster cluster.new (X.held disks.new) }
 {
     if line.as_slice().is_empty() {
         return answer_line(alloc, cluster, disks, replies, rest);
@@ -60,7 +60,7 @@ fn serve_lines<K: Sink, X: Disks>(
     line: &mut Vec<u8>,
     piece: &[u8],
 ) -> Result<(), Status>
-    requires owned { MayServe cluster.old (X.held disks.old) }
+    requires owned { MayServeCluster cluster.old (X.held disks.old) }
     ensures ok { OnOk result ((text : List ℕ) × Gathers (K.written out.old) replies.old.items text (K.written out.new) replies.new.items
         × TakesOn X.D.state (stage cluster.old (X.held disks.old) (X.counted disks.old) (X.all_faults disks.old)) line.old.items piece.now text
         (stage cluster.new (X.held disks.new) (X.counted disks.new) (X.all_faults disks.new)) line.new.items) }
@@ -68,7 +68,7 @@ fn serve_lines<K: Sink, X: Disks>(
         × Cuts X.D.state (stage cluster.old (X.held disks.old) (X.counted disks.old) (X.all_faults disks.old)) line.old.items piece.now text
         (stage cluster.new (X.held disks.new) (X.counted disks.new) (X.all_faults disks.new))) }
     ensures few { length replies.old.items < 65536 → OnOk result (length replies.new.items < 65536) }
-    ensures owned { MayServe cluster.new (X.held disks.new) }
+    ensures owned { MayServeCluster cluster.new (X.held disks.new) }
     ensures later { (K.faulted out.old ≤ K.faulted out.new) × (K.stalled out.old ≤ K.stalled out.new) }
     ensures cause { IfErr result (λ s. EndsLine s (K.faulted out.old) (K.faulted out.new) (K.stalled out.old) (K.stalled out.new)) }
 {
@@ -99,14 +99,14 @@ pub fn serve_piece<K: Sink, X: Disks>(
     line: &mut Vec<u8>,
     piece: &[u8],
 ) -> Result<(), Status>
-    requires owned { MayServe cluster.old (X.held disks.old) }
+    requires owned { MayServeCluster cluster.old (X.held disks.old) }
     ensures ok { OnOk result ((text : List ℕ) × Appends (K.written out.old) (K.written out.new) text
         × TakesOn X.D.state (stage cluster.old (X.held disks.old) (X.counted disks.old) (X.all_faults disks.old)) line.old.items piece.now text
         (stage cluster.new (X.held disks.new) (X.counted disks.new) (X.all_faults disks.new)) line.new.items) }
     ensures err { IfErr result (λ s. (text : List ℕ) × WritesUntil s (K.written out.old) text (K.written out.new)
         × Cuts X.D.state (stage cluster.old (X.held disks.old) (X.counted disks.old) (X.all_faults disks.old)) line.old.items piece.now text
         (stage cluster.new (X.held disks.new) (X.counted disks.new) (X.all_faults disks.new))) }
-    ensures owned { MayServe cluster.new (X.held disks.new) }
+    ensures owned { MayServeCluster cluster.new (X.held disks.new) }
     ensures later { (K.faulted out.old ≤ K.faulted out.new) × (K.stalled out.old ≤ K.stalled out.new) }
     ensures cause { IfErr result (λ s. EndsLine s (K.faulted out.old) (K.faulted out.new) (K.stalled out.old) (K.stalled out.new)) }
 {

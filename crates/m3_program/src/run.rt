@@ -2,8 +2,8 @@ ghost use Rattle.std.specs.Prelude.{◌≡◌, ◌<◌, ◌≤◌, ◌+◌, ℕ,
 ghost use Rattle.std.specs.Io.KnownBytes.{Appends, Consumes, IsAtEnd};
 ghost use Rattle.m3_model.specs.declared.limits.TheConstants.{INPUT_END};
 ghost use Rattle.m3_outside.specs.Slots.{Out};
-ghost use Rattle.m3_outside.specs.declared.slot.Slot.{Slot};
-ghost use Rattle.served_cluster.specs.Owned.{MayServe};
+ghost use Rattle.m3_outside.specs.declared.slot.DiskSlot.{DiskSlot};
+ghost use Rattle.served_cluster.specs.Owned.{MayServeCluster};
 ghost use Rattle.m3_program.specs.Words.{is_run};
 ghost use Rattle.m3_program.specs.Streams.{TakesOn, Cuts, Finishes, HaltsLast, HasServed, IsFresh, stage};
 ghost use Rattle.m3_program.specs.Writing.{WritesUntil};
@@ -34,7 +34,7 @@ fn serve_read<S: Source, K: Sink, X: Disks>(
     out: &mut K,
     buf: &mut [u8],
 ) -> Result<usize, Status>
-    requires owned { MayServe cluster.old (X.held disks.old) }
+    requires owned { MayServeCluster cluster.old (X.held disks.old) }
     ensures ok { IfOk result (λ n. (piece text : List ℕ) × Consumes (S.left source.old) (S.left source.new) piece × (length piece ≡ n) × (n ≤ length buf.old)
         × Appends (K.written out.old) (K.written out.new) text
         × TakesOn X.D.state (stage cluster.old (X.held disks.old) (X.counted disks.old) (X.all_faults disks.old)) line.old.items piece text
@@ -47,7 +47,7 @@ fn serve_read<S: Source, K: Sink, X: Disks>(
     ensures at_fault { IsErrOf result status.ReadFault → Consumes (S.left source.old) (S.left source.new) [] × Appends (K.written out.old) (K.written out.new) []
         × TakesOn X.D.state (stage cluster.old (X.held disks.old) (X.counted disks.old) (X.all_faults disks.old)) line.old.items [] []
         (stage cluster.new (X.held disks.new) (X.counted disks.new) (X.all_faults disks.new)) line.new.items }
-    ensures owned { MayServe cluster.new (X.held disks.new) }
+    ensures owned { MayServeCluster cluster.new (X.held disks.new) }
     ensures later { (S.faulted source.old ≤ S.faulted source.new) × (K.faulted out.old ≤ K.faulted out.new) × (K.stalled out.old ≤ K.stalled out.new) }
     ensures cause { IfErr result (λ s. EndsStep s (S.faulted source.old) (S.faulted source.new) (K.faulted out.old) (K.faulted out.new) (K.stalled out.old) (K.stalled out.new)) }
 {
@@ -68,14 +68,14 @@ fn serve_last<K: Sink, X: Disks>(
     out: &mut K,
     line: &[u8],
 ) -> Result<(), Status>
-    requires owned { MayServe cluster.old (X.held disks.old) }
+    requires owned { MayServeCluster cluster.old (X.held disks.old) }
     ensures ok { OnOk result ((text : List ℕ) × Appends (K.written out.old) (K.written out.new) text
         × Finishes X.D.state (stage cluster.old (X.held disks.old) (X.counted disks.old) (X.all_faults disks.old)) line.now text
         (stage cluster.new (X.held disks.new) (X.counted disks.new) (X.all_faults disks.new))) }
     ensures err { IfErr result (λ s. (text : List ℕ) × WritesUntil s (K.written out.old) text (K.written out.new)
         × HaltsLast X.D.state (stage cluster.old (X.held disks.old) (X.counted disks.old) (X.all_faults disks.old)) line.now text
         (stage cluster.new (X.held disks.new) (X.counted disks.new) (X.all_faults disks.new))) }
-    ensures owned { MayServe cluster.new (X.held disks.new) }
+    ensures owned { MayServeCluster cluster.new (X.held disks.new) }
     ensures later { (K.faulted out.old ≤ K.faulted out.new) × (K.stalled out.old ≤ K.stalled out.new) }
     ensures cause { IfErr result (λ s. EndsLine s (K.faulted out.old) (K.faulted out.new) (K.stalled out.old) (K.stalled out.new)) }
 {
@@ -109,12 +109,12 @@ fn serve_all<S: Source, K: Sink, X: Disks>(
     out: &mut K,
 ) -> Status
     requires fresh { IsFresh X.D.state cluster.old }
-    requires owned { MayServe cluster.old (X.held disks.old) }
+    requires owned { MayServeCluster cluster.old (X.held disks.old) }
     ensures told { (input before : List ℕ) → S.left source.old ≡ Some input → K.written out.old ≡ Some before
         → (left written : List ℕ) × (S.left source.new ≡ Some left) × (K.written out.new ≡ Some (before ++ written))
         × HasServed X.D.state (record { held = X.held disks.old; counted = X.counted disks.old; faults = X.all_faults disks.old })
         (stage cluster.new (X.held disks.new) (X.counted disks.new) (X.all_faults disks.new)) result input left written }
-    ensures owned { MayServe cluster.new (X.held disks.new) }
+    ensures owned { MayServeCluster cluster.new (X.held disks.new) }
     ensures cause { EndsRun true result (S.faulted source.old) (S.faulted source.new) (K.faulted out.old) (K.faulted out.new) (K.stalled out.old) (K.stalled out.new) }
 {
     let mut line = Vec::new(alloc);
@@ -154,12 +154,12 @@ pub fn run<S: Source, K: Sink, X: Disks>(
     out: &mut K,
     disks: &mut X,
 ) -> Status
-    requires none_out { (slot : Slot) → ¬ (X.held disks.old slot ≡ Out) }
+    requires none_out { (slot : DiskSlot) → ¬ (X.held disks.old slot ≡ Out) }
     ensures told { (input before : List ℕ) → S.left source.old ≡ Some input → K.written out.old ≡ Some before
         → (left written : List ℕ) × (S.left source.new ≡ Some left) × (K.written out.new ≡ Some (before ++ written))
         × HasRun X.D.state (record { held = X.held disks.old; counted = X.counted disks.old; faults = X.all_faults disks.old })
         (record { all = X.all_faults disks.new; of_disk = X.counted disks.new }) [] None result input left written }
-    ensures none_out { (slot : Slot) → ¬ (X.held disks.new slot ≡ Out) }
+    ensures none_out { (slot : DiskSlot) → ¬ (X.held disks.new slot ≡ Out) }
     ensures cause { EndsRun (is_run (map string_bytes words.now)) result (S.faulted source.old) (S.faulted source.new) (K.faulted out.old) (K.faulted out.new) (K.stalled out.old) (K.stalled out.new) }
 {
     if !is_run(words) {

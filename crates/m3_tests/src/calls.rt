@@ -1,10 +1,8 @@
 // In which order a run reads and writes, and how much at a time.
 ghost use Rattle.std.specs.Prelude.{None};
 
-use line_runs::{INIT, NAMESPACE, PLACED};
+use line_runs::{INIT, NAMESPACE, PLACED, Status, run};
 use m3_outside::{Failed, MemSink, Sink, Source};
-use m3_program::Status;
-use m3_program::run::run;
 use mem_disk::MemDisks;
 use std::alloc::Global;
 use std::cell::Cell;

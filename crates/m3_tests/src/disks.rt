@@ -1,9 +1,8 @@
 // Runs over disks of which one fails, and what is given back.
 use crate::nodes::FAILED_AT_ONCE;
-use line_runs::{INIT, NAMESPACE, OF_C, PLACED, disks_with, ended_over, told};
+use line_runs::{INIT, NAMESPACE, OF_C, PLACED, Status, disks_with, ended_over, told};
 use m3_model::Memory;
 use m3_outside::{Disk, Disks};
-use m3_program::Status;
 use mem_disk::{MemDisk, MemDisks};
 use std::alloc::Global;
 use std::test::Fail;

@@ -5,8 +5,7 @@ use crate::stories::{
     BEFORE_INIT, EXPIRY, FETCH_RETURNS_WRITE, HIGHER_VALUE_STAYS, INITS, MATCHES, NAMESPACES,
     RANGES, REFUSALS, WINDOW,
 };
-use line_runs::{INIT, NAMESPACE, PLACED, ended, told};
-use m3_program::Status;
+use line_runs::{INIT, NAMESPACE, PLACED, Status, ended, told};
 use std::alloc::Global;
 use std::process::Abort;
 use std::test::Fail;

@@ -1,6 +1,5 @@
 // How runs end.
-use line_runs::{INIT, PLACED, ended};
-use m3_program::Status;
+use line_runs::{INIT, PLACED, Status, ended};
 use std::test::Fail;
 
 #[test]

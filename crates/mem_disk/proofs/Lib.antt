@@ -1,3 +1,3 @@
 pub mod PastLemmas
 pub mod DiskLemmas
-pub mod PlaceLemmas
+pub mod SlotLemmas

@@ -1,4 +1,4 @@
 pub mod Calls
 pub mod Parts
-pub mod Places
+pub mod SlotStates
 pub mod Slots

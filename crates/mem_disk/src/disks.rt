@@ -1,10 +1,10 @@
 ghost use Rattle.std.specs.Prelude.{◌≡◌, suc, vec_len, IfOk};
-ghost use Rattle.mem_disk.specs.Places.{meta_place, AreEmpty};
+ghost use Rattle.mem_disk.specs.SlotStates.{meta_position, AreEmpty};
 
 use crate::disk::MemDisk;
-use crate::place::{PLACES, Place, place_of};
+use crate::slot_state::{SLOTS, SlotState, position_of};
 use m3_model::Memory;
-use m3_outside::{Disk, DiskErr, Disks, Slot};
+use m3_outside::{Disk, DiskErr, DiskSlot, Disks};
 use std::alloc::Global;
 
 /// Disks in memory that never fail: one for each node below 16 and each shard below 64, and the meta disk. Another
@@ -12,29 +12,29 @@ use std::alloc::Global;
 #[derive(Drop)]
 pub struct MemDisks {
     alloc: Global,
-    places: Vec<Place>,
+    slots: Vec<SlotState>,
     faults: u64,
-    ghost all_slots: { vec_len places ≡ suc meta_place },
+    ghost all_slots: { vec_len slots ≡ suc meta_position },
 }
 
-// The places of all slots, in none of which a disk lies.
-fn empty_places(alloc: Global) -> Result<Vec<Place>, Memory>
-    ensures len { IfOk result (λ places. vec_len places ≡ suc meta_place) }
-    ensures empty { IfOk result (λ places. AreEmpty places.items) }
+// All slots, in none of which a disk lies.
+fn empty_slots(alloc: Global) -> Result<Vec<SlotState>, Memory>
+    ensures len { IfOk result (λ slots. vec_len slots ≡ suc meta_position) }
+    ensures empty { IfOk result (λ slots. AreEmpty slots.items) }
 {
-    let mut places = Vec::new(alloc);
-    for _ in 0..PLACES {
-        places.push(Place::Empty)?;
+    let mut slots = Vec::new(alloc);
+    for _ in 0..SLOTS {
+        slots.push(SlotState::Empty)?;
     }
-    Ok(places)
+    Ok(slots)
 }
 
 impl MemDisks {
     ghost use Rattle.std.specs.Prelude.{◌≡◌, Some, IfOk};
     ghost use Rattle.mem_disk.specs.Parts.{state_of};
-    ghost use Rattle.m3_outside.specs.declared.slot.Slot.{Slot as AtSlot};
+    ghost use Rattle.m3_outside.specs.declared.slot.DiskSlot.{DiskSlot as AtSlot};
     ghost use Rattle.m3_outside.specs.Slots.{Unused, Here, Out, OthersStay};
-    ghost use Rattle.mem_disk.specs.Places.{HasSlot, disk_in};
+    ghost use Rattle.mem_disk.specs.SlotStates.{HasSlot, disk_in};
     ghost use Rattle.mem_disk.specs.Slots.{held_of, counted_of, faults_of, count_with};
 
     /// All slots, none of them used. Takes the memory for them, and none for their disks.
@@ -46,17 +46,17 @@ impl MemDisks {
         ensures unused { IfOk result (λ d. (s : AtSlot) → held_of d s ≡ Unused) }
         ensures faults { IfOk result (λ d. faults_of d ≡ 0) }
     {
-        let places = empty_places(alloc)?;
+        let slots = empty_slots(alloc)?;
         Ok(MemDisks {
             alloc,
-            places,
+            slots,
             faults: 0,
         })
     }
 
     /// Puts a disk into a slot, and gives the one that lay there. The disk itself comes back where there is no such
     /// slot, or its disk is out. Its faults count among all from now on.
-    pub fn put(&mut self, slot: Slot, disk: MemDisk) -> Option<MemDisk>
+    pub fn put(&mut self, slot: DiskSlot, disk: MemDisk) -> Option<MemDisk>
         ensures here { HasSlot slot → ¬ (held_of self.old slot ≡ Out) → held_of self.new slot ≡ Here disk }
         ensures old { HasSlot slot → ¬ (held_of self.old slot ≡ Out) → result ≡ disk_in (held_of self.old slot) }
         ensures back { (HasSlot slot → held_of self.old slot ≡ Out) → (result ≡ Some disk) × (held_of self.new slot ≡ held_of self.old slot) }
@@ -66,14 +66,14 @@ impl MemDisks {
         ensures counts { HasSlot slot → ¬ (held_of self.old slot ≡ Out) → faults_of self.new ≡ count_with (faults_of self.old) (state_of disk).faults }
         ensures refused { (HasSlot slot → held_of self.old slot ≡ Out) → self.new ≡ self.old }
     {
-        let Some(place) = place_of(slot) else {
+        let Some(position) = position_of(slot) else {
             return Some(disk);
         };
-        if self.places[place].is_lent() {
+        if self.slots[position].is_lent() {
             return Some(disk);
         }
         self.faults = self.faults.saturating_add(disk.faults());
-        self.places[place].put(disk)
+        self.slots[position].put(disk)
     }
 }
 
@@ -84,20 +84,20 @@ impl Disks for MemDisks {
     ghost use Rattle.m3_outside.specs.Causes.{CountsFaults, RoseBy};
     ghost use Rattle.m3_outside.specs.DiskState.{IsEmpty};
     ghost use Rattle.m3_outside.specs.Slots.{Unused, Here, Out, MayGive, OthersStay};
-    ghost use Rattle.m3_outside.specs.declared.slot.Slot.{Slot as AtSlot};
+    ghost use Rattle.m3_outside.specs.declared.slot.DiskSlot.{DiskSlot as AtSlot};
     ghost use Rattle.mem_disk.specs.Calls.{unfailing};
     ghost use Rattle.mem_disk.specs.Parts.{calls_of, state_of};
-    ghost use Rattle.mem_disk.specs.Places.{held_at, counted_at};
+    ghost use Rattle.mem_disk.specs.SlotStates.{held_at, counted_at};
     ghost use Rattle.mem_disk.specs.Slots.{held_of, counted_of, faults_of, count_with};
 
-    ghost held = { λ d. held_at d.places.items };
+    ghost held = { λ d. held_at d.slots.items };
 
-    ghost counted = { λ d. counted_at d.places.items };
+    ghost counted = { λ d. counted_at d.slots.items };
 
     ghost all_faults = { λ d. d.faults };
 
     /// Takes the disk of a slot. One that was never used gives a disk that never fails. This object has no faults of its own.
-    fn take(&mut self, slot: Slot) -> Result<MemDisk, DiskErr>
+    fn take(&mut self, slot: DiskSlot) -> Result<MemDisk, DiskErr>
         requires { ¬ (held_of self.old slot ≡ Out) }
         // As of all disks.
         ensures disk { IfOk result (MayGive (λ d. IsEmpty (state_of d)) (held_of self.old slot)) }
@@ -113,15 +113,15 @@ impl Disks for MemDisks {
         ensures no_fault { ¬ (IsErrOf result DiskErr.Failed) }
         ensures counts { faults_of self.new ≡ faults_of self.old }
     {
-        let Some(place) = place_of(slot) else {
+        let Some(position) = position_of(slot) else {
             return Err(DiskErr::Memory);
         };
-        let disk = self.places[place].take(self.alloc)?;
+        let disk = self.slots[position].take(self.alloc)?;
         Ok(disk)
     }
 
     /// Gives the disk of a slot back: the faults that it had since it was taken are counted, and no others.
-    fn give(&mut self, slot: Slot, disk: MemDisk)
+    fn give(&mut self, slot: DiskSlot, disk: MemDisk)
         requires { held_of self.old slot ≡ Out }
         // As of all disks.
         ensures here { held_of self.new slot ≡ Here disk }
@@ -134,14 +134,14 @@ impl Disks for MemDisks {
         // Exactly so many.
         ensures counts { faults_of self.new ≡ count_with (faults_of self.old) ((state_of disk).faults - counted_of self.old slot) }
     {
-        let Some(place) = place_of(slot) else {
+        let Some(position) = position_of(slot) else {
             unreachable!()
         };
-        let counted = self.places[place].counted();
+        let counted = self.slots[position].counted();
         self.faults = self
             .faults
             .saturating_add(disk.faults().saturating_sub(counted));
-        drop(self.places[place].put(disk));
+        drop(self.slots[position].put(disk));
     }
 
     fn faults(&self) -> u64 {

@@ -3,8 +3,8 @@
 
 pub mod disk;
 pub mod disks;
-mod place;
 mod schedule;
+mod slot_state;
 
 pub use disk::MemDisk;
 pub use disks::MemDisks;

@@ -3,7 +3,7 @@ ghost use Rattle.std.specs.Prelude.{◌≢◌, ◌≤◌, IfOk, IsTrue};
 ghost use Rattle.m3_model.specs.Limits.{MeetsLimits};
 ghost use Rattle.m3_model.specs.declared.limits.TheConstants.{MOST_SHARDS};
 ghost use Rattle.m3_outside.specs.Slots.{Out};
-ghost use Rattle.m3_outside.specs.declared.slot.Slot.{Slot as Place};
+ghost use Rattle.m3_outside.specs.declared.slot.DiskSlot.{DiskSlot};
 ghost use Rattle.node_calls.specs.Halts.{AreManned};
 ghost use Rattle.member_runs.specs.Ready.{IsReadyCluster};
 
@@ -166,7 +166,7 @@ pub fn tell<D: Disk>(
 pub fn first<X: Disks>(alloc: Global, disks: &mut X, shards: u32) -> Result<Members<X::D>, Memory>
     requires some { 1 ≤ shards }
     requires few { shards ≤ MOST_SHARDS }
-    requires free { (place : Place) → X.held disks.old place ≢ Out }
+    requires free { (slot : DiskSlot) → X.held disks.old slot ≢ Out }
     ensures ready { IfOk result IsReadyCluster }
 {
     let nodes = three_nodes(alloc)?;

@@ -153,15 +153,15 @@ count_stands low high f n t bytes at mid next least most a items b = record {
 
 -- ---- a reading that goes on
 
--- where the rest of a form fails at the place, the whole form fails at its begin
+-- where the rest of a form fails at the offset, the whole form fails at its begin
 abbrev pub Behind : Form → Form → List ℕ → ℕ → ℕ → Type 0
-Behind whole rest bytes at place = (e : ReadErr) → MayFault (Has rest) bytes place e → MayFault (Has whole) bytes at e
+Behind whole rest bytes at offset = (e : ReadErr) → MayFault (Has rest) bytes offset e → MayFault (Has whole) bytes at e
 
-pub behind : (whole f g : Form) → IsFair f → (s bytes : List ℕ) (at place mid : ℕ) → Behind whole (Both f g) bytes at place → StandsAs f s bytes place mid → Behind whole g bytes at mid
-behind whole f g fair s bytes at place mid b st = λ e a. b e (may_second f g fair s bytes place mid e st a)
+pub behind : (whole f g : Form) → IsFair f → (s bytes : List ℕ) (at offset mid : ℕ) → Behind whole (Both f g) bytes at offset → StandsAs f s bytes offset mid → Behind whole g bytes at mid
+behind whole f g fair s bytes at offset mid b st = λ e a. b e (may_second f g fair s bytes offset mid e st a)
 
-pub fails : (whole f g : Form) → IsFair f → IsFair g → (bytes : List ℕ) (at place : ℕ) → Behind whole (Both f g) bytes at place → (e : ReadErr) → MayFault (Has f) bytes place e → MayFault (Has whole) bytes at e
-fails whole f g fair more bytes at place b e a = b e (may_first f g fair more bytes place e a)
+pub fails : (whole f g : Form) → IsFair f → IsFair g → (bytes : List ℕ) (at offset : ℕ) → Behind whole (Both f g) bytes at offset → (e : ReadErr) → MayFault (Has f) bytes offset e → MayFault (Has whole) bytes at e
+fails whole f g fair more bytes at offset b e a = b e (may_first f g fair more bytes offset e a)
 
 -- ---- answers passed on
 

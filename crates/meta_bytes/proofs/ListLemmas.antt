@@ -15,14 +15,14 @@ flat_push f (y ∷ xs) x = ap (λ (l : List ℕ). f y ++ l) (flat_push f xs x) �
 pub no_items : {X : Type 0} (form : Form) (spelled : X → List ℕ) (bytes : List ℕ) (from : ℕ) → from ≤ length bytes → ItemsStand form spelled 0 [] bytes from from
 no_items form spelled bytes from within = record { counted = refl; has = refl; stands = record { split = refl; ends = omega arith; within = within } }
 
-pub one_more : {X : Type 0} (form : Form) (spelled : X → List ℕ) (n : ℕ) (xs : List X) (x : X) (bytes : List ℕ) (from place next : ℕ) → ItemsStand form spelled n xs bytes from place → StandsAs form (spelled x) bytes place next → ItemsStand form spelled (n + 1) (xs ++ x ∷ []) bytes from next
-one_more form spelled n xs x bytes from place next all st =
+pub one_more : {X : Type 0} (form : Form) (spelled : X → List ℕ) (n : ℕ) (xs : List X) (x : X) (bytes : List ℕ) (from offset next : ℕ) → ItemsStand form spelled n xs bytes from offset → StandsAs form (spelled x) bytes offset next → ItemsStand form spelled (n + 1) (xs ++ x ∷ []) bytes from next
+one_more form spelled n xs x bytes from offset next all st =
     let push = flat_push spelled xs x in
     let up : suc n ≡ n + 1 = omega arith in
     record {
       counted = length_push xs x ∙ (let e : _ = all.counted in omega (arith, e));
       has = subst (λ (k : ℕ). Times k (Has form) (flat_map spelled (xs ++ x ∷ []))) up (subst (Times (suc n) (Has form)) (sym push) (times_more (Has form) n (flat_map spelled xs) (spelled x) all.has st.has));
-      stands = subst (λ (l : List ℕ). Stands l bytes from next) (sym push) (stands_both (flat_map spelled xs) (spelled x) bytes from place next all.stands st.stands);
+      stands = subst (λ (l : List ℕ). Stands l bytes from next) (sym push) (stands_both (flat_map spelled xs) (spelled x) bytes from offset next all.stands st.stands);
     }
 
 -- what is appended to what was appended

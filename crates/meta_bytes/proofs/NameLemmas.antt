@@ -91,45 +91,45 @@ stands_name n name bytes at from count least most st all =
     let c = subst (λ (k : ℕ). Stands (big_bytes 1 k) bytes at from) (sym long) count.stands in
     count_stands 1 32 (Byte is_name_byte) (length name) name bytes at from (from + n) (omega (arith, long, least)) (omega (arith, long, most)) c (letters name all) st
 
--- a reading of a name that has come to a place
+-- a reading of a name that has come to an offset
 abbrev Bytes : ℕ → List ℕ → Type 0
 Bytes n = Times n NameByte
 
-pub name_short : (n : ℕ) (bytes : List ℕ) (place : ℕ) → 0 < n → length bytes ≤ place → IsFault (Bytes n) bytes place errors.Short
-name_short zero bytes place some le = absurd (omega arith)
-name_short (suc n) bytes place some le = subst (GoesOn (Bytes (suc n))) (sym (drop_of_length-le bytes le)) (name_goes n)
+pub name_short : (n : ℕ) (bytes : List ℕ) (offset : ℕ) → 0 < n → length bytes ≤ offset → IsFault (Bytes n) bytes offset errors.Short
+name_short zero bytes offset some le = absurd (omega arith)
+name_short (suc n) bytes offset some le = subst (GoesOn (Bytes (suc n))) (sym (drop_of_length-le bytes le)) (name_goes n)
 
-at_place : (bytes : List ℕ) (place : ℕ) → get_or (drop place bytes) 0 0 ≡ get_or bytes place 0
-at_place bytes place = get_or-drop place bytes 0 0 ∙ (let e : place + 0 ≡ place = omega arith in ap (λ (k : ℕ). get_or bytes k 0) e)
+at_offset : (bytes : List ℕ) (offset : ℕ) → get_or (drop offset bytes) 0 0 ≡ get_or bytes offset 0
+at_offset bytes offset = get_or-drop offset bytes 0 0 ∙ (let e : offset + 0 ≡ offset = omega arith in ap (λ (k : ℕ). get_or bytes k 0) e)
 
-pub name_bad : (n : ℕ) (bytes : List ℕ) (place : ℕ) → 0 < n → place < length bytes → is_name_byte (get_or bytes place 0) ≡ false → IsFault (Bytes n) bytes place (errors.Bad place)
-name_bad zero bytes place some lt e = absurd (omega arith)
-name_bad (suc n) bytes place some lt e =
-    let none : 0 ≡ place - place = omega arith in (
+pub name_bad : (n : ℕ) (bytes : List ℕ) (offset : ℕ) → 0 < n → offset < length bytes → is_name_byte (get_or bytes offset 0) ≡ false → IsFault (Bytes n) bytes offset (errors.Bad offset)
+name_bad zero bytes offset some lt e = absurd (omega arith)
+name_bad (suc n) bytes offset some lt e =
+    let none : 0 ≡ offset - offset = omega arith in (
       omega arith,
-      subst (λ (k : ℕ). Misfits (Bytes (suc n)) (drop place bytes) k) none (name_misfits n (drop place bytes) (omega (arith, length-drop place bytes)) (ap is_name_byte (at_place bytes place) ∙ e)),
+      subst (λ (k : ℕ). Misfits (Bytes (suc n)) (drop offset bytes) k) none (name_misfits n (drop offset bytes) (omega (arith, length-drop offset bytes)) (ap is_name_byte (at_offset bytes offset) ∙ e)),
     )
 
-one_stands : (bytes : List ℕ) (place : ℕ) → place < length bytes → Stands (get_or bytes place 0 ∷ []) bytes place (place + 1)
-one_stands bytes place lt = record { split = drop_more bytes place 0 lt; ends = refl; within = omega arith }
+one_stands : (bytes : List ℕ) (offset : ℕ) → offset < length bytes → Stands (get_or bytes offset 0 ∷ []) bytes offset (offset + 1)
+one_stands bytes offset lt = record { split = drop_more bytes offset 0 lt; ends = refl; within = omega arith }
 
-pub name_step : (n : ℕ) (bytes : List ℕ) (place : ℕ) (e : WireErr) → 0 < n → place < length bytes → is_name_byte (get_or bytes place 0) ≡ true → IsFault (Bytes (n - 1)) bytes (place + 1) e → IsFault (Bytes n) bytes place e
-name_step zero bytes place e some lt fits a = absurd (omega arith)
-name_step (suc n) bytes place e some lt fits a =
+pub name_step : (n : ℕ) (bytes : List ℕ) (offset : ℕ) (e : WireErr) → 0 < n → offset < length bytes → is_name_byte (get_or bytes offset 0) ≡ true → IsFault (Bytes (n - 1)) bytes (offset + 1) e → IsFault (Bytes n) bytes offset e
+name_step zero bytes offset e some lt fits a = absurd (omega arith)
+name_step (suc n) bytes offset e some lt fits a =
     let less : suc n - 1 ≡ n = omega arith in
-    times_later NameByte (form_ends (Byte is_name_byte) (record { n = 97; small = omega arith; passed = refl })) n (get_or bytes place 0 ∷ []) bytes place (place + 1) e (name_byte (get_or bytes place 0) fits) (one_stands bytes place lt)
-    (subst (λ (k : ℕ). IsFault (Bytes k) bytes (place + 1) e) less a)
+    times_later NameByte (form_ends (Byte is_name_byte) (record { n = 97; small = omega arith; passed = refl })) n (get_or bytes offset 0 ∷ []) bytes offset (offset + 1) e (name_byte (get_or bytes offset 0) fits) (one_stands bytes offset lt)
+    (subst (λ (k : ℕ). IsFault (Bytes k) bytes (offset + 1) e) less a)
 
-pub name_so_far : (at place : ℕ) (bytes : List ℕ) → at ≤ place → place < length bytes → is_name_byte (get_or bytes place 0) ≡ true → list_all is_name_byte (take (place - at) (drop at bytes)) ≡ true → list_all is_name_byte (take (place + 1 - at) (drop at bytes)) ≡ true
-name_so_far at place bytes le lt fits all =
-    let i : ℕ = place - at in
-    let up : i + 1 ≡ place + 1 - at = omega arith in
-    let there : get_or (drop at bytes) i 0 ≡ get_or bytes place 0 = get_or-drop at bytes i 0 ∙ (let e : at + i ≡ place = omega arith in ap (λ (k : ℕ). get_or bytes k 0) e) in
-    let more : take (i + 1) (drop at bytes) ≡ take i (drop at bytes) ++ get_or bytes place 0 ∷ [] = take_more (drop at bytes) i 0 (omega (arith, length-drop at bytes)) ∙ ap (λ (b : ℕ). take i (drop at bytes) ++ b ∷ []) there in
-    sym (ap (λ (k : ℕ). list_all is_name_byte (take k (drop at bytes))) up) ∙ ap (list_all is_name_byte) more ∙ all_more (take i (drop at bytes)) (get_or bytes place 0) all fits
+pub name_so_far : (at offset : ℕ) (bytes : List ℕ) → at ≤ offset → offset < length bytes → is_name_byte (get_or bytes offset 0) ≡ true → list_all is_name_byte (take (offset - at) (drop at bytes)) ≡ true → list_all is_name_byte (take (offset + 1 - at) (drop at bytes)) ≡ true
+name_so_far at offset bytes le lt fits all =
+    let i : ℕ = offset - at in
+    let up : i + 1 ≡ offset + 1 - at = omega arith in
+    let there : get_or (drop at bytes) i 0 ≡ get_or bytes offset 0 = get_or-drop at bytes i 0 ∙ (let e : at + i ≡ offset = omega arith in ap (λ (k : ℕ). get_or bytes k 0) e) in
+    let more : take (i + 1) (drop at bytes) ≡ take i (drop at bytes) ++ get_or bytes offset 0 ∷ [] = take_more (drop at bytes) i 0 (omega (arith, length-drop at bytes)) ∙ ap (λ (b : ℕ). take i (drop at bytes) ++ b ∷ []) there in
+    sym (ap (λ (k : ℕ). list_all is_name_byte (take k (drop at bytes))) up) ∙ ap (list_all is_name_byte) more ∙ all_more (take i (drop at bytes)) (get_or bytes offset 0) all fits
 
-pub byte_stands : (bytes : List ℕ) (place : ℕ) → place < length bytes → Stands (get_or bytes place 0 ∷ []) bytes place (place + 1)
-byte_stands bytes place lt = one_stands bytes place lt
+pub byte_stands : (bytes : List ℕ) (offset : ℕ) → offset < length bytes → Stands (get_or bytes offset 0 ∷ []) bytes offset (offset + 1)
+byte_stands bytes offset lt = one_stands bytes offset lt
 
 pub same_head : (b n : ℕ) (rest : List ℕ) → n < 256 → b ∷ rest ≡ big_bytes 1 n → b ≡ n
 same_head b n rest small e = first_same b n rest [] (e ∙ one_byte n small)

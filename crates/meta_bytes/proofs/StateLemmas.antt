@@ -67,10 +67,10 @@ at_start bytes = refl
 pub breaks_short : (bytes : List ℕ) → IsFault (Has state_form) bytes 0 errors.Short → StopsAt (Has state_form) bytes (length bytes)
 breaks_short bytes a = stops_short (Has state_form) (form_ends state_form fair_state) bytes a
 
-pub breaks_bad : (bytes : List ℕ) (place : ℕ) → IsFault (Has state_form) bytes 0 (errors.Bad place) → StopsAt (Has state_form) bytes place
-breaks_bad bytes place a =
-    let none : place - 0 ≡ place = omega arith in
-    stops_bad (Has state_form) (form_ends state_form fair_state) bytes place (subst (Misfits (Has state_form) bytes) none a.1)
+pub breaks_bad : (bytes : List ℕ) (offset : ℕ) → IsFault (Has state_form) bytes 0 (errors.Bad offset) → StopsAt (Has state_form) bytes offset
+breaks_bad bytes offset a =
+    let none : offset - 0 ≡ offset = omega arith in
+    stops_bad (Has state_form) (form_ends state_form fair_state) bytes offset (subst (Misfits (Has state_form) bytes) none a.1)
 
 pub breaks_behind : (s bytes : List ℕ) (next : ℕ) → StandsAs state_form s bytes 0 next → next < length bytes → StopsAt (Has state_form) bytes next
 breaks_behind s bytes next st lt =
@@ -87,4 +87,4 @@ whole_state s bytes next st le =
 pub breaks_err : (bytes : List ℕ) (e : ReadErr) → MayFault (Has state_form) bytes 0 e → MayBreak bytes (placed (length bytes) e)
 breaks_err bytes why.Memory a = tt
 breaks_err bytes (why.Wire errors.Short) a = let s = breaks_short bytes a in (no_form bytes s.none, s)
-breaks_err bytes (why.Wire (errors.Bad place)) a = let s = breaks_bad bytes place a in (no_form bytes s.none, s)
+breaks_err bytes (why.Wire (errors.Bad offset)) a = let s = breaks_bad bytes offset a in (no_form bytes s.none, s)

@@ -59,7 +59,7 @@ IsFair (Number width low high) = (low ≤ high) × (high < 256 ^ width)
 IsFair (Both f g) = IsFair f × IsFair g
 IsFair (Counted low high f) = (low ≤ high) × (high < 256) × IsFair f
 
--- these bytes of the form stand from the one place to the other
+-- these bytes of the form stand from the one offset to the other
 pub record StandsAs (form : Form) (s bytes : List ℕ) (at next : ℕ) : Type 0 where
   pub has : Has form s
   pub stands : Stands s bytes at next

@@ -155,14 +155,14 @@ pub record IsStateOf (bytes : List ℕ) (s : MetaState) : Type 0 where
 abbrev pub IsNoState : List ℕ → Type 0
 IsNoState bytes = (s : MetaState) → ¬ (IsStateOf bytes s)
 
--- The bytes are no state's: they stop to have the fields of one at the place; or they have its fields, and what some say doesn't go with what others say.
+-- The bytes are no state's: they stop to have the fields of one at the offset; or they have its fields, and what some say doesn't go with what others say.
 -- Memory may always be wanted.
 abbrev pub MayBreak : List ℕ → StateErr → Type 0
 MayBreak bytes refused.Memory = ⊤
 MayBreak bytes (refused.Form at) = IsNoState bytes × StopsAt (Has state_form) bytes at
 MayBreak bytes refused.Rules = IsNoState bytes × Has state_form bytes
 
--- a fault as a place in so many bytes
+-- a fault as an offset in so many bytes
 abbrev pub placed : ℕ → ReadErr → StateErr
 placed len why.Memory = refused.Memory
 placed len (why.Wire wire.Short) = refused.Form len

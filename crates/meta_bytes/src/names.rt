@@ -33,7 +33,7 @@ pub(crate) fn is_name(text: &str) -> bool
     (1..=MOST_NAME_BYTES).contains(&text.len()) && are_name_bytes(text.as_bytes())
 }
 
-// Whether `len` bytes of a name stand at the place.
+// Whether `len` bytes of a name stand at the offset.
 fn find_name(bytes: &[u8], at: usize, len: usize) -> Result<(), WireErr>
     requires inside { at ≤ length bytes.now }
     requires short { len ≤ MOST_NAME_BYTES }
@@ -41,18 +41,18 @@ fn find_name(bytes: &[u8], at: usize, len: usize) -> Result<(), WireErr>
     ensures name { OnOk result (list_all is_name_byte (take len (drop at bytes.now)) ≡ true) }
     ensures err { IfErr result (λ e. IsFault (Times len (Has (Byte is_name_byte))) bytes.now at e) }
 {
-    for place in at..at + len {
-        if place == bytes.len() {
+    for offset in at..at + len {
+        if offset == bytes.len() {
             return Err(WireErr::Short);
         }
-        if !is_name_byte(bytes[place]) {
-            return Err(WireErr::Bad { at: place });
+        if !is_name_byte(bytes[offset]) {
+            return Err(WireErr::Bad { at: offset });
         }
     }
     Ok(())
 }
 
-/// The name at the place, and the place behind it.
+/// The name at the offset, and the offset behind it.
 pub(crate) fn read_name(alloc: Global, bytes: &[u8], at: usize) -> Result<(Text, usize), ReadErr>
     ensures ok { IfOk result (λ r. StandsAs name_form (name_bytes r.0) bytes.now at r.1) }
     ensures fits { IfOk result (λ r. length r.0 < 256) }

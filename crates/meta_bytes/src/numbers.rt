@@ -5,7 +5,7 @@ ghost use Rattle.meta_bytes.specs.Forms.{Number, Has, StandsAs, MayFault};
 use crate::read_err::ReadErr;
 use wire_bytes::get_between;
 
-/// The number from `low` to `high` in `width` bytes at the place, and the place behind it.
+/// The number from `low` to `high` in `width` bytes at the offset, and the offset behind it.
 pub(crate) fn read_number(
     bytes: &[u8],
     at: usize,

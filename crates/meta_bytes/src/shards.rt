@@ -25,7 +25,7 @@ fn code_of(state: ShardState) -> u64
     }
 }
 
-// The state of a shard at the place, and the place behind it.
+// The state of a shard at the offset, and the offset behind it.
 fn read_shard_state(bytes: &[u8], at: usize) -> Result<(ShardState, usize), ReadErr>
     ensures ok { IfOk result (λ r. StandsAs (Number 1 0 2) (big_bytes 1 (code_of r.0)) bytes.now at r.1) }
     ensures err { IfErr result (MayFault (Has (Number 1 0 2)) bytes.now at) }
@@ -46,7 +46,7 @@ fn source_of(source: Option<u8>) -> u64
     u64::from(source.unwrap_or(NO_SOURCE))
 }
 
-// The source at the place, and the place behind it.
+// The source at the offset, and the offset behind it.
 fn read_source(bytes: &[u8], at: usize) -> Result<(Option<u8>, usize), ReadErr>
     ensures ok { IfOk result (λ r. StandsAs (Byte is_source) (big_bytes 1 (source_of r.0)) bytes.now at r.1) }
     ensures fits { IfOk result (λ r. IfSome r.0 (λ node. node < 255)) }

@@ -22,7 +22,7 @@ pub trait Spelled: Drop {
 
     ghost fits: { Self → Type 0 };
 
-    /// The value at the place, and the place behind it.
+    /// The value at the offset, and the offset behind it.
     fn read(alloc: Global, bytes: &[u8], at: usize) -> Result<(Self, usize), ReadErr>
     where
         Self: Sized,
@@ -36,7 +36,7 @@ pub trait Spelled: Drop {
         ensures { OnOk result (out.new.items ≡ out.old.items ++ spelled self.now) };
 }
 
-// So many values, from the place on.
+// So many values, from the offset on.
 fn read_items<T: Spelled>(
     alloc: Global,
     bytes: &[u8],
@@ -50,16 +50,16 @@ fn read_items<T: Spelled>(
     ensures err { IfErr result (MayFault (Times count (Has T.form)) bytes.now from) }
 {
     let mut items = Vec::new(alloc);
-    let mut place = from;
+    let mut offset = from;
     for _i in 0..count {
-        let (item, next) = T::read(alloc, bytes, place)?;
+        let (item, next) = T::read(alloc, bytes, offset)?;
         items.push(item)?;
-        place = next;
+        offset = next;
     }
-    Ok((Seq::from_vec(items), place))
+    Ok((Seq::from_vec(items), offset))
 }
 
-/// From `low` to `high` values behind their count, and the place behind them.
+/// From `low` to `high` values behind their count, and the offset behind them.
 pub(crate) fn read_all<T: Spelled>(
     alloc: Global,
     bytes: &[u8],

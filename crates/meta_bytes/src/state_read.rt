@@ -21,7 +21,7 @@ pub enum StateErr {
     /// Want of memory.
     #[error("out of memory")]
     Memory,
-    /// They haven't the form of a state: some bytes of the form begin with those before the place `at`, and none go on with
+    /// They haven't the form of a state: some bytes of the form begin with those before the offset `at`, and none go on with
     /// the byte there, or there is none.
     #[error("no state goes on with the byte at {at}")]
     Form { at: usize },
@@ -30,7 +30,7 @@ pub enum StateErr {
     Rules,
 }
 
-// The state whose fields stand in the first bytes, and the place behind them.
+// The state whose fields stand in the first bytes, and the offset behind them.
 fn read_fields(alloc: Global, bytes: &[u8]) -> Result<(MetaState, usize), ReadErr>
     ensures ok { IfOk result (λ r. StandsAs state_form (state_bytes r.0) bytes.now 0 r.1) }
     ensures fits { IfOk result (λ r. FitsState r.0) }
@@ -57,7 +57,7 @@ fn read_fields(alloc: Global, bytes: &[u8]) -> Result<(MetaState, usize), ReadEr
     Ok((state, next))
 }
 
-// A fault as a place in so many bytes.
+// A fault as an offset in so many bytes.
 fn placed(e: ReadErr, len: usize) -> StateErr
     ensures { result ≡ placed len e }
 {
@@ -76,7 +76,7 @@ fn placed(e: ReadErr, len: usize) -> StateErr
 ///
 /// # Errors
 ///
-/// Want of memory. Where the bytes haven't the form of a state, the first place at which they stop to have it; and where they
+/// Want of memory. Where the bytes haven't the form of a state, the first offset at which they stop to have it; and where they
 /// have it, but what the fields say doesn't go together, that this is so.
 pub fn read_state(alloc: Global, bytes: &[u8]) -> Result<MetaState, StateErr>
     ensures ok { IfOk result (IsStateOf bytes.now) }

@@ -20,9 +20,9 @@ pub fn segment_name(number: u64) -> FileName {
 
 // `S2:0102` makes a segment of these bytes, and zeros behind them.
 fn make_segment<D: Disk>(alloc: Global, disk: &mut D, words: &str) -> Result<bool, DiskErr> {
-    let (place, digits) = cut(words, ':');
+    let (segment, digits) = cut(words, ':');
     let bytes = files::decoded(alloc, digits)?;
-    files::make(disk, segment_name(number(place)), SEGMENT_BYTES, &bytes)
+    files::make(disk, segment_name(number(segment)), SEGMENT_BYTES, &bytes)
 }
 
 // `t0102` tells the state that these bytes are.

@@ -81,12 +81,12 @@ fn damage_is_told(rt: HostRuntime) -> Result<(), Fail> {
 #[test]
 fn each_bit_is_told(rt: HostRuntime) -> Result<(), Fail> {
     for from in [5, 84] {
-        let places = from..from + 74;
+        let offsets = from..from + 74;
         let untold = first_untold::<MetaWords>(
             rt.alloc(),
             ["r1,2", "r"],
             segment_name(1),
-            places,
+            offsets,
             &EACH_BIT,
         )?;
         assert_eq!(rt; untold, None);

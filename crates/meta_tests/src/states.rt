@@ -4,8 +4,8 @@ use meta_bytes::{StateErr, is_meta_state, read_state, spell_state};
 use std::alloc::Global;
 
 fn tell_nodes(nodes: &[Instance], out: &mut String) -> Result<(), Memory> {
-    for (place, node) in nodes.iter().enumerate() {
-        out.push_str(if place == 0 { ": " } else { ", " })?;
+    for (position, node) in nodes.iter().enumerate() {
+        out.push_str(if position == 0 { ": " } else { ", " })?;
         write!(out, "{} {} ", node.name.as_str(), node.group.as_str())?;
         write!(out, "{} {}", node.listed, node.drained)?;
     }
@@ -21,8 +21,8 @@ fn letter(state: ShardState) -> char {
 }
 
 fn tell_shard(shard: &[Assignment], out: &mut String) -> Result<(), Memory> {
-    for (place, one) in shard.iter().enumerate() {
-        out.push_str(if place == 0 { "; " } else { ", " })?;
+    for (position, one) in shard.iter().enumerate() {
+        out.push_str(if position == 0 { "; " } else { ", " })?;
         write!(out, "{} {} {}", one.node, one.tenure, letter(one.state))?;
         if let Some(source) = one.source {
             write!(out, " {source}")?;

@@ -7,13 +7,13 @@ use Rattle.model_laws.specs.Building.{life_of}
 use Rattle.model_laws.specs.Accepted.{write_then_read, three_values, two_ranges, until_expiry, after_cut, write_beside, edge_writes, unmet_then_read}
 use Rattle.model_laws.specs.Refused.{own_write, own_later_write}
 use Rattle.model_laws.proofs.EachLemmas.{◌also◌}
-use Rattle.model_laws.proofs.PlaceLemmas.{kept_by_places, no_read, only}
+use Rattle.model_laws.proofs.PositionLemmas.{kept_by_positions, no_read, only}
 use Rattle.model_laws.proofs.ReadLemmas.{kept_each, ordered_point, ordered_pair, ordered_none, covered_by}
 use Rattle.model_laws.proofs.SampleLemmas.{sought, sought-live}
 
 pub write_then_read-kept : Kept (life_of write_then_read)
 write_then_read-kept =
-    kept_by_places (life_of write_then_read) (
+    kept_by_positions (life_of write_then_read) (
     only (no_read _ _ _ refl)
     also only (no_read _ _ _ refl)
     also only (no_read _ _ _ refl)
@@ -26,7 +26,7 @@ write_then_read-kept =
 
 pub three_values-kept : Kept (life_of three_values)
 three_values-kept =
-    kept_by_places (life_of three_values) (
+    kept_by_positions (life_of three_values) (
     only (no_read _ _ _ refl)
     also only (no_read _ _ _ refl)
     also only (no_read _ _ _ refl)
@@ -44,7 +44,7 @@ three_values-kept =
 
 pub two_ranges-kept : Kept (life_of two_ranges)
 two_ranges-kept =
-    kept_by_places (life_of two_ranges) (
+    kept_by_positions (life_of two_ranges) (
     only (no_read _ _ _ refl)
     also only (no_read _ _ _ refl)
     also only (no_read _ _ _ refl)
@@ -66,7 +66,7 @@ two_ranges-kept =
 
 pub until_expiry-kept : Kept (life_of until_expiry)
 until_expiry-kept =
-    kept_by_places (life_of until_expiry) (
+    kept_by_positions (life_of until_expiry) (
     only (no_read _ _ _ refl)
     also only (no_read _ _ _ refl)
     also only (no_read _ _ _ refl)
@@ -85,7 +85,7 @@ until_expiry-kept =
 
 pub after_cut-found : Kept (after_cut ((100, pos 5) ∷ []))
 after_cut-found =
-    kept_by_places (after_cut ((100, pos 5) ∷ [])) (
+    kept_by_positions (after_cut ((100, pos 5) ∷ [])) (
     only (kept_each _ _ _ _ _ refl refl
     tt
     ((inl refl, sought 100 0 200 100 (pos 5) (omega arith) (omega arith) (omega arith)) also tt)
@@ -93,12 +93,12 @@ after_cut-found =
     also tt)
 
 pub after_cut-not_found : Kept (after_cut [])
-after_cut-not_found = kept_by_places (after_cut []) (only (kept_each _ _ _ _ _ refl refl tt tt ordered_none) also tt)
+after_cut-not_found = kept_by_positions (after_cut []) (only (kept_each _ _ _ _ _ refl refl tt tt ordered_none) also tt)
 
 -- the line has one list for each client, and each list has one act
 pub write_beside-found : Kept (life_of (write_beside ((100, pos 5) ∷ [])))
 write_beside-found =
-    kept_by_places (life_of (write_beside ((100, pos 5) ∷ []))) (
+    kept_by_positions (life_of (write_beside ((100, pos 5) ∷ []))) (
     only (no_read _ _ _ refl)
     also only (no_read _ _ _ refl)
     also only (no_read _ _ _ refl)
@@ -114,7 +114,7 @@ write_beside-found =
 
 pub write_beside-not_found : Kept (life_of (write_beside []))
 write_beside-not_found =
-    kept_by_places (life_of (write_beside [])) (
+    kept_by_positions (life_of (write_beside [])) (
     only (no_read _ _ _ refl)
     also only (no_read _ _ _ refl)
     also only (no_read _ _ _ refl)
@@ -126,7 +126,7 @@ write_beside-not_found =
 
 pub edge_writes-kept : Kept (life_of edge_writes)
 edge_writes-kept =
-    kept_by_places (life_of edge_writes) (
+    kept_by_positions (life_of edge_writes) (
     only (no_read _ _ _ refl)
     also only (no_read _ _ _ refl)
     also only (no_read _ _ _ refl)
@@ -146,7 +146,7 @@ edge_writes-kept =
 
 pub unmet_then_read-found : Kept (life_of (unmet_then_read ((100, pos 5) ∷ [])))
 unmet_then_read-found =
-    kept_by_places (life_of (unmet_then_read ((100, pos 5) ∷ []))) (
+    kept_by_positions (life_of (unmet_then_read ((100, pos 5) ∷ []))) (
     only (no_read _ _ _ refl)
     also only (no_read _ _ _ refl)
     also only (no_read _ _ _ refl)
@@ -159,7 +159,7 @@ unmet_then_read-found =
 
 pub unmet_then_read-not_found : Kept (life_of (unmet_then_read []))
 unmet_then_read-not_found =
-    kept_by_places (life_of (unmet_then_read [])) (
+    kept_by_positions (life_of (unmet_then_read [])) (
     only (no_read _ _ _ refl)
     also only (no_read _ _ _ refl)
     also only (no_read _ _ _ refl)
@@ -170,7 +170,7 @@ unmet_then_read-not_found =
 -- a client's own writes, before and after its fetch
 pub own_write-found : Kept (life_of (own_write ((100, pos 5) ∷ [])))
 own_write-found =
-    kept_by_places (life_of (own_write ((100, pos 5) ∷ []))) (
+    kept_by_positions (life_of (own_write ((100, pos 5) ∷ []))) (
     only (no_read _ _ _ refl)
     also only (no_read _ _ _ refl)
     also only (no_read _ _ _ refl)
@@ -186,7 +186,7 @@ own_write-found =
 
 pub own_later_write-nothing : Kept (life_of (own_later_write []))
 own_later_write-nothing =
-    kept_by_places (life_of (own_later_write [])) (
+    kept_by_positions (life_of (own_later_write [])) (
     only (no_read _ _ _ refl)
     also only (no_read _ _ _ refl)
     also only (no_read _ _ _ refl)

@@ -12,9 +12,9 @@ use Rattle.transcripts.specs.Levels.{IsAcked, MissesLevel, IsFoundFor}
 use Rattle.transcripts.specs.Reasons.{MayRefuse, MayServe, TakesPoint, IsOutside}
 use Rattle.placement_core.specs.NodeNames.{IsNamedBelow}
 use Rattle.transcripts.specs.Fates.{reaches}
-use Rattle.transcripts.specs.Record.{TurnPlace, inner_turns}
+use Rattle.transcripts.specs.Record.{TurnPosition, inner_turns}
 use Rattle.transcripts.specs.Faults.{Fault, AreDifferent}
-use Rattle.m3_model.specs.Rules.{IsPast, IsFuture, namespace_place}
+use Rattle.m3_model.specs.Rules.{IsPast, IsFuture, namespace_position}
 use Rattle.m3_model.specs.declared.act.ReadLevel.TheVariants as read_level
 use Rattle.m3_model.specs.Hash.{murmur3, shard_of}
 use Rattle.m3_model.specs.Members.{IsIn}
@@ -43,7 +43,7 @@ use Rattle.m3_model.specs.declared.turn.Turn.{Turn}
 use Rattle.model_laws.specs.Building.{life_of, made, named, begun, at_moment, eight_made, with_eight, two_made, with_two_shards, place, place_of_two, nodes, two_nodes, write, write_in, fetch, acks, unmet, by_each, space, narrow}
 use Rattle.model_laws.specs.Accepted.{write_then_read, edge_writes, narrow_writes, unmet_then_read}
 use Rattle.model_laws.proofs.EachLemmas.{and_parts, Each, EachPair, same_of_some, each_in, ascends_by, texts_differ, ◌also◌}
-use Rattle.model_laws.proofs.PlaceLemmas.{EachSplit, EachInLine, DeliversOnce, is_not_whole, caused_with, caused_by_places, place_after, only, due, stands_then}
+use Rattle.model_laws.proofs.PositionLemmas.{EachSplit, EachInLine, DeliversOnce, is_not_whole, caused_with, caused_by_positions, position_after, only, due, stands_then}
 use Rattle.model_laws.proofs.SampleLemmas.{rules_when, StandsAt, stands, reached_by, WindowRefuses, call_with}
 
 -- a fact of each element with its number
@@ -125,24 +125,24 @@ abbrev point_in : ℕ → ℕ → ℤ → Point
 point_in k t v = record { ns = k; id = codes "hello"; t = t; v = v }
 
 -- a write into a namespace that is known has its point
-point_of-write : (spaces : List Space) (ns : List ℕ) (k t : ℕ) (v : ℤ) → namespace_place ns spaces ≡ Some k → point_of spaces (write_in ns t v) ≡ Some (point_in k t v)
+point_of-write : (spaces : List Space) (ns : List ℕ) (k t : ℕ) (v : ℤ) → namespace_position ns spaces ≡ Some k → point_of spaces (write_in ns t v) ≡ Some (point_in k t v)
 point_of-write spaces ns k t v at = ap (option_map (λ n. point_in n t v)) at
 
 -- a point inside the window of its namespace is one that is taken
-pub takes_by : (rules : Rules) (ns : List ℕ) (k : ℕ) (within : Space) (t : ℕ) (v : ℤ) → namespace_place ns rules.spaces ≡ Some k → slice_get rules.spaces k ≡ Some within → rules.now < t + within.past → t < rules.now + within.future
+pub takes_by : (rules : Rules) (ns : List ℕ) (k : ℕ) (within : Space) (t : ℕ) (v : ℤ) → namespace_position ns rules.spaces ≡ Some k → slice_get rules.spaces k ≡ Some within → rules.now < t + within.past → t < rules.now + within.future
     → TakesPoint rules (write_in ns t v)
 takes_by rules ns k within t v at stood not_past not_future =
     record { point = point_in k t v; of_act = point_of-write rules.spaces ns k t v at; in_window = record { space = within; stands = stood; not_past = not_past; not_future = not_future } }
 
-past_by : (rules : Rules) (ns : List ℕ) (k : ℕ) (within : Space) (t : ℕ) (v : ℤ) → namespace_place ns rules.spaces ≡ Some k → slice_get rules.spaces k ≡ Some within → t + within.past ≤ rules.now → WindowRefuses rules (write_in ns t v) reason.Past
+past_by : (rules : Rules) (ns : List ℕ) (k : ℕ) (within : Space) (t : ℕ) (v : ℤ) → namespace_position ns rules.spaces ≡ Some k → slice_get rules.spaces k ≡ Some within → t + within.past ≤ rules.now → WindowRefuses rules (write_in ns t v) reason.Past
 past_by rules ns k within t v at stood too_old = record { point = point_in k t v; of_act = point_of-write rules.spaces ns k t v at; outside = record { space = within; stands = stood; too_old = too_old } }
 
-future_by : (rules : Rules) (ns : List ℕ) (k : ℕ) (within : Space) (t : ℕ) (v : ℤ) → namespace_place ns rules.spaces ≡ Some k → slice_get rules.spaces k ≡ Some within → rules.now + within.future ≤ t → WindowRefuses rules (write_in ns t v) reason.Future
+future_by : (rules : Rules) (ns : List ℕ) (k : ℕ) (within : Space) (t : ℕ) (v : ℤ) → namespace_position ns rules.spaces ≡ Some k → slice_get rules.spaces k ≡ Some within → rules.now + within.future ≤ t → WindowRefuses rules (write_in ns t v) reason.Future
 future_by rules ns k within t v at stood too_new = record { point = point_in k t v; of_act = point_of-write rules.spaces ns k t v at; outside = record { space = within; stands = stood; too_new = too_new } }
 
 -- all three nodes take a write inside the window of its namespace
-all_take : (lines : List Turn) (rules : Rules) (ns : List ℕ) (k : ℕ) (within : Space) (t : ℕ) (v : ℤ) → StandsAt lines rules → namespace_place ns rules.spaces ≡ Some k → slice_get rules.spaces k ≡ Some within
-    → rules.now < t + within.past → t < rules.now + within.future → IsAcked None (place_after lines (write_in ns t v) (acks (0 ∷ 1 ∷ 2 ∷ []))) (codes "hello") write_level.Majority None (0 ∷ 1 ∷ 2 ∷ [])
+all_take : (lines : List Turn) (rules : Rules) (ns : List ℕ) (k : ℕ) (within : Space) (t : ℕ) (v : ℤ) → StandsAt lines rules → namespace_position ns rules.spaces ≡ Some k → slice_get rules.spaces k ≡ Some within
+    → rules.now < t + within.past → t < rules.now + within.future → IsAcked None (position_after lines (write_in ns t v) (acks (0 ∷ 1 ∷ 2 ∷ []))) (codes "hello") write_level.Majority None (0 ∷ 1 ∷ 2 ∷ [])
 unfolding murmur3
 all_take lines rules ns k within t v stood at in_spaces not_past not_future = record {
   place = place;
@@ -151,18 +151,18 @@ all_take lines rules ns k within t v stood at in_spaces not_past not_future = re
       let zero_is : shard ≡ 0 = subst (λ seed. shard ≡ shard_of (codes "hello") seed 1) stood.seed_is asked in
       subst (λ k. (node : ℕ) → IsIn (0 ∷ 1 ∷ 2 ∷ []) node → IsCounted place k node) (sym zero_is) (each_in (IsCounted place 0) (0 ∷ 1 ∷ 2 ∷ []) (counted_0 also counted_1 also counted_2 also tt));
   by_name = ascends_by (IsNamedBelow place) (0 ∷ 1 ∷ 2 ∷ []) ((below_0_1 also below_0_2 also tt) also (below_1_2 also tt) also tt also tt);
-  reached = each_in (λ node. reaches (place_after lines (write_in ns t v) (acks (0 ∷ 1 ∷ 2 ∷ []))) place node ≡ true) (0 ∷ 1 ∷ 2 ∷ []) (reached_by lines rules (write_in ns t v) (acks (0 ∷ 1 ∷ 2 ∷ [])) 0 _ stood refl also reached_by lines rules (write_in ns t v) (acks (0 ∷ 1 ∷ 2 ∷ [])) 1 _ stood refl also reached_by lines rules (write_in ns t v) (acks (0 ∷ 1 ∷ 2 ∷ [])) 2 _ stood refl also tt);
+  reached = each_in (λ node. reaches (position_after lines (write_in ns t v) (acks (0 ∷ 1 ∷ 2 ∷ []))) place node ≡ true) (0 ∷ 1 ∷ 2 ∷ []) (reached_by lines rules (write_in ns t v) (acks (0 ∷ 1 ∷ 2 ∷ [])) 0 _ stood refl also reached_by lines rules (write_in ns t v) (acks (0 ∷ 1 ∷ 2 ∷ [])) 1 _ stood refl also reached_by lines rules (write_in ns t v) (acks (0 ∷ 1 ∷ 2 ∷ [])) 2 _ stood refl also tt);
   enough = omega arith;
   takes = subst (λ r. TakesPoint r (write_in ns t v)) (sym stood.rules_is) (takes_by rules ns k within t v at in_spaces not_past not_future);
 }
 
 -- a node that counts for the only shard is reached
-counted_reached : (lines : List Turn) (rules : Rules) (a : Act) (b : Answer) (node : ℕ) → StandsAt lines rules → IsCounted place 0 node → reaches (place_after lines a b) place node ≡ true
+counted_reached : (lines : List Turn) (rules : Rules) (a : Act) (b : Answer) (node : ℕ) → StandsAt lines rules → IsCounted place 0 node → reaches (position_after lines a b) place node ≡ true
 counted_reached lines rules a b node stood counts =
-    each_in (λ x. reaches (place_after lines a b) place x ≡ true) (0 ∷ 1 ∷ 2 ∷ []) (reached_by lines rules a b 0 _ stood refl also reached_by lines rules a b 1 _ stood refl also reached_by lines rules a b 2 _ stood refl also tt) node counts
+    each_in (λ x. reaches (position_after lines a b) place x ≡ true) (0 ∷ 1 ∷ 2 ∷ []) (reached_by lines rules a b 0 _ stood refl also reached_by lines rules a b 1 _ stood refl also reached_by lines rules a b 2 _ stood refl also tt) node counts
 
 -- what a moment lets a replica refuse is a reason
-refuses_by : (lines : List Turn) (rules : Rules) (a : Act) (b : Answer) (node : ℕ) (why : Reason) → StandsAt lines rules → WindowRefuses rules a why → MayRefuse true [] None (place_after lines a b) place 0 node why
+refuses_by : (lines : List Turn) (rules : Rules) (a : Act) (b : Answer) (node : ℕ) (why : Reason) → StandsAt lines rules → WindowRefuses rules a why → MayRefuse true [] None (position_after lines a b) place 0 node why
 refuses_by lines rules a b node reason.Past stood may = subst (λ r. IsOutside IsPast r a) (sym stood.rules_is) may
 refuses_by lines rules a b node reason.Future stood may = subst (λ r. IsOutside IsFuture r a) (sym stood.rules_is) may
 refuses_by lines rules a b node reason.Memory stood may = tt
@@ -172,18 +172,18 @@ count_three : (test : ℕ → Bool) → test 0 ≡ true → test 1 ≡ true → 
 count_three test one two three = rw (one, two, three) refl
 
 -- three nodes are reached by a fetch, and that is enough
-three_reached : (lines : List Turn) (rules : Rules) (a : Act) (b : Answer) → StandsAt lines rules → count_by (reaches (place_after lines a b) place) (counted_nodes place 0) ≡ 3
+three_reached : (lines : List Turn) (rules : Rules) (a : Act) (b : Answer) → StandsAt lines rules → count_by (reaches (position_after lines a b) place) (counted_nodes place 0) ≡ 3
 three_reached lines rules a b stood =
-    count_three (reaches (place_after lines a b) place) (reached_by lines rules a b 0 _ stood refl) (reached_by lines rules a b 1 _ stood refl) (reached_by lines rules a b 2 _ stood refl)
+    count_three (reaches (position_after lines a b) place) (reached_by lines rules a b 0 _ stood refl) (reached_by lines rules a b 1 _ stood refl) (reached_by lines rules a b 2 _ stood refl)
 
-found_by : (lines : List Turn) (rules : Rules) (from to : ℕ) (b : Answer) → StandsAt lines rules → IsFoundFor true [] None (place_after lines (fetch from to) b) (Some (codes "hello")) read_level.Majority None false
+found_by : (lines : List Turn) (rules : Rules) (from to : ℕ) (b : Answer) → StandsAt lines rules → IsFoundFor true [] None (position_after lines (fetch from to) b) (Some (codes "hello")) read_level.Majority None false
 unfolding murmur3
 found_by lines rules from to b stood = record {
   place = place;
   may_use = stands_then lines (fetch from to) b place stood.place_is;
   enough = λ shard asked.
       let zero_is : shard ≡ 0 = subst (λ seed. shard ≡ shard_of (codes "hello") seed 1) stood.seed_is asked in
-      subst (λ k. 2 ≤ count_by (reaches (place_after lines (fetch from to) b) place) (counted_nodes place k)) (sym zero_is)
+      subst (λ k. 2 ≤ count_by (reaches (position_after lines (fetch from to) b) place) (counted_nodes place k)) (sym zero_is)
       (let three = three_reached lines rules (fetch from to) b stood in omega arith);
   may_be_short = λ e. cc;
   not_short = λ e level. cc;
@@ -192,7 +192,7 @@ found_by lines rules from to b stood = record {
 -- fewer than the two nodes that are needed did as a call of `hello` asked
 unmet_by : (lines : List Turn) (rules : Rules) (a : Act) (needed : ℕ → ℕ) (got : ℕ) (reasons : List (ℕ × Reason)) → StandsAt lines rules → call_of a ≡ Some (call_with needed) → needed 3 ≡ 2 → got < 2 → got + length reasons ≡ 3
     → Each (λ r. IsCounted place 0 r.0) reasons → EachPair (λ r s. IsNamedBelow place r.0 s.0) reasons → Each (λ r. WindowRefuses rules a r.1) reasons → (0 < got → MayServe rules a)
-    → MissesLevel true [] None (place_after lines a (unmet got reasons)) got 2 reasons 0
+    → MissesLevel true [] None (position_after lines a (unmet got reasons)) got 2 reasons 0
 unfolding murmur3
 unmet_by lines rules a needed got reasons stood is two fewer others counted by_name refused served = record {
   call = call_with needed;
@@ -215,7 +215,7 @@ unmet_by lines rules a needed got reasons stood is two fewer others counted by_n
 
 -- all three nodes refused a write for one reason
 all_refuse : (lines : List Turn) (rules : Rules) (ns : List ℕ) (t : ℕ) (v : ℤ) (why : Reason) → StandsAt lines rules → WindowRefuses rules (write_in ns t v) why
-    → MissesLevel true [] None (place_after lines (write_in ns t v) (unmet 0 (by_each why))) 0 2 (by_each why) 0
+    → MissesLevel true [] None (position_after lines (write_in ns t v) (unmet 0 (by_each why))) 0 2 (by_each why) 0
 all_refuse lines rules ns t v why stood may =
     unmet_by lines rules (write_in ns t v) _ 0 (by_each why) stood refl refl (omega arith) refl
     (counted_0 also counted_1 also counted_2 also tt)
@@ -224,35 +224,35 @@ all_refuse lines rules ns t v why stood may =
     (λ some. absurd (omega (arith, some)))
 
 -- a first moment is never a lowered one
-pub first_moment_after : (faults : List Fault) (messages : List LateMessage) (lines : List Turn) (now : ℕ) → refusal_after None (place_after lines (act.Now now) answer.Done) (inner_turns lines) ≡ option_or (cond (nat_lt now 0) (Some (answer.Clock 0)) None) None
-    → CausedAt true faults [] None messages (place_after lines (act.Now now) answer.Done)
+pub first_moment_after : (faults : List Fault) (messages : List LateMessage) (lines : List Turn) (now : ℕ) → refusal_after None (position_after lines (act.Now now) answer.Done) (inner_turns lines) ≡ option_or (cond (nat_lt now 0) (Some (answer.Clock 0)) None) None
+    → CausedAt true faults [] None messages (position_after lines (act.Now now) answer.Done)
 first_moment_after faults messages lines now first =
-    let p = place_after lines (act.Now now) answer.Done in
+    let p = position_after lines (act.Now now) answer.Done in
     let test : nat_lt now 0 ≡ false = grind (arith, nat_tests) in
     due true faults messages lines (act.Now now) answer.Done (subst (λ refusal. IsDueBy true faults None messages p refusal) (sym first) (subst (λ b. IsDueBy true faults None messages p (option_or (cond b (Some (answer.Clock 0)) None) None)) (sym test) tt))
 
-pub first_moment : (faults : List Fault) (messages : List LateMessage) (now : ℕ) → CausedAt true faults [] None messages (place_after (made ∷ named ∷ []) (act.Now now) answer.Done)
+pub first_moment : (faults : List Fault) (messages : List LateMessage) (now : ℕ) → CausedAt true faults [] None messages (position_after (made ∷ named ∷ []) (act.Now now) answer.Done)
 first_moment faults messages now = first_moment_after faults messages (made ∷ named ∷ []) now refl
 
 -- the first three lines have their causes, over any faults
 pub begun_caused_over : (faults : List Fault) (now : ℕ) (turns : List Turn) → AreDifferent faults → list_all is_not_whole turns ≡ true → EachSplit (λ lines line after. EachInLine (CausedAt true faults [] None []) lines line) (begun now []) turns → Caused true (life_of (begun now turns)) faults
 begun_caused_over faults now turns different single each =
-    caused_by_places true faults (life_of (begun now turns)) different single (only (due true faults [] _ _ _ (first_placement, refl)) also only (due true faults [] _ _ _ tt) also only (first_moment faults [] now) also each)
+    caused_by_positions true faults (life_of (begun now turns)) different single (only (due true faults [] _ _ _ (first_placement, refl)) also only (due true faults [] _ _ _ tt) also only (first_moment faults [] now) also each)
 
 -- and without any
 pub begun_caused : (now : ℕ) (turns : List Turn) → list_all is_not_whole turns ≡ true → EachSplit (λ lines line after. EachInLine (CausedAt true [] [] None []) lines line) (begun now []) turns → Caused true (life_of (begun now turns)) []
 begun_caused now turns single each = begun_caused_over [] now turns tt single each
 
--- the place is in the line that so many stand before, in the list of this client, with so many earlier in it
-abbrev pub is_there : ℕ → ℕ → ℕ → TurnPlace → Bool
+-- the position is in the line that so many stand before, in the list of this client, with so many earlier in it
+abbrev pub is_there : ℕ → ℕ → ℕ → TurnPosition → Bool
 is_there number client before p = (nat_eq (length p.lines) number && nat_eq p.client client) && nat_eq (length p.earlier) before
 
 -- all of these messages are delivered there
-abbrev pub delivered_at : ℕ → ℕ → ℕ → List LateMessage → TurnPlace → List LateMessage
+abbrev pub delivered_at : ℕ → ℕ → ℕ → List LateMessage → TurnPosition → List LateMessage
 delivered_at number client before messages p = if is_there number client before p then messages else []
 
 -- what is delivered is delivered there
-delivered_there : (number client before : ℕ) (messages : List LateMessage) (p : TurnPlace) (m : LateMessage) → IsIn (delivered_at number client before messages p) m → (length p.lines ≡ number) × (p.client ≡ client) × (length p.earlier ≡ before)
+delivered_there : (number client before : ℕ) (messages : List LateMessage) (p : TurnPosition) (m : LateMessage) → IsIn (delivered_at number client before messages p) m → (length p.lines ≡ number) × (p.client ≡ client) × (length p.earlier ≡ before)
 delivered_there number client before messages p m h =
     let test = tested (is_there number client before p) refl h in
     let outer = and_parts (nat_eq (length p.lines) number && nat_eq p.client client) (nat_eq (length p.earlier) before) test in
@@ -280,12 +280,12 @@ begun_delivering faults now turns number client before messages different single
     caused_with true faults (life_of (begun now turns)) (delivered_at number client before messages) different single (delivered_once (begun now turns) number client before messages)
     (only (due true faults [] _ _ _ (first_placement, refl)) also only (due true faults [] _ _ _ tt) also only (first_moment faults [] now) also each)
 
-pub at_moment-caused : (now : ℕ) (a : Act) (b : Answer) → CausedAt true [] [] None [] (place_after (begun now []) a b) → Caused true (life_of (at_moment now a b)) []
+pub at_moment-caused : (now : ℕ) (a : Act) (b : Answer) → CausedAt true [] [] None [] (position_after (begun now []) a b) → Caused true (life_of (at_moment now a b)) []
 at_moment-caused now a b here = begun_caused now _ refl (only here also tt)
 
-pub with_eight-caused : (a : Act) (b : Answer) → CausedAt true [] [] None [] (place_after eight_made a b) → Caused true (life_of (with_eight a b)) []
+pub with_eight-caused : (a : Act) (b : Answer) → CausedAt true [] [] None [] (position_after eight_made a b) → Caused true (life_of (with_eight a b)) []
 with_eight-caused a b here =
-    caused_by_places true [] (life_of (with_eight a b)) tt refl (
+    caused_by_positions true [] (life_of (with_eight a b)) tt refl (
     only (due true [] [] _ _ _ (first_placement, refl))
     also only (due true [] [] _ _ _ tt)
     also only (due true [] [] _ _ _ tt)
@@ -317,7 +317,7 @@ both_rules = record { now = 250; spaces = space ∷ narrow ∷ [] }
 
 pub narrow_writes-caused : Caused true (life_of narrow_writes) []
 narrow_writes-caused =
-    caused_by_places true [] (life_of narrow_writes) tt refl (
+    caused_by_positions true [] (life_of narrow_writes) tt refl (
     only (due true [] [] _ _ _ (first_placement, refl))
     also only (due true [] [] _ _ _ tt)
     also only (due true [] [] _ _ _ tt)
@@ -357,25 +357,25 @@ first_placement_of_two = record {
       also tt);
 }
 
-with_two_shards-caused : (a : Act) (b : Answer) → CausedAt true [] [] None [] (place_after two_made a b) → Caused true (life_of (with_two_shards a b)) []
-with_two_shards-caused a b here = caused_by_places true [] (life_of (with_two_shards a b)) tt refl (only (due true [] [] _ _ _ (first_placement_of_two, refl)) also only (due true [] [] _ _ _ tt) also only here also tt)
+with_two_shards-caused : (a : Act) (b : Answer) → CausedAt true [] [] None [] (position_after two_made a b) → Caused true (life_of (with_two_shards a b)) []
+with_two_shards-caused a b here = caused_by_positions true [] (life_of (with_two_shards a b)) tt refl (only (due true [] [] _ _ _ (first_placement_of_two, refl)) also only (due true [] [] _ _ _ tt) also only here also tt)
 
 counted_of_two : IsCounted place_of_two 1 1
 counted_of_two = inl refl
 
-second_took : IsAcked None (place_after two_made (write 10 (pos 5)) (acks (1 ∷ []))) (codes "hello") write_level.Majority None (1 ∷ [])
+second_took : IsAcked None (position_after two_made (write 10 (pos 5)) (acks (1 ∷ []))) (codes "hello") write_level.Majority None (1 ∷ [])
 unfolding murmur3
 second_took = record {
   place = place_of_two;
   may_use = stands_then _ _ _ _ refl;
   counted = λ shard asked. subst (λ k. (node : ℕ) → IsIn (1 ∷ []) node → IsCounted place_of_two k node) (sym asked) (each_in (IsCounted place_of_two 1) (1 ∷ []) (counted_of_two also tt));
   by_name = ascends_by (IsNamedBelow place_of_two) (1 ∷ []) (tt also tt);
-  reached = each_in (λ node. reaches (place_after two_made (write 10 (pos 5)) (acks (1 ∷ []))) place_of_two node ≡ true) (1 ∷ []) (refl also tt);
+  reached = each_in (λ node. reaches (position_after two_made (write 10 (pos 5)) (acks (1 ∷ []))) place_of_two node ≡ true) (1 ∷ []) (refl also tt);
   enough = omega arith;
   takes = takes_by (rules_when 0) _ 0 space 10 (pos 5) refl refl (omega arith) (omega arith);
 }
 
-second_unmet : MissesLevel true [] None (place_after two_made (write 10 (pos 5)) (answer.Consistency 0 1 ((1, reason.Memory) ∷ []) 1)) 0 1 ((1, reason.Memory) ∷ []) 1
+second_unmet : MissesLevel true [] None (position_after two_made (write 10 (pos 5)) (answer.Consistency 0 1 ((1, reason.Memory) ∷ []) 1)) 0 1 ((1, reason.Memory) ∷ []) 1
 unfolding murmur3
 second_unmet = record {
   call = call_with _;
@@ -391,7 +391,7 @@ second_unmet = record {
     counted = each_in (λ r. IsCounted place_of_two 1 r.0) ((1, reason.Memory) ∷ []) (counted_of_two also tt);
     by_name = ascends_by (λ r s. IsNamedBelow place_of_two r.0 s.0) ((1, reason.Memory) ∷ []) (tt also tt);
     unreached = λ node counts quiet. counts;
-    refused = each_in (λ r. MayRefuse true [] None (place_after two_made (write 10 (pos 5)) (answer.Consistency 0 1 ((1, reason.Memory) ∷ []) 1)) place_of_two 1 r.0 r.1) ((1, reason.Memory) ∷ []) (tt also tt);
+    refused = each_in (λ r. MayRefuse true [] None (position_after two_made (write 10 (pos 5)) (answer.Consistency 0 1 ((1, reason.Memory) ∷ []) 1)) place_of_two 1 r.0 r.1) ((1, reason.Memory) ∷ []) (tt also tt);
   };
   served = λ some. absurd (omega (arith, some));
 }

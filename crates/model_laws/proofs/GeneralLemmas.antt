@@ -5,8 +5,8 @@ use Rattle.std.specs.List.{flat_map, filter_map}
 use Rattle.std.proofs.lemmas.Bool.Decides.{nat_tests}
 use Rattle.m3_model.specs.Members.{IsIn}
 use Rattle.m3_model.specs.Levels.{majority}
-use Rattle.transcripts.specs.Record.{Life, TurnPlace, acts_of, turns_before}
-use Rattle.m3_model.specs.Rules.{namespace_place}
+use Rattle.transcripts.specs.Record.{Life, TurnPosition, acts_of, turns_before}
+use Rattle.m3_model.specs.Rules.{namespace_position}
 use Rattle.transcripts.specs.Rules.{rules_at}
 use Rattle.transcripts.specs.Points.{point_of, was_sent, sent_point, sent_at, acked_point, acked_at, rf_at}
 use Rattle.transcripts.specs.Kept.{Kept, KeepsPoints}
@@ -19,10 +19,10 @@ use Rattle.m3_model.specs.declared.answer.Answer.TheVariants as answer
 use Rattle.m3_model.proofs.MemberLemmas.{IsIn-append_cases, IsIn-filter_map, filter_map-IsIn}
 use Rattle.model_laws.specs.General.{AnsweredRead, FindsAcknowledged, FindsOnlySent, Writes, EarlierWrite, FindsEarlierWrites, TurnWrites, LeftUnanswered, FindsOnlyWritten}
 use Rattle.model_laws.proofs.EachLemmas.{same_of_some}
-use Rattle.model_laws.proofs.PlaceLemmas.{points_kept}
+use Rattle.model_laws.proofs.PositionLemmas.{points_kept}
 
-read_keeps : (life : Life) → Kept life → (r : AnsweredRead life) → KeepsPoints (rules_at life.present.start r.place) (acked_at life.past life.present.start r.place) (sent_at life.past life.present.start r.place) r.read r.found
-read_keeps life kept r = points_kept life.past life.present.start r.place r.read r.found (kept r.place r.in_run) r.answered r.asked
+read_keeps : (life : Life) → Kept life → (r : AnsweredRead life) → KeepsPoints (rules_at life.present.start r.position) (acked_at life.past life.present.start r.position) (sent_at life.past life.present.start r.position) r.read r.found
+read_keeps life kept r = points_kept life.past life.present.start r.position r.read r.found (kept r.position r.in_run) r.answered r.asked
 
 pub finds_acknowledged : (life : Life) → Kept life → FindsAcknowledged life
 finds_acknowledged life kept r = (read_keeps life kept r).acknowledged
@@ -41,7 +41,7 @@ acked_point-taken rf spaces a taken enough =
     ap (λ b. cond b (point_of spaces a) None) test
 
 -- an earlier write that a majority took is acknowledged
-acknowledged : (life : Life) (p : TurnPlace) (point : Point) → EarlierWrite life p point → IsIn (acked_at life.past life.present.start p) point
+acknowledged : (life : Life) (p : TurnPosition) (point : Point) → EarlierWrite life p point → IsIn (acked_at life.past life.present.start p) point
 acknowledged life p point w =
     let rf = rf_at life.present.start p in
     let spaces = (rules_at life.present.start p).spaces in
@@ -49,10 +49,10 @@ acknowledged life p point w =
     (ap (λ b. acked_point rf spaces (record { act = w.turn.act; answer = b })) w.answered ∙ acked_point-taken rf spaces w.turn.act w.taken w.by_majority ∙ point_of-Writes spaces w.turn.act point w.writes)
 
 pub finds_earlier_writes : (life : Life) → Kept life → FindsEarlierWrites life
-finds_earlier_writes life kept r strong point w = finds_acknowledged life kept r strong point (acknowledged life r.place point w)
+finds_earlier_writes life kept r strong point w = finds_acknowledged life kept r strong point (acknowledged life r.position point w)
 
 -- the point of an act is written by it
-writes_by : (spaces : List Space) (ns id : List ℕ) (t : ℕ) (v : ℤ) (level : WriteLevel) (version : Option ℕ) (point : Point) (o : Option ℕ) → namespace_place ns spaces ≡ o
+writes_by : (spaces : List Space) (ns id : List ℕ) (t : ℕ) (v : ℤ) (level : WriteLevel) (version : Option ℕ) (point : Point) (o : Option ℕ) → namespace_position ns spaces ≡ o
     → option_map (λ k. record { ns = k; id = id; t = t; v = v }) o ≡ Some point → Writes spaces (act.Write ns id t v level version) point
 writes_by spaces ns id t v level version point None at e = cc
 writes_by spaces ns id t v level version point (Some k) at e =
@@ -60,7 +60,7 @@ writes_by spaces ns id t v level version point (Some k) at e =
     subst (λ x. Writes spaces (act.Write ns id t v level version) x) (same_of_some made point e) (record { ns = ns; level = level; version = version; act_is = refl; space_is = at })
 
 writes_of : (spaces : List Space) (a : Act) (point : Point) → point_of spaces a ≡ Some point → Writes spaces a point
-writes_of spaces (act.Write ns id t v level version) point e = writes_by spaces ns id t v level version point (namespace_place ns spaces) refl e
+writes_of spaces (act.Write ns id t v level version) point e = writes_by spaces ns id t v level version point (namespace_position ns spaces) refl e
 writes_of spaces a point e = cc
 
 sent_cases : (sent : Bool) (o : Option Point) (point : Point) → cond sent o None ≡ Some point → o ≡ Some point
@@ -68,7 +68,7 @@ sent_cases true o point e = e
 sent_cases false o point e = cc
 
 -- what was sent was written
-written : (life : Life) (p : TurnPlace) (point : Point) → IsIn (sent_at life.past life.present.start p) point → TurnWrites life p point ⊎ LeftUnanswered life p point
+written : (life : Life) (p : TurnPosition) (point : Point) → IsIn (sent_at life.past life.present.start p) point → TurnWrites life p point ⊎ LeftUnanswered life p point
 written life p point h =
     let spaces = (rules_at life.present.start p).spaces in
     let turns = turns_before life.past p ++ p.beside in
@@ -87,4 +87,4 @@ written life p point h =
     ]
 
 pub finds_only_written : (life : Life) → Kept life → FindsOnlyWritten life
-finds_only_written life kept r point here = written life r.place point (finds_only_sent life kept r point here)
+finds_only_written life kept r point here = written life r.position point (finds_only_sent life kept r point here)

@@ -1,5 +1,5 @@
 pub mod EachLemmas
-pub mod PlaceLemmas
+pub mod PositionLemmas
 pub mod ReadLemmas
 pub mod SampleLemmas
 pub mod OwnerLemmas

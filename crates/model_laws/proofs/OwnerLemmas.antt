@@ -19,7 +19,7 @@ use Rattle.transcripts.specs.Record.{InnerTurn, inner_turns, joined, lists_of}
 use Rattle.transcripts.specs.Waiting.{Replica, is_assigned, is_member}
 use Rattle.model_laws.specs.Building.{place}
 use Rattle.model_laws.proofs.EachLemmas.{◌also◌, each_in, same_of_some}
-use Rattle.model_laws.proofs.PlaceLemmas.{place_after, only_used}
+use Rattle.model_laws.proofs.PositionLemmas.{position_after, only_used}
 use Rattle.model_laws.proofs.SampleLemmas.{of_shard, StandsAt}
 
 -- of two placements the newer one is one of them
@@ -97,7 +97,7 @@ all_members : (node : ℕ) (name : List ℕ) → IsCounted place 0 node → is_m
 all_members node name counts = each_in (λ n. is_member (of_shard n name) (Some place) ≡ true) (0 ∷ 1 ∷ 2 ∷ []) (refl also refl also refl also tt) node counts
 
 -- none of them is new
-none_new : {tells : Bool} (lines : List Turn) (rules : Rules) (a : Act) (b : Answer) (node : ℕ) (name : List ℕ) → StandsAt lines rules → IsCounted place 0 node → ¬ IsNew tells (of_shard node name) None (place_after lines a b)
+none_new : {tells : Bool} (lines : List Turn) (rules : Rules) (a : Act) (b : Answer) (node : ℕ) (name : List ℕ) → StandsAt lines rules → IsCounted place 0 node → ¬ IsNew tells (of_shard node name) None (position_after lines a b)
 none_new lines rules a b node name stood counts new =
     let x = of_shard node name in
     let member : (q : Placement) → IsIn (placements None (inner_turns lines)) q → is_member x (Some q) ≡ true = λ q h.
@@ -106,7 +106,7 @@ none_new lines rules a b node name stood counts new =
     cc
 
 -- each of them owns the shard
-owned : (lines : List Turn) (rules : Rules) (a : Act) (b : Answer) (node : ℕ) → StandsAt lines rules → IsCounted place 0 node → ¬ OwnsNot None (place_after lines a b) 0 node 1
+owned : (lines : List Turn) (rules : Rules) (a : Act) (b : Answer) (node : ℕ) → StandsAt lines rules → IsCounted place 0 node → ¬ OwnsNot None (position_after lines a b) 0 node 1
 owned lines rules a b node stood counts may =
     let same : place ≡ may.place = only_used lines a b place may.place stood.place_is may.may_stand in
     elim may.not_owned as (λ _. ⊥) [
@@ -119,12 +119,12 @@ owned lines rules a b node stood counts may =
     ]
 
 -- so none is unowned, whether disks tell or not
-pub none_unowned : {tells : Bool} (lines : List Turn) (rules : Rules) (a : Act) (b : Answer) (node : ℕ) → StandsAt lines rules → IsCounted place 0 node → ¬ IsUnowned tells None (place_after lines a b) place 0 node
+pub none_unowned : {tells : Bool} (lines : List Turn) (rules : Rules) (a : Act) (b : Answer) (node : ℕ) → StandsAt lines rules → IsCounted place 0 node → ¬ IsUnowned tells None (position_after lines a b) place 0 node
 none_unowned lines rules a b node stood counts may =
     elim may as (λ _. ⊥) [ inl not ↦ owned lines rules a b node stood counts not | inr new ↦ none_new lines rules a b node new.instance_.name stood counts new.holds ]
 
 -- and nothing fences above it
-pub none_fenced : (lines : List Turn) (rules : Rules) (a : Act) (b : Answer) (fence : ℕ) → StandsAt lines rules → ¬ IsFencedAbove None (place_after lines a b) place 0 fence
+pub none_fenced : (lines : List Turn) (rules : Rules) (a : Act) (b : Answer) (fence : ℕ) → StandsAt lines rules → ¬ IsFencedAbove None (position_after lines a b) place 0 fence
 none_fenced lines rules a b fence stood may =
     let same : place ≡ may.place = only_used lines a b place may.place stood.place_is may.may_stand in
     let above : 1 < fence = may.above in

@@ -4,16 +4,16 @@ use Rattle.m3_model.specs.Ascends.{Ascends}
 use Rattle.m3_model.specs.Members.{IsIn}
 use Rattle.m3_model.specs.Reads.{Read, Found, read_of, found_of, space_picked, points_in, IsSought, Covers, IsOrdered}
 use Rattle.transcripts.specs.Kept.{KeptAt}
-use Rattle.transcripts.specs.Record.{Record, TurnPlace}
+use Rattle.transcripts.specs.Record.{Record, TurnPosition}
 use Rattle.transcripts.specs.Rules.{rules_at}
 use Rattle.transcripts.specs.Points.{sent_at, acked_at}
 use Rattle.m3_model.specs.declared.rules.MetaState.{MetaState}
 use Rattle.model_laws.proofs.EachLemmas.{Each, each_in, ascends_by}
-use Rattle.model_laws.proofs.PlaceLemmas.{kept_read}
+use Rattle.model_laws.proofs.PositionLemmas.{kept_read}
 use Rattle.m3_model.specs.declared.point.Point.{Point}
 
 -- an answered read is kept where it covers each acknowledged point that it asks for, and has only sent points that it asks for, in order
-pub kept_each : (past : List Record) (start : Option MetaState) (p : TurnPlace) (read : Read) (found : Found) → found_of p.turn.answer ≡ Some found → read_of (rules_at start p).spaces p.turn.act ≡ Some read
+pub kept_each : (past : List Record) (start : Option MetaState) (p : TurnPosition) (read : Read) (found : Found) → found_of p.turn.answer ≡ Some found → read_of (rules_at start p).spaces p.turn.act ≡ Some read
     → Each (λ point. IsSought (rules_at start p) read point → Covers (points_in (space_picked read.pick) found.series) point) (acked_at past start p)
     → Each (λ point. IsIn (sent_at past start p) point × IsSought (rules_at start p) read point) (points_in (space_picked read.pick) found.series)
     → IsOrdered found.series → KeptAt past start p

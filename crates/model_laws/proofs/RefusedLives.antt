@@ -13,8 +13,8 @@ use Rattle.m3_model.specs.declared.act.Act.TheVariants as act
 use Rattle.m3_model.specs.declared.act.WriteLevel.TheVariants as write_level
 use Rattle.model_laws.specs.Building.{zone_is, begun, fetch_in, moved, wrote, read, line, write, fetch, acks, found, series_of, life_of}
 use Rattle.model_laws.specs.Refused.{without_the_point, with_lower_value, with_other_point, with_higher_value, with_later_first, with_point_twice, with_empty_series, without_kept_point, with_expired_point, with_point_at_end, with_other_series, without_untagged, with_other_tags, with_unknown_namespace, with_point_answered, own_write, own_later_write}
-use Rattle.model_laws.proofs.PlaceLemmas.{place_after, place_after-stands, place_in, points_kept}
-use Rattle.transcripts.specs.Record.{TurnPlace, IsTurnPlace}
+use Rattle.model_laws.proofs.PositionLemmas.{position_after, position_after-stands, position_in, points_kept}
+use Rattle.transcripts.specs.Record.{TurnPosition, IsTurnPosition}
 use Rattle.m3_model.specs.declared.turn.Request.TheVariants as request
 use Rattle.m3_model.specs.declared.turn.Reply.TheVariants as reply
 use Rattle.model_laws.proofs.EachLemmas.{not_in_each, texts_differ}
@@ -124,33 +124,33 @@ with_other_tags-refused kept =
 pub with_unknown_namespace-refused : ¬ Kept (life_of with_unknown_namespace)
 with_unknown_namespace-refused kept =
     let fetch_of = fetch_in (codes "n") 0 200 in
-    let read = kept (place_after (begun 100 []) fetch_of (found [])) (place_after-stands (begun 100 []) fetch_of (found []) []) (whole []) refl in
+    let read = kept (position_after (begun 100 []) fetch_of (found [])) (position_after-stands (begun 100 []) fetch_of (found []) []) (whole []) refl in
     let asked : None ≡ Some read.read = read.asked in
     cc
 
 -- a fetch finds a point that was not sent
-pub with_point-refused : (b : Answer) → sent_at [] None (place_after (begun 100 (line (write 100 (pos 5)) b ∷ [])) (fetch 0 200) (found (series_of ((100, pos 5) ∷ [])))) ≡ []
-    → read_of (rules_at None (place_after (begun 100 (line (write 100 (pos 5)) b ∷ [])) (fetch 0 200) (found (series_of ((100, pos 5) ∷ []))))).spaces (fetch 0 200) ≡ Some (reading 0 200)
+pub with_point-refused : (b : Answer) → sent_at [] None (position_after (begun 100 (line (write 100 (pos 5)) b ∷ [])) (fetch 0 200) (found (series_of ((100, pos 5) ∷ [])))) ≡ []
+    → read_of (rules_at None (position_after (begun 100 (line (write 100 (pos 5)) b ∷ [])) (fetch 0 200) (found (series_of ((100, pos 5) ∷ []))))).spaces (fetch 0 200) ≡ Some (reading 0 200)
     → ¬ Kept (life_of (with_point_answered b))
 with_point-refused b none asked kept =
     let keeps = last_keeps (begun 100 (line (write 100 (pos 5)) b ∷ [])) 0 200 (series_of ((100, pos 5) ∷ [])) [] kept asked in
     subst (λ sent. IsIn sent (hello 100 (pos 5))) none (keeps.nothing_else (hello 100 (pos 5)) (inl refl)).0
 
 -- where the client's fetch stands after its write, and before it
-abbrev after_own : TurnPlace
-after_own = place_in (begun 100 []) (record { request = request.Par ((write 100 (pos 5) ∷ fetch 0 200 ∷ []) ∷ []) []; reply = reply.Par ((acks (0 ∷ 1 ∷ 2 ∷ []) ∷ found [] ∷ []) ∷ []) [] }) [] [] (record { act = write 100 (pos 5); answer = acks (0 ∷ 1 ∷ 2 ∷ []) } ∷ []) (record { act = fetch 0 200; answer = found [] })
+abbrev after_own : TurnPosition
+after_own = position_in (begun 100 []) (record { request = request.Par ((write 100 (pos 5) ∷ fetch 0 200 ∷ []) ∷ []) []; reply = reply.Par ((acks (0 ∷ 1 ∷ 2 ∷ []) ∷ found [] ∷ []) ∷ []) [] }) [] [] (record { act = write 100 (pos 5); answer = acks (0 ∷ 1 ∷ 2 ∷ []) } ∷ []) (record { act = fetch 0 200; answer = found [] })
 
-abbrev before_own : TurnPlace
-before_own = place_in (begun 100 []) (record { request = request.Par ((fetch 0 200 ∷ write 100 (pos 5) ∷ []) ∷ []) []; reply = reply.Par ((found (series_of ((100, pos 5) ∷ [])) ∷ acks (0 ∷ 1 ∷ 2 ∷ []) ∷ []) ∷ []) [] }) [] [] [] (record { act = fetch 0 200; answer = found (series_of ((100, pos 5) ∷ [])) })
+abbrev before_own : TurnPosition
+before_own = position_in (begun 100 []) (record { request = request.Par ((fetch 0 200 ∷ write 100 (pos 5) ∷ []) ∷ []) []; reply = reply.Par ((found (series_of ((100, pos 5) ∷ [])) ∷ acks (0 ∷ 1 ∷ 2 ∷ []) ∷ []) ∷ []) [] }) [] [] [] (record { act = fetch 0 200; answer = found (series_of ((100, pos 5) ∷ [])) })
 
 pub own_write-refused : ¬ Kept (life_of (own_write []))
 own_write-refused kept =
-    let stands : IsTurnPlace (own_write []) after_own = record { after = []; in_run = refl; stands = record { front = []; later = []; back = []; in_line = refl; others = refl; client_is = refl } } in
+    let stands : IsTurnPosition (own_write []) after_own = record { after = []; in_run = refl; stands = record { front = []; later = []; back = []; in_line = refl; others = refl; client_is = refl } } in
     let keeps = points_kept [] None after_own (reading 0 200) (whole []) (kept after_own stands) refl refl in
     (keeps.acknowledged refl (hello 100 (pos 5)) (inl refl) (sought 100 0 200 100 (pos 5) (omega arith) (omega arith) (omega arith))).stands
 
 pub own_later_write-refused : ¬ Kept (life_of (own_later_write ((100, pos 5) ∷ [])))
 own_later_write-refused kept =
-    let stands : IsTurnPlace (own_later_write ((100, pos 5) ∷ [])) before_own = record { after = []; in_run = refl; stands = record { front = []; later = _; back = []; in_line = refl; others = refl; client_is = refl } } in
+    let stands : IsTurnPosition (own_later_write ((100, pos 5) ∷ [])) before_own = record { after = []; in_run = refl; stands = record { front = []; later = _; back = []; in_line = refl; others = refl; client_is = refl } } in
     let keeps = points_kept [] None before_own (reading 0 200) (whole (series_of ((100, pos 5) ∷ []))) (kept before_own stands) refl refl in
     (keeps.nothing_else (hello 100 (pos 5)) (inl refl)).0

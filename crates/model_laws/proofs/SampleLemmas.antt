@@ -28,7 +28,7 @@ use Rattle.m3_model.specs.declared.act.ReadLevel.TheVariants as read_level
 use Rattle.m3_model.specs.declared.turn.Turn.{Turn}
 use Rattle.model_laws.specs.Building.{space, place, line, fetch, matching, found, life_of}
 use Rattle.model_laws.proofs.EachLemmas.{Each, same_of_some}
-use Rattle.model_laws.proofs.PlaceLemmas.{place_after, place_after-stands, points_kept}
+use Rattle.model_laws.proofs.PositionLemmas.{position_after, position_after-stands, points_kept}
 
 -- the rules with the one namespace at a moment
 abbrev pub rules_when : ℕ → Rules
@@ -53,13 +53,13 @@ pub stands : {lines : List Turn} {rules : Rules} → placement_after None (inner
 stands place_is one_place rules_is seed_is no_fates none_stopped none_waits = record { place_is = place_is; one_place = one_place; rules_is = rules_is; seed_is = seed_is; no_fates = no_fates; none_stopped = none_stopped; none_waits = none_waits }
 
 -- nothing is lost or late then
-pub not_cut : (lines : List Turn) (rules : Rules) (a : Act) (b : Answer) (name : List ℕ) → StandsAt lines rules → is_cut (fate_at (place_after lines a b) name) ≡ false
-not_cut lines rules a b name stood = ap (λ list. is_cut (fate_in list 0 (call_number (place_after lines a b)) name)) stood.no_fates
+pub not_cut : (lines : List Turn) (rules : Rules) (a : Act) (b : Answer) (name : List ℕ) → StandsAt lines rules → is_cut (fate_at (position_after lines a b) name) ≡ false
+not_cut lines rules a b name stood = ap (λ list. is_cut (fate_in list 0 (call_number (position_after lines a b)) name)) stood.no_fates
 
 -- and each node that is there is reached
-pub reached_by : (lines : List Turn) (rules : Rules) (a : Act) (b : Answer) (node : ℕ) (one : Instance) → StandsAt lines rules → slice_get place.instances node ≡ Some one → reaches (place_after lines a b) place node ≡ true
+pub reached_by : (lines : List Turn) (rules : Rules) (a : Act) (b : Answer) (node : ℕ) (one : Instance) → StandsAt lines rules → slice_get place.instances node ≡ Some one → reaches (position_after lines a b) place node ≡ true
 reached_by lines rules a b node one stood there =
-    ap (λ o. option_map_or (λ (i : Instance). is_reached (place_after lines a b) i.name) o false) there
+    ap (λ o. option_map_or (λ (i : Instance). is_reached (position_after lines a b) i.name) o false) there
     ∙ ap₂ (λ (x y : Bool). not x && not y) (not_cut lines rules a b one.name stood) (stood.none_stopped one.name)
 
 -- a call of `hello` at the present version that needs so many replicas
@@ -94,11 +94,11 @@ sought-live now from to t v s =
 
 -- what the fetch at the end of a kept life keeps
 pub last_keeps : (lines : List Turn) (from to : ℕ) (series : List Series) (after : List Turn) → Kept (life_of (lines ++ line (fetch from to) (found series) ∷ after))
-    → read_of (rules_at None (place_after lines (fetch from to) (found series))).spaces (fetch from to) ≡ Some (reading from to)
-    → KeepsPoints (rules_at None (place_after lines (fetch from to) (found series))) (acked_at [] None (place_after lines (fetch from to) (found series))) (sent_at [] None (place_after lines (fetch from to) (found series))) (reading from to) (whole series)
+    → read_of (rules_at None (position_after lines (fetch from to) (found series))).spaces (fetch from to) ≡ Some (reading from to)
+    → KeepsPoints (rules_at None (position_after lines (fetch from to) (found series))) (acked_at [] None (position_after lines (fetch from to) (found series))) (sent_at [] None (position_after lines (fetch from to) (found series))) (reading from to) (whole series)
 last_keeps lines from to series after kept asked =
-    let p = place_after lines (fetch from to) (found series) in
-    points_kept [] None p (reading from to) (whole series) (kept p (place_after-stands lines (fetch from to) (found series) after)) refl asked
+    let p = position_after lines (fetch from to) (found series) in
+    points_kept [] None p (reading from to) (whole series) (kept p (position_after-stands lines (fetch from to) (found series) after)) refl asked
 
 -- a match at level majority
 abbrev pub picking : List Matcher → ℕ → ℕ → Read
@@ -106,12 +106,12 @@ picking wanted from to = record { pick = pick.Match 0 wanted; from = from; to = 
 
 -- what the match at the end of a kept life keeps
 pub last_matches : (lines : List Turn) (wanted : List Matcher) (from to : ℕ) (series : List Series) → Kept (life_of (lines ++ line (matching wanted from to) (found series) ∷ []))
-    → read_of (rules_at None (place_after lines (matching wanted from to) (found series))).spaces (matching wanted from to) ≡ Some (picking wanted from to)
-    → KeepsPoints (rules_at None (place_after lines (matching wanted from to) (found series))) (acked_at [] None (place_after lines (matching wanted from to) (found series))) (sent_at [] None (place_after lines (matching wanted from to) (found series)))
+    → read_of (rules_at None (position_after lines (matching wanted from to) (found series))).spaces (matching wanted from to) ≡ Some (picking wanted from to)
+    → KeepsPoints (rules_at None (position_after lines (matching wanted from to) (found series))) (acked_at [] None (position_after lines (matching wanted from to) (found series))) (sent_at [] None (position_after lines (matching wanted from to) (found series)))
     (picking wanted from to) (whole series)
 last_matches lines wanted from to series kept asked =
-    let p = place_after lines (matching wanted from to) (found series) in
-    points_kept [] None p (picking wanted from to) (whole series) (kept p (place_after-stands lines (matching wanted from to) (found series) [])) refl asked
+    let p = position_after lines (matching wanted from to) (found series) in
+    points_kept [] None p (picking wanted from to) (whole series) (kept p (position_after-stands lines (matching wanted from to) (found series) [])) refl asked
 
 -- what a moment lets a replica refuse
 abbrev pub WindowRefuses : Rules → Act → Reason → Type 0

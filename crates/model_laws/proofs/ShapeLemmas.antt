@@ -9,7 +9,7 @@ use Rattle.m3_model.specs.declared.answer.Answer.TheVariants as answer
 use Rattle.model_laws.specs.Building.{begun, life_of, place}
 use Rattle.model_laws.specs.Shapes.{AreAnswered, refused_whole, refused_whole_late, refused_whole_early}
 use Rattle.model_laws.proofs.CausedLives.{begun_caused}
-use Rattle.model_laws.proofs.PlaceLemmas.{caused_over}
+use Rattle.model_laws.proofs.PositionLemmas.{caused_over}
 
 -- lists of the same lengths are as many
 as_many : {X Y : Type 0} (xs : List (List X)) (ys : List (List Y)) → map length xs ≡ map length ys → length xs ≡ length ys

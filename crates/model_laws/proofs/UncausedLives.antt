@@ -35,14 +35,14 @@ use Rattle.model_laws.specs.Building.{made, begun, at_moment, eight_made, with_e
 use Rattle.model_laws.specs.Refused.{with_point_answered}
 use Rattle.model_laws.specs.Uncaused.{write_answered, write_first, made_twice, fetch_short, made_of_two, restart_refused}
 use Rattle.model_laws.specs.Messages.{stopped}
-use Rattle.model_laws.proofs.PlaceLemmas.{place_after, place_after-stands, only_after, due_after, only_used}
+use Rattle.model_laws.proofs.PositionLemmas.{position_after, position_after-stands, only_after, due_after, only_used}
 use Rattle.model_laws.proofs.EachLemmas.{◌also◌, each_in, not_in_each, same_of_some, texts_differ}
 use Rattle.model_laws.proofs.OwnerLemmas.{none_unowned, none_fenced}
 use Rattle.model_laws.proofs.SampleLemmas.{hello, of_shard, rules_when, StandsAt, stands, not_cut, WindowRefuses, call_with}
 
 -- what is due of one request at a moment
 pub due_at : (now : ℕ) (a : Act) (b : Answer) → b ≢ answer.Memory → b ≢ answer.Full → (caused : Caused true (life_of (at_moment now a b)) [])
-    → IsDueBy true [] None (caused.delivered (place_after (begun now []) a b)) (place_after (begun now []) a b) (refusal_after None (place_after (begun now []) a b) (inner_turns (begun now [])))
+    → IsDueBy true [] None (caused.delivered (position_after (begun now []) a b)) (position_after (begun now []) a b) (refusal_after None (position_after (begun now []) a b) (inner_turns (begun now [])))
 due_at now a b not_memory not_full caused = due_after (begun now []) a b [] not_memory not_full caused
 
 pub write_order-refused : ¬ Caused true (life_of (write_answered answer.Order)) []
@@ -83,7 +83,7 @@ record TakenBy (now t : ℕ) (v : ℤ) (taken : List ℕ) : Type 0 where
 taken_by : (now t : ℕ) (v : ℤ) (taken : List ℕ) → StandsAt (begun now []) (rules_when now) → Caused true (life_of (at_moment now (write t v) (acks taken))) [] → TakenBy now t v taken
 unfolding murmur3
 taken_by now t v taken stood caused =
-    let due : IsAcked None (place_after (begun now []) (write t v) (acks taken)) (codes "hello") write_level.Majority None taken = due_at now (write t v) (acks taken) (λ e. cc) (λ e. cc) caused in
+    let due : IsAcked None (position_after (begun now []) (write t v) (acks taken)) (codes "hello") write_level.Majority None taken = due_at now (write t v) (acks taken) (λ e. cc) (λ e. cc) caused in
     let same : place ≡ due.place = only_used (begun now []) (write t v) (acks taken) place due.place stood.place_is due.may_use in
     record {
       counted = subst (λ x. ((shard : ℕ) → shard ≡ shard_of (codes "hello") 0 (length x.shards) → (node : ℕ) → IsIn taken node → IsCounted x shard node) → (node : ℕ) → IsIn taken node → IsCounted place 0 node) same (λ all. all 0 refl) due.counted;
@@ -158,7 +158,7 @@ record UnmetBy (now : ℕ) (a : Act) (due_needed got needed : ℕ) (reasons : Li
   served : 0 < got → MayServe (rules_when now) a
 
 -- where nothing is lost, late, stopped or moved, a replica refuses for its window or for want of memory alone
-pub window_refuses : (lines : List Turn) (rules : Rules) (a : Act) (b : Answer) (node : ℕ) (why : Reason) → StandsAt lines rules → IsCounted place 0 node → MayRefuse true [] None (place_after lines a b) place 0 node why → WindowRefuses rules a why
+pub window_refuses : (lines : List Turn) (rules : Rules) (a : Act) (b : Answer) (node : ℕ) (why : Reason) → StandsAt lines rules → IsCounted place 0 node → MayRefuse true [] None (position_after lines a b) place 0 node why → WindowRefuses rules a why
 window_refuses lines rules a b node reason.Cut stood counts may = let quiet = not_cut lines rules a b may.1.instance_.name stood in let bad : false ≡ true = sym quiet ∙ may.1.holds in cc
 window_refuses lines rules a b node reason.Down stood counts may = elim may as (λ _. ⊥) [ inl stops ↦ let bad : false ≡ true = sym (stood.none_stopped stops.instance_.name) ∙ stops.holds in cc | inr closed ↦ closed.among ]
 window_refuses lines rules a b node reason.Boot stood counts may =
@@ -175,10 +175,10 @@ window_refuses lines rules a b node reason.Memory stood counts may = tt
 window_refuses lines rules a b node _ stood counts may = absurd may
 
 unmet_by : (now : ℕ) (a : Act) (b : Answer) (needs : ℕ → ℕ) (got needed : ℕ) (reasons : List (ℕ × Reason)) → StandsAt (begun now []) (rules_when now) → call_of a ≡ Some (call_with needs)
-    → MissesLevel true [] None (place_after (begun now []) a b) got needed reasons 0 → UnmetBy now a (needs 3) got needed reasons
+    → MissesLevel true [] None (position_after (begun now []) a b) got needed reasons 0 → UnmetBy now a (needs 3) got needed reasons
 unmet_by now a b needs got needed reasons stood is due =
     let known : call_with needs ≡ due.call = same_of_some (call_with needs) due.call (sym is ∙ due.of_act) in
-    let may : MayUse None (place_after (begun now []) a b) None due.place = subst (λ call. MayUse None (place_after (begun now []) a b) call.version due.place) (sym known) due.may_use in
+    let may : MayUse None (position_after (begun now []) a b) None due.place = subst (λ call. MayUse None (position_after (begun now []) a b) call.version due.place) (sym known) due.may_use in
     let same : place ≡ due.place = only_used (begun now []) a b place due.place stood.place_is may in
     let counts : (r : ℕ × Reason) → IsIn reasons r → IsCounted place 0 r.0 = subst (λ x. (r : ℕ × Reason) → IsIn reasons r → IsCounted x 0 r.0) (sym same) due.silent.counted in
     record {
@@ -187,7 +187,7 @@ unmet_by now a b needs got needed reasons stood is due =
       counted = counts;
       by_name = subst (λ x. Ascends (λ r s. IsNamedBelow x r.0 s.0) reasons) (sym same) due.silent.by_name;
       others = subst (λ x. got + length reasons ≡ length (counted_nodes x 0)) (sym same) due.others;
-      refused = λ r m. window_refuses (begun now []) (rules_when now) a b r.0 r.1 stood (counts r m) (subst (λ x. MayRefuse true [] None (place_after (begun now []) a b) x 0 r.0 r.1) (sym same) (due.silent.refused r m));
+      refused = λ r m. window_refuses (begun now []) (rules_when now) a b r.0 r.1 stood (counts r m) (subst (λ x. MayRefuse true [] None (position_after (begun now []) a b) x 0 r.0 r.1) (sym same) (due.silent.refused r m));
       served = due.served;
     }
 
@@ -272,7 +272,7 @@ not_counted_0 = not_in_each (1 ∷ []) 0 ((λ e. omega (arith, e)) also tt)
 pub other_node-refused : ¬ Caused true (life_of (with_two_shards (write 10 (pos 5)) (acks (0 ∷ [])))) []
 unfolding murmur3
 other_node-refused caused =
-    let due : IsAcked None (place_after two_made (write 10 (pos 5)) (acks (0 ∷ []))) (codes "hello") write_level.Majority None (0 ∷ []) = due_after two_made (write 10 (pos 5)) (acks (0 ∷ [])) [] (λ e. cc) (λ e. cc) caused in
+    let due : IsAcked None (position_after two_made (write 10 (pos 5)) (acks (0 ∷ []))) (codes "hello") write_level.Majority None (0 ∷ []) = due_after two_made (write 10 (pos 5)) (acks (0 ∷ [])) [] (λ e. cc) (λ e. cc) caused in
     let same : place_of_two ≡ due.place = only_used two_made (write 10 (pos 5)) (acks (0 ∷ [])) place_of_two due.place refl due.may_use in
     not_counted_0 (subst (λ x. ((shard : ℕ) → shard ≡ shard_of (codes "hello") 0 (length x.shards) → (node : ℕ) → IsIn (0 ∷ []) node → IsCounted x shard node) → IsCounted place_of_two 1 0) same (λ all. all 1 refl 0 (inl refl)) due.counted)
 
@@ -287,9 +287,9 @@ one_reason shard caused =
     let a = write 10 (pos 5) in
     let b = answer.Consistency 0 1 ((0, reason.Memory) ∷ []) shard in
     let call = call_with (needed_write write_level.Majority) in
-    let due : MissesLevel true [] None (place_after two_made a b) 0 1 ((0, reason.Memory) ∷ []) shard = due_after two_made a b [] (λ e. cc) (λ e. cc) caused in
+    let due : MissesLevel true [] None (position_after two_made a b) 0 1 ((0, reason.Memory) ∷ []) shard = due_after two_made a b [] (λ e. cc) (λ e. cc) caused in
     let known : call ≡ due.call = same_of_some call due.call due.of_act in
-    let same : due.place ≡ place_of_two = sym (only_used two_made a b place_of_two due.place refl (subst (λ c. MayUse None (place_after two_made a b) c.version due.place) (sym known) due.may_use)) in
+    let same : due.place ≡ place_of_two = sym (only_used two_made a b place_of_two due.place refl (subst (λ c. MayUse None (position_after two_made a b) c.version due.place) (sym known) due.may_use)) in
     record {
       asked = subst (λ x. IsAskedOf (Some (codes "hello")) 0 (length x.shards) shard) same (subst (λ c. IsAskedOf c.id 0 (length due.place.shards) shard) (sym known) due.asked);
       counted = subst (λ x. IsCounted x shard 0) same (due.silent.counted (0, reason.Memory) (inl refl));
@@ -342,8 +342,8 @@ later_read-refused caused = due_after (begun 100 []) (write 100 (pos 5)) answer.
 
 pub full-refused : ¬ Caused true (life_of (write_answered answer.Full)) []
 full-refused caused =
-    let p = place_after (begun 100 []) (write 100 (pos 5)) answer.Full in
-    elim (caused.each p (place_after-stands (begun 100 []) (write 100 (pos 5)) answer.Full [])) as (λ _. ⊥) [
+    let p = position_after (begun 100 []) (write 100 (pos 5)) answer.Full in
+    elim (caused.each p (position_after-stands (begun 100 []) (write 100 (pos 5)) answer.Full [])) as (λ _. ⊥) [
       | inl e ↦ cc
       | inr told ↦ elim told as (λ _. ⊥) [
         | inl full ↦ not_many full.1.requests full.1.writes full.1.requests_are full.1.writes_are full.1.many
@@ -356,10 +356,10 @@ full-refused caused =
         let few : MOST_EVENTS ≤ (MOST_REQUEST_EVENTS * 5) * 2 = subst (λ n. MOST_EVENTS ≤ (MOST_REQUEST_EVENTS * (n + 1)) * 2) four (subst (λ n. MOST_EVENTS ≤ (MOST_REQUEST_EVENTS * (requests + 1)) * (n + 1)) one many) in
         omega (arith, few)
 
-    own_of : (turns : List InnerTurn) → IsAfter (place_after (begun 100 []) (write 100 (pos 5)) answer.Full) turns
-        → IsDueBy true [] None (caused.delivered (place_after (begun 100 []) (write 100 (pos 5)) answer.Full)) (place_after (begun 100 []) (write 100 (pos 5)) answer.Full) (refusal_after None (place_after (begun 100 []) (write 100 (pos 5)) answer.Full) turns) → ⊥
+    own_of : (turns : List InnerTurn) → IsAfter (position_after (begun 100 []) (write 100 (pos 5)) answer.Full) turns
+        → IsDueBy true [] None (caused.delivered (position_after (begun 100 []) (write 100 (pos 5)) answer.Full)) (position_after (begun 100 []) (write 100 (pos 5)) answer.Full) (refusal_after None (position_after (begun 100 []) (write 100 (pos 5)) answer.Full) turns) → ⊥
     own_of turns after told =
-        subst (λ ts. IsDueBy true [] None (caused.delivered (place_after (begun 100 []) (write 100 (pos 5)) answer.Full)) (place_after (begun 100 []) (write 100 (pos 5)) answer.Full) (refusal_after None (place_after (begun 100 []) (write 100 (pos 5)) answer.Full) ts))
+        subst (λ ts. IsDueBy true [] None (caused.delivered (position_after (begun 100 []) (write 100 (pos 5)) answer.Full)) (position_after (begun 100 []) (write 100 (pos 5)) answer.Full) (refusal_after None (position_after (begun 100 []) (write 100 (pos 5)) answer.Full) ts))
         (only_after (begun 100 []) (write 100 (pos 5)) answer.Full turns after) told
 
 pub found-refused : ¬ Caused true (life_of (write_answered (answer.Found [] false))) []

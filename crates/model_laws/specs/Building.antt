@@ -1,6 +1,6 @@
 -- The turns of which the worked transcripts are made: mostly one cluster of three nodes, one namespace, one series.
 use Rattle.std.specs.Prelude.{ℕ, ℤ, List, [], ◌∷◌, ◌++◌, map, None, Bool, false, codes}
-use Rattle.transcripts.specs.Record.{Life, TurnPlace}
+use Rattle.transcripts.specs.Record.{Life, TurnPosition}
 use Rattle.placement_plan.specs.First.{first_instances}
 use Rattle.m3_model.specs.declared.placement.Assignment.{Assignment}
 use Rattle.m3_model.specs.declared.placement.Placement.{Placement}
@@ -172,6 +172,6 @@ read from to points = line (fetch from to) (found (series_of points))
 abbrev pub life_of : List Turn → Life
 life_of turns = record { past = []; present = record { start = None; turns = turns; unanswered = None } }
 
--- the place of an act outside `par`
-abbrev pub place_after : List Turn → Act → Answer → TurnPlace
-place_after lines a b = record { lines = lines; line = line a b; client = 0; earlier = []; beside = []; turn = record { act = a; answer = b } }
+-- the position of an act outside `par`
+abbrev pub position_after : List Turn → Act → Answer → TurnPosition
+position_after lines a b = record { lines = lines; line = line a b; client = 0; earlier = []; beside = []; turn = record { act = a; answer = b } }

@@ -3,8 +3,8 @@ use Rattle.std.specs.Prelude.{◌≡◌, ℕ, ◌≤◌, List, length, Option, S
 use Rattle.std.specs.List.{flat_map}
 use Rattle.m3_model.specs.Members.{IsIn}
 use Rattle.m3_model.specs.Levels.{majority, is_strong}
-use Rattle.transcripts.specs.Record.{InnerTurn, Life, TurnPlace, IsTurnPlace, IsBefore, acts_of}
-use Rattle.m3_model.specs.Rules.{namespace_place}
+use Rattle.transcripts.specs.Record.{InnerTurn, Life, TurnPosition, IsTurnPosition, IsBefore, acts_of}
+use Rattle.m3_model.specs.Rules.{namespace_position}
 use Rattle.transcripts.specs.Rules.{rules_at}
 use Rattle.transcripts.specs.Points.{sent_at, acked_at, rf_at}
 use Rattle.m3_model.specs.Reads.{Read, Found, read_of, found_of, space_picked, points_in, IsSought, Covers}
@@ -17,12 +17,12 @@ use Rattle.m3_model.specs.declared.answer.Answer.TheVariants as answer
 
 -- A read of the present run with what it found.
 pub record AnsweredRead (life : Life) : Type 0 where
-  pub place : TurnPlace
-  pub in_run : IsTurnPlace life.present.turns place
+  pub position : TurnPosition
+  pub in_run : IsTurnPosition life.present.turns position
   pub read : Read
-  pub asked : read_of (rules_at life.present.start place).spaces place.turn.act ≡ Some read
+  pub asked : read_of (rules_at life.present.start position).spaces position.turn.act ≡ Some read
   pub found : Found
-  pub answered : found_of place.turn.answer ≡ Some found
+  pub answered : found_of position.turn.answer ≡ Some found
 
 -- the points that a read found
 abbrev pub points_found : {life : Life} → AnsweredRead life → List Point
@@ -34,16 +34,16 @@ IsStrong r = IsTrue (is_strong r.read.level r.found.short)
 
 -- the read asks for the point, which is still kept
 abbrev pub Seeks : {life : Life} → AnsweredRead life → Point → Type 0
-Seeks {life} r point = IsSought (rules_at life.present.start r.place) r.read point
+Seeks {life} r point = IsSought (rules_at life.present.start r.position) r.read point
 
 -- a strong read has each acknowledged point that it asks for, or a higher value in its place
 abbrev pub FindsAcknowledged : Life → Type 0
 FindsAcknowledged life =
-    (r : AnsweredRead life) → IsStrong r → (point : Point) → IsIn (acked_at life.past life.present.start r.place) point → Seeks r point → Covers (points_found r) point
+    (r : AnsweredRead life) → IsStrong r → (point : Point) → IsIn (acked_at life.past life.present.start r.position) point → Seeks r point → Covers (points_found r) point
 
 -- a read has only points that were sent
 abbrev pub FindsOnlySent : Life → Type 0
-FindsOnlySent life = (r : AnsweredRead life) → (point : Point) → IsIn (points_found r) point → IsIn (sent_at life.past life.present.start r.place) point
+FindsOnlySent life = (r : AnsweredRead life) → (point : Point) → IsIn (points_found r) point → IsIn (sent_at life.past life.present.start r.position) point
 
 -- the act writes this point into a namespace that is there
 pub record Writes (spaces : List Space) (a : Act) (point : Point) : Type 0 where
@@ -51,10 +51,10 @@ pub record Writes (spaces : List Space) (a : Act) (point : Point) : Type 0 where
   pub level : WriteLevel
   pub version : Option ℕ
   pub act_is : a ≡ act.Write ns point.id point.t point.v level version
-  pub space_is : namespace_place ns spaces ≡ Some point.ns
+  pub space_is : namespace_position ns spaces ≡ Some point.ns
 
 -- an earlier write of the point that at least a majority of the replicas took
-pub record EarlierWrite (life : Life) (p : TurnPlace) (point : Point) : Type 0 where
+pub record EarlierWrite (life : Life) (p : TurnPosition) (point : Point) : Type 0 where
   pub turn : InnerTurn
   pub before : IsBefore life.past turn p
   pub writes : Writes (rules_at life.present.start p).spaces turn.act point
@@ -64,20 +64,20 @@ pub record EarlierWrite (life : Life) (p : TurnPlace) (point : Point) : Type 0 w
 
 -- a strong read has the point of each such write that it asks for, or a higher value in its place
 abbrev pub FindsEarlierWrites : Life → Type 0
-FindsEarlierWrites life = (r : AnsweredRead life) → IsStrong r → (point : Point) → EarlierWrite life r.place point → Seeks r point → Covers (points_found r) point
+FindsEarlierWrites life = (r : AnsweredRead life) → IsStrong r → (point : Point) → EarlierWrite life r.position point → Seeks r point → Covers (points_found r) point
 
--- a write of the point that is no later than the place: its turn is before or beside it
-pub record TurnWrites (life : Life) (p : TurnPlace) (point : Point) : Type 0 where
+-- a write of the point that is no later than the position: its turn is before or beside it
+pub record TurnWrites (life : Life) (p : TurnPosition) (point : Point) : Type 0 where
   pub turn : InnerTurn
   pub not_later : IsBefore life.past turn p ⊎ IsIn p.beside turn
   pub writes : Writes (rules_at life.present.start p).spaces turn.act point
 
 -- a write of the point that an earlier run took and didn't answer
-pub record LeftUnanswered (life : Life) (p : TurnPlace) (point : Point) : Type 0 where
+pub record LeftUnanswered (life : Life) (p : TurnPosition) (point : Point) : Type 0 where
   pub a : Act
   pub taken : IsIn (flat_map (λ run. acts_of run.unanswered) life.past) a
   pub writes : Writes (rules_at life.present.start p).spaces a point
 
 -- a read has only points that a write has
 abbrev pub FindsOnlyWritten : Life → Type 0
-FindsOnlyWritten life = (r : AnsweredRead life) → (point : Point) → IsIn (points_found r) point → TurnWrites life r.place point ⊎ LeftUnanswered life r.place point
+FindsOnlyWritten life = (r : AnsweredRead life) → (point : Point) → IsIn (points_found r) point → TurnWrites life r.position point ⊎ LeftUnanswered life r.position point

@@ -1,6 +1,6 @@
 -- Transcripts with fates of messages and stopped nodes: some whose answers have their causes, and some that are broken in one way.
 use Rattle.std.specs.Prelude.{ℕ, List, [], ◌∷◌, Option, None, true, false, pos, codes}
-use Rattle.transcripts.specs.Record.{TurnPlace}
+use Rattle.transcripts.specs.Record.{TurnPosition}
 use Rattle.m3_model.specs.declared.answer.Answer.{Answer}
 use Rattle.m3_model.specs.declared.reason.Reason.{Reason}
 use Rattle.m3_model.specs.declared.turn.Request.TheVariants as request
@@ -13,7 +13,7 @@ use Rattle.m3_model.specs.declared.act.ReadLevel.TheVariants as read_level
 use Rattle.m3_model.specs.declared.answer.Answer.TheVariants as answer
 use Rattle.m3_model.specs.declared.reason.Reason.TheVariants as reason
 use Rattle.m3_model.specs.declared.turn.Turn.{Turn}
-use Rattle.model_laws.specs.Building.{begun, at_moment, wrote, read, line, write, fetch, acks, unmet, by_each, series_of, place_after}
+use Rattle.model_laws.specs.Building.{begun, at_moment, wrote, read, line, write, fetch, acks, unmet, by_each, series_of, position_after}
 
 -- an accepted list of fates
 abbrev pub fated : List (ℕ × ℕ × List ℕ × Fate) → Turn
@@ -156,8 +156,8 @@ abbrev pub c_lost : List Turn
 c_lost = begun 100 (fated ((0, 0, codes "c", Lose) ∷ []) ∷ [])
 
 -- and then this act
-abbrev pub after_c_lost : Act → Answer → TurnPlace
-after_c_lost a b = place_after c_lost a b
+abbrev pub after_c_lost : Act → Answer → TurnPosition
+after_c_lost a b = position_after c_lost a b
 
 -- a tick that c was cut off from
 abbrev pub tick_cut : List Turn

@@ -1,12 +1,12 @@
 -- Transcripts with an answer that has no cause, each broken in one way.
 use Rattle.std.specs.Prelude.{ℕ, ℤ, List, [], ◌∷◌, None, pos, codes, Bool, true}
-use Rattle.transcripts.specs.Record.{TurnPlace}
+use Rattle.transcripts.specs.Record.{TurnPosition}
 use Rattle.m3_model.specs.declared.act.Act.TheVariants as act
 use Rattle.m3_model.specs.declared.act.ReadLevel.{ReadLevel}
 use Rattle.m3_model.specs.declared.answer.Answer.{Answer}
 use Rattle.m3_model.specs.declared.answer.Answer.TheVariants as answer
 use Rattle.m3_model.specs.declared.turn.Turn.{Turn}
-use Rattle.model_laws.specs.Building.{with_two_shards, begun, line, made, at_moment, wrote, init, write, fetch, placed, assigned, series_of, place_after}
+use Rattle.model_laws.specs.Building.{with_two_shards, begun, line, made, at_moment, wrote, init, write, fetch, placed, assigned, series_of, position_after}
 use Rattle.model_laws.specs.Messages.{stopped, unstrict}
 
 -- a write that got this answer, after the cluster and the namespace were made
@@ -38,8 +38,8 @@ abbrev pub short_at : ReadLevel → List Turn
 short_at level = at_moment 100 (act.Fetch (codes "m") (codes "hello") 0 200 level None) (answer.Found [] true)
 
 -- where the unstrict fetch stands
-abbrev pub unstrict_place : Bool → TurnPlace
-unstrict_place short = place_after (begun 100 (wrote 100 (pos 5) ∷ [])) (unstrict 0 200) (answer.Found [] short)
+abbrev pub unstrict_position : Bool → TurnPosition
+unstrict_position short = position_after (begun 100 (wrote 100 (pos 5) ∷ [])) (unstrict 0 200) (answer.Found [] short)
 
 -- a stopped node that is refused to be restarted
 abbrev pub restart_refused : List Turn

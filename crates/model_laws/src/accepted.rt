@@ -91,6 +91,6 @@ pub fn eight_namespaces()
 {}
 
 /// Want of memory may be answered to any request, at any moment.
-pub fn memory_at_any_place()
+pub fn memory_at_any_position()
     ensures { (now : ℕ) → (a : Act) → Caused true (life_of (at_moment now a answer.Memory)) [] }
 {}

@@ -76,7 +76,7 @@ pub fn unknown_namespace_read()
     ensures { ¬ Kept (life_of with_unknown_namespace) }
 {}
 
-/// A point is read whose only write was put off, or was refused for its place among the lines or for a name.
+/// A point is read whose only write was put off, or was refused for its position among the lines or for a name.
 pub fn later_write_read()
     ensures later { ¬ Caused true (life_of (with_point_answered answer.Later)) [] }
     ensures order { ¬ Kept (life_of (with_point_answered answer.Order)) }

@@ -31,7 +31,7 @@ pub fn answer_left_out()
     ensures first_list { (acts : List Act) → (clients workers : List (List Act)) → (answers : List Answer) → (for_clients for_workers : List (List Answer)) → length answers ≢ length acts → ¬ AreAnswered (acts ∷ clients) workers (answers ∷ for_clients) for_workers }
 {}
 
-/// Lists of acts are refused as a whole for their place among the lines or for want of memory alone.
+/// Lists of acts are refused as a whole for their position among the lines or for want of memory alone.
 pub fn lists_answered_once()
     ensures order { (clients workers : List (List Act)) → IsAnsweredBy (request.Par clients workers) (reply.One answer.Order) }
     ensures memory { (clients workers : List (List Act)) → IsAnsweredBy (request.Par clients workers) (reply.One answer.Memory) }

@@ -7,7 +7,7 @@ ghost use Rattle.m3_model.specs.declared.reason.Reason.TheVariants as reason;
 ghost use Rattle.model_laws.specs.Building.{life_of, at_moment, with_eight, with_two_shards, namespace_of, write_in, write, fetch, acks, unmet, by_each, place};
 ghost use Rattle.model_laws.specs.Uncaused.{write_answered, write_first, made_twice, fetch_short, made_of_two, restart_refused};
 
-/// A write is refused for its place among the lines, though a cluster and its namespace are there.
+/// A write is refused for its position among the lines, though a cluster and its namespace are there.
 pub fn order_without_cause()
     ensures { ¬ Caused true (life_of (write_answered answer.Order)) [] }
 {}

@@ -16,12 +16,12 @@ use Rattle.placement_plan.specs.Plans.{EndsAsNamed, IsAvailable, IsJoiningPair}
 use Rattle.transcripts.specs.Caused.{Caused, CausedAt, EndsInto, EndsMoves, IsBootstrapped, IsDueBy, IsLeftBy, refusal_after}
 use Rattle.transcripts.specs.Fates.{OfNode}
 use Rattle.transcripts.specs.Faults.{Fault}
-use Rattle.transcripts.specs.Record.{AreSomeOf, InnerTurn, TurnPlace}
+use Rattle.transcripts.specs.Record.{AreSomeOf, InnerTurn, TurnPosition}
 use Rattle.transcripts.specs.Waiting.{is_covering}
 use Rattle.model_laws.specs.Building.{begun, life_of, nodes, place}
 use Rattle.fault_laws.specs.Faulty.{bootstrap_c}
 use Rattle.model_laws.proofs.EachLemmas.{◌also◌, each_in, ascends_by, same_of_some, texts_differ}
-use Rattle.model_laws.proofs.PlaceLemmas.{place_after, place_after-stands, after_all, caused_by_places, due_after, due_from, due_here, only, only_used, used_from}
+use Rattle.model_laws.proofs.PositionLemmas.{position_after, position_after-stands, after_all, caused_by_positions, due_after, due_from, due_here, only, only_used, used_from}
 use Rattle.move_laws.specs.Moving.{both_moving, both_on_a, both_to_a, first_on_a, held, holding, leaving, reopened_with, b_to_a, on_a, joining, a_took, a_joined, both_print, bootstrap, reopened_moving}
 use Rattle.move_laws.proofs.MovingLemmas.{of_name}
 
@@ -49,9 +49,9 @@ ends asked covers = record {
 }
 
 -- a bootstrap that is the only line of a run which found this placement
-opened : (from : Placement) (name : List ℕ) (asked : Option ℕ) (b : Answer) → IsDueBy true [] (Some (held from)) [] (place_after [] (act.Bootstrap name asked) b) (refusal_after (Some (held from)) (place_after [] (act.Bootstrap name asked) b) [])
+opened : (from : Placement) (name : List ℕ) (asked : Option ℕ) (b : Answer) → IsDueBy true [] (Some (held from)) [] (position_after [] (act.Bootstrap name asked) b) (refusal_after (Some (held from)) (position_after [] (act.Bootstrap name asked) b) [])
     → Caused true (reopened_with from (bootstrap name asked b ∷ [])) []
-opened from name asked b here = caused_by_places true [] (reopened_with from (bootstrap name asked b ∷ [])) tt refl (only (due_from true [] [] (Some (held from)) [] [] _ _ here) also tt)
+opened from name asked b here = caused_by_positions true [] (reopened_with from (bootstrap name asked b ∷ [])) tt refl (only (due_from true [] [] (Some (held from)) [] [] _ _ here) also tt)
 
 pub ended-caused : Caused true (reopened_moving (a_joined ∷ [])) []
 ended-caused = opened b_to_a (codes "a") None a_took (record { before = b_to_a; stands = ([], after_all [] _ _, refl); made = inl refl; left = ends None refl; version_is = refl })
@@ -66,13 +66,13 @@ of_shard-caused = opened b_to_a (codes "a") (Some 1) a_took (record { before = b
 
 -- what such a bootstrap leaves
 left_of : (from : Placement) (faults : List Fault) (name : List ℕ) (asked : Option ℕ) (available : List (ℕ × List ℕ)) (q : Placement) (version : ℕ)
-    → refusal_after (Some (held from)) (place_after [] (act.Bootstrap name asked) (answer.Available available q version)) [] ≡ None
+    → refusal_after (Some (held from)) (position_after [] (act.Bootstrap name asked) (answer.Available available q version)) [] ≡ None
     → Caused true (reopened_with from (bootstrap name asked (answer.Available available q version) ∷ [])) faults → IsLeftBy from name asked available q
 left_of from faults name asked available q version none caused =
     let a = act.Bootstrap name asked in
     let b = answer.Available available q version in
-    let p = place_after [] a b in
-    let due = due_here true faults [] (Some (held from)) (caused.delivered p) [] a b (λ e. cc) (λ e. cc) (caused.each p (place_after-stands [] a b [])) in
+    let p = position_after [] a b in
+    let due = due_here true faults [] (Some (held from)) (caused.delivered p) [] a b (λ e. cc) (λ e. cc) (caused.each p (position_after-stands [] a b [])) in
     let told : IsBootstrapped (Some (held from)) p name asked available q version = subst (IsDueBy true faults (Some (held from)) (caused.delivered p) p) none due in
     subst (λ x. IsLeftBy x name asked available q) (sym (used_from (Some (held from)) [] a b from told.before refl told.stands)) told.left
 
@@ -109,7 +109,7 @@ pub still-refused : (faults : List Fault) (peers : List ℕ) → ¬ Caused true 
 still-refused faults peers caused =
     let a = act.Bootstrap (codes "c") None in
     let b = answer.Available ((0, peers) ∷ []) place 1 in
-    let told : IsBootstrapped None (place_after (begun 100 []) a b) (codes "c") None ((0, peers) ∷ []) place 1 = due_after (begun 100 []) a b [] (λ e. cc) (λ e. cc) caused in
+    let told : IsBootstrapped None (position_after (begun 100 []) a b) (codes "c") None ((0, peers) ∷ []) place 1 = due_after (begun 100 []) a b [] (λ e. cc) (λ e. cc) caused in
     let same : place ≡ told.before = only_used (begun 100 []) a b place told.before refl told.stands in
     let moves : EndsMoves place (codes "c") None ((0, peers) ∷ []) place = subst (λ x. EndsMoves x (codes "c") None ((0, peers) ∷ []) place) (sym same) told.left in
     let bad : 1 ≡ 2 = moves.next.follows.version in
@@ -217,7 +217,7 @@ first_boot = record { act = act.Bootstrap (codes "a") None; answer = answer.Avai
 abbrev second_boot : InnerTurn
 second_boot = record { act = act.Bootstrap (codes "b") None; answer = answer.Available [] on_a 3 }
 
-abbrev first_worker : TurnPlace
+abbrev first_worker : TurnPosition
 first_worker = record { lines = []; line = both_print on_a; client = 1; earlier = []; beside = second_boot ∷ []; turn = first_boot }
 
 pub nobody-refused : (faults : List Fault) → ¬ Caused true (reopened_moving (both_print on_a ∷ [])) faults

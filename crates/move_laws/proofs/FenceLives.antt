@@ -17,10 +17,10 @@ use Rattle.transcripts.specs.Faults.{Fault}
 use Rattle.transcripts.specs.Moves.{HasAssignment, IsTakenBy, placement_by, IsBootstrapFor, IsFencedAbove, IsOfMove}
 use Rattle.transcripts.specs.Placements.{placements}
 use Rattle.transcripts.specs.Reasons.{MayRefuse}
-use Rattle.transcripts.specs.Record.{InnerTurn, TurnPlace, inner_turns}
+use Rattle.transcripts.specs.Record.{InnerTurn, TurnPosition, inner_turns}
 use Rattle.model_laws.specs.Building.{place_of_two, two_made}
 use Rattle.model_laws.proofs.EachLemmas.{Each, ◌also◌, each_in, same_of_some, texts_differ}
-use Rattle.model_laws.proofs.PlaceLemmas.{only_used, stands_then}
+use Rattle.model_laws.proofs.PositionLemmas.{only_used, stands_then}
 use Rattle.move_laws.specs.Moving.{asked_after, asked_before, cancelled, b_to_a, on_a, joining, bootstrap, b_drained, a_joined, a_joins, a_prints_move, a_refused, moved_to_a, call_at, MayRefuseAfter, MayRefuseBeside}
 use Rattle.model_laws.proofs.CausedLives.{each_at}
 use Rattle.model_laws.proofs.OwnerLemmas.{first_placements, standing_known, turn_in}
@@ -33,7 +33,7 @@ abbrev asked : List Turn
 asked = two_made ++ b_drained ∷ a_refused ∷ []
 
 -- a is to have the shard from version 2 on
-a_joining : (p : TurnPlace) (turn : InnerTurn) → IsTakenBy None p b_to_a turn → IsBootstrapFor 1 (codes "a") turn.act → IsOfMove None p 1 2
+a_joining : (p : TurnPosition) (turn : InnerTurn) → IsTakenBy None p b_to_a turn → IsBootstrapFor 1 (codes "a") turn.act → IsOfMove None p 1 2
 a_joining p turn taken asks = record {
   place = b_to_a;
   node = 0;
@@ -78,7 +78,7 @@ above_standing-refused faults fence high may =
     omega (arith, high, low)
 
 -- a run that found nothing has fences of its own moves alone
-of_move : (p : TurnPlace) (used : Placement) (shard fence : ℕ) → IsFencedAbove None p used shard fence → IsOfMove None p shard fence
+of_move : (p : TurnPosition) (used : Placement) (shard fence : ℕ) → IsFencedAbove None p used shard fence → IsOfMove None p shard fence
 of_move p used shard fence fenced = elim fenced.cause as (λ _. IsOfMove None p shard fence) [ inl left ↦ let bad = left.found in cc | inr of ↦ of ]
 
 -- where the call stands in a line outside `par`, a turn that was taken before it is one of the lines, and the placement that stood then is known by their end
@@ -205,7 +205,7 @@ another_shard-refused faults may =
 
 -- ---- left
 
-pub left-of_move : (state : MetaState) (p : TurnPlace) (used : Placement) (shard fence : ℕ) → state.place.version ≤ used.version → IsFencedAbove (Some state) p used shard fence → IsOfMove (Some state) p shard fence
+pub left-of_move : (state : MetaState) (p : TurnPosition) (used : Placement) (shard fence : ℕ) → state.place.version ≤ used.version → IsFencedAbove (Some state) p used shard fence → IsOfMove (Some state) p shard fence
 left-of_move state p used shard fence later fenced =
     elim fenced.cause as (λ _. IsOfMove (Some state) p shard fence) [
       | inl left ↦ (

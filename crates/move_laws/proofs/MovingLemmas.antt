@@ -5,7 +5,7 @@ use Rattle.m3_model.specs.declared.placement.Instance.{Instance}
 use Rattle.m3_model.specs.declared.placement.Placement.{Placement}
 use Rattle.transcripts.specs.Fates.{OfNode}
 use Rattle.transcripts.specs.Placements.{MayStand, placement_after}
-use Rattle.transcripts.specs.Record.{InnerTurn, TurnPlace, AreSomeOf, inner_turns}
+use Rattle.transcripts.specs.Record.{InnerTurn, TurnPosition, AreSomeOf, inner_turns}
 use Rattle.transcripts.specs.Waiting.{Replica}
 use Rattle.model_laws.proofs.EachLemmas.{same_of_some}
 
@@ -25,7 +25,7 @@ below_or (suc m) zero e = inl (omega arith)
 below_or (suc m) (suc n) e = elim (below_or m n (omega (arith, e))) as (λ _. (suc n < suc m) ⊎ (suc n ≡ suc m)) [ inl below ↦ inl (omega (arith, below)) | inr same ↦ inr (ap suc same) ]
 
 -- where nothing is beside a turn, what stands after all before it is what it meets
-pub only_behind : (p : TurnPlace) (x used : Placement) → p.beside ≡ [] → placement_after None (inner_turns p.lines ++ (p.earlier ++ [])) ≡ Some x → MayStand None p used → x ≡ used
+pub only_behind : (p : TurnPosition) (x used : Placement) → p.beside ≡ [] → placement_after None (inner_turns p.lines ++ (p.earlier ++ [])) ≡ Some x → MayStand None p used → x ≡ used
 only_behind p x used alone stood may =
     let others : may.1.others ≡ [] = none_of may.1.others (subst (AreSomeOf may.1.others) alone may.1.some_of) in
     let turns : may.0 ≡ inner_turns p.lines ++ (p.earlier ++ []) = may.1.are ∙ ap (λ xs. inner_turns p.lines ++ (p.earlier ++ xs)) others in

@@ -15,12 +15,12 @@ use Rattle.transcripts.specs.Levels.{MissesLevel}
 use Rattle.transcripts.specs.Moves.{HasAssignment, IsNew, OwnsNot, is_begun_in, placement_by}
 use Rattle.transcripts.specs.Placements.{MayStand, MayUse, has_replica, placements}
 use Rattle.transcripts.specs.Reasons.{MayRefuse}
-use Rattle.transcripts.specs.Record.{TurnPlace, inner_turns}
+use Rattle.transcripts.specs.Record.{TurnPosition, inner_turns}
 use Rattle.transcripts.specs.Waiting.{is_assigned, is_member}
 use Rattle.model_laws.specs.Building.{begun, life_of, place, place_of_two, two_made, write, unmet, by_each}
 use Rattle.model_laws.specs.Uncaused.{write_answered}
 use Rattle.model_laws.proofs.EachLemmas.{◌also◌, each_in, same_of_some}
-use Rattle.model_laws.proofs.PlaceLemmas.{place_after, due_after, only_used, stands_then}
+use Rattle.model_laws.proofs.PositionLemmas.{position_after, due_after, only_used, stands_then}
 use Rattle.model_laws.proofs.SampleLemmas.{call_with, rules_when, stands}
 use Rattle.model_laws.proofs.OwnerLemmas.{never_assigned, none_unowned}
 use Rattle.model_laws.proofs.CausedLives.{counted_0, EachAt, each_at}
@@ -32,7 +32,7 @@ one_placement-refused tells faults caused =
     let lines = begun 100 [] in
     let a = write 100 (pos 5) in
     let b = unmet 0 (by_each reason.NotOwned) in
-    let p = place_after lines a b in
+    let p = position_after lines a b in
     let call = call_with (needed_write write_level.Majority) in
     let missed : MissesLevel tells faults None p 0 2 (by_each reason.NotOwned) 0 = due_after lines a b [] (λ e. cc) (λ e. cc) caused in
     let known : call ≡ missed.call = same_of_some call missed.call missed.of_act in
@@ -51,7 +51,7 @@ taken_beside-caused tells =
     inl (record { place = on_a; may_stand = (inner_turns lines ++ ([] ++ a_joins ∷ []), record { others = a_joins ∷ []; some_of = inl (refl, tt); are = refl }, refl); not_owned = inl refl })
 
 -- where this placement alone may stand, and gives the node the shard at or below the version, the node owns it
-owned_in : (q : Placement) (node version : ℕ) (p : TurnPlace) → ((used : Placement) → MayStand None p used → q ≡ used) → has_replica (Some q) 1 node ≡ true
+owned_in : (q : Placement) (node version : ℕ) (p : TurnPosition) → ((used : Placement) → MayStand None p used → q ≡ used) → has_replica (Some q) 1 node ≡ true
     → ((a : Assignment) → IsIn (shard_at q 1) a → a.node ≡ node → version < a.tenure → ⊥) → ¬ OwnsNot None p 1 node version
 owned_in q node version p only has low may =
     let same : q ≡ may.place = only may.place may.may_stand in
@@ -158,7 +158,7 @@ untold-caused = inr (record { instance_ = _; stands = refl; holds = record { lin
 
 pub earlier-refused : (faults : List Fault) → ¬ MayRefuseBehind true faults coming_back (b_joins ∷ []) on_b 1 reason.NotOwned
 earlier-refused faults may =
-    let p : TurnPlace = record (call_at coming_back on_b 1 reason.NotOwned) { earlier = b_joins ∷ [] } in
+    let p : TurnPosition = record (call_at coming_back on_b 1 reason.NotOwned) { earlier = b_joins ∷ [] } in
     elim may as (λ _. ⊥) [
       | inl not ↦ owned_in on_b 1 5 p (λ used stood. only_behind p on_b used refl refl stood) refl on_b-low not
       | inr new ↦ let bad : true ≡ false = (of_name on_b (λ name. IsNew true (of_b name) None p) 1 _ refl new).not_beside refl in cc

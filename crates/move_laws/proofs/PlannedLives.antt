@@ -16,7 +16,7 @@ use Rattle.m3_model.specs.declared.placement.Placement.{Placement}
 use Rattle.isolation_groups.specs.Groups.{group_of}
 use Rattle.placement_core.specs.Lawful.{IsApart, IsLawful, IsServing, IsShard, IsSpread}
 use Rattle.placement_core.specs.Shards.{Shard, is_steady, shard_at}
-use Rattle.placement_plan.specs.Additions.{IsAddition, IsNextMove, MayGive, MayMove, giving_cmp}
+use Rattle.placement_plan.specs.Additions.{IsAddition, IsNextMove, MayGiveShard, MayMove, giving_cmp}
 use Rattle.placement_plan.specs.Choices.{MayTake, taking_cmp}
 use Rattle.placement_plan.specs.First.{HasGroups, first_instances}
 use Rattle.placement_plan.specs.Nodes.{Has, load}
@@ -30,7 +30,7 @@ use Rattle.transcripts.specs.Record.{inner_turns}
 use Rattle.model_laws.specs.Building.{assigned, life_of, place_of_two, two_made, two_nodes, with_two_shards}
 use Rattle.model_laws.proofs.CausedLives.{first_placement_of_two}
 use Rattle.model_laws.proofs.EachLemmas.{◌also◌, ascends_by, each_in, same_of_some, texts_differ}
-use Rattle.model_laws.proofs.PlaceLemmas.{caused_by_places, due, due_after, due_from, only, place_after}
+use Rattle.model_laws.proofs.PositionLemmas.{caused_by_positions, due, due_after, due_from, only, position_after}
 use Rattle.move_laws.specs.Moving.{at_both, held, holding, joining, leaving}
 use Rattle.move_laws.specs.Planned.{CancelIsRefused, a_drained, add_answered, add_c, c_takes_first, c_takes_none, c_takes_second, drain_a, drain_answered, init_answered, remove_answered, uneven, untaken_of}
 use Rattle.move_laws.specs.Steps.{NamesSlotOf, StepLine}
@@ -81,8 +81,8 @@ uneven_lawful : IsLawful uneven
 uneven_lawful = both_lawful 4 0 1 1 _ refl refl (omega arith) (omega arith) (omega arith)
 
 -- a line after the two shards were made has its cause
-two-caused : (a : Act) (b : Answer) → CausedAt true [] [] None [] (place_after two_made a b) → Caused true (life_of (with_two_shards a b)) []
-two-caused a b here = caused_by_places true [] (life_of (with_two_shards a b)) tt refl (only (due true [] [] _ _ _ (first_placement_of_two, refl)) also only (due true [] [] _ _ _ tt) also only here also tt)
+two-caused : (a : Act) (b : Answer) → CausedAt true [] [] None [] (position_after two_made a b) → Caused true (life_of (with_two_shards a b)) []
+two-caused a b here = caused_by_positions true [] (life_of (with_two_shards a b)) tt refl (only (due true [] [] _ _ _ (first_placement_of_two, refl)) also only (due true [] [] _ _ _ tt) also only here also tt)
 
 -- ---- a drain
 
@@ -135,10 +135,10 @@ drain_line : (b : Answer) (faults : List Fault) → Caused true (drain_answered 
 drain_line b faults caused = record { caused = caused; after = []; in_run = refl; stands = refl; lawful = two_lawful; is_step = refl; limits = refl }
 
 -- it is answered so, if not for want of memory or room, or by a slot of the next placement
-drain_only : (b : Answer) (faults : List Fault) → Caused true (drain_answered b) faults → b ≢ answer.Memory → b ≢ answer.Full → (b ≡ answer.Placed a_drained 2) ⊎ NamesSlotOf faults None (place_after two_made drain_a b) a_drained b
+drain_only : (b : Answer) (faults : List Fault) → Caused true (drain_answered b) faults → b ≢ answer.Memory → b ≢ answer.Full → (b ≡ answer.Placed a_drained 2) ⊎ NamesSlotOf faults None (position_after two_made drain_a b) a_drained b
 drain_only b faults caused not_memory not_full =
-    elim (led_is_printed (drain_answered b) faults two_made place_of_two drain_a b (drain_line b faults caused) a_drained drain_leads) as (λ _. (b ≡ answer.Placed a_drained 2) ⊎ NamesSlotOf faults None (place_after two_made drain_a b) a_drained b) [
-      | inl free ↦ elim free as (λ _. (b ≡ answer.Placed a_drained 2) ⊎ NamesSlotOf faults None (place_after two_made drain_a b) a_drained b) [ inl e ↦ absurd (not_memory e) | inr e ↦ absurd (not_full e) ]
+    elim (led_is_printed (drain_answered b) faults two_made place_of_two drain_a b (drain_line b faults caused) a_drained drain_leads) as (λ _. (b ≡ answer.Placed a_drained 2) ⊎ NamesSlotOf faults None (position_after two_made drain_a b) a_drained b) [
+      | inl free ↦ elim free as (λ _. (b ≡ answer.Placed a_drained 2) ⊎ NamesSlotOf faults None (position_after two_made drain_a b) a_drained b) [ inl e ↦ absurd (not_memory e) | inr e ↦ absurd (not_full e) ]
       | inr told ↦ told
     ]
 
@@ -162,7 +162,7 @@ old_place-refused faults caused = elim (drain_only (answer.Placed place_of_two 1
 
 pub new_slot-caused : Caused true (drain_answered (answer.Disk (codes "b") 0)) (untaken_of 1 ∷ [])
 new_slot-caused =
-    caused_by_places true (untaken_of 1 ∷ []) (drain_answered (answer.Disk (codes "b") 0)) ((λ none. none), tt) refl (
+    caused_by_positions true (untaken_of 1 ∷ []) (drain_answered (answer.Disk (codes "b") 0)) ((λ none. none), tt) refl (
     only (due true (untaken_of 1 ∷ []) [] _ _ _ (first_placement_of_two, refl))
     also only (due true (untaken_of 1 ∷ []) [] _ _ _ tt)
     also only (due true (untaken_of 1 ∷ []) [] two_made drain_a (answer.Disk (codes "b") 0) (
@@ -253,7 +253,7 @@ first_move = record {
   shard = record { shard = holding 0 1 ∷ []; stands = refl; holds = may_move; first = λ k earlier lt at. absurd (omega (arith, lt)) };
 }
   where
-    giver : (other : ℕ) → MayGive loads three uneven.shards 2 other → is_gt (giving_cmp three loads 0 other) ≡ false
+    giver : (other : ℕ) → MayGiveShard loads three uneven.shards 2 other → is_gt (giving_cmp three loads 0 other) ≡ false
     giver zero may = refl
     giver (suc zero) may = let heavy : 2 ≤ 0 = may.heavy in absurd (omega (arith, heavy))
     giver (suc (suc zero)) may = let heavy : 2 ≤ 0 = may.heavy in absurd (omega (arith, heavy))
@@ -272,14 +272,14 @@ add_plan = record {
   rebalances = (first_move, (refl, no_more));
 }
   where
-    no_more : (from : ℕ) → ¬ MayGive (λ n. load n c_takes_first.shards) three c_takes_first.shards 2 from
+    no_more : (from : ℕ) → ¬ MayGiveShard (λ n. load n c_takes_first.shards) three c_takes_first.shards 2 from
     no_more zero may = let heavy : 3 ≤ 1 = may.heavy in absurd (omega (arith, heavy))
     no_more (suc zero) may = let heavy : 3 ≤ 0 = may.heavy in absurd (omega (arith, heavy))
     no_more (suc (suc zero)) may = let heavy : 3 ≤ 1 = may.heavy in absurd (omega (arith, heavy))
     no_more (suc (suc (suc n))) may = let within : suc (suc (suc n)) < 3 = may.within in absurd (omega (arith, within))
 
 pub added-caused : Caused true (add_answered (answer.Placed c_takes_first 5)) []
-added-caused = caused_by_places true [] (add_answered (answer.Placed c_takes_first 5)) tt refl (only (due_from true [] [] (Some (held uneven)) [] [] add_c (answer.Placed c_takes_first 5) (refl, add_plan, refl)) also tt)
+added-caused = caused_by_positions true [] (add_answered (answer.Placed c_takes_first 5)) tt refl (only (due_from true [] [] (Some (held uneven)) [] [] add_c (answer.Placed c_takes_first 5) (refl, add_plan, refl)) also tt)
 
 -- no other placement is printed, and no other version
 add_only : (faults : List Fault) (next : Placement) (version : ℕ) → Caused true (add_answered (answer.Placed next version)) faults → (next ≡ c_takes_first) × (version ≡ 5)
@@ -405,7 +405,7 @@ three_groups (x ∷ y ∷ z ∷ ns) e within differ = by x y z (within x (inl re
     by a b (suc (suc c)) la lb lc ab ac bc = absurd (omega (arith, lc))
 
 pub few_groups-caused : Caused true (init_answered 3 1 (answer.Group 0)) []
-few_groups-caused = caused_by_places true [] (init_answered 3 1 (answer.Group 0)) tt refl (only (due true [] [] [] (act.Init 3 1 0 two_nodes) (answer.Group 0) (refl, λ groups. three_groups groups.nodes groups.all groups.within groups.differ)) also tt)
+few_groups-caused = caused_by_positions true [] (init_answered 3 1 (answer.Group 0)) tt refl (only (due true [] [] [] (act.Init 3 1 0 two_nodes) (answer.Group 0) (refl, λ groups. three_groups groups.nodes groups.all groups.within groups.differ)) also tt)
 
 pub enough_groups-refused : (faults : List Fault) → ¬ Caused true (init_answered 1 2 (answer.Group 0)) faults
 enough_groups-refused faults caused =

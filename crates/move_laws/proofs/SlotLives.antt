@@ -15,7 +15,7 @@ use Rattle.transcripts.specs.Record.{inner_turns}
 use Rattle.model_laws.specs.Building.{life_of, line, place_of_two, two_made}
 use Rattle.model_laws.specs.Messages.{stopped}
 use Rattle.model_laws.proofs.EachLemmas.{◌also◌, each_in, texts_differ}
-use Rattle.model_laws.proofs.PlaceLemmas.{place_after, place_after-stands, after_all, caused_by_places, due_after, due_from, due_here, only, only_used, used_from}
+use Rattle.model_laws.proofs.PositionLemmas.{position_after, position_after-stands, after_all, caused_by_positions, due_after, due_from, due_here, only, only_used, used_from}
 use Rattle.move_laws.specs.Moving.{b_to_a, on_a, on_b, a_joined, bootstrap, restart, came_back, fails_at, held, moved_to_a, reopened_moving, MayRefuseAfter}
 use Rattle.move_laws.proofs.MovingLemmas.{of_name}
 use Rattle.move_laws.proofs.BootLives.{ends}
@@ -33,7 +33,7 @@ restarted-refused faults caused =
     let lines = two_made ++ stopped (codes "a") ∷ [] in
     let a = act.Restart (codes "a") 0 in
     let b = answer.Disk (codes "a") 1 in
-    let due : OnDisk faults None (place_after lines a b) (HadReplica None (inner_turns lines) 1) (codes "a") 1 = (due_after lines a b [] (λ e. cc) (λ e. cc) caused).1 in
+    let due : OnDisk faults None (position_after lines a b) (HadReplica None (inner_turns lines) 1) (codes "a") 1 = (due_after lines a b [] (λ e. cc) (λ e. cc) caused).1 in
     let same : place_of_two ≡ due.1.place = only_used lines a b place_of_two due.1.place refl due.1.stands in
     let named : OfNode place_of_two due.0 (λ own. own ≡ codes "a") = subst (λ q. OfNode q due.0 (λ own. own ≡ codes "a")) (sym same) due.1.named in
     not_of_a due.0 named (each_in (λ q. IsTrue (has_replica (Some q) 1 due.0) → IsTrue (has_replica (Some place_of_two) 1 due.0)) (place_of_two ∷ []) ((λ has. has) also tt) due.2.place due.2.known due.2.member)
@@ -42,13 +42,13 @@ pub bootstrapped-refused : (faults : List Fault) → ¬ Caused true (life_of (tw
 bootstrapped-refused faults caused =
     let a = act.Bootstrap (codes "a") None in
     let b = answer.Disk (codes "a") 1 in
-    let due : OnDisk faults None (place_after two_made a b) (λ node. IsTrue (has_replica (Some place_of_two) 1 node)) (codes "a") 1 = (due_after two_made a b [] (λ e. cc) (λ e. cc) caused).2 in
+    let due : OnDisk faults None (position_after two_made a b) (λ node. IsTrue (has_replica (Some place_of_two) 1 node)) (codes "a") 1 = (due_after two_made a b [] (λ e. cc) (λ e. cc) caused).2 in
     let same : place_of_two ≡ due.1.place = only_used two_made a b place_of_two due.1.place refl due.1.stands in
     not_of_a due.0 (subst (λ q. OfNode q due.0 (λ own. own ≡ codes "a")) (sym same) due.1.named) due.2
 
 pub ended-caused : Caused true (reopened_moving (a_joined ∷ stopped (codes "b") ∷ restart (codes "b") (answer.Disk (codes "b") 1) ∷ [])) (fails_at 2 1 ∷ [])
 ended-caused =
-    caused_by_places true (fails_at 2 1 ∷ []) (reopened_moving (a_joined ∷ stopped (codes "b") ∷ restart (codes "b") (answer.Disk (codes "b") 1) ∷ [])) ((λ none. none), tt) refl (
+    caused_by_positions true (fails_at 2 1 ∷ []) (reopened_moving (a_joined ∷ stopped (codes "b") ∷ restart (codes "b") (answer.Disk (codes "b") 1) ∷ [])) ((λ none. none), tt) refl (
     only (due_from true (fails_at 2 1 ∷ []) [] (Some (held b_to_a)) [] _ _ _ (record { before = b_to_a; stands = ([], after_all [] _ _, refl); made = inl refl; left = ends None refl; version_is = refl }))
     also only (due_from true (fails_at 2 1 ∷ []) [] (Some (held b_to_a)) [] _ _ _ tt)
     also only (due_from true (fails_at 2 1 ∷ []) [] (Some (held b_to_a)) [] _ _ _ (refl, (1, record { place = on_a; stands = (_, after_all (a_joined ∷ stopped (codes "b") ∷ []) _ _, refl); named = record { instance_ = _; stands = refl; holds = refl } }, record { place = b_to_a; known = inl refl; member = refl }, inl refl)))
@@ -62,27 +62,27 @@ not_of_b (suc (suc n)) named has = let bad : None ≡ Some named.instance_ = nam
 
 -- what is due of a line after a took it over
 joined_due : (faults : List Fault) (a : Act) (b : Answer) → b ≢ answer.Memory → b ≢ answer.Full → (caused : Caused true (reopened_moving (a_joined ∷ line a b ∷ [])) faults)
-    → IsDueBy true faults (Some (held b_to_a)) (caused.delivered (place_after (a_joined ∷ []) a b)) (place_after (a_joined ∷ []) a b) (refusal_after (Some (held b_to_a)) (place_after (a_joined ∷ []) a b) (inner_turns (a_joined ∷ [])))
+    → IsDueBy true faults (Some (held b_to_a)) (caused.delivered (position_after (a_joined ∷ []) a b)) (position_after (a_joined ∷ []) a b) (refusal_after (Some (held b_to_a)) (position_after (a_joined ∷ []) a b) (inner_turns (a_joined ∷ [])))
 joined_due faults a b not_memory not_full caused =
-    let p = place_after (a_joined ∷ []) a b in
-    due_here true faults [] (Some (held b_to_a)) (caused.delivered p) (a_joined ∷ []) a b not_memory not_full (caused.each p (place_after-stands (a_joined ∷ []) a b []))
+    let p = position_after (a_joined ∷ []) a b in
+    due_here true faults [] (Some (held b_to_a)) (caused.delivered p) (a_joined ∷ []) a b not_memory not_full (caused.each p (position_after-stands (a_joined ∷ []) a b []))
 
 -- of whom a node's name is then
-called : (a : Act) (b : Answer) (node : ℕ) → IsCalled (Some (held b_to_a)) (place_after (a_joined ∷ []) a b) (codes "b") node → OfNode on_a node (λ own. own ≡ codes "b")
+called : (a : Act) (b : Answer) (node : ℕ) → IsCalled (Some (held b_to_a)) (position_after (a_joined ∷ []) a b) (codes "b") node → OfNode on_a node (λ own. own ≡ codes "b")
 called a b node is = subst (λ q. OfNode q node (λ own. own ≡ codes "b")) (sym (used_from (Some (held b_to_a)) (a_joined ∷ []) a b on_a is.place refl is.stands)) is.named
 
 pub ended_bootstrap-refused : (faults : List Fault) → ¬ Caused true (reopened_moving (a_joined ∷ bootstrap (codes "b") None (answer.Disk (codes "b") 1) ∷ [])) faults
 ended_bootstrap-refused faults caused =
     let a = act.Bootstrap (codes "b") None in
     let b = answer.Disk (codes "b") 1 in
-    let due : OnDisk faults (Some (held b_to_a)) (place_after (a_joined ∷ []) a b) (λ node. IsTrue (has_replica (Some on_a) 1 node)) (codes "b") 1 = (joined_due faults a b (λ e. cc) (λ e. cc) caused).2 in
+    let due : OnDisk faults (Some (held b_to_a)) (position_after (a_joined ∷ []) a b) (λ node. IsTrue (has_replica (Some on_a) 1 node)) (codes "b") 1 = (joined_due faults a b (λ e. cc) (λ e. cc) caused).2 in
     not_of_b due.0 (called a b due.0 due.1) due.2
 
 pub ended_damage-refused : (faults : List Fault) (damage : Damage) → ¬ Caused true (reopened_moving (a_joined ∷ bootstrap (codes "b") None (answer.Corrupt (codes "b") 1 damage) ∷ [])) faults
 ended_damage-refused faults damage caused =
     let a = act.Bootstrap (codes "b") None in
     let b = answer.Corrupt (codes "b") 1 damage in
-    let due : InFiles faults (Some (held b_to_a)) (place_after (a_joined ∷ []) a b) (λ node. IsTrue (has_replica (Some on_a) 1 node)) (codes "b") 1 = (joined_due faults a b (λ e. cc) (λ e. cc) caused).2 in
+    let due : InFiles faults (Some (held b_to_a)) (position_after (a_joined ∷ []) a b) (λ node. IsTrue (has_replica (Some on_a) 1 node)) (codes "b") 1 = (joined_due faults a b (λ e. cc) (λ e. cc) caused).2 in
     not_of_b due.0 (called a b due.0 due.1) due.2
 
 -- ---- closed by a fault

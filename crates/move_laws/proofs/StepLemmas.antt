@@ -16,26 +16,26 @@ use Rattle.transcripts.specs.Caused.{CausedAt, IsDueBy, IsOwn, IsStepOf, IsUnmad
 use Rattle.transcripts.specs.Deliveries.{LateMessage}
 use Rattle.transcripts.specs.Faults.{Fault}
 use Rattle.transcripts.specs.Placements.{placement_at}
-use Rattle.transcripts.specs.Record.{Life, TurnPlace, IsTurnPlace, inner_turns}
+use Rattle.transcripts.specs.Record.{Life, TurnPosition, IsTurnPosition, inner_turns}
 use Rattle.transcripts.proofs.RefusalLemmas.{step_refusal}
-use Rattle.model_laws.proofs.PlaceLemmas.{place_after, only_after, place_after-stands}
+use Rattle.model_laws.proofs.PositionLemmas.{position_after, only_after, position_after-stands}
 use Rattle.move_laws.specs.Steps.{IsFree, LedIsPrinted, NamesSlotOf, RefusedIsAnswered, StepLine}
 
 -- ---- answers
 
 -- the own answer of a step
-own_step : (tells : Bool) (faults : List Fault) (start : Option MetaState) (messages : List LateMessage) (p : TurnPlace) (b : Answer) (a : Act) → is_step_act a ≡ true → IsOwn tells faults start messages p a b → IsStepOf faults start p a b
+own_step : (tells : Bool) (faults : List Fault) (start : Option MetaState) (messages : List LateMessage) (p : TurnPosition) (b : Answer) (a : Act) → is_step_act a ≡ true → IsOwn tells faults start messages p a b → IsStepOf faults start p a b
 own_step tells faults start messages p b = by_step (λ a. IsOwn tells faults start messages p a b → IsStepOf faults start p a b) (λ node group h. h) (λ node h. h) (λ node h. h) (λ node h. h) (λ node by group h. h)
 
 module _ (faults : List Fault) (start : Option MetaState) (place : Placement) (kept : ℕ) (a : Act) (lawful : IsLawful place) (step : is_step_act a ≡ true) where
   -- where nothing is due, what is in the way refuses the line, and a plan leads to its placement
-  in_way : refusal_due (Some place) kept a ≡ None → (p : TurnPlace) → placement_at start p ≡ Some place → (b : Answer) → IsInTheWay (placement_at start p) a b → IsRefused (Some place) kept a b
+  in_way : refusal_due (Some place) kept a ≡ None → (p : TurnPosition) → placement_at start p ≡ Some place → (b : Answer) → IsInTheWay (placement_at start p) a b → IsRefused (Some place) kept a b
   in_way free p at b way = subst (λ (o : Option Answer). IsDueByPlan (Some place) a o b) (sym free) (subst (λ (o : Option Placement). IsInTheWay o a b) at way)
 
-  leads_by : refusal_due (Some place) kept a ≡ None → (p : TurnPlace) → placement_at start p ≡ Some place → (next : Placement) → Plans (placement_at start p) a next → LeadsTo (Some place) kept a next
+  leads_by : refusal_due (Some place) kept a ≡ None → (p : TurnPosition) → placement_at start p ≡ Some place → (next : Placement) → Plans (placement_at start p) a next → LeadsTo (Some place) kept a next
   leads_by free p at next plan = record { free = free; plan = subst (λ (o : Option Placement). Plans o a next) at plan }
 
-  led_by : MeetsLimits a → (next : Placement) → LeadsTo (Some place) kept a next → (p : TurnPlace) → placement_at start p ≡ Some place → (b : Answer) → IsStepOf faults start p a b → (b ≡ answer.Placed next next.version) ⊎ NamesSlotOf faults start p next b
+  led_by : MeetsLimits a → (next : Placement) → LeadsTo (Some place) kept a next → (p : TurnPosition) → placement_at start p ≡ Some place → (b : Answer) → IsStepOf faults start p a b → (b ≡ answer.Placed next next.version) ⊎ NamesSlotOf faults start p next b
   led_by limits next leads p at (answer.Placed other version) h =
       let same : other ≡ next = steps_lead_to_one place kept a other next lawful step limits (leads_by leads.free p at other h.1) leads in
       inl (ap₂ (λ x v. answer.Placed x v) same (h.2 ∙ ap (λ (x : Placement). x.version) same))
@@ -45,7 +45,7 @@ module _ (faults : List Fault) (start : Option MetaState) (place : Placement) (k
       inr (subst (λ x. IsUnmadeIn faults start p x name shard) (steps_lead_to_one place kept a h.0 next lawful step limits (leads_by leads.free p at h.0 h.1) leads) h.2)
   led_by limits next leads p at _ h = absurd h
 
-  refused_by : (refusal : Answer) → IsRefused (Some place) kept a refusal → refusal_due (Some place) kept a ≡ None → (p : TurnPlace) → placement_at start p ≡ Some place → (b : Answer) → IsStepOf faults start p a b → b ≡ refusal
+  refused_by : (refusal : Answer) → IsRefused (Some place) kept a refusal → refusal_due (Some place) kept a ≡ None → (p : TurnPosition) → placement_at start p ≡ Some place → (b : Answer) → IsStepOf faults start p a b → b ≡ refusal
   refused_by refusal refused free p at (answer.Placed next version) h = absurd (refused_steps_lead_nowhere place kept a next refusal lawful step (leads_by free p at next h.1) refused)
   refused_by refusal refused free p at (answer.Busy name shard) h = steps_have_one_refusal place kept a (answer.Busy name shard) refusal lawful step (in_way free p at (answer.Busy name shard) h) refused
   refused_by refusal refused free p at (answer.Group shard) h = steps_have_one_refusal place kept a (answer.Group shard) refusal lawful step (in_way free p at (answer.Group shard) h) refused
@@ -61,14 +61,14 @@ module _ {tells : Bool} (life : Life) (faults : List Fault) (lines : List Turn) 
   abbrev kept : ℕ
   kept = kept_after start (inner_turns lines) place
 
-  abbrev here : TurnPlace
-  here = place_after lines a b
+  abbrev here : TurnPosition
+  here = position_after lines a b
 
   abbrev late : List LateMessage
   late = (l.caused).delivered here
 
-  in_run : IsTurnPlace life.present.turns here
-  in_run = subst (λ turns. IsTurnPlace turns here) (sym l.in_run) (place_after-stands lines a b l.after)
+  in_run : IsTurnPosition life.present.turns here
+  in_run = subst (λ turns. IsTurnPosition turns here) (sym l.in_run) (position_after-stands lines a b l.after)
 
   due_is : refusal_after start here (inner_turns lines) ≡ refusal_due (Some place) kept a
   due_is = step_refusal start here (inner_turns lines) place l.stands l.is_step

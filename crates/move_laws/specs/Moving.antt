@@ -13,8 +13,8 @@ use Rattle.m3_model.specs.declared.turn.Request.TheVariants as request
 use Rattle.m3_model.specs.declared.turn.Turn.{Turn}
 use Rattle.transcripts.specs.Faults.{Fault, Failing}
 use Rattle.transcripts.specs.Reasons.{MayRefuse}
-use Rattle.transcripts.specs.Record.{InnerTurn, Life, TurnPlace}
-use Rattle.model_laws.specs.Building.{assigned, line, place_after, place_of_two, space, two_made}
+use Rattle.transcripts.specs.Record.{InnerTurn, Life, TurnPosition}
+use Rattle.model_laws.specs.Building.{assigned, line, position_after, place_of_two, space, two_made}
 use Rattle.fault_laws.specs.Versions.{write_at}
 
 -- ---- placements
@@ -143,8 +143,8 @@ fails_at lines node = record { line = lines; node = node; shard = 1; kind = Fail
 -- ---- refusals
 
 -- where a write at the version of this placement stands that a node of shard 1 refused for this reason
-abbrev pub call_at : List Turn → Placement → ℕ → Reason → TurnPlace
-call_at lines used node why = place_after lines (write_at used.version 10 (pos 5)) (answer.Consistency 0 1 ((node, why) ∷ []) 1)
+abbrev pub call_at : List Turn → Placement → ℕ → Reason → TurnPosition
+call_at lines used node why = position_after lines (write_at used.version 10 (pos 5)) (answer.Consistency 0 1 ((node, why) ∷ []) 1)
 
 -- the node may refuse it
 abbrev pub MayRefuseAfter : Bool → List Fault → List Turn → Placement → ℕ → Reason → Type 0

@@ -13,9 +13,9 @@ use Rattle.placement_acts.specs.Acts.{IsRefused, LeadsTo, is_step_act, refusal_d
 use Rattle.transcripts.specs.Caused.{Caused, IsUnmadeIn, kept_after}
 use Rattle.transcripts.specs.Faults.{Fault}
 use Rattle.transcripts.specs.Placements.{placement_after, start_placement}
-use Rattle.transcripts.specs.Record.{Life, TurnPlace, inner_turns}
+use Rattle.transcripts.specs.Record.{Life, TurnPosition, inner_turns}
 use Rattle.transcripts.specs.Refusals.{kept_versions, refusal_by}
-use Rattle.model_laws.specs.Building.{line, place_after}
+use Rattle.model_laws.specs.Building.{line, position_after}
 
 -- In a life that is caused a line of this act is answered so, over this lawful placement, behind these lines.
 pub record StepLine (tells : Bool) (life : Life) (faults : List Fault) (lines : List Turn) (place : Placement) (a : Act) (b : Answer) : Type 0 where
@@ -32,7 +32,7 @@ abbrev pub IsFree : Answer → Type 0
 IsFree b = (b ≡ answer.Memory) ⊎ (b ≡ answer.Full)
 
 -- of a slot of the next placement the disk couldn't be taken
-abbrev pub NamesSlotOf : List Fault → Option MetaState → TurnPlace → Placement → Answer → Type 0
+abbrev pub NamesSlotOf : List Fault → Option MetaState → TurnPosition → Placement → Answer → Type 0
 NamesSlotOf faults start p next (answer.Disk name shard) = IsUnmadeIn faults start p next name shard
 NamesSlotOf faults start p next _ = ⊥
 
@@ -40,7 +40,7 @@ NamesSlotOf faults start p next _ = ⊥
 abbrev pub LedIsPrinted : Bool → Type 0
 LedIsPrinted tells =
     (life : Life) (faults : List Fault) (lines : List Turn) (place : Placement) (a : Act) (b : Answer) → StepLine tells life faults lines place a b
-    → (next : Placement) → LeadsTo (Some place) (kept_after life.present.start (inner_turns lines) place) a next → IsFree b ⊎ ((b ≡ answer.Placed next next.version) ⊎ NamesSlotOf faults life.present.start (place_after lines a b) next b)
+    → (next : Placement) → LeadsTo (Some place) (kept_after life.present.start (inner_turns lines) place) a next → IsFree b ⊎ ((b ≡ answer.Placed next next.version) ⊎ NamesSlotOf faults life.present.start (position_after lines a b) next b)
 
 -- Where it is refused the answer is this very refusal.
 abbrev pub RefusedIsAnswered : Bool → Type 0

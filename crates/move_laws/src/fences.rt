@@ -7,7 +7,7 @@ ghost use Rattle.m3_model.specs.declared.rules.MetaState.{MetaState};
 ghost use Rattle.transcripts.specs.Faults.{Fault};
 ghost use Rattle.transcripts.specs.Moves.{IsFencedAbove, IsOfMove};
 ghost use Rattle.transcripts.specs.Reasons.{MayRefuse};
-ghost use Rattle.transcripts.specs.Record.{TurnPlace};
+ghost use Rattle.transcripts.specs.Record.{TurnPosition};
 ghost use Rattle.model_laws.specs.Building.{place_of_two, two_made};
 ghost use Rattle.move_laws.specs.Moving.{asked_after, asked_before, b_to_a, b_drained, a_joins, a_prints_move, a_refused, bootstrap, moved_to_a, call_at, MayRefuseAfter, MayRefuseBeside};
 
@@ -50,7 +50,7 @@ pub fn fence_of_another_shard()
 /// A fence that an earlier run left is the cause of no refusal at a version from that which the run found on: such a fence is
 /// always that of a move of this run.
 pub fn left_fence_is_not_above()
-    ensures { (state : MetaState) → (p : TurnPlace) → (used : Placement) → (shard fence : ℕ) → state.place.version ≤ used.version
+    ensures { (state : MetaState) → (p : TurnPosition) → (used : Placement) → (shard fence : ℕ) → state.place.version ≤ used.version
         → IsFencedAbove (Some state) p used shard fence → IsOfMove (Some state) p shard fence }
 {}
 

@@ -1,4 +1,4 @@
--- Members of lists, by cases and by places.
+-- Members of lists, by cases and by positions.
 use Rattle.std.proofs.Common.{◌≡◌, ℕ, ◌<◌, List, [], ◌∷◌, suc, zero, length, get_or, All, Contains, subst, refl, inl, inr, arith}
 use Rattle.m3_model.specs.Members.{IsIn}
 

@@ -100,9 +100,9 @@ strictly_sorted list up apart =
     (up k no_item (omega arith) last) (apart_from_distinct same (map key_of list) k (k + 1) no_key apart (omega arith) lt))
 
 -- a search that hits finds what the map has
-pub get-at_place : (list items : List Item) (q : FateKey) (i : ℕ) (item : Item) → items ≡ list → IsDistinct same (map key_of list) → i < length items → item ≡ get_or list i item
+pub get-at_position : (list items : List Item) (q : FateKey) (i : ℕ) (item : Item) → items ≡ list → IsDistinct same (map key_of list) → i < length items → item ≡ get_or list i item
     → HoldsAt (λ (y : Item). fate_key_cmp (key_of y) q ≡ Equal) items i → finite.get (fates_of list) q ≡ Some item.3
-get-at_place list items q i item are apart lt is tied =
+get-at_position list items q i item are apart lt is tied =
     let inside : i < length list = subst (λ (xs : List Item). i < length xs) are lt in
     let key : key_of item ≡ q = ap key_of is ∙ fate_key_cmp-IsAntisymmetric _ q (subst (λ (xs : List Item). fate_key_cmp (key_of (get_or xs i item)) q ≡ Equal) are (tied item)) in
     get-from_member list q item.3 apart

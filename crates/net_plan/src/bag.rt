@@ -39,7 +39,7 @@ impl Bag {
         Ok(Bag { alloc, late })
     }
 
-    /// Adds the write after those that are there, and says whether there was a place for it: false is answered exactly
+    /// Adds the write after those that are there, and says whether there was room for it: false is answered exactly
     /// where 4,096 are held, and then the write is lost. Want of memory changes nothing and hands the write back.
     pub fn keep(&mut self, late: LateWrite) -> Result<bool, LateWrite>
         ensures kept { result ≡ Ok true → self.new ≡ self.old ++ late ∷ [] }

@@ -87,7 +87,7 @@ impl Fates {
         ensures deliver { (result ≡ Fate.Deliver) ↔ (finite.get self.now call.now ≡ None) }
     {
         match self.items.binary_search_by_key(call, key_of) {
-            Ok(place) => self.items[place].3,
+            Ok(position) => self.items[position].3,
             Err(_) => Fate::Deliver,
         }
     }

@@ -8,7 +8,7 @@ pub struct LateWrite {
     pub client: u32,
     /// The number of the call among the client's.
     pub number: u64,
-    /// The place of the node among the instances.
+    /// The position of the node among the instances.
     pub node: u8,
     pub shard: u32,
     /// The version of the placement that the write used.

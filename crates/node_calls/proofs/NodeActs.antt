@@ -11,7 +11,7 @@ use Rattle.m3_outside.specs.declared.disk.Disk.{Ghosts}
 use Rattle.placement_core.proofs.ListLemmas.{at_index}
 use Rattle.cluster_members.specs.Names.{node_named}
 use Rattle.node_calls.specs.Boots.{refused_answer, IsNumberOf}
-use Rattle.node_calls.specs.Nodes.{IsNode, IsUnstarted, IsRestarted, HasShard, IsNoShard, IsHeldUp, IsBootstrapped}
+use Rattle.node_calls.specs.Nodes.{IsNode, IsUnstarted, IsRestarted, HasShard, IsNoShard, IsHeldUp, IsBootstrapAnswer}
 use Rattle.cluster_members.specs.declared.members.Members.{Members}
 
 -- the node was found
@@ -37,7 +37,7 @@ has_shard m (Some shard) shards same low = subst (λ n. shard < n) same low
 
 -- the answer of a bootstrap of a shard that isn't there
 pub unknown_answer : {D : Type 0} {G : Ghosts D} (state : D → DiskState) (old new : Members D G) (name : List ℕ) (asked : Option ℕ) (shard shards node : ℕ) (b : Answer) → node_named name old.net.state.place.instances ≡ Some node → asked ≡ Some shard
-    → shards ≡ length old.net.state.place.shards → shards ≤ shard → new ≡ old → IsNumberOf shard b → IsBootstrapped state old name asked b new
+    → shards ≡ length old.net.state.place.shards → shards ≤ shard → new ≡ old → IsNumberOf shard b → IsBootstrapAnswer state old name asked b new
 unknown_answer state old new name asked shard shards node (answer.Unknown unknown) found is same high stays number = (
   inr (node, found, subst (λ o. IsNoShard old o unknown) (sym is) (subst (λ n. n ≤ shard) same high, number)),
   stays,
@@ -56,8 +56,8 @@ unstarted_answer state old new name shard why b is h =
 
 -- the answer of a bootstrap that ended before its end
 pub held_answer : {D : Type 0} {G : Ghosts D} (state : D → DiskState) (old new : Members D G) (name : List ℕ) (asked : Option ℕ) (shard : ℕ) (why : Reason) (b : Answer) → b ≡ refused_answer name shard why → IsHeldUp state old name asked shard why new
-    → IsBootstrapped state old name asked b new
-held_answer state old new name asked shard reason.Disk b is h = subst (λ x. IsBootstrapped state old name asked x new) (sym is) (refl, h)
-held_answer state old new name asked shard (reason.Corrupt damage) b is h = subst (λ x. IsBootstrapped state old name asked x new) (sym is) (refl, h)
-held_answer state old new name asked shard reason.Memory b is h = subst (λ x. IsBootstrapped state old name asked x new) (sym is) (inr (shard, h))
+    → IsBootstrapAnswer state old name asked b new
+held_answer state old new name asked shard reason.Disk b is h = subst (λ x. IsBootstrapAnswer state old name asked x new) (sym is) (refl, h)
+held_answer state old new name asked shard (reason.Corrupt damage) b is h = subst (λ x. IsBootstrapAnswer state old name asked x new) (sym is) (refl, h)
+held_answer state old new name asked shard reason.Memory b is h = subst (λ x. IsBootstrapAnswer state old name asked x new) (sym is) (inr (shard, h))
 held_answer state old new name asked shard _ b is h = absurd (h.refused).ends

@@ -4,7 +4,7 @@ use Rattle.std.specs.Prelude.{Some, None, nat_eq}
 use Rattle.std.specs.Cmp.Lexicographic.{pointwise, same_text}
 use Rattle.std.proofs.lemmas.List.Quantifiers.{position-Some}
 use Rattle.m3_model.specs.Ascends.{Ascends}
-use Rattle.m3_model.specs.Limits.{IsSameMessage, MeetsLimits}
+use Rattle.m3_model.specs.Limits.{IsFateOfSameMessage, MeetsLimits}
 use Rattle.m3_model.specs.Members.{IsIn}
 use Rattle.m3_model.specs.declared.act.Act.TheVariants as act
 use Rattle.m3_model.specs.declared.act.Fate.{Fate}
@@ -81,7 +81,7 @@ same_name a b instances node of_a of_b =
     name_at a instances node d of_a ∙ sym (name_at b instances node d of_b)
 
 -- items of different messages by name are of different messages by number
-distinct_numbers : (instances : List Instance) (list : List Fated) (items : List Item) → AreNumbered instances list items → Ascends (λ a b. ¬ IsSameMessage a b) list → Ascends (λ a b. key_of a ≢ key_of b) items
+distinct_numbers : (instances : List Instance) (list : List Fated) (items : List Item) → AreNumbered instances list items → Ascends (λ a b. ¬ IsFateOfSameMessage a b) list → Ascends (λ a b. key_of a ≢ key_of b) items
 distinct_numbers instances [] [] h apart = tt
 distinct_numbers instances [] (x ∷ items) h apart = absurd h
 distinct_numbers instances (f ∷ list) [] h apart = absurd h

@@ -72,7 +72,7 @@ EndsBoots reason.Memory = ⊤
 EndsBoots _ = ⊥
 
 -- the machine that is the slot's replica after these events, made over its first disk, doesn't own the tenure: it began a higher one, or its files hold one
-pub record IsUnowned {D : Type 0} (state : D → DiskState) (members : MemberMap D) (slot : Slot) (past : List Event) (tenure : ℕ) : Type 0 where
+pub record IsTenureUnowned {D : Type 0} (state : D → DiskState) (members : MemberMap D) (slot : Slot) (past : List Event) (tenure : ℕ) : Type 0 where
   pub was : Member D
   pub there : finite.get members slot ≡ Some was
   pub now : Member D
@@ -84,7 +84,7 @@ pub record IsUnowned {D : Type 0} (state : D → DiskState) (members : MemberMap
 abbrev pub IsPassed : {D : Type 0} → (D → DiskState) → MemberMap D → Slot → List Event → ℕ → StepReply → Type 0
 IsPassed state members slot past tenure (reply.Began fence points) = ⊤
 IsPassed state members slot past tenure (reply.Refused reason.Down) = ⊤
-IsPassed state members slot past tenure (reply.Refused reason.NotOwned) = IsUnowned state members slot past tenure
+IsPassed state members slot past tenure (reply.Refused reason.NotOwned) = IsTenureUnowned state members slot past tenure
 IsPassed state members slot past tenure _ = ⊥
 
 -- each of them did so, one after the other, after these events

@@ -54,11 +54,11 @@ pub record KeepsButReplicas {D : Type 0} {G : Ghosts D} (old new : Members D G) 
   pub stopped : new.stopped.items ≡ old.stopped.items
 
 -- the late writes are delivered, unless memory is wanted or the list lacks room for what they add
-abbrev pub IsDelivered : {D : Type 0} {G : Ghosts D} → (D → DiskState) → Members D G → Answer → Members D G → Type 0
-IsDelivered state old (answer.Outcomes outcomes) new = late.IsDelivered state old.net outcomes new.net × KeepsButReplicas old new
-IsDelivered state old answer.Memory new = late.IsUndelivered old.net new.net err.Memory × KeepsButReplicas old new
-IsDelivered state old answer.Full new = late.IsUndelivered old.net new.net err.Full × KeepsButReplicas old new
-IsDelivered state old _ new = ⊥
+abbrev pub IsDeliverAnswer : {D : Type 0} {G : Ghosts D} → (D → DiskState) → Members D G → Answer → Members D G → Type 0
+IsDeliverAnswer state old (answer.Outcomes outcomes) new = late.HasDelivered state old.net outcomes new.net × KeepsButReplicas old new
+IsDeliverAnswer state old answer.Memory new = late.IsUndelivered old.net new.net err.Memory × KeepsButReplicas old new
+IsDeliverAnswer state old answer.Full new = late.IsUndelivered old.net new.net err.Full × KeepsButReplicas old new
+IsDeliverAnswer state old _ new = ⊥
 
 -- ---- nodes
 
@@ -173,14 +173,14 @@ IsNoShard m None name = ⊥
 IsNoShard m (Some shard) name = (length m.net.state.place.shards ≤ shard) × (name ≡ decimal shard)
 
 -- a node is bootstrapped, unless it or the shard isn't there, it is stopped, the list lacks room, or one of its replicas can't be begun
-abbrev pub IsBootstrapped : {D : Type 0} {G : Ghosts D} → (D → DiskState) → Members D G → List ℕ → Option ℕ → Answer → Members D G → Type 0
-IsBootstrapped state old name asked (answer.Available available place version) new =
+abbrev pub IsBootstrapAnswer : {D : Type 0} {G : Ghosts D} → (D → DiskState) → Members D G → List ℕ → Option ℕ → Answer → Members D G → Type 0
+IsBootstrapAnswer state old name asked (answer.Available available place version) new =
     (available ≡ []) × (place ≡ old.net.state.place) × (version ≡ old.net.state.place.version) × IsStartedUp state old name asked new
-IsBootstrapped state old name asked (answer.Unknown unknown) new =
+IsBootstrapAnswer state old name asked (answer.Unknown unknown) new =
     ((IsNowhere old name × (unknown ≡ name)) ⊎ ((node : ℕ) × (node_named name old.net.state.place.instances ≡ Some node) × IsNoShard old asked unknown)) × (new ≡ old)
-IsBootstrapped state old name asked (answer.State node) new = IsNode old name true × HasShard old asked × (node ≡ name) × (new ≡ old)
-IsBootstrapped state old name asked (answer.Disk node shard) new = (node ≡ name) × IsHeldUp state old name asked shard reason.Disk new
-IsBootstrapped state old name asked (answer.Corrupt node shard damage) new = (node ≡ name) × IsHeldUp state old name asked shard (reason.Corrupt damage) new
-IsBootstrapped state old name asked answer.Memory new = (new ≡ old) ⊎ ((shard : ℕ) × IsHeldUp state old name asked shard reason.Memory new)
-IsBootstrapped state old name asked answer.Full new = MayBoot old name asked × LacksBootRoom old new
-IsBootstrapped state old name asked _ new = ⊥
+IsBootstrapAnswer state old name asked (answer.State node) new = IsNode old name true × HasShard old asked × (node ≡ name) × (new ≡ old)
+IsBootstrapAnswer state old name asked (answer.Disk node shard) new = (node ≡ name) × IsHeldUp state old name asked shard reason.Disk new
+IsBootstrapAnswer state old name asked (answer.Corrupt node shard damage) new = (node ≡ name) × IsHeldUp state old name asked shard (reason.Corrupt damage) new
+IsBootstrapAnswer state old name asked answer.Memory new = (new ≡ old) ⊎ ((shard : ℕ) × IsHeldUp state old name asked shard reason.Memory new)
+IsBootstrapAnswer state old name asked answer.Full new = MayBoot old name asked × LacksBootRoom old new
+IsBootstrapAnswer state old name asked _ new = ⊥

@@ -3,7 +3,7 @@ ghost use Rattle.std.specs.Prelude.{◌≡◌, ◌<◌, ◌≤◌, Some, IfNone,
 ghost use Rattle.session_net.specs.Ready.{IsReady};
 ghost use Rattle.node_calls.specs.Boots.{IsNumberOf};
 ghost use Rattle.node_calls.specs.Halts.{AreManned, HaveSameSlots};
-ghost use Rattle.node_calls.specs.Nodes.{IsRestarted, IsBootstrapped};
+ghost use Rattle.node_calls.specs.Nodes.{IsRestarted, IsBootstrapAnswer};
 
 use crate::begins::begin_all;
 use crate::halts::{restart_all, slots_of, stop_all};
@@ -80,7 +80,7 @@ pub fn bootstrap<D: Disk>(
     asked: Option<u32>,
 ) -> Answer
     requires ready { IsReady members.old.net.state members.old.net.replicas members.old.net.bag }
-    ensures bootstrapped { IsBootstrapped D.state members.old name asked result members.new }
+    ensures bootstrapped { IsBootstrapAnswer D.state members.old name asked result members.new }
     ensures ready { IsReady members.new.net.state members.new.net.replicas members.new.net.bag }
     ensures same_slots { HaveSameSlots members.old.net.replicas members.new.net.replicas }
 {

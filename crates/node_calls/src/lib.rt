@@ -8,4 +8,5 @@ pub mod nodes;
 mod refused;
 
 pub use boots::{bootstrap, restart};
+pub use cluster_members::Members;
 pub use nodes::{deliver, set_fates, stop};

@@ -5,7 +5,7 @@ ghost use Rattle.m3_model.specs.Limits.{MeetsLimits};
 ghost use Rattle.session_net.specs.Ready.{IsReady};
 ghost use Rattle.cluster_members.specs.Names.{node_named};
 ghost use Rattle.node_calls.specs.Halts.{AreManned, HaveSameSlots};
-ghost use Rattle.node_calls.specs.Nodes.{IsResolved, IsFated, IsDelivered, IsStopped};
+ghost use Rattle.node_calls.specs.Nodes.{IsResolved, IsFated, IsDeliverAnswer, IsStopped};
 
 use crate::halts::{slots_of, stop_all};
 use cluster_members::Members;
@@ -67,7 +67,7 @@ pub fn set_fates<D: Disk>(
 /// Delivers the late writes. `Full` says that the list lacks room for what they may add; nothing changes then.
 pub fn deliver<D: Disk>(members: &mut Members<D>, alloc: Global) -> Answer
     requires ready { IsReady members.old.net.state members.old.net.replicas members.old.net.bag }
-    ensures delivered { IsDelivered D.state members.old result members.new }
+    ensures delivered { IsDeliverAnswer D.state members.old result members.new }
     ensures ready { IsReady members.new.net.state members.new.net.replicas members.new.net.bag }
     ensures same_slots { HaveSameSlots members.old.net.replicas members.new.net.replicas }
 {

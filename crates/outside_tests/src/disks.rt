@@ -3,7 +3,7 @@ ghost use Rattle.m3_outside.specs.Slots.{Out};
 ghost use Rattle.mem_disk.specs.Slots.{held_of};
 
 use m3_outside::laws::{images_come_from_images, synced_is_read, writes_one_file};
-use m3_outside::{Disk, DiskErr, Disks, FileName, Slot};
+use m3_outside::{Disk, DiskErr, DiskSlot, Disks, FileName};
 use mem_disk::{MemDisk, MemDisks};
 use std::alloc::Global;
 use std::test::Fail;
@@ -197,7 +197,7 @@ fn disks_keep_what_was_synced(rt: HostRuntime) -> Result<(), Fail> {
 }
 
 // Does what the words say on the disk of a slot, and gives the disk back.
-fn visit(disks: &mut MemDisks, slot: Slot, words: &str, out: &mut String) -> Result<(), DiskErr>
+fn visit(disks: &mut MemDisks, slot: DiskSlot, words: &str, out: &mut String) -> Result<(), DiskErr>
     requires { ¬ (held_of disks.old slot ≡ Out) }
     ensures free { ¬ (held_of disks.new slot ≡ Out) }
 {
@@ -208,7 +208,7 @@ fn visit(disks: &mut MemDisks, slot: Slot, words: &str, out: &mut String) -> Res
 }
 
 // A file made by one visit is found by the next.
-fn kept_by_slot(alloc: Global, slot: Slot, out: &mut String) -> Result<(), Fail> {
+fn kept_by_slot(alloc: Global, slot: DiskSlot, out: &mut String) -> Result<(), Fail> {
     let mut disks = MemDisks::new(alloc)?;
     visit(&mut disks, slot, "c7", out)?;
     visit(&mut disks, slot, "l", out)?;
@@ -217,7 +217,7 @@ fn kept_by_slot(alloc: Global, slot: Slot, out: &mut String) -> Result<(), Fail>
 
 #[test]
 fn slots_keep_their_disks(rt: HostRuntime) -> Result<(), Fail> {
-    let slot = Slot {
+    let slot = DiskSlot {
         node: 15,
         shard: 63,
     };
@@ -231,7 +231,7 @@ fn slots_keep_their_disks(rt: HostRuntime) -> Result<(), Fail> {
 fn put_new(
     alloc: Global,
     disks: &mut MemDisks,
-    slot: Slot,
+    slot: DiskSlot,
     fuse: Option<u64>,
 ) -> Result<bool, Fail> {
     let disk = MemDisk::new(alloc, &[], fuse)?;
@@ -239,10 +239,18 @@ fn put_new(
 }
 
 fn put_three(alloc: Global, out: &mut String) -> Result<(), Fail> {
-    let nowhere = Slot { node: 16, shard: 0 };
+    let nowhere = DiskSlot { node: 16, shard: 0 };
     let mut disks = MemDisks::new(alloc)?;
-    write!(out, "{} ", put_new(alloc, &mut disks, Slot::META, None)?)?;
-    write!(out, "{} ", put_new(alloc, &mut disks, Slot::META, Some(0))?)?;
+    write!(
+        out,
+        "{} ",
+        put_new(alloc, &mut disks, DiskSlot::META, None)?
+    )?;
+    write!(
+        out,
+        "{} ",
+        put_new(alloc, &mut disks, DiskSlot::META, Some(0))?
+    )?;
     Ok(write!(out, "{}", put_new(alloc, &mut disks, nowhere, None)?)?)
 }
 
@@ -260,13 +268,13 @@ fn failing(alloc: Global) -> Result<MemDisks, Fail>
 {
     let mut disks = MemDisks::new(alloc)?;
     let disk = MemDisk::new(alloc, &[0, 2], None)?;
-    drop(disks.put(Slot { node: 0, shard: 0 }, disk));
+    drop(disks.put(DiskSlot { node: 0, shard: 0 }, disk));
     Ok(disks)
 }
 
 // Lists that disk once, and then twice more, with its count of faults, and that of all after each visit.
 fn counted(alloc: Global, out: &mut String) -> Result<(), Fail> {
-    let slot = Slot { node: 0, shard: 0 };
+    let slot = DiskSlot { node: 0, shard: 0 };
     let mut disks = failing(alloc)?;
     visit(&mut disks, slot, "l f", out)?;
     write!(out, "{} ", disks.faults())?;

@@ -26,7 +26,7 @@ impl Input for Letters {
     }
 }
 
-// An output of four places, which refuses a piece that begins with `!`.
+// An output with room for four bytes, which refuses a piece that begins with `!`.
 #[derive(Drop)]
 struct Page {
     text: RefCell<Vec<u8>>,

@@ -75,26 +75,26 @@ past_point (y ∷ front) x back h =
     in_middle (z ∷ ys) = inr (in_middle ys)
 
 -- what is past in a list whose first points aren't past and whose others are
-pub past_from_place : (p : Point → Bool) (xs : List Point) (i : ℕ) → i ≤ length xs → ((k : ℕ) (d : Point) → k < i → p (get_or xs k d) ≡ false)
+pub past_from_position : (p : Point → Bool) (xs : List Point) (i : ℕ) → i ≤ length xs → ((k : ℕ) (d : Point) → k < i → p (get_or xs k d) ≡ false)
     → ((k : ℕ) (d : Point) → i ≤ k → k < length xs → p (get_or xs k d) ≡ true) → filter p xs ≡ drop i xs
-past_from_place p [] i bound low high = sym (drop-nil i)
-past_from_place p (x ∷ xs) zero bound low high =
-    filter_takes p x xs (high 0 x (omega arith) (omega arith)) ∙ ap (λ ys. x ∷ ys) (past_from_place p xs zero (omega arith) (λ k d lt. absurd (omega arith)) (λ k d le lt. high (suc k) d (omega arith) (omega arith)))
-past_from_place p (x ∷ xs) (suc i) bound low high =
-    filter_leaves p x xs (low 0 x (omega arith)) ∙ past_from_place p xs i (omega arith) (λ k d lt. low (suc k) d (omega arith)) (λ k d le lt. high (suc k) d (omega arith) (omega arith))
+past_from_position p [] i bound low high = sym (drop-nil i)
+past_from_position p (x ∷ xs) zero bound low high =
+    filter_takes p x xs (high 0 x (omega arith) (omega arith)) ∙ ap (λ ys. x ∷ ys) (past_from_position p xs zero (omega arith) (λ k d lt. absurd (omega arith)) (λ k d le lt. high (suc k) d (omega arith) (omega arith)))
+past_from_position p (x ∷ xs) (suc i) bound low high =
+    filter_leaves p x xs (low 0 x (omega arith)) ∙ past_from_position p xs i (omega arith) (λ k d lt. low (suc k) d (omega arith)) (λ k d le lt. high (suc k) d (omega arith) (omega arith))
 
-at_place : (xs : List Point) (k : ℕ) (d : Point) → k < length xs → IsIn xs (get_or xs k d)
-at_place [] k d h = absurd (omega arith)
-at_place (x ∷ xs) zero d h = inl refl
-at_place (x ∷ xs) (suc k) d h = inr (at_place xs k d (omega arith))
+at_position : (xs : List Point) (k : ℕ) (d : Point) → k < length xs → IsIn xs (get_or xs k d)
+at_position [] k d h = absurd (omega arith)
+at_position (x ∷ xs) zero d h = inl refl
+at_position (x ∷ xs) (suc k) d h = inr (at_position xs k d (omega arith))
 
 -- from a point above the key on, all are above it
-later_places : (after : Option Key) (xs : List Point) → Ascends IsBefore xs → (i j : ℕ) (d : Point) → i ≤ j → j < length xs → is_past after (get_or xs i d) ≡ true → is_past after (get_or xs j d) ≡ true
-later_places after [] up i j d le lt h = absurd (omega arith)
-later_places after (x ∷ xs) up zero zero d le lt h = h
-later_places after (x ∷ xs) up zero (suc j) d le lt h = past_later after x (get_or xs j d) h (up.0 (get_or xs j d) (at_place xs j d (omega arith)))
-later_places after (x ∷ xs) up (suc i) zero d le lt h = absurd (omega arith)
-later_places after (x ∷ xs) up (suc i) (suc j) d le lt h = later_places after xs up.1 i j d (omega arith) (omega arith) h
+later_positions : (after : Option Key) (xs : List Point) → Ascends IsBefore xs → (i j : ℕ) (d : Point) → i ≤ j → j < length xs → is_past after (get_or xs i d) ≡ true → is_past after (get_or xs j d) ≡ true
+later_positions after [] up i j d le lt h = absurd (omega arith)
+later_positions after (x ∷ xs) up zero zero d le lt h = h
+later_positions after (x ∷ xs) up zero (suc j) d le lt h = past_later after x (get_or xs j d) h (up.0 (get_or xs j d) (at_position xs j d (omega arith)))
+later_positions after (x ∷ xs) up (suc i) zero d le lt h = absurd (omega arith)
+later_positions after (x ∷ xs) up (suc i) (suc j) d le lt h = later_positions after xs up.1 i j d (omega arith) (omega arith) h
 
 not_true : (b : Bool) → not b ≡ true → b ≡ false
 not_true true h = absurd (true≢false (sym h))
@@ -108,14 +108,14 @@ not_false false h = absurd (true≢false h)
 pub partitioned : (after : Option Key) (xs : List Point) → Ascends IsBefore xs → IsPartitionedBy (λ x. not (is_past after x)) xs
 partitioned after xs up i j d le lt h =
     elim (told (is_past after (get_or xs i d))) as (λ _. not (is_past after (get_or xs i d)) ≡ true) [
-      | inl past ↦ absurd (true≢false (sym (later_places after xs up i j d le lt past) ∙ not_true (is_past after (get_or xs j d)) h))
+      | inl past ↦ absurd (true≢false (sym (later_positions after xs up i j d le lt past) ∙ not_true (is_past after (get_or xs j d)) h))
       | inr not_past ↦ ap not not_past
     ]
 
--- what a search for the place finds
+-- what a search for the position finds
 pub found_past : (after : Option Key) (xs : List Point) (i : ℕ) → i ≤ length xs → IsPartitionPoint (λ x. not (is_past after x) ≡ true) (λ x. not (is_past after x) ≡ false) xs i → drop i xs ≡ points_past after xs
 found_past after xs i bound h =
-    sym (past_from_place (is_past after) xs i bound (λ k d lt. not_true (is_past after (get_or xs k d)) (h.0 k d (omega arith) lt)) (λ k d le lt. not_false (is_past after (get_or xs k d)) (h.1 k d le lt)))
+    sym (past_from_position (is_past after) xs i bound (λ k d lt. not_true (is_past after (get_or xs k d)) (h.0 k d (omega arith) lt)) (λ k d le lt. not_false (is_past after (get_or xs k d)) (h.1 k d le lt)))
 
 -- points ascend exactly where each is below the next one
 pub ascend_from_next : (xs : List Point) → in_order xs ≡ true → Ascends IsBefore xs

@@ -59,8 +59,8 @@ fn in_order(points: &[Point]) -> bool
     true
 }
 
-// The place of the first point above the key, where there is one; without a key, the first place.
-fn place_after(points: &[Point], after: Option<&Key>) -> usize
+// The position of the first point above the key, where there is one; without a key, the first position.
+fn position_after(points: &[Point], after: Option<&Key>) -> usize
     requires { Ascends IsBefore points.now }
     ensures bound { result ≤ length points.now }
     ensures past { drop result points.now ≡ points_past (option_copied after.entry) points.now }
@@ -113,7 +113,7 @@ pub fn cut(
     ensures { IfOk result (λ page. page ≡ page_of points.now limit (option_copied after.entry)) }
 {
     let list = points.as_slice();
-    let rest = &list[place_after(list, after)..];
+    let rest = &list[position_after(list, after)..];
     if rest.len() <= limit {
         let points = copied(alloc, rest)?;
         return Ok(Page { points, next: None });

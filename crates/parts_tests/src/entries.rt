@@ -95,7 +95,7 @@ fn put_all(alloc: Global, out: &mut Vec<u8>) -> Result<bool, Fail> {
     )
 }
 
-// What is read at the places where an entry, a fence, a number and a point begin, and beyond the end.
+// What is read at the offsets where an entry, a fence, a number and a point begin, and beyond the end.
 fn read_back(bytes: &[u8], out: &mut String) -> Result<(), Fail> {
     if bytes.len() != 27 + 9 + 9 + 2 + 24 {
         return Ok(write!(out, "{} bytes", bytes.len())?);

@@ -131,7 +131,7 @@ fn empty(bag: &mut Bag, out: &mut String) -> Result<(), Fail> {
         .as_slice()
         .iter()
         .enumerate()
-        .filter(|(place, write)| write.number == *place as u64);
+        .filter(|(position, write)| write.number == *position as u64);
     write!(out, "{} {}|", all.len(), placed.count())?;
     Ok(())
 }

@@ -98,8 +98,8 @@ module _ (past : List Event) (shard : Shard) (s y tenure : ℕ) where
     λ j.
         let all : length j.peers ≤ length peers = distinct_within j.peers peers (j.enough).distinct (λ q m.
         let a = chosen_node is_holder shard q (former_hold shard q ((j.enough).within q m)) in
-        let place = in_at shard a.0 a.1 in
-        subst (IsIn peers) a.2 (h.all place.0 a.0 (at_within shard place.0 a.0 place.1) place.1 (not_joining (a.0).state a.3) (subst (λ k. HasStreamed s y tenure k past) (sym a.2) (j.streamed q m)))) in
+        let position = in_at shard a.0 a.1 in
+        subst (IsIn peers) a.2 (h.all position.0 a.0 (at_within shard position.0 a.0 position.1) position.1 (not_joining (a.0).state a.3) (subst (λ k. HasStreamed s y tenure k past) (sym a.2) (j.streamed q m)))) in
         (omega (arith, all, (j.enough).enough), by (is_steady shard) refl j),
   )
     where

@@ -1,12 +1,12 @@
 //! Whether something was asked for, once more than it was done.
 ghost use Rattle.std.specs.Prelude.{◌↔◌, IsTrue};
-ghost use Rattle.cluster_core.specs.Asks.{IsNamed, IsAskFor, IsLike, WasAsked};
+ghost use Rattle.cluster_core.specs.Asks.{MatchesAsked, IsAskFor, IsLike, WasAsked};
 
 use cluster_core::{Asked, Event};
 use equality::Same;
 
 fn names(asked: &Asked, event: &Event) -> bool
-    ensures { IsTrue result ↔ IsNamed asked.now event.now }
+    ensures { IsTrue result ↔ MatchesAsked asked.now event.now }
 {
     match asked {
         Asked::Step { node, shard, call } => {
@@ -56,11 +56,11 @@ pub fn was_asked(past: &[Event], event: &Event) -> bool
 {
     let mut asks: usize = 0;
     let mut answered: usize = 0;
-    for (place, earlier) in past.iter().enumerate() {
+    for (position, earlier) in past.iter().enumerate() {
         if is_ask_for(event, earlier) {
             asks += 1;
         }
-        if place >= 2 && is_like(event, earlier) {
+        if position >= 2 && is_like(event, earlier) {
             answered += 1;
         }
     }

@@ -137,9 +137,9 @@ fn has_fenced(
 ) -> Result<bool, Memory>
     ensures { IfOk result (λ b. IsTrue b ↔ HasFenced shard peer node tenure since.now) }
 {
-    for (place, event) in since.iter().enumerate() {
+    for (position, event) in since.iter().enumerate() {
         if fenced_at(event, peer, shard, tenure)
-            && has_cover(alloc, shard, peer, node, since, &since[place + 1..])?
+            && has_cover(alloc, shard, peer, node, since, &since[position + 1..])?
         {
             return Ok(true);
         }
@@ -157,9 +157,9 @@ fn has_streamed(
 ) -> Result<bool, Memory>
     ensures { IfOk result (λ b. IsTrue b ↔ HasStreamed shard node tenure peer past.now) }
 {
-    for (place, event) in past.iter().enumerate() {
+    for (position, event) in past.iter().enumerate() {
         if began_with(event, node, shard, tenure)
-            && has_fenced(alloc, shard, peer, node, tenure, &past[place + 1..])?
+            && has_fenced(alloc, shard, peer, node, tenure, &past[position + 1..])?
         {
             return Ok(true);
         }

@@ -11,7 +11,7 @@ use Rattle.m3_model.specs.declared.placement.ShardState.TheVariants.{Initializin
 use Rattle.placement_core.specs.Shards.{Shard, stays, is_holder, is_staying}
 use Rattle.placement_core.proofs.HolderLemmas.{holds_of, not_joining}
 use Rattle.placement_core.proofs.ListLemmas.{IsIn-filter, chosen, filter-IsIn, IsIn-from_Any, Any-from_IsIn, each-from_All, All-from_each}
-use Rattle.placement_core.specs.LawfulParts.{IsNamed, IsSmall, AreNamed, IsListed, MovesTo, Moves, ApartBefore, ApartAfter, HasReplicas, HasNodes, IsGood}
+use Rattle.placement_core.specs.LawfulParts.{HasBothNames, IsSmall, AreNamed, IsListed, MovesTo, Moves, ApartBefore, ApartAfter, HasReplicas, HasNodes, IsGood}
 
 -- ---- lists in order
 
@@ -107,13 +107,13 @@ limits_decided place = (
     some_shards = (t.0).2;
     few_shards = (t.0).3;
     few_nodes = (t.0).4;
-    named = each-from_All IsNamed place.instances (t.1).0;
+    named = each-from_All HasBothNames place.instances (t.1).0;
     distinct = (t.1).1;
     version_fits = (t.0).5;
   },
   λ h. (
     (h.some_replicas, h.few_replicas, h.some_shards, h.few_shards, h.few_nodes, h.version_fits),
-    (All-from_each IsNamed place.instances h.named, h.distinct),
+    (All-from_each HasBothNames place.instances h.named, h.distinct),
   ),
 )
 

@@ -1,4 +1,4 @@
--- Members of lists, by cases and by place.
+-- Members of lists, by cases and by position.
 use Rattle.std.proofs.Common.{◌≡◌, ◌<◌, ℕ, zero, suc, List, [], ◌∷◌, ◌++◌, length, take, get_or, slice_get, Some, ap, ◌∙◌, refl, sym, subst, inl, inr, arith, All, Any, Bool, true, false, cond, filter, ◌⊎◌}
 use Rattle.m3_model.specs.Members.{IsIn}
 use Rattle.m3_model.proofs.SplitLemmas.{not_empty}

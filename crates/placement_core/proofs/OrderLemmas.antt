@@ -49,7 +49,7 @@ apart_of R flip xs h i j d below within ne =
       | inr ge ↦ flip (get_or xs j d) (get_or xs i d) (ascends-at R xs j i d h (omega (arith, ge, ne)) below)
     ]
 
--- the place from which an exchange takes an element
+-- the position from which an exchange takes an element
 abbrev Way : ℕ → ℕ → ℕ → ℕ → Type 0
 Way a b m n = ((m ≡ a) × (n ≡ b)) ⊎ ((m ≢ a) × (((m ≡ b) × (n ≡ a)) ⊎ ((m ≢ b) × (n ≡ m))))
 

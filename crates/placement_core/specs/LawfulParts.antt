@@ -12,8 +12,8 @@ use Rattle.m3_model.specs.declared.limits.TheConstants.{MOST_REPLICAS, MOST_SHAR
 use Rattle.placement_core.specs.Shards.{Shard}
 
 -- the node and its group have names
-abbrev pub IsNamed : Instance → Type 0
-IsNamed node = IsTrue (is_name node.name) × IsTrue (is_name node.group)
+abbrev pub HasBothNames : Instance → Type 0
+HasBothNames node = IsTrue (is_name node.name) × IsTrue (is_name node.group)
 
 -- as many replicas, shards and nodes as there may be, and a version that fits
 abbrev pub IsSmall : Placement → Type 0
@@ -21,7 +21,7 @@ IsSmall place = (1 ≤ place.rf) × (place.rf ≤ MOST_REPLICAS) × (1 ≤ lengt
 
 -- nodes with names of their own
 abbrev pub AreNamed : List Instance → Type 0
-AreNamed instances = All IsNamed instances × Ascends (λ a b. a.name ≢ b.name) instances
+AreNamed instances = All HasBothNames instances × Ascends (λ a b. a.name ≢ b.name) instances
 
 -- one replica takes over the other's, and all others serve
 abbrev pub MovesTo : Shard → Assignment → Assignment → Type 0

@@ -69,9 +69,9 @@ pub record IsDoneList (shards : ℕ) (done : List (ℕ × ℕ)) : Type 0 where
   pub ascending : Ascends (λ d e. d.0 < e.0) done
   pub within : (d : ℕ × ℕ) → IsIn done d → d.0 < shards
 
--- each earlier node has its place and its name again
+-- each earlier node keeps its position and its name
 abbrev pub KeepsNames : List Instance → List Instance → Type 0
-KeepsNames old next = (place : ℕ) (was : Instance) → slice_get old place ≡ Some was → (is : Instance) × (slice_get next place ≡ Some is) × (is.name ≡ was.name)
+KeepsNames old next = (position : ℕ) (was : Instance) → slice_get old position ≡ Some was → (is : Instance) × (slice_get next position ≡ Some is) × (is.name ≡ was.name)
 
 -- the next placement is a step from the old one, and the done list has the moves that it ends
 pub record IsStep (old next : Placement) (done : List (ℕ × ℕ)) : Type 0 where

@@ -22,8 +22,8 @@ fn is_first<T, O: Order<T>>(first: &T, later: &[T]) -> bool
 pub fn ascend<T, O: Order<T>>(items: &[T]) -> bool
     ensures { IsTrue result ↔ Ascends O.before items.now }
 {
-    for (place, first) in items.iter().enumerate() {
-        if !is_first::<T, O>(first, &items[place + 1..]) {
+    for (position, first) in items.iter().enumerate() {
+        if !is_first::<T, O>(first, &items[position + 1..]) {
             return false;
         }
     }

@@ -4,7 +4,7 @@ ghost use Rattle.std.specs.List.{All, list_all};
 ghost use Rattle.m3_model.specs.Ascends.{Ascends};
 ghost use Rattle.m3_model.specs.Names.{is_name_byte, is_name};
 ghost use Rattle.placement_core.specs.Lawful.{IsApart, IsServing, IsMoving, IsShard, IsSpread, IsWithinLimits, IsLawful};
-ghost use Rattle.placement_core.specs.LawfulParts.{IsNamed, IsSmall, AreNamed, IsListed, MovesTo, Moves, HasReplicas, HasNodes, ApartBefore, ApartAfter, IsGood};
+ghost use Rattle.placement_core.specs.LawfulParts.{HasBothNames, IsSmall, AreNamed, IsListed, MovesTo, Moves, HasReplicas, HasNodes, ApartBefore, ApartAfter, IsGood};
 
 use crate::ascending::{Order, ascend};
 use m3_model::limits::{MOST_NAME_BYTES, MOST_NODES, MOST_REPLICAS, MOST_SHARDS, NUMBER_END};
@@ -29,7 +29,7 @@ fn is_name(text: &str) -> bool
 }
 
 fn is_named(instance: &Instance) -> bool
-    ensures { IsTrue result ↔ IsNamed instance.now }
+    ensures { IsTrue result ↔ HasBothNames instance.now }
 {
     is_name(instance.name.as_str()) && is_name(instance.group.as_str())
 }
@@ -197,8 +197,8 @@ fn is_spread_from(instances: &[Instance], a: &Assignment, later: &[Assignment]) 
 fn are_spread(instances: &[Instance], shard: &[Assignment]) -> bool
     ensures { IsTrue result ↔ Ascends (λ a b. ApartBefore instances.now a b × ApartAfter instances.now a b) shard.now }
 {
-    for (place, a) in shard.iter().enumerate() {
-        if !is_spread_from(instances, a, &shard[place + 1..]) {
+    for (position, a) in shard.iter().enumerate() {
+        if !is_spread_from(instances, a, &shard[position + 1..]) {
             return false;
         }
     }

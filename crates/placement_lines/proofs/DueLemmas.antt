@@ -14,7 +14,7 @@ use Rattle.m3_model.specs.declared.limits.TheConstants.{MOST_NODES, MOST_VERSION
 use Rattle.m3_model.specs.declared.placement.Instance.{Instance}
 use Rattle.m3_model.specs.declared.placement.Placement.{Placement}
 use Rattle.placement_core.specs.NodeNames.{is_listed}
-use Rattle.placement_plan.specs.Nodes.{IsNewName, Lists}
+use Rattle.placement_plan.specs.Nodes.{IsNewName, ListsNode}
 use Rattle.placement_plan.specs.Plans.{HasRoom}
 use Rattle.placement_plan.specs.Refusals.{IsPastLimit}
 use Rattle.placement_plan.specs.declared.plan_err.PlaceErr.TheVariants as refused
@@ -93,10 +93,10 @@ versions_are_not kept a step few = ap (λ b. versions_by b (nat_le MOST_VERSIONS
 pub addition_is_free : (place : Placement) (name group : List ℕ) → is_listed name place ≡ false → HasRoom place.instances name → refusal_by_names place (act.Add name group) ≡ None
 addition_is_free place name group new room = ap (λ o. option_or o (names_due place name)) (order_is_not place name new) ∙ names_are_not place name room
 
-pub listed_is_free : (place : Placement) (name : List ℕ) (node : ℕ) → Lists place.instances name node → unknown_due place name ≡ None
+pub listed_is_free : (place : Placement) (name : List ℕ) (node : ℕ) → ListsNode place.instances name node → unknown_due place name ≡ None
 listed_is_free place name node lists = unknown_is_not place name (lists_found place name node lists)
 
-pub replacement_is_free : (place : Placement) (name by group : List ℕ) (node : ℕ) → is_listed by place ≡ false → Lists place.instances name node → HasRoom place.instances by → refusal_by_names place (act.Replace name by group) ≡ None
+pub replacement_is_free : (place : Placement) (name by group : List ℕ) (node : ℕ) → is_listed by place ≡ false → ListsNode place.instances name node → HasRoom place.instances by → refusal_by_names place (act.Replace name by group) ≡ None
 replacement_is_free place name by group node new lists room =
     ap (λ o. option_or o (option_or (unknown_due place name) (names_due place by))) (order_is_not place by new)
     ∙ ap (λ o. option_or o (names_due place by)) (listed_is_free place name node lists) ∙ names_are_not place by room

@@ -17,8 +17,8 @@ use Rattle.placement_core.proofs.OrderLemmas.{at_in}
 use Rattle.placement_plan.specs.Additions.{IsAddition, IsGiver, MayMove, Rebalances, after_move, giving_cmp}
 use Rattle.placement_plan.specs.Choices.{MayTake, moved}
 use Rattle.placement_plan.specs.First.{IsInitial, IsPlaced, IsPlacedShard, MayHold, first_at}
-use Rattle.placement_plan.specs.Nodes.{IsFirst, Joins, Lists, fresh_node, load}
-use Rattle.placement_plan.specs.Plans.{CancelsJoining, GivesTo, IsCancel, IsDrain, IsFreed, IsRemoval, IsReplacement, MakesAll, MovesAway, MovesBy, MovesTo}
+use Rattle.placement_plan.specs.Nodes.{IsFirstWhere, Joins, ListsNode, fresh_node, load}
+use Rattle.placement_plan.specs.Plans.{CancelsJoining, GivesTo, IsCancel, IsDrain, IsFreed, IsRemoval, IsReplacement, MakesAll, MovesAway, MovesBy, MovesShardTo}
 use Rattle.placement_plan.proofs.AddLemmas.{addition_lawful, giving_total}
 use Rattle.placement_plan.proofs.DrainLemmas.{at_below}
 use Rattle.placement_plan.proofs.InitialLemmas.{initial_lawful}
@@ -31,7 +31,7 @@ same_placement : (a b : Placement) → a.version ≡ b.version → a.rf ≡ b.rf
 same_placement a b version rf instances shards = λ i. record { version = version i; rf = rf i; instances = instances i; shards = shards i }
 
 -- the named node, and what stands of it
-same_lists : (instances : List Instance) (name : List ℕ) (n m : ℕ) → n ≡ m → (one : Lists instances name n) (other : Lists instances name m) → one.instance ≡ other.instance
+same_lists : (instances : List Instance) (name : List ℕ) (n m : ℕ) → n ≡ m → (one : ListsNode instances name n) (other : ListsNode instances name m) → one.instance ≡ other.instance
 same_lists instances name n m same one other = same_at instances m one.instance other.instance (subst (λ (k : ℕ). slice_get instances k ≡ Some one.instance) same one.stands) other.stands
 
 -- ---- shards
@@ -67,7 +67,7 @@ moved_once instances load_at version node a b c distinct one other = elim one as
   ]
 ]
 
-moved_to_once : (version node to : ℕ) (a b c : Shard) → MovesTo version node to a b → MovesTo version node to a c → b ≡ c
+moved_to_once : (version node to : ℕ) (a b c : Shard) → MovesShardTo version node to a b → MovesShardTo version node to a c → b ≡ c
 moved_to_once version node to a b c one other = elim one as (λ _. b ≡ c) [
   | inl h ↦ elim other as (λ _. b ≡ c) [ inl k ↦ h.1 ∙ sym k.1 | inr k ↦ absurd (h.0 k.0) ]
   | inr h ↦ elim other as (λ _. b ≡ c) [ inl k ↦ absurd (k.0 h.0) | inr k ↦ h.1 ∙ sym k.1 ]
@@ -102,7 +102,7 @@ rebalanced_once instances version to distinct [] (m ∷ others) shards one other
 rebalanced_once instances version to distinct (m ∷ moves) [] shards one other h k = absurd (k.1 m.1 h.0.giver.may)
 rebalanced_once instances version to distinct (m ∷ moves) (q ∷ others) shards one other h k =
     let from : m.1 ≡ q.1 = one_giver (λ n. load n shards) instances shards to m.1 q.1 distinct h.0.giver k.0.giver in
-    let number : m.0 ≡ q.0 = first_one (MayMove instances q.1 to) shards m.0 q.0 (subst (λ n. IsFirst (MayMove instances n to) shards m.0) from h.0.shard) k.0.shard in
+    let number : m.0 ≡ q.0 = first_one (MayMove instances q.1 to) shards m.0 q.0 (subst (λ n. IsFirstWhere (MayMove instances n to) shards m.0) from h.0.shard) k.0.shard in
     let same : m ≡ q = ap₂ (λ (x y : ℕ). (x, y)) number from in
     rebalanced_once instances version to distinct moves others (after_move version to q shards) one other (subst (λ (x : ℕ × ℕ). Rebalances instances version to moves (after_move version to x shards) one) same h.1) k.1
 
@@ -143,14 +143,14 @@ module _ (place : Placement) (lawful : IsLawful place) where
       let same : q.node ≡ p.node = listed_one place lawful name q.node p.node q.may.lists p.may.lists in
       let joined = joined_once place.instances by group p.joined q.joined p.to q.to lawful.limits.distinct p.joins q.joins in
       let versions : other.version ≡ one.version = q.follows.version ∙ sym p.follows.version in
-      let shards = subst (λ v. MakesAll (λ s. MovesTo v p.node p.to) place.shards other.shards) versions
-      (subst (λ t. MakesAll (λ s. MovesTo other.version p.node t) place.shards other.shards) (sym joined.0)
-      (subst (λ n. MakesAll (λ s. MovesTo other.version n q.to) place.shards other.shards) same q.follows.shards)) in
+      let shards = subst (λ v. MakesAll (λ s. MovesShardTo v p.node p.to) place.shards other.shards) versions
+      (subst (λ t. MakesAll (λ s. MovesShardTo other.version p.node t) place.shards other.shards) (sym joined.0)
+      (subst (λ n. MakesAll (λ s. MovesShardTo other.version n q.to) place.shards other.shards) same q.follows.shards)) in
       let drained : (instances : List Instance) → slice_set instances p.node (record (p.may.lists.instance) { drained = true }) ≡ slice_set instances q.node (record (q.may.lists.instance) { drained = true }) =
       λ instances. ap₂ (λ n (i : Instance). slice_set instances n (record i { drained = true })) (sym same) (same_lists place.instances name p.node q.node (sym same) p.may.lists q.may.lists) in
       same_placement one other (sym versions) (p.follows.rf ∙ sym q.follows.rf)
       (p.instances ∙ ap (λ (instances : List Instance). slice_set instances p.node (record (p.may.lists.instance) { drained = true })) joined.1 ∙ drained q.joined ∙ sym q.instances)
-      (made_once (λ s. MovesTo one.version p.node p.to) (λ s. MovesTo one.version p.node p.to) place.shards one.shards other.shards p.follows.shards shards
+      (made_once (λ s. MovesShardTo one.version p.node p.to) (λ s. MovesShardTo one.version p.node p.to) place.shards one.shards other.shards p.follows.shards shards
       (λ k a b c at before h g. moved_to_once one.version p.node p.to a b c h g))
 
   addition_once : (name group : List ℕ) (one other : Placement) → MeetsLimits (act.Add name group) → IsAddition place name group one → IsAddition place name group other → one ≡ other

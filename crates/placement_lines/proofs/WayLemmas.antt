@@ -14,7 +14,7 @@ use Rattle.placement_core.proofs.ListLemmas.{at_within, same_at}
 use Rattle.placement_core.proofs.OrderLemmas.{at_in}
 use Rattle.isolation_groups.specs.Groups.{IsFree}
 use Rattle.placement_plan.specs.Choices.{MayTake}
-use Rattle.placement_plan.specs.Nodes.{Has, IsFirst, Lists}
+use Rattle.placement_plan.specs.Nodes.{Has, IsFirstWhere, ListsNode}
 use Rattle.placement_plan.specs.Plans.{IsDrain, IsReady}
 use Rattle.placement_plan.specs.Refusals.{IsBusy, IsInitializing}
 use Rattle.placement_plan.specs.declared.plan_err.PlaceErr.TheVariants as refused
@@ -27,10 +27,10 @@ use Rattle.placement_lines.proofs.WayCases.{by_way}
 -- ---- nodes and shards
 
 -- a name is that of one listed node
-pub listed_one : (place : Placement) → IsLawful place → (name : List ℕ) (n m : ℕ) → Lists place.instances name n → Lists place.instances name m → n ≡ m
+pub listed_one : (place : Placement) → IsLawful place → (name : List ℕ) (n m : ℕ) → ListsNode place.instances name n → ListsNode place.instances name m → n ≡ m
 listed_one place lawful name n m one other = one_at place.instances n m lawful.limits.distinct one.instance other.instance one.stands other.stands (one.named ∙ sym other.named)
 
-pub first_one : (Holds : Shard → Type 0) (shards : List Shard) (k l : ℕ) → IsFirst Holds shards k → IsFirst Holds shards l → k ≡ l
+pub first_one : (Holds : Shard → Type 0) (shards : List Shard) (k l : ℕ) → IsFirstWhere Holds shards k → IsFirstWhere Holds shards l → k ≡ l
 first_one Holds shards k l one other =
     let not_below : ¬ (k < l) = λ lt. other.first k one.shard lt one.stands one.holds in
     let not_above : ¬ (l < k) = λ lt. one.first l other.shard lt other.stands other.holds in
@@ -59,7 +59,7 @@ busy_not_ready shards node s n busy ready =
 -- ---- refusals of one act
 
 module _ (place : Placement) (lawful : IsLawful place) where
-  same_listed : (P : ℕ → Type 0) (name : List ℕ) (n m : ℕ) → Lists place.instances name n → Lists place.instances name m → P m → P n
+  same_listed : (P : ℕ → Type 0) (name : List ℕ) (n m : ℕ) → ListsNode place.instances name n → ListsNode place.instances name m → P m → P n
   same_listed P name n m one other p = subst P (sym (listed_one place lawful name n m one other)) p
 
   abbrev BusyOnce : Act → Type 0
@@ -70,7 +70,7 @@ module _ (place : Placement) (lawful : IsLawful place) where
       (λ name group s n t m h k. absurd h)
       (λ name s n t m h k. busy_one place lawful h.0 s t n m h.2 (same_listed (λ x. IsBusy place.shards x t m) name h.0 k.0 h.1 k.1 k.2))
       (λ name s n t m h k. absurd h)
-      (λ name s n t m h k. (first_one (Has n) place.shards s t h.1 (same_listed (λ x. IsFirst (Has x) place.shards t) name n m h.0 k.0 k.1), listed_one place lawful name n m h.0 k.0))
+      (λ name s n t m h k. (first_one (Has n) place.shards s t h.1 (same_listed (λ x. IsFirstWhere (Has x) place.shards t) name n m h.0 k.0 k.1), listed_one place lawful name n m h.0 k.0))
       (λ name by group s n t m h k. busy_one place lawful h.2.0 s t n m h.2.2 (same_listed (λ x. IsBusy place.shards x t m) name h.2.0 k.2.0 h.2.1 k.2.1 k.2.2))
 
   abbrev BusyAlone : Act → Type 0
@@ -86,11 +86,11 @@ module _ (place : Placement) (lawful : IsLawful place) where
 
   -- no node may take this least shard of the node
   abbrev Stuck : ℕ → ℕ → Type 0
-  Stuck n shard = IsFirst (λ s. Has n s × ((to : ℕ) → ¬ MayTake place.instances s n to)) place.shards shard
+  Stuck n shard = IsFirstWhere (λ s. Has n s × ((to : ℕ) → ¬ MayTake place.instances s n to)) place.shards shard
 
   -- the group has another replica of this least shard of the node
   abbrev Taken : List ℕ → ℕ → ℕ → Type 0
-  Taken group n shard = IsFirst (λ s. Has n s × ¬ IsFree place.instances s n group) place.shards shard
+  Taken group n shard = IsFirstWhere (λ s. Has n s × ¬ IsFree place.instances s n group) place.shards shard
 
   abbrev GroupOnce : Act → Type 0
   GroupOnce a = (s t : ℕ) → Refuses (Some place) a (refused.Group s) → Refuses (Some place) a (refused.Group t) → s ≡ t
@@ -135,7 +135,7 @@ module _ (place : Placement) (lawful : IsLawful place) where
       ))
       (λ name plan. (λ s n h. h, λ s h. h))
       (λ name plan. (
-        λ s n h. let first = same_listed (λ x. IsFirst (Has x) place.shards s) name plan.node n plan.lists h.0 h.1 in plan.idle first.shard (at_in place.shards s first.shard first.stands) first.holds,
+        λ s n h. let first = same_listed (λ x. IsFirstWhere (Has x) place.shards s) name plan.node n plan.lists h.0 h.1 in plan.idle first.shard (at_in place.shards s first.shard first.stands) first.holds,
         λ s h. h,
       ))
       (λ name by group plan. (

@@ -6,13 +6,13 @@ use Rattle.m3_model.specs.declared.limits.TheConstants.{NUMBER_END}
 use Rattle.m3_model.specs.declared.rules.MetaState.{MetaState}
 use Rattle.m3_outside.specs.declared.file_name.FileName.{FileName}
 use Rattle.m3_outside.specs.Files.{Files, files_with_zeros}
-use Rattle.m3_outside.specs.DiskState.{DiskState, Told, StepOf, Elapses, Becomes, IsLawful}
+use Rattle.m3_outside.specs.DiskState.{DiskState, Told, StepOf, Elapses, Becomes, IsLawfulDisk}
 use Rattle.m3_outside.specs.DiskCalls.{LeavesFiles}
 use Rattle.m3_outside.specs.Removal.{without_files, MayTakeAway, HasTakenAway, AreRemovable}
 use Rattle.m3_outside.proofs.Names.{get_apart}
 use Rattle.commit_log.specs.Contents.{numbers}
 use Rattle.commit_log.specs.Cutting.{segments_below}
-use Rattle.commit_log.specs.LogEnd.{LogEnd, Stands, IsReadyFor, NoneAbove, NoneFrom, MayBegin, BeganOrNot}
+use Rattle.commit_log.specs.LogEnd.{LogEnd, LogEndStands, IsReadyFor, NoneAbove, NoneFrom, MayBeginSegment, BeganOrNot}
 use Rattle.commit_log.specs.Segment.{segment, MayAdd, Adds}
 use Rattle.commit_log.proofs.CutLaws.{stands_cut}
 use Rattle.commit_log.proofs.CutLemmas.{below_removable}
@@ -27,7 +27,7 @@ use Rattle.placement_log.proofs.DiskLemmas.{keeps_begun, above_before, meta_stay
 pub none_begun : (m : MetaEnd) (d : DiskState) → m.log ≡ None → MetaStands m d → Told d (NoneFrom m.next)
 none_begun m d is st = subst (λ (o : Option LogEnd). LogStands o m.next d) is st.log
 
-pub begin_moment : (m : MetaEnd) (a b : DiskState) → IsLawful a → m.log ≡ None → MetaStands m a → a.tells ≡ true → Elapses (MayBegin m.next) a b → Elapses KeepsLast a b
+pub begin_moment : (m : MetaEnd) (a b : DiskState) → IsLawfulDisk a → m.log ≡ None → MetaStands m a → a.tells ≡ true → Elapses (MayBeginSegment m.next) a b → Elapses KeepsLast a b
 begin_moment m a b lawful is st tells goes = let some = st.some in keeps_begun (m.next - 1) m.next a b lawful tells (omega (arith, some)) (above_before m.next a some (none_begun m a is st)) goes
 
 -- a begin that was refused for want of memory
@@ -54,10 +54,10 @@ failed_stands m n a b is is_n next few st same began = record {
 
 -- ---- room for a chunk
 
-pub end_stands : (m : MetaEnd) (end : LogEnd) (d : DiskState) → m.log ≡ Some end → MetaStands m d → Stands end d
+pub end_stands : (m : MetaEnd) (end : LogEnd) (d : DiskState) → m.log ≡ Some end → MetaStands m d → LogEndStands end d
 end_stands m end d is st = subst (λ (o : Option LogEnd). LogStands o m.next d) is st.log
 
-pub next_moment : (end : LogEnd) (a b : DiskState) → IsLawful a → Stands end a → a.tells ≡ true → Elapses (MayBegin (end.number + 1)) a b → Elapses KeepsLast a b
+pub next_moment : (end : LogEnd) (a b : DiskState) → IsLawfulDisk a → LogEndStands end a → a.tells ≡ true → Elapses (MayBeginSegment (end.number + 1)) a b → Elapses KeepsLast a b
 next_moment end a b lawful st tells goes = keeps_begun end.number (end.number + 1) a b lawful tells (omega arith) st.above goes
 
 pub has_room : {E : Type 0} (r : Result ⊤ E) (m : MetaEnd) (end : LogEnd) (n : ℕ) (d : DiskState) → m.log ≡ Some end → OnOk r (IsReadyFor end n d) → OnOk r (HasRoom m n d)
@@ -99,7 +99,7 @@ module _ (m : MetaEnd) (state : MetaState) (a : DiskState) (ready : IsReadyToSav
   pub may_append : IsReadyFor e (length m.payload) a
   may_append = subst (λ (x : LogEnd). IsReadyFor x (length m.payload) a) same_end ready.ready
 
-  pub append_moment : (b : DiskState) (p : List ℕ) → p ≡ m.payload → IsLawful a → a.tells ≡ true → Elapses (MayAdd (segment e.number) p) a b → Elapses (MaySave state) a b
+  pub append_moment : (b : DiskState) (p : List ℕ) → p ≡ m.payload → IsLawfulDisk a → a.tells ≡ true → Elapses (MayAdd (segment e.number) p) a b → Elapses (MaySave state) a b
   append_moment b p is_p lawful tells goes = appended_may e.number state a b lawful tells ready.state_is may_append.stands.above (subst (λ (q : List ℕ). Elapses (MayAdd (segment e.number) q) a b) (is_p ∙ ready.payload) goes)
 
   pub append_done : {E : Type 0} (r : Result ⊤ E) (m_new : MetaEnd) (e_new : LogEnd) (b : DiskState) (p : List ℕ) → p ≡ m.payload → m_new.log ≡ Some e_new → e_new.number ≡ e.number
@@ -109,7 +109,7 @@ module _ (m : MetaEnd) (state : MetaState) (a : DiskState) (ready : IsReadyToSav
 
 -- ---- a save, behind its append
 
-module _ (m m_new : MetaEnd) (state : MetaState) (a b : DiskState) (lawful : IsLawful a) (lawful_b : IsLawful b) (ready : IsReadyToSave m state a) (done : Appended m m_new state a b) (told_b : b.tells ≡ a.tells) where
+module _ (m m_new : MetaEnd) (state : MetaState) (a b : DiskState) (lawful : IsLawfulDisk a) (lawful_b : IsLawfulDisk b) (ready : IsReadyToSave m state a) (done : Appended m m_new state a b) (told_b : b.tells ≡ a.tells) where
   abbrev number : ℕ
   number = done.end.number
 

@@ -6,13 +6,13 @@ use Rattle.m3_model.specs.declared.limits.TheConstants.{NUMBER_END}
 use Rattle.m3_model.specs.declared.rules.MetaState.{MetaState}
 use Rattle.m3_outside.specs.declared.file_name.FileName.{FileName}
 use Rattle.m3_outside.specs.Files.{Files, Stays}
-use Rattle.m3_outside.specs.DiskState.{DiskState, Told, StepOf, Elapses, Becomes, IsLawful}
+use Rattle.m3_outside.specs.DiskState.{DiskState, Told, StepOf, Elapses, Becomes, IsLawfulDisk}
 use Rattle.m3_outside.specs.DiskCalls.{LeavesFiles}
 use Rattle.m3_outside.specs.Removal.{without_files, MayTakeAway}
 use Rattle.m3_outside.proofs.Moments.{elapses_as, elapses_then, elapses_from}
 use Rattle.commit_log.specs.Contents.{numbers}
 use Rattle.commit_log.specs.Cutting.{numbers_below, segments_below}
-use Rattle.commit_log.specs.LogEnd.{LogEnd, Stands, IsReadyFor, NoneAbove, NoneFrom, MayBegin}
+use Rattle.commit_log.specs.LogEnd.{LogEnd, LogEndStands, IsReadyFor, NoneAbove, NoneFrom, MayBeginSegment}
 use Rattle.commit_log.specs.Segment.{segment, MayAdd, Adds}
 use Rattle.commit_log.proofs.Begin.{stands_stays}
 use Rattle.commit_log.proofs.LogLemmas.{apart_names}
@@ -41,7 +41,7 @@ keeps_none a = record { later = omega arith; images = λ c now. record { before 
 pub keeps_left : (failed : Type 0) (a b c : DiskState) → b.tells ≡ a.tells → (a.tells ≡ true → Elapses KeepsLast a b) → LeavesFiles failed b c → a.tells ≡ true → Elapses KeepsLast a c
 keeps_left failed a b c same one leaves t = keeps_then a b c (one t) (keeps_stays b c (leaves.proceeds.told (same ∙ t)))
 
-pub keeps_begun : (last number : ℕ) (a b : DiskState) → IsLawful a → a.tells ≡ true → last < number → Told a (NoneAbove last) → Elapses (MayBegin number) a b → Elapses KeepsLast a b
+pub keeps_begun : (last number : ℕ) (a b : DiskState) → IsLawfulDisk a → a.tells ≡ true → last < number → Told a (NoneAbove last) → Elapses (MayBeginSegment number) a b → Elapses KeepsLast a b
 keeps_begun last number a b lawful tells lt none goes = elapses_as a b (λ x y image may. begun_keeps last number lt x y (none_image last a.files x (lawful.same_names tells x image) (none tells)) may) goes
 
 -- no segment from a number on is none above the number before
@@ -57,7 +57,7 @@ log_stays None next failed a b leaves none = λ tells. let told = sym leaves.pro
 pub meta_stays : (m : MetaEnd) (failed : Type 0) (a b : DiskState) → LeavesFiles failed a b → MetaStands m a → MetaStands m b
 meta_stays m failed a b leaves st = record { log = log_stays m.log m.next failed a b leaves st.log; some = st.some; few = st.few }
 
-pub begun_stands : (m : MetaEnd) (end : LogEnd) (d : DiskState) → m.log ≡ Some end → 1 ≤ m.next → m.next ≤ NUMBER_END → Stands end d → MetaStands m d
+pub begun_stands : (m : MetaEnd) (end : LogEnd) (d : DiskState) → m.log ≡ Some end → 1 ≤ m.next → m.next ≤ NUMBER_END → LogEndStands end d → MetaStands m d
 begun_stands m end d begun some few st = record { log = subst (λ (o : Option LogEnd). LogStands o m.next d) (sym begun) st; some = some; few = few }
 
 pub ready_stays : (end : LogEnd) (n : ℕ) (failed : Type 0) (a b : DiskState) → LeavesFiles failed a b → IsReadyFor end n a → IsReadyFor end n b
@@ -74,11 +74,11 @@ older_of end n d ready tells = let there = (ready.ready.kept).rest tells in olde
 
 -- ---- a state is saved
 
-pub appended_may : (number : ℕ) (state : MetaState) (a b : DiskState) → IsLawful a → a.tells ≡ true → IsMetaState state → Told a (NoneAbove number) → Elapses (MayAdd (segment number) (payload_bytes state)) a b → Elapses (MaySave state) a b
+pub appended_may : (number : ℕ) (state : MetaState) (a b : DiskState) → IsLawfulDisk a → a.tells ≡ true → IsMetaState state → Told a (NoneAbove number) → Elapses (MayAdd (segment number) (payload_bytes state)) a b → Elapses (MaySave state) a b
 appended_may number state a b lawful tells is none goes = elapses_as a b (λ x y image may. may_save number state is x y (none_image number a.files x (lawful.same_names tells x image) (none tells)) may) goes
 
 -- behind an append that is done
-module _ (number : ℕ) (state : MetaState) (is : IsMetaState state) (a b : DiskState) (lawful : IsLawful a) (tells : a.tells ≡ true) (none : Told a (NoneAbove number)) (older : List FileName) (are : older ≡ segments_below number a.files)
+module _ (number : ℕ) (state : MetaState) (is : IsMetaState state) (a b : DiskState) (lawful : IsLawfulDisk a) (tells : a.tells ≡ true) (none : Told a (NoneAbove number)) (older : List FileName) (are : older ≡ segments_below number a.files)
     (added : (c : Files) → b.images c → StepOf (Adds (segment number) (payload_bytes state)) a.images c) where
   -- an image from before, and the chunk behind it
   abbrev Added : Files → Files → Type 0
@@ -112,7 +112,7 @@ module _ (number : ℕ) (state : MetaState) (is : IsMetaState state) (a b : Disk
       record { before = from.before; was = from.was; stepped = taken from.before step.before z from.stepped step.stepped }
 
   -- the segments below the log's, for reads
-  pub read_older : IsLawful b → b.tells ≡ true → segments_below number b.files ≡ older
+  pub read_older : IsLawfulDisk b → b.tells ≡ true → segments_below number b.files ≡ older
   read_older lawful_b told =
       let from = added b.files (lawful_b.read_is_image told) in
       same_older from.before b.files from.was from.stepped
@@ -126,7 +126,7 @@ module _ (number : ℕ) (state : MetaState) (is : IsMetaState state) (a b : Disk
       swept_numbers number y z own.file (λ n lt. adds.others (segment n) (apart_names n number (λ e. omega (arith, lt, e))) ∙ none_in from.before from.was n lt) own.there
       (is_z ∙ ap (λ (names : List FileName). without_files names y) (sym (same_older from.before y from.was adds)))
 
-  pub swept_reads : (c : DiskState) → IsLawful b → b.tells ≡ true → Becomes (without_files older) b c → numbers c.files ≡ number ∷ []
+  pub swept_reads : (c : DiskState) → IsLawfulDisk b → b.tells ≡ true → Becomes (without_files older) b c → numbers c.files ≡ number ∷ []
   swept_reads c lawful_b told becomes = swept_alone b.files c.files (lawful_b.read_is_image told) becomes.files
 
   pub swept_stops : (c : DiskState) → Becomes (without_files older) b c → (z : Files) → c.images z → numbers z ≡ number ∷ []

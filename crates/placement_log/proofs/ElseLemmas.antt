@@ -8,7 +8,7 @@ use Rattle.m3_outside.specs.Removal.{MayTakeAway}
 use Rattle.m3_outside.proofs.Names.{get_apart}
 use Rattle.m3_outside.proofs.Removal.{left_same}
 use Rattle.commit_log.specs.Contents.{is_segment}
-use Rattle.commit_log.specs.LogEnd.{MayBegin}
+use Rattle.commit_log.specs.LogEnd.{MayBeginSegment}
 use Rattle.commit_log.specs.Segment.{segment, OthersStay}
 use Rattle.commit_log.proofs.CutLemmas.{by_numbers}
 use Rattle.placement_log.specs.MetaHolds.{ElseStays}
@@ -26,7 +26,7 @@ else_then x y z one two = λ q other. two q other ∙ one q other
 pub else_others : (number : ℕ) (x y : Files) → OthersStay (segment number) x y → ElseStays x y
 else_others number x y others = λ q other. others q (no_segment q number other)
 
-pub else_begun : (number : ℕ) (x y : Files) → MayBegin number x y → ElseStays x y
+pub else_begun : (number : ℕ) (x y : Files) → MayBeginSegment number x y → ElseStays x y
 else_begun number x y (inl same) = else_same x y same
 else_begun number x y (inr done) = λ q other. ap (λ (w : Files). get w q) done ∙ get_apart x (segment number) _ q (no_segment q number other)
 

@@ -8,7 +8,7 @@ use Rattle.m3_outside.specs.Removal.{MayTakeAway}
 use Rattle.placement_core.proofs.ListLemmas.{snoc_same}
 use Rattle.commit_log.specs.Contents.{numbers, PartsHold}
 use Rattle.commit_log.specs.Cutting.{numbers_below, segments_below}
-use Rattle.commit_log.specs.LogEnd.{NoneAbove, MayBegin}
+use Rattle.commit_log.specs.LogEnd.{NoneAbove, MayBeginSegment}
 use Rattle.commit_log.specs.LogLaws.{IsLog, IsCutAt, LeavesEnd}
 use Rattle.commit_log.specs.Segment.{segment, HasChunks, MayAdd, Adds}
 use Rattle.commit_log.proofs.CutLaws.{halves, cut_end}
@@ -25,7 +25,7 @@ use Rattle.placement_log.proofs.NumberLemmas.{from_last}
 pub log_of : (last : Option MetaState) (number : ℕ) (x : Files) (h : MetaHolds last x) → NoneAbove number x → IsLog (map payload_bytes h.states) number x
 log_of last number x h none = record { parts = h.log; above = none }
 
-pub begun_keeps : (last number : ℕ) → last < number → (x y : Files) → NoneAbove last x → MayBegin number x y → KeepsLast x y
+pub begun_keeps : (last number : ℕ) → last < number → (x y : Files) → NoneAbove last x → MayBeginSegment number x y → KeepsLast x y
 begun_keeps last number lt x y none may = record {
   last = λ l h. record {
     states = h.states;

@@ -13,7 +13,7 @@ use Rattle.placement_core.proofs.ListLemmas.{each-from_All}
 use Rattle.wire_bytes.specs.Fields.{StopsAt}
 use Rattle.log_chunks.proofs.Fronts.{chunk_push, reads_behind}
 use Rattle.commit_log.specs.Contents.{numbers, PartsHold, segment_bytes}
-use Rattle.commit_log.specs.Segment.{written, Reads, IsSegment}
+use Rattle.commit_log.specs.Segment.{written, ReadsChunks, IsSegment}
 use Rattle.commit_log.specs.Reading.{ChunkStands, IsFront}
 use Rattle.commit_log.proofs.FileFronts.{has_chunks}
 use Rattle.commit_log.proofs.Parts.{parts_more, parts_split}
@@ -51,7 +51,7 @@ pub digests_differ : (chunk kept found : List ℕ) → 32 ≤ length chunk → k
 digests_differ chunk kept found long kept_is found_is differ =
     (digest_none chunk (λ same. differ (kept_is ∙ same ∙ sym found_is)), record { long = long; kept_is = kept_is; found_is = found_is; differ = differ })
 
--- no place is behind the chunk's end
+-- no offset is behind the chunk's end
 pub form_within : (chunk : List ℕ) (at : ℕ) → FormBreaks chunk at → at ≤ length chunk
 form_within chunk at (Short lt is) = omega (arith, is)
 form_within chunk at (Fields le same stops) =
@@ -72,11 +72,11 @@ module _ (front file : List ℕ) (whole : Bool) (f : IsFront front whole file) (
   pub chunk_breaks : (from next : ℕ) (s : ChunkStands front at from next) (e : PayloadErr) → MayBreakFrom from s.payload e → MayStop file e
   chunk_breaks from next s refused.Memory b = tt
   chunk_breaks from next s (refused.Digest kept found) b = subst (λ (l : List ℕ). ChunkBreaks l (refused.Digest kept found)) f.is (record { at = at; from = from; next = next; before = stand; stands = s; broken = b })
-  chunk_breaks from next s (refused.Form place) b = inl (subst (λ (l : List ℕ). ChunkBreaks l (refused.Form place)) f.is (record { at = at; from = from; next = next; before = stand; stands = s; broken = b }))
+  chunk_breaks from next s (refused.Form offset) b = inl (subst (λ (l : List ℕ). ChunkBreaks l (refused.Form offset)) f.is (record { at = at; from = from; next = next; before = stand; stands = s; broken = b }))
 
   -- no whole chunk, and bytes that stop to be a segment
-  pub grammar_breaks : (place : ℕ) → ((from next : ℕ) → ¬ (ChunkStands front at from next)) → StopsAt IsSegment file place → MayStop file (refused.Form place)
-  grammar_breaks place none stops = inr (subst (λ (l : List ℕ). GrammarBreaks l file place) f.is (record { at = at; before = stand; none = none; stops = stops }))
+  pub grammar_breaks : (offset : ℕ) → ((from next : ℕ) → ¬ (ChunkStands front at from next)) → StopsAt IsSegment file offset → MayStop file (refused.Form offset)
+  grammar_breaks offset none stops = inr (subst (λ (l : List ℕ). GrammarBreaks l file offset) f.is (record { at = at; before = stand; none = none; stops = stops }))
 
 -- of the segment of this number
 pub broken_in : (number : ℕ) (files : Files) (e : PayloadErr) → MayStop (segment_bytes number files) e → MayBeBroken number files (in_segment number e)
@@ -117,7 +117,7 @@ no_payload from chunk (refused.Digest kept found) other b = b.0
 no_payload from chunk (refused.Form at) other b = b.1
 
 -- a segment of payloads has no chunk that is none
-no_chunk : (cs : List (List ℕ)) (file : List ℕ) (e : PayloadErr) → (e ≡ refused.Memory → ⊥) → ArePayloads cs → length file ≡ 65536 → Reads cs file → ChunkBreaks (front_of file) e → ⊥
+no_chunk : (cs : List (List ℕ)) (file : List ℕ) (e : PayloadErr) → (e ≡ refused.Memory → ⊥) → ArePayloads cs → length file ≡ 65536 → ReadsChunks cs file → ChunkBreaks (front_of file) e → ⊥
 no_chunk cs file e other are long reads broken =
     let front : front_of file ≡ file = take_all 65536 file (omega (arith, long)) in
     by (subst (λ (l : List ℕ). ChunkBreaks l e) front broken)
@@ -128,16 +128,16 @@ no_chunk cs file e other are long reads broken =
         let ps = map payload_bytes (b.before).states in
         let pushed = chunk_push ps file b.at b.from b.next s (b.before).front in
         let split : file ≡ written (ps ++ s.payload ∷ []) ++ drop b.next file = sym (take-append-drop b.next file) ∙ ap (λ (l : List ℕ). l ++ drop b.next file) pushed in
-        let all = reads_behind (ps ++ s.payload ∷ []) cs (drop b.next file) (let e = ap length split in omega (arith, e, long)) (subst (Reads cs) split reads) in
+        let all = reads_behind (ps ++ s.payload ∷ []) cs (drop b.next file) (let e = ap length split in omega (arith, e, long)) (subst (ReadsChunks cs) split reads) in
         let m : IsIn cs s.payload = subst (λ (l : List (List ℕ)). IsIn l s.payload) (sym all.1) (IsIn-append_left (ps ++ s.payload ∷ []) all.0 s.payload (IsIn-push ps s.payload)) in
         let p = are s.payload m in
         no_payload b.from s.payload e other b.broken p.0 p.1
 
-no_stop : (cs : List (List ℕ)) (file : List ℕ) (e : PayloadErr) → (e ≡ refused.Memory → ⊥) → ArePayloads cs → length file ≡ 65536 → Reads cs file → MayStop file e → ⊥
+no_stop : (cs : List (List ℕ)) (file : List ℕ) (e : PayloadErr) → (e ≡ refused.Memory → ⊥) → ArePayloads cs → length file ≡ 65536 → ReadsChunks cs file → MayStop file e → ⊥
 no_stop cs file refused.Memory other are long reads m = other refl
 no_stop cs file (refused.Digest kept found) other are long reads m = no_chunk cs file (refused.Digest kept found) other are long reads m
-no_stop cs file (refused.Form place) other are long reads (inl b) = no_chunk cs file (refused.Form place) other are long reads b
-no_stop cs file (refused.Form place) other are long reads (inr g) = (g.stops).none (record { chunks = cs; long = long; reads = reads })
+no_stop cs file (refused.Form offset) other are long reads (inl b) = no_chunk cs file (refused.Form offset) other are long reads b
+no_stop cs file (refused.Form offset) other are long reads (inr g) = (g.stops).none (record { chunks = cs; long = long; reads = reads })
 
 holds_no_stop : (last : Option MetaState) (files : Files) (before : List ℕ) (number : ℕ) (after : List ℕ) (e : PayloadErr) → (e ≡ refused.Memory → ⊥) → numbers files ≡ before ++ number ∷ after → MetaHolds last files → MayStop (segment_bytes number files) e → ⊥
 holds_no_stop last files before number after e other split h stop =

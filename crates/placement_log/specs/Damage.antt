@@ -8,7 +8,7 @@ use Rattle.m3_outside.specs.Files.{Files}
 use Rattle.m3_outside.specs.declared.disk_err.DiskErr.{DiskErr}
 use Rattle.m3_outside.specs.declared.disk_err.DiskErr.TheVariants as disk
 use Rattle.wire_bytes.specs.Fields.{StopsAt}
-use Rattle.commit_log.specs.Segment.{written, Reads, IsSegment}
+use Rattle.commit_log.specs.Segment.{written, ReadsChunks, IsSegment}
 use Rattle.commit_log.specs.Reading.{ChunkStands}
 use Rattle.commit_log.specs.Contents.{numbers, PartsHold, segment_bytes}
 use Rattle.meta_bytes.specs.Forms.{Has}
@@ -32,8 +32,8 @@ pub record DigestsDiffer (chunk kept found : List ℕ) : Type 0 where
   pub found_is : found ≡ sha256 (drop 32 chunk)
   pub differ : ¬ (kept ≡ found)
 
--- It ends within the digest; or the digest is right, and behind it the fields of a state stop at the place, or they are all there, but what some say doesn't
--- go with what others say, and the place is the chunk's end.
+-- It ends within the digest; or the digest is right, and behind it the fields of a state stop at the offset, or they are all there, but what some say doesn't
+-- go with what others say, and the offset is the chunk's end.
 pub data FormBreaks (chunk : List ℕ) (at : ℕ) : Type 0 where
   Short : length chunk < 32 → at ≡ length chunk → FormBreaks chunk at
   Fields : 32 ≤ at → take 32 chunk ≡ sha256 (drop 32 chunk) → StopsAt (Has state_form) (drop 32 chunk) (at - 32) → FormBreaks chunk at
@@ -45,7 +45,7 @@ MayBreakPayload chunk refused.Memory = ⊤
 MayBreakPayload chunk (refused.Digest kept found) = IsNoPayload chunk × DigestsDiffer chunk kept found
 MayBreakPayload chunk (refused.Form at) = IsNoPayload chunk × FormBreaks chunk at
 
--- the same of a chunk that stands at this place
+-- the same of a chunk that stands at this offset
 abbrev pub MayBreakFrom : ℕ → List ℕ → PayloadErr → Type 0
 MayBreakFrom from chunk refused.Memory = ⊤
 MayBreakFrom from chunk (refused.Digest kept found) = IsNoPayload chunk × DigestsDiffer chunk kept found
@@ -59,9 +59,9 @@ pub record ReadsStates (bytes : List ℕ) (old new : Option MetaState) : Type 0 
   pub are : All IsMetaState states
   pub is : new ≡ last_after old states
   pub long : length bytes ≡ SEGMENT_BYTES
-  pub reads : Reads (map payload_bytes states) bytes
+  pub reads : ReadsChunks (map payload_bytes states) bytes
 
--- up to this place there are whole chunks, each of them a payload
+-- up to this offset there are whole chunks, each of them a payload
 pub record StatesStand (bytes : List ℕ) (at : ℕ) : Type 0 where
   pub states : List MetaState
   pub are : All IsMetaState states
@@ -81,18 +81,18 @@ pub record ChunkBreaks (bytes : List ℕ) (e : PayloadErr) : Type 0 where
   pub stands : ChunkStands bytes at from next
   pub broken : MayBreakFrom from stands.payload e
 
--- all whole chunks in these bytes of the file are payloads, and behind them the file stops to be a segment by this place
-pub record GrammarBreaks (bytes file : List ℕ) (place : ℕ) : Type 0 where
+-- all whole chunks in these bytes of the file are payloads, and behind them the file stops to be a segment by this offset
+pub record GrammarBreaks (bytes file : List ℕ) (offset : ℕ) : Type 0 where
   pub at : ℕ
   pub before : StatesStand bytes at
   pub none : (from next : ℕ) → ¬ (ChunkStands bytes at from next)
-  pub stops : StopsAt IsSegment file place
+  pub stops : StopsAt IsSegment file offset
 
 -- why the file is no segment of states; memory may always be wanted
 abbrev pub MayStop : List ℕ → PayloadErr → Type 0
 MayStop file refused.Memory = ⊤
 MayStop file (refused.Digest kept found) = ChunkBreaks (front_of file) (refused.Digest kept found)
-MayStop file (refused.Form place) = ChunkBreaks (front_of file) (refused.Form place) ⊎ GrammarBreaks (front_of file) file place
+MayStop file (refused.Form offset) = ChunkBreaks (front_of file) (refused.Form offset) ⊎ GrammarBreaks (front_of file) file offset
 
 -- ---- the log
 

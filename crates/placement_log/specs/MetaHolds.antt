@@ -9,7 +9,7 @@ use Rattle.m3_outside.specs.DiskState.{DiskState, Told, StepOf}
 use Rattle.m3_outside.specs.declared.file_name.FileName.{FileName}
 use Rattle.commit_log.specs.Contents.{is_segment, numbers, PartsHold}
 use Rattle.commit_log.specs.Cutting.{segments_below}
-use Rattle.commit_log.specs.LogEnd.{LogEnd, Stands, IsReadyFor, NoneFrom}
+use Rattle.commit_log.specs.LogEnd.{LogEnd, LogEndStands, IsReadyFor, NoneFrom}
 use Rattle.commit_log.specs.Segment.{segment, Adds}
 use Rattle.meta_bytes.specs.States.{IsMetaState}
 use Rattle.placement_log.specs.States.{payload_bytes, last_after}
@@ -52,7 +52,7 @@ pub record MetaEnd : Type 0 where
 
 -- a log that was begun stands; where it wasn't, no segment has the next number or a higher one
 abbrev pub LogStands : Option LogEnd → ℕ → DiskState → Type 0
-LogStands (Some end) next d = Stands end d
+LogStands (Some end) next d = LogEndStands end d
 LogStands None next d = Told d (NoneFrom next)
 
 -- the log is as its owner knows it

@@ -12,7 +12,7 @@ ghost use Rattle.placement_log.specs.declared.open_err.OpenErr.TheVariants as fa
 use crate::older::older_segments;
 use crate::open_err::OpenErr;
 use crate::payload::payload_of;
-use crate::read::{Held, read_log};
+use crate::read::{LogContents, read_log};
 use crate::sync::sync_all;
 use commit_log::Log;
 use m3_model::MetaState;
@@ -54,7 +54,7 @@ impl MetaLog {
     /// # Errors
     ///
     /// A fault, by which the disk's count rose in this call. Damage: the lowest damaged segment, with the digest that is kept
-    /// of a state and the one that is found, or with the place at which no log of states goes on. Want of memory, also where
+    /// of a state and the one that is found, or with the offset at which no log of states goes on. Want of memory, also where
     /// the next segment would have the number `NUMBER_END` or a higher one. Reads give what they gave, and a stop leaves what
     /// it might have left before.
     pub fn open<D: Disk>(
@@ -71,7 +71,7 @@ impl MetaLog {
         ensures faults { CountsFaults (IsErrOf result failures.Disk) (D.state disk.old).faults (D.state disk.new).faults }
     {
         sync_all(disk)?;
-        let Held { last, next } = read_log(alloc, disk)?;
+        let LogContents { last, next } = read_log(alloc, disk)?;
         let log = MetaLog {
             alloc,
             next,

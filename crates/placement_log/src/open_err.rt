@@ -17,7 +17,7 @@ pub enum OpenErr {
         kept: [u8; 32],
         found: [u8; 32],
     },
-    /// The bytes of the segment of this number are those of no log of states, by the place `at`.
+    /// The bytes of the segment of this number are those of no log of states, by the offset `at`.
     #[error("segment {number} is damaged at byte {at}")]
     Form {
         number: u64,

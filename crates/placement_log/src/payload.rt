@@ -21,7 +21,7 @@ pub enum PayloadErr {
     Memory,
     /// The digest that is kept is another one than that of the bytes behind it.
     Digest { kept: [u8; 32], found: [u8; 32] },
-    /// They aren't the bytes of a payload, by the place `at`.
+    /// They aren't the bytes of a payload, by the offset `at`.
     Form { at: usize },
 }
 

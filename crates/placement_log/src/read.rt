@@ -73,7 +73,7 @@ fn read_segments<D: Disk>(
 
 /// What a log of states holds.
 #[derive(Drop)]
-pub(crate) struct Held {
+pub(crate) struct LogContents {
     /// The last state, or none where there is none.
     pub last: Option<MetaState>,
     /// The number for the next segment: one above all that are there, and 1 where none is.
@@ -81,7 +81,7 @@ pub(crate) struct Held {
 }
 
 /// Reads the whole log.
-pub(crate) fn read_log<D: Disk>(alloc: Global, disk: &mut D) -> Result<Held, OpenErr>
+pub(crate) fn read_log<D: Disk>(alloc: Global, disk: &mut D) -> Result<LogContents, OpenErr>
     ensures leaves { LeavesFiles (IsErrOf result failures.Disk) (D.state disk.old) (D.state disk.new) }
     ensures ok { (D.state disk.old).tells ≡ true → IfOk result (λ held. MetaHolds held.last (D.state disk.old).files) }
     ensures fresh { IfOk result (λ held. Told (D.state disk.new) (NoneFrom held.next)) }
@@ -92,5 +92,5 @@ pub(crate) fn read_log<D: Disk>(alloc: Global, disk: &mut D) -> Result<Held, Ope
     let Segments { numbers, next } = list_segments(alloc, disk)?;
     let mut last = None;
     read_segments(alloc, disk, numbers.as_slice(), &mut last)?;
-    Ok(Held { last, next })
+    Ok(LogContents { last, next })
 }

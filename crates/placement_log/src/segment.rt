@@ -11,7 +11,7 @@ use m3_model::MetaState;
 use std::alloc::Global;
 use std::mem;
 
-// The state whose payload the bytes between the two places are; where they are none, its place is one in all the bytes.
+// The state whose payload the bytes between the two offsets are; where they are none, its offset is one in all the bytes.
 fn read_between(
     alloc: Global,
     bytes: &[u8],
@@ -35,7 +35,7 @@ fn read_between(
 ///
 /// # Errors
 ///
-/// Want of memory. The first chunk that is no state's payload, or the place at which no segment goes on, whichever comes first.
+/// Want of memory. The first chunk that is no state's payload, or the offset at which no segment goes on, whichever comes first.
 pub(crate) fn read_segment(
     alloc: Global,
     front: &Front,

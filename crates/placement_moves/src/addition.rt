@@ -7,9 +7,9 @@ ghost use Rattle.m3_model.specs.declared.limits.TheConstants.{MOST_NODES, MOST_S
 ghost use Rattle.placement_core.specs.Shards.{Shard, is_steady};
 ghost use Rattle.placement_core.specs.Lawful.{IsShard, IsLawful};
 ghost use Rattle.placement_core.specs.Steps.{IsStep};
-ghost use Rattle.placement_plan.specs.Nodes.{IsFirst};
+ghost use Rattle.placement_plan.specs.Nodes.{IsFirstWhere};
 ghost use Rattle.placement_plan.specs.Loads.{AreLoads};
-ghost use Rattle.placement_plan.specs.Additions.{MayMove, MayGive, IsGiver, IsNextMove, IsAddition, Rebalances, giving_cmp};
+ghost use Rattle.placement_plan.specs.Additions.{MayMove, MayGiveShard, IsGiver, IsNextMove, IsAddition, Rebalances, giving_cmp};
 ghost use Rattle.placement_plan.specs.Refusals.{IsMemory, RefusesAdd};
 
 use m3_model::{Assignment, Duplicate, Instance, Memory, Placement, Seq, ShardState};
@@ -43,7 +43,7 @@ fn first_to_move(
 ) -> Option<u32>
     requires to { to < length instances.now }
     requires few { length shards.now ≤ MOST_SHARDS }
-    ensures found { IfSome result (IsFirst (MayMove instances.now from to) shards.now) }
+    ensures found { IfSome result (IsFirstWhere (MayMove instances.now from to) shards.now) }
     ensures none { IfNone result ((shard : Shard) → IsIn shards.now shard → ¬ MayMove instances.now from to shard) }
 {
     for (number, shard) in shards.iter().enumerate() {
@@ -66,7 +66,7 @@ fn may_give(
     requires loads { length loads.now ≡ length instances.now }
     requires small { slice_index loads.now to ≤ MOST_SHARDS }
     requires few { length shards.now ≤ MOST_SHARDS }
-    ensures { IsTrue result ↔ MayGive (slice_index loads.now) instances.now shards.now to from }
+    ensures { IsTrue result ↔ MayGiveShard (slice_index loads.now) instances.now shards.now to from }
 {
     loads[to as usize] + 2 <= loads[from as usize]
         && first_to_move(instances, shards, from, to).is_some()
@@ -96,7 +96,7 @@ fn giver(instances: &[Instance], loads: &[usize], shards: &[Seq<Assignment>], to
     requires small { slice_index loads.now to ≤ MOST_SHARDS }
     requires few { length shards.now ≤ MOST_SHARDS }
     ensures found { IfSome result (IsGiver (slice_index loads.now) instances.now shards.now to) }
-    ensures none { IfNone result ((from : ℕ) → ¬ MayGive (slice_index loads.now) instances.now shards.now to from) }
+    ensures none { IfNone result ((from : ℕ) → ¬ MayGiveShard (slice_index loads.now) instances.now shards.now to from) }
 {
     let mut best = None;
     for number in 0..instances.len() {
@@ -121,7 +121,7 @@ fn next_move(
     requires small { slice_index loads.now to ≤ MOST_SHARDS }
     requires few { length shards.now ≤ MOST_SHARDS }
     ensures found { IfSome result (λ m. IsNextMove (slice_index loads.now) instances.now shards.now to m.0 m.1) }
-    ensures none { IfNone result ((from : ℕ) → ¬ MayGive (slice_index loads.now) instances.now shards.now to from) }
+    ensures none { IfNone result ((from : ℕ) → ¬ MayGiveShard (slice_index loads.now) instances.now shards.now to from) }
 {
     let from = giver(instances, loads, shards, to)?;
     match first_to_move(instances, shards, from, to) {
@@ -155,7 +155,7 @@ fn rebalanced(
     Ok(Seq::from_vec(next))
 }
 
-/// The placement where the node is listed in the group, in the place that its name had before or after all other nodes,
+/// The placement where the node is listed in the group, at the position that its name had before or after all other nodes,
 /// and moves of shards to it have begun: again and again, of the nodes that have at least two shards more and one that
 /// can move, the one with the greatest load, and of these the one with the smallest name, gives the least shard that it
 /// can. Only steady shards move, each once; the moves before count as loads. Refused, the first of these that holds:

@@ -5,7 +5,7 @@ ghost use Rattle.m3_model.specs.declared.limits.TheConstants.{MOST_NODES, MOST_S
 ghost use Rattle.placement_core.specs.Shards.{Shard};
 ghost use Rattle.placement_core.specs.Lawful.{IsLawful, IsSteady};
 ghost use Rattle.placement_core.specs.Steps.{IsStep};
-ghost use Rattle.placement_plan.specs.Nodes.{Has, Lists};
+ghost use Rattle.placement_plan.specs.Nodes.{Has, ListsNode};
 ghost use Rattle.placement_plan.specs.Choices.{MayTake};
 ghost use Rattle.placement_plan.specs.Loads.{LoadsFollow};
 ghost use Rattle.placement_plan.specs.Plans.{IsDrain, IsReady, MakesAll, MovesBy, MovesAway};

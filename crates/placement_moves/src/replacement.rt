@@ -3,7 +3,7 @@ ghost use Rattle.std.specs.Prelude.{◌≡◌, [], IfOk, IfErr, IsTrue};
 ghost use Rattle.m3_model.specs.Names.{is_name};
 ghost use Rattle.placement_core.specs.Lawful.{IsLawful};
 ghost use Rattle.placement_core.specs.Steps.{IsStep};
-ghost use Rattle.placement_plan.specs.Plans.{IsReplacement, MayReplace, MakesAll, MovesTo};
+ghost use Rattle.placement_plan.specs.Plans.{IsReplacement, MayReplace, MakesAll, MovesShardTo};
 ghost use Rattle.placement_plan.specs.Refusals.{RefusesReplace};
 
 use m3_model::{Assignment, Duplicate, Memory, Placement, Seq};
@@ -20,7 +20,7 @@ fn moved_shard(
     from: u8,
     to: u8,
 ) -> Result<Seq<Assignment>, Memory>
-    ensures { IfOk result (MovesTo version from to shard.now) }
+    ensures { IfOk result (MovesShardTo version from to shard.now) }
 {
     if has_node(shard.as_slice(), from) {
         moved(alloc, shard.as_slice(), version, from, to)
@@ -36,7 +36,7 @@ fn moved_shards(
     from: u8,
     to: u8,
 ) -> Result<Seq<Seq<Assignment>>, Memory>
-    ensures { IfOk result (MakesAll (λ s. MovesTo version from to) shards.now) }
+    ensures { IfOk result (MakesAll (λ s. MovesShardTo version from to) shards.now) }
 {
     let mut next = Vec::new(alloc);
     for shard in shards {
@@ -73,7 +73,7 @@ fn replaceable(place: &Placement, node: &str, by: &str, group: &str) -> Result<(
     }
 }
 
-/// The placement where a move of each of the node's shards to `by` has begun. `by` is listed in the group, in the place
+/// The placement where a move of each of the node's shards to `by` has begun. `by` is listed in the group, at the position
 /// that the name had before or after all other nodes, and isn't drained; the node is. Refused, the first of these that
 /// holds: `Exists` where `by` is listed; `Unknown` where no listed node has the name; `Limit` where `by` is new and 16
 /// names are known; `Busy` with the least shard that the node has and of which a move goes on, and the node that joins it;

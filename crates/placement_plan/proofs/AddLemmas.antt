@@ -21,11 +21,11 @@ use Rattle.placement_core.specs.Steps.{turned, IsStep, IsShardStep}
 use Rattle.placement_core.proofs.ListLemmas.{same_at}
 use Rattle.placement_core.proofs.StepLemmas.{no_true}
 use Rattle.placement_core.proofs.OrderLemmas.{at_in}
-use Rattle.placement_plan.specs.Nodes.{IsFirst, load}
+use Rattle.placement_plan.specs.Nodes.{IsFirstWhere, load}
 use Rattle.placement_plan.specs.Choices.{moved}
 use Rattle.placement_plan.specs.Loads.{AreLoads, IsShifted}
 use Rattle.placement_plan.specs.Plans.{MakesAll, Follows}
-use Rattle.placement_plan.specs.Additions.{MayMove, MayGive, IsGiver, IsNextMove, Rebalances, IsAddition, after_move, giving_cmp}
+use Rattle.placement_plan.specs.Additions.{MayMove, MayGiveShard, IsGiver, IsNextMove, Rebalances, IsAddition, after_move, giving_cmp}
 use Rattle.placement_plan.proofs.SpreadLemmas.{joining_at, moved_spread}
 use Rattle.placement_plan.proofs.ShardLemmas.{joining_moves, steady_of, moved_step}
 use Rattle.placement_plan.proofs.PlanLemmas.{lawful_nodes, set_cases, follows_step, follows_lawful, none_done}
@@ -45,16 +45,16 @@ cmp_by instances x y a b = ordering_then (nat_cmp y x) (slice_cmp nat_cmp (name_
 cmp_same : (instances : List Instance) (f g : ℕ → ℕ) (a b : ℕ) → f a ≡ g a → f b ≡ g b → is_gt (giving_cmp instances f a b) ≡ false → is_gt (giving_cmp instances g a b) ≡ false
 cmp_same instances f g a b ea eb h = subst (λ x. is_gt (cmp_by instances x (g b) a b) ≡ false) ea (subst (λ y. is_gt (cmp_by instances (f a) y a b) ≡ false) eb h)
 
-pub giver_found : (load_at : ℕ → ℕ) (instances : List Instance) (shards : List Shard) (to n : ℕ) (best : Option ℕ) → length instances ≤ n → BestBelow (giving_cmp instances load_at) (MayGive load_at instances shards to) n best → IfSome best (IsGiver load_at instances shards to)
+pub giver_found : (load_at : ℕ → ℕ) (instances : List Instance) (shards : List Shard) (to n : ℕ) (best : Option ℕ) → length instances ≤ n → BestBelow (giving_cmp instances load_at) (MayGiveShard load_at instances shards to) n best → IfSome best (IsGiver load_at instances shards to)
 giver_found load_at instances shards to n None ge h = tt
 giver_found load_at instances shards to n (Some b) ge h = record { may = h.may; first = λ other may. h.least other (omega (arith, may.within, ge)) may }
 
-pub give_same : (f g : ℕ → ℕ) (instances : List Instance) (shards : List Shard) (to from : ℕ) → to < length instances → ((n : ℕ) → n < length instances → f n ≡ g n) → MayGive f instances shards to from → MayGive g instances shards to from
+pub give_same : (f g : ℕ → ℕ) (instances : List Instance) (shards : List Shard) (to from : ℕ) → to < length instances → ((n : ℕ) → n < length instances → f n ≡ g n) → MayGiveShard f instances shards to from → MayGiveShard g instances shards to from
 give_same f g instances shards to from lt same h = record { within = h.within; heavy = omega (arith, h.heavy, same to lt, same from h.within); number = h.number; shard = h.shard; stands = h.stands; moves = h.moves }
 
 -- whether the node may give, by what a search for its first shard finds
 pub give_by : (load_at : ℕ → ℕ) (instances : List Instance) (shards : List Shard) (to from : ℕ) (o : Option ℕ) (test : Bool) → test ≡ is_some o → from < length instances → load_at to + 2 ≤ load_at from
-    → IfSome o (IsFirst (MayMove instances from to) shards) → IfNone o ((shard : Shard) → IsIn shards shard → ¬ MayMove instances from to shard) → IsTrue test ↔ MayGive load_at instances shards to from
+    → IfSome o (IsFirstWhere (MayMove instances from to) shards) → IfNone o ((shard : Shard) → IsIn shards shard → ¬ MayMove instances from to shard) → IsTrue test ↔ MayGiveShard load_at instances shards to from
 give_by load_at instances shards to from None test e within heavy found none = (λ t. absurd (no_true test e t), λ may. absurd (none may.shard (at_in shards may.number may.shard may.stands) may.moves))
 give_by load_at instances shards to from (Some n) test e within heavy found none = (λ t. record { within = within; heavy = heavy; number = n; shard = found.shard; stands = found.stands; moves = found.holds }, λ may. e)
 
@@ -119,7 +119,7 @@ balanced_more instances version to old current table later number from a lt at n
       extends = λ rest final h. below.extends ((number, from) ∷ rest) final (here, subst (λ shards. Rebalances instances version to rest shards final) (sym set_is) h);
     }
 
-pub balanced_done : (instances : List Instance) (version to : ℕ) (old current : List Shard) (table : List ℕ) → to < length instances → ((from : ℕ) → ¬ MayGive (slice_index table) instances current to from) → BalancedBelow instances version to old current table
+pub balanced_done : (instances : List Instance) (version to : ℕ) (old current : List Shard) (table : List ℕ) → to < length instances → ((from : ℕ) → ¬ MayGiveShard (slice_index table) instances current to from) → BalancedBelow instances version to old current table
     → (moves : List (ℕ × ℕ)) × Rebalances instances version to moves old current
 balanced_done instances version to old current table lt none below =
     below.extends [] current (refl, λ from may. none from (give_same (λ n. load n current) (slice_index table) instances current to from lt (λ n k. sym ((below.loads).each n k)) may))

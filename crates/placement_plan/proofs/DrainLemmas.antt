@@ -14,7 +14,7 @@ use Rattle.placement_core.specs.Lawful.{IsSpread, IsLawful}
 use Rattle.placement_core.specs.Steps.{IsStep, IsShardStep}
 use Rattle.placement_core.proofs.ListLemmas.{same_at}
 use Rattle.placement_core.proofs.OrderLemmas.{at_in}
-use Rattle.placement_plan.specs.Nodes.{Has, load, IsFirst}
+use Rattle.placement_plan.specs.Nodes.{Has, load, IsFirstWhere}
 use Rattle.placement_plan.specs.Choices.{MayTake, IsLeastLoaded, taking_cmp}
 use Rattle.placement_plan.specs.Loads.{AreLoads, LoadsFollow}
 use Rattle.placement_plan.specs.Plans.{MakesAll, MovesBy, MovesAway, IsDrain}
@@ -93,7 +93,7 @@ pub drained_all : (instances : List Instance) (version node : ℕ) (old next : L
 drained_all instances version node old next table n le ge below = record { count = omega (arith, below.many, le, ge); each = below.each }
 
 pub drained_stuck : (instances : List Instance) (version node : ℕ) (old next : List Shard) (table : List ℕ) (n : ℕ) (a : Shard) → slice_get old n ≡ Some a → Has node a × ((to : ℕ) → ¬ MayTake instances a node to)
-    → DrainedBelow instances version node old next table n → IsFirst (λ s. Has node s × ((to : ℕ) → ¬ MayTake instances s node to)) old n
+    → DrainedBelow instances version node old next table n → IsFirstWhere (λ s. Has node s × ((to : ℕ) → ¬ MayTake instances s node to)) old n
 drained_stuck instances version node old next table n a at stuck below = record {
   shard = a;
   stands = at;

@@ -12,7 +12,7 @@ use Rattle.placement_core.specs.Steps.{KeepsNames}
 use Rattle.placement_core.proofs.ListLemmas.{same_at}
 use Rattle.placement_core.proofs.OrderLemmas.{at_in}
 use Rattle.placement_core.proofs.ChangeLemmas.{ascends-push}
-use Rattle.placement_plan.specs.Nodes.{IsNamed, IsNewName, Joins, fresh_node}
+use Rattle.placement_plan.specs.Nodes.{IsNodeNamed, IsNewName, Joins, fresh_node}
 use Rattle.placement_plan.specs.Plans.{HasRoom}
 use Rattle.placement_plan.proofs.PlaceLemmas.{in_at}
 use Rattle.placement_plan.proofs.NodeLemmas.{unlisted_at}
@@ -48,7 +48,7 @@ pub record HaveJoined (old : List Instance) (name group : List ℕ) (next : List
   pub kept : (n : ℕ) (i : Instance) → slice_get old n ≡ Some i → i.listed ≡ true → slice_get next n ≡ Some i
 
 module _ (old : List Instance) (name group : List ℕ) (node : ℕ) (nodes : AreNodes old) (is_named : IsTrue (is_name name)) (is_grouped : IsTrue (is_name group)) (none : list_any (λ i. i.listed && pointwise nat_eq name i.name) old ≡ false) where
-  known_joined : IsNamed old name node → HaveJoined old name group (slice_set old node (fresh_node name group)) node
+  known_joined : IsNodeNamed old name node → HaveJoined old name group (slice_set old node (fresh_node name group)) node
   known_joined h =
       let other : (n : ℕ) (i : Instance) → slice_get old n ≡ Some i → i.listed ≡ true → n ≢ node = λ n i at listed e.
       unlisted_at old name n i none at (ap (λ (z : Instance). z.name) (same_at old n i h.instance at (ap (slice_get old) e ∙ h.stands)) ∙ h.named) listed in

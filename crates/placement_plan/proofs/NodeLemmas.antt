@@ -8,12 +8,12 @@ use Rattle.std.proofs.lemmas.Slice.Eq.{bytes_eq-Decides}
 use Rattle.m3_model.specs.declared.placement.Instance.{Instance}
 use Rattle.m3_model.specs.declared.placement.Placement.{Placement}
 use Rattle.placement_core.specs.NodeNames.{is_listed}
-use Rattle.placement_plan.specs.Nodes.{Lists}
+use Rattle.placement_plan.specs.Nodes.{ListsNode}
 use Rattle.placement_plan.specs.Refusals.{IsPastLimit, RefusesAdd, RefusesReplace}
 use Rattle.placement_plan.specs.declared.plan_err.PlaceErr.{PlaceErr}
 use Rattle.placement_plan.specs.declared.plan_err.PlaceErr.TheVariants.{Busy, Group, Unknown, Exists, Limit, Memory}
 
-pub lists_at : (instances : List Instance) (name : List ℕ) (n : ℕ) (i : Instance) (same : Bool) → slice_get instances n ≡ Some i → i.listed ≡ true → same ≡ pointwise nat_eq name i.name → same ≡ true → Lists instances name n
+pub lists_at : (instances : List Instance) (name : List ℕ) (n : ℕ) (i : Instance) (same : Bool) → slice_get instances n ≡ Some i → i.listed ≡ true → same ≡ pointwise nat_eq name i.name → same ≡ true → ListsNode instances name n
 lists_at instances name n i same at listed is on = record { instance = i; stands = at; named = sym ((bytes_eq-Decides name i.name).0 (cc)); listed = listed }
 
 pub and_both : (a b : Bool) → a ≡ true → b ≡ true → (a && b) ≡ true
@@ -26,7 +26,7 @@ listed_found instances name n i at named listed =
     list_any_at test instances n i (slice_get_within instances n i at)
     (ap test (get_or_from_slice_get instances n i i at) ∙ and_both i.listed (pointwise nat_eq name i.name) listed ((bytes_eq-Decides name i.name).1 (sym named)))
 
-pub lists_found : (place : Placement) (name : List ℕ) (n : ℕ) → Lists place.instances name n → is_listed name place ≡ true
+pub lists_found : (place : Placement) (name : List ℕ) (n : ℕ) → ListsNode place.instances name n → is_listed name place ≡ true
 lists_found place name n h = listed_found place.instances name n h.instance h.stands h.named h.listed
 
 -- one of a name that isn't listed isn't listed

@@ -1,4 +1,4 @@
--- Lists read by place, as loops read them.
+-- Lists read by position, as loops read them.
 use Rattle.std.proofs.Common.{◌≡◌, ◌<◌, ◌≤◌, ◌⊎◌, ℕ, zero, suc, ◌+◌, List, [], ◌∷◌, ◌++◌, length, get_or, slice_get, Some, None, refl, sym, subst, ap, ◌∙◌, inl, inr, arith, length-append, Result, Ok, Err, IfOk}
 use Rattle.std.proofs.lemmas.List.{get_or_default}
 use Rattle.m3_model.specs.declared.placement.Assignment.{Assignment}
@@ -29,7 +29,7 @@ none_all P xs n many below x m = let i = in_at xs x m in below i.0 x (omega (ari
 abbrev pub blank : Assignment
 blank = record { node = 0; tenure = 0; state = Initializing; source = None }
 
--- an item that a loop reads is at its place
+-- an item that a loop reads is at its position
 pub item_at : {X : Type 0} (xs : List X) (n : ℕ) (d : X) → n < length xs → slice_get xs n ≡ Some (get_or xs n d)
 item_at xs n d lt = at_index xs n (get_or xs n d) lt (get_or_default xs n d (get_or xs n d) lt)
 

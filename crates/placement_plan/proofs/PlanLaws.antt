@@ -10,7 +10,7 @@ use Rattle.placement_core.proofs.ListLemmas.{filter-IsIn}
 use Rattle.placement_core.proofs.HolderLemmas.{the_joining, is_moving}
 use Rattle.placement_plan.specs.Nodes.{load}
 use Rattle.isolation_groups.specs.Groups.{group_of}
-use Rattle.placement_plan.specs.Additions.{MayGive, Rebalances, after_move}
+use Rattle.placement_plan.specs.Additions.{MayGiveShard, Rebalances, after_move}
 use Rattle.placement_plan.specs.Laws.{InitialIsLawful, AdditionEnds, OneJoins, GroupsDiffer}
 use Rattle.placement_plan.proofs.SpreadLemmas.{group_is}
 use Rattle.placement_plan.proofs.InitialLemmas.{initial_lawful, initial_first}
@@ -18,8 +18,8 @@ use Rattle.placement_plan.proofs.InitialLemmas.{initial_lawful, initial_first}
 pub initial_is_lawful : InitialIsLawful
 initial_is_lawful rf shards nodes place init plan = (initial_lawful rf shards nodes init place plan, initial_first rf shards nodes init place plan)
 
-ends_by : (instances : List Instance) (version to : ℕ) (moves : List (ℕ × ℕ)) (shards next : List Shard) → Rebalances instances version to moves shards next → (from : ℕ) → ¬ MayGive (λ n. load n next) instances next to from
-ends_by instances version to [] shards next h = subst (λ (s : List Shard). (from : ℕ) → ¬ MayGive (λ n. load n s) instances s to from) (sym h.0) h.1
+ends_by : (instances : List Instance) (version to : ℕ) (moves : List (ℕ × ℕ)) (shards next : List Shard) → Rebalances instances version to moves shards next → (from : ℕ) → ¬ MayGiveShard (λ n. load n next) instances next to from
+ends_by instances version to [] shards next h = subst (λ (s : List Shard). (from : ℕ) → ¬ MayGiveShard (λ n. load n s) instances s to from) (sym h.0) h.1
 ends_by instances version to (m ∷ moves) shards next h = ends_by instances version to moves (after_move version to m shards) next h.1
 
 pub addition_ends : AdditionEnds

@@ -53,7 +53,7 @@ pub record AreAlike (old next : List Instance) : Type 0 where
 pub lawful_nodes : (place : Placement) → IsLawful place → AreNodes place.instances
 lawful_nodes place h = record { few = (h.limits).few_nodes; named = (h.limits).named; distinct = (h.limits).distinct }
 
--- a list that is as long has an element at each place of the other
+-- a list that is as long has an element at each position of the other
 pub beside : {X Y : Type 0} (xs : List X) (ys : List Y) (n : ℕ) (x : X) → length ys ≡ length xs → slice_get xs n ≡ Some x → (y : Y) × (slice_get ys n ≡ Some y)
 beside [] ys n x e at = cc
 beside (z ∷ zs) [] n x e at = absurd (omega (arith, e))

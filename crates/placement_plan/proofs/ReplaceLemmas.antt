@@ -14,7 +14,7 @@ use Rattle.placement_core.proofs.OrderLemmas.{at_in}
 use Rattle.placement_plan.specs.Nodes.{Has, Joins, fresh_node}
 use Rattle.isolation_groups.specs.Groups.{IsFree}
 use Rattle.placement_plan.specs.Choices.{MayTake}
-use Rattle.placement_plan.specs.Plans.{MovesTo, MayReplace, IsReplacement}
+use Rattle.placement_plan.specs.Plans.{MovesShardTo, MayReplace, IsReplacement}
 use Rattle.placement_plan.proofs.SpreadLemmas.{IsKept, spread_kept, moved_spread, group_is}
 use Rattle.placement_plan.proofs.ShardLemmas.{steady_of, moved_step}
 use Rattle.placement_plan.proofs.PlanLemmas.{AreAlike, lawful_nodes, alike_set, alike_names, alike_nodes, set_cases, spread_alike, follows_step, follows_lawful, none_done}
@@ -81,7 +81,7 @@ module _ (old next : Placement) (name by group : List ℕ) (lawful : IsLawful ol
   spread_in : (shard : Shard) → IsSpread plan.joined shard → IsSpread next.instances shard
   spread_in shard spread = spread_alike plan.joined next.instances shard alike (λ n i j used. listed_same n i j) spread
 
-  step_of : (s : ℕ) (a b : Shard) → slice_get old.shards s ≡ Some a → MovesTo next.version plan.node plan.to a b → IsShardStep next.version a b None
+  step_of : (s : ℕ) (a b : Shard) → slice_get old.shards s ≡ Some a → MovesShardTo next.version plan.node plan.to a b → IsShardStep next.version a b None
   step_of s a b at made = elim made as (λ _. IsShardStep next.version a b None) [
     | inl h ↦ inl h.1
     | inr h ↦
@@ -90,7 +90,7 @@ module _ (old next : Placement) (name by group : List ℕ) (lawful : IsLawful ol
         (lacks_joined old.instances by group plan.joined plan.to a joined (lawful.spread a m)))
   ]
 
-  spread_of : (s : ℕ) (a b : Shard) → slice_get old.shards s ≡ Some a → MovesTo next.version plan.node plan.to a b → IsSpread next.instances b
+  spread_of : (s : ℕ) (a b : Shard) → slice_get old.shards s ≡ Some a → MovesShardTo next.version plan.node plan.to a b → IsSpread next.instances b
   spread_of s a b at made =
       let m = at_in old.shards s a at in
       let spread = spread_joined old.instances by group plan.joined plan.to a joined (lawful.spread a m) in
@@ -101,7 +101,7 @@ module _ (old next : Placement) (name by group : List ℕ) (lawful : IsLawful ol
       ])
 
   pub replacement_step : IsStep old next []
-  replacement_step = follows_step old next [] (λ s. MovesTo next.version plan.node plan.to) plan.follows (names_twice old.instances plan.joined next.instances joined.names (alike_names plan.joined next.instances alike)) (none_done (length old.shards)) step_of
+  replacement_step = follows_step old next [] (λ s. MovesShardTo next.version plan.node plan.to) plan.follows (names_twice old.instances plan.joined next.instances joined.names (alike_names plan.joined next.instances alike)) (none_done (length old.shards)) step_of
 
   pub replacement_lawful : IsLawful next
-  replacement_lawful = follows_lawful old next (λ s. MovesTo next.version plan.node plan.to) lawful plan.follows (alike_nodes plan.joined next.instances alike joined.nodes) (λ s a b at made. ((None, step_of s a b at made), spread_of s a b at made))
+  replacement_lawful = follows_lawful old next (λ s. MovesShardTo next.version plan.node plan.to) lawful plan.follows (alike_nodes plan.joined next.instances alike joined.nodes) (λ s a b at made. ((None, step_of s a b at made), spread_of s a b at made))

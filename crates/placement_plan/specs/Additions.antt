@@ -8,7 +8,7 @@ use Rattle.m3_model.specs.declared.placement.Instance.{Instance}
 use Rattle.m3_model.specs.declared.placement.Placement.{Placement}
 use Rattle.m3_model.specs.declared.limits.TheConstants.{NUMBER_END}
 use Rattle.placement_core.specs.Shards.{Shard, is_steady}
-use Rattle.placement_plan.specs.Nodes.{Has, load, Joins, IsFirst}
+use Rattle.placement_plan.specs.Nodes.{Has, load, Joins, IsFirstWhere}
 use Rattle.placement_plan.specs.Choices.{MayTake, moved}
 use Rattle.placement_plan.specs.Plans.{HasRoom}
 
@@ -19,7 +19,7 @@ pub record MayMove (instances : List Instance) (from to : ℕ) (shard : Shard) :
   pub takes : MayTake instances shard from to
 
 -- the node has at least two shards more than the new one, and some shard that can move
-pub record MayGive (load_at : ℕ → ℕ) (instances : List Instance) (shards : List Shard) (to from : ℕ) : Type 0 where
+pub record MayGiveShard (load_at : ℕ → ℕ) (instances : List Instance) (shards : List Shard) (to from : ℕ) : Type 0 where
   pub within : from < length instances
   pub heavy : load_at to + 2 ≤ load_at from
   pub number : ℕ
@@ -33,13 +33,13 @@ giving_cmp instances load_at = then_cmp (on load_at (flip_args nat_cmp)) (on (na
 
 -- of the nodes that may give, this one has the greatest load, and of those with that load the smallest name
 pub record IsGiver (load_at : ℕ → ℕ) (instances : List Instance) (shards : List Shard) (to from : ℕ) : Type 0 where
-  pub may : MayGive load_at instances shards to from
-  pub first : (other : ℕ) → MayGive load_at instances shards to other → is_gt (giving_cmp instances load_at from other) ≡ false
+  pub may : MayGiveShard load_at instances shards to from
+  pub first : (other : ℕ) → MayGiveShard load_at instances shards to other → is_gt (giving_cmp instances load_at from other) ≡ false
 
 -- the giver, and its least shard that can move
 pub record IsNextMove (load_at : ℕ → ℕ) (instances : List Instance) (shards : List Shard) (to number from : ℕ) : Type 0 where
   pub giver : IsGiver load_at instances shards to from
-  pub shard : IsFirst (MayMove instances from to) shards number
+  pub shard : IsFirstWhere (MayMove instances from to) shards number
 
 -- the shards after one of them, by number, has begun its move from the node
 abbrev pub after_move : ℕ → ℕ → ℕ × ℕ → List Shard → List Shard
@@ -47,7 +47,7 @@ after_move version to m shards = slice_set shards m.0 (moved version m.1 to (sli
 
 -- one after the other the moves, each of a shard and the node that gives it, are the next ones; in the end no node may give
 abbrev pub Rebalances : List Instance → ℕ → ℕ → List (ℕ × ℕ) → List Shard → List Shard → Type 0
-Rebalances instances version to [] shards next = (next ≡ shards) × ((from : ℕ) → ¬ MayGive (λ n. load n shards) instances shards to from)
+Rebalances instances version to [] shards next = (next ≡ shards) × ((from : ℕ) → ¬ MayGiveShard (λ n. load n shards) instances shards to from)
 Rebalances instances version to (m ∷ moves) shards next = IsNextMove (λ n. load n shards) instances shards to m.0 m.1 × Rebalances instances version to moves (after_move version to m shards) next
 
 -- the node is listed, and takes shards of those that have the most until no node has two more that could give one

@@ -52,13 +52,13 @@ pub record HasGroups (many : ℕ) (instances : List Instance) : Type 0 where
   pub differ : Ascends (λ a b. group_of instances a ≢ group_of instances b) nodes
 
 -- there are fewer groups than replicas: no shard can be placed, from the first one on
-abbrev pub IsShort : ℕ → List Instance → PlaceErr → Type 0
-IsShort rf instances (Group shard) = (shard ≡ 0) × ¬ HasGroups rf instances
-IsShort rf instances Memory = ⊤
-IsShort rf instances _ = ⊥
+abbrev pub LacksGroups : ℕ → List Instance → PlaceErr → Type 0
+LacksGroups rf instances (Group shard) = (shard ≡ 0) × ¬ HasGroups rf instances
+LacksGroups rf instances Memory = ⊤
+LacksGroups rf instances _ = ⊥
 
 abbrev pub RefusesInitial : ℕ → List (List ℕ × List ℕ) → PlaceErr → Type 0
-RefusesInitial rf nodes = IsShort rf (first_instances nodes)
+RefusesInitial rf nodes = LacksGroups rf (first_instances nodes)
 
 -- a shard that `init` made: `rf` nodes in different groups, available from the first placement on
 pub record IsFirstShard (rf : ℕ) (instances : List Instance) (assignments : List Assignment) : Type 0 where

@@ -13,7 +13,7 @@ use Rattle.placement_core.specs.Steps.{IsStep, IsDoneList}
 use Rattle.placement_plan.specs.Nodes.{load}
 use Rattle.isolation_groups.specs.Groups.{group_of}
 use Rattle.placement_plan.specs.Plans.{IsAvailable, IsCancel, IsRemoval, IsDrain, IsReplacement}
-use Rattle.placement_plan.specs.Additions.{IsAddition, MayGive}
+use Rattle.placement_plan.specs.Additions.{IsAddition, MayGiveShard}
 
 abbrev pub InitialIsLawful : Type 0
 InitialIsLawful = (rf shards : ℕ) (nodes : List (List ℕ × List ℕ)) (place : Placement) → IsInit rf shards 0 nodes → IsInitial rf shards nodes place → IsLawful place × IsFirstPlacement rf shards nodes place
@@ -56,7 +56,7 @@ AdditionIsStep = (old next : Placement) (name group : List ℕ) → IsLawful old
 
 -- after an addition no node has two shards more than the new one and a shard that could move to it
 abbrev pub AdditionEnds : Type 0
-AdditionEnds = (old next : Placement) (name group : List ℕ) → (plan : IsAddition old name group next) → (from : ℕ) → ¬ MayGive (λ n. load n next.shards) next.instances next.shards plan.node from
+AdditionEnds = (old next : Placement) (name group : List ℕ) → (plan : IsAddition old name group next) → (from : ℕ) → ¬ MayGiveShard (λ n. load n next.shards) next.instances next.shards plan.node from
 
 -- two replicas of a shard, both from before its move or both from after it, are on nodes of different isolation groups
 abbrev pub GroupsDiffer : (Assignment → Bool) → Type 0

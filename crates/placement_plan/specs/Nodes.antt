@@ -6,13 +6,13 @@ use Rattle.m3_model.specs.declared.placement.Instance.{Instance}
 use Rattle.placement_core.specs.Shards.{Shard, is_staying, nodes_of}
 
 -- the node of this number has this name
-pub record IsNamed (instances : List Instance) (name : List ℕ) (node : ℕ) : Type 0 where
+pub record IsNodeNamed (instances : List Instance) (name : List ℕ) (node : ℕ) : Type 0 where
   pub instance : Instance
   pub stands : slice_get instances node ≡ Some instance
   pub named : instance.name ≡ name
 
 -- and it is listed
-pub record Lists (instances : List Instance) (name : List ℕ) (node : ℕ) : Type 0 where
+pub record ListsNode (instances : List Instance) (name : List ℕ) (node : ℕ) : Type 0 where
   pub instance : Instance
   pub stands : slice_get instances node ≡ Some instance
   pub named : instance.name ≡ name
@@ -35,7 +35,7 @@ abbrev pub load : ℕ → List Shard → ℕ
 load node shards = count_by (serves node) shards
 
 -- the first shard of which the fact holds, by its number
-pub record IsFirst (Holds : Shard → Type 0) (shards : List Shard) (number : ℕ) : Type 0 where
+pub record IsFirstWhere (Holds : Shard → Type 0) (shards : List Shard) (number : ℕ) : Type 0 where
   pub shard : Shard
   pub stands : slice_get shards number ≡ Some shard
   pub holds : Holds shard
@@ -47,10 +47,10 @@ fresh_node name group = record { name = name; group = group; listed = true; drai
 
 -- the number that the node of the name has or gets
 abbrev pub CanHave : List Instance → List ℕ → ℕ → Type 0
-CanHave instances name node = IsNamed instances name node ⊎ (IsNewName instances name × (node ≡ length instances))
+CanHave instances name node = IsNodeNamed instances name node ⊎ (IsNewName instances name × (node ≡ length instances))
 
--- the nodes where one of the name is listed in the group: in the place that it had, or after all others; and its number
+-- the nodes where one of the name is listed in the group: at the position that it had, or after all others; and its number
 abbrev pub Joins : List Instance → List ℕ → List ℕ → List Instance → ℕ → Type 0
 Joins instances name group next node =
-    (IsNamed instances name node × (next ≡ slice_set instances node (fresh_node name group)))
+    (IsNodeNamed instances name node × (next ≡ slice_set instances node (fresh_node name group)))
     ⊎ (IsNewName instances name × (node ≡ length instances) × (next ≡ instances ++ fresh_node name group ∷ []))

@@ -9,11 +9,11 @@ use Rattle.m3_model.specs.declared.limits.TheConstants.{MOST_NODES, NUMBER_END}
 use Rattle.placement_core.specs.Shards.{Shard, is_steady}
 use Rattle.placement_core.specs.Lawful.{IsJoiningFrom}
 use Rattle.placement_core.specs.Steps.{IsCancelOf, Ends, done_at}
-use Rattle.placement_plan.specs.Nodes.{Lists, IsNewName, Has, load, CanHave, Joins}
+use Rattle.placement_plan.specs.Nodes.{ListsNode, IsNewName, Has, load, CanHave, Joins}
 use Rattle.isolation_groups.specs.Groups.{IsFree}
 use Rattle.placement_plan.specs.Choices.{MayTake, IsLeastLoaded, moved}
 
--- as many elements, each of which is made of the one in its place
+-- as many elements, each of which is made of the one at its position
 pub record MakesAll {X : Type 0} (Made : ℕ → X → X → Type 0) (old next : List X) : Type 0 where
   pub count : length next ≡ length old
   pub each : (k : ℕ) (a b : X) → slice_get old k ≡ Some a → slice_get next k ≡ Some b → Made k a b
@@ -69,7 +69,7 @@ GivesTo shards node from = (shard : Shard) × IsIn shards shard × JoinsFrom nod
 -- the moves to the node are cancelled, and their sources aren't drained any more
 pub record IsCancel (old : Placement) (name : List ℕ) (next : Placement) : Type 0 where
   pub node : ℕ
-  pub lists : Lists old.instances name node
+  pub lists : ListsNode old.instances name node
   pub follows : Follows old next (λ s. CancelsJoining node)
   pub instances : MakesAll (IsFreed (GivesTo old.shards node)) old.instances next.instances
 
@@ -78,7 +78,7 @@ pub record IsCancel (old : Placement) (name : List ℕ) (next : Placement) : Typ
 -- the node, which has no shard, isn't listed any more
 pub record IsRemoval (old : Placement) (name : List ℕ) (next : Placement) : Type 0 where
   pub node : ℕ
-  pub lists : Lists old.instances name node
+  pub lists : ListsNode old.instances name node
   pub idle : (shard : Shard) → IsIn old.shards shard → ¬ Has node shard
   pub follows : Follows old next (λ s a b. b ≡ a)
   pub instances : next.instances ≡ slice_set old.instances node (record (lists.instance) { listed = false })
@@ -99,7 +99,7 @@ MovesAway instances old next version node s a b = MovesBy instances (λ n. load 
 -- all shards of the node move away, and it is drained
 pub record IsDrain (old : Placement) (name : List ℕ) (next : Placement) : Type 0 where
   pub node : ℕ
-  pub lists : Lists old.instances name node
+  pub lists : ListsNode old.instances name node
   pub ready : IsReady old.shards node
   pub follows : Follows old next (MovesAway old.instances old.shards next.shards next.version node)
   pub instances : next.instances ≡ slice_set old.instances node (record (lists.instance) { drained = true })
@@ -111,13 +111,13 @@ abbrev pub HasRoom : List Instance → List ℕ → Type 0
 HasRoom instances name = IsNewName instances name → length instances < MOST_NODES
 
 -- a shard that the node has moves to the other one
-abbrev pub MovesTo : ℕ → ℕ → ℕ → Shard → Shard → Type 0
-MovesTo version node to a b = ((¬ Has node a) × (b ≡ a)) ⊎ (Has node a × (b ≡ moved version node to a))
+abbrev pub MovesShardTo : ℕ → ℕ → ℕ → Shard → Shard → Type 0
+MovesShardTo version node to a b = ((¬ Has node a) × (b ≡ a)) ⊎ (Has node a × (b ≡ moved version node to a))
 
 -- the node, by its number, can be replaced by the one that has or gets the other number
 pub record MayReplace (place : Placement) (name by group : List ℕ) (node to : ℕ) : Type 0 where
   pub is_new : is_listed by place ≡ false
-  pub lists : Lists place.instances name node
+  pub lists : ListsNode place.instances name node
   pub can : CanHave place.instances by to
   pub room : HasRoom place.instances by
   pub ready : IsReady place.shards node
@@ -130,5 +130,5 @@ pub record IsReplacement (old : Placement) (name by group : List ℕ) (next : Pl
   pub may : MayReplace old name by group node to
   pub joined : List Instance
   pub joins : Joins old.instances by group joined to
-  pub follows : Follows old next (λ s. MovesTo next.version node to)
+  pub follows : Follows old next (λ s. MovesShardTo next.version node to)
   pub instances : next.instances ≡ slice_set joined node (record ((may.lists).instance) { drained = true })

@@ -8,7 +8,7 @@ use Rattle.m3_model.specs.declared.placement.Placement.{Placement}
 use Rattle.m3_model.specs.declared.placement.ShardState.TheVariants.{Initializing}
 use Rattle.m3_model.specs.declared.limits.TheConstants.{MOST_NODES}
 use Rattle.placement_core.specs.Shards.{Shard, is_steady}
-use Rattle.placement_plan.specs.Nodes.{Lists, IsNewName, Has, IsFirst}
+use Rattle.placement_plan.specs.Nodes.{ListsNode, IsNewName, Has, IsFirstWhere}
 use Rattle.isolation_groups.specs.Groups.{IsFree}
 use Rattle.placement_plan.specs.Choices.{MayTake}
 use Rattle.placement_plan.specs.Plans.{IsReady, HasRoom}
@@ -28,7 +28,7 @@ RefusesCancel place name _ = ⊥
 -- the least shard that the node has, and the node itself
 abbrev pub RefusesRemove : Placement → List ℕ → PlaceErr → Type 0
 RefusesRemove place name Unknown = is_listed name place ≡ false
-RefusesRemove place name (Busy shard node) = Lists place.instances name node × IsFirst (Has node) place.shards shard
+RefusesRemove place name (Busy shard node) = ListsNode place.instances name node × IsFirstWhere (Has node) place.shards shard
 RefusesRemove place name Memory = ⊤
 RefusesRemove place name _ = ⊥
 
@@ -38,19 +38,19 @@ IsInitializing node shard = (a : Assignment) × IsIn shard a × (a.node ≡ node
 
 -- a move goes on of this least shard that the node has, and to the joining node
 pub record IsBusy (shards : List Shard) (node shard joining : ℕ) : Type 0 where
-  pub first : IsFirst (λ s. Has node s × (is_steady s ≡ false)) shards shard
+  pub first : IsFirstWhere (λ s. Has node s × (is_steady s ≡ false)) shards shard
   pub joins : IsInitializing joining (first.shard)
 
 -- no node may take this least shard that the node has
 abbrev pub IsStuck : List Instance → List Shard → ℕ → PlaceErr → Type 0
-IsStuck instances shards node (Group shard) = IsFirst (λ s. Has node s × ((to : ℕ) → ¬ MayTake instances s node to)) shards shard
+IsStuck instances shards node (Group shard) = IsFirstWhere (λ s. Has node s × ((to : ℕ) → ¬ MayTake instances s node to)) shards shard
 IsStuck instances shards node Memory = ⊤
 IsStuck instances shards node _ = ⊥
 
 abbrev pub RefusesDrain : Placement → List ℕ → PlaceErr → Type 0
 RefusesDrain place name Unknown = is_listed name place ≡ false
-RefusesDrain place name (Busy shard joining) = (node : ℕ) × Lists place.instances name node × IsBusy place.shards node shard joining
-RefusesDrain place name (Group shard) = (node : ℕ) × Lists place.instances name node × IsReady place.shards node × IsStuck place.instances place.shards node (Group shard)
+RefusesDrain place name (Busy shard joining) = (node : ℕ) × ListsNode place.instances name node × IsBusy place.shards node shard joining
+RefusesDrain place name (Group shard) = (node : ℕ) × ListsNode place.instances name node × IsReady place.shards node × IsStuck place.instances place.shards node (Group shard)
 RefusesDrain place name Memory = ⊤
 RefusesDrain place name _ = ⊥
 
@@ -70,8 +70,8 @@ RefusesReplace place name by group Exists = is_listed by place ≡ true
 RefusesReplace place name by group Unknown = (is_listed by place ≡ false) × (is_listed name place ≡ false)
 RefusesReplace place name by group (Limit limit) = (is_listed by place ≡ false) × (is_listed name place ≡ true) × IsPastLimit place.instances by (Limit limit)
 RefusesReplace place name by group (Busy shard joining) =
-    (is_listed by place ≡ false) × HasRoom place.instances by × ((node : ℕ) × Lists place.instances name node × IsBusy place.shards node shard joining)
+    (is_listed by place ≡ false) × HasRoom place.instances by × ((node : ℕ) × ListsNode place.instances name node × IsBusy place.shards node shard joining)
 RefusesReplace place name by group (Group shard) =
     (is_listed by place ≡ false) × HasRoom place.instances by
-    × ((node : ℕ) × Lists place.instances name node × IsReady place.shards node × IsFirst (λ s. Has node s × ¬ IsFree place.instances s node group) place.shards shard)
+    × ((node : ℕ) × ListsNode place.instances name node × IsReady place.shards node × IsFirstWhere (λ s. Has node s × ¬ IsFree place.instances s node group) place.shards shard)
 RefusesReplace place name by group Memory = ⊤

@@ -5,7 +5,7 @@ ghost use Rattle.std.specs.List.{list_any};
 ghost use Rattle.m3_model.specs.declared.placement.Instance.{Instance as Node};
 ghost use Rattle.m3_model.specs.declared.limits.TheConstants.{MOST_NODES};
 ghost use Rattle.placement_core.specs.NodeNames.{name_of};
-ghost use Rattle.placement_plan.specs.Nodes.{Lists, IsNamed, IsNewName, CanHave, Joins};
+ghost use Rattle.placement_plan.specs.Nodes.{ListsNode, IsNodeNamed, IsNewName, CanHave, Joins};
 ghost use Rattle.placement_plan.specs.Plans.{HasRoom};
 ghost use Rattle.placement_plan.specs.Refusals.{IsPastLimit};
 
@@ -17,7 +17,7 @@ use std::alloc::Global;
 /// The number of the listed node of this name.
 pub fn listed_node(instances: &[Instance], name: &str) -> Option<u8>
     requires { length instances.now ≤ MOST_NODES }
-    ensures found { IfSome result (Lists instances.now name.now) }
+    ensures found { IfSome result (ListsNode instances.now name.now) }
     ensures none { IfNone result (list_any (λ node. node.listed && pointwise nat_eq name.now node.name) instances.now ≡ false) }
 {
     for (number, instance) in instances.iter().enumerate() {
@@ -31,7 +31,7 @@ pub fn listed_node(instances: &[Instance], name: &str) -> Option<u8>
 /// The number of the node of this name, listed or not.
 pub fn named_node(instances: &[Instance], name: &str) -> Option<u8>
     requires { length instances.now ≤ MOST_NODES }
-    ensures found { IfSome result (IsNamed instances.now name.now) }
+    ensures found { IfSome result (IsNodeNamed instances.now name.now) }
     ensures none { IfNone result (IsNewName instances.now name.now) }
 {
     for (number, instance) in instances.iter().enumerate() {

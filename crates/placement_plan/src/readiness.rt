@@ -6,7 +6,7 @@ ghost use Rattle.m3_model.specs.declared.placement.ShardState.TheVariants.{Initi
 ghost use Rattle.m3_model.specs.declared.limits.TheConstants.{MOST_SHARDS};
 ghost use Rattle.placement_core.specs.Shards.{Shard, is_steady};
 ghost use Rattle.placement_core.specs.Lawful.{IsShard};
-ghost use Rattle.placement_plan.specs.Nodes.{Has, IsFirst};
+ghost use Rattle.placement_plan.specs.Nodes.{Has, IsFirstWhere};
 ghost use Rattle.isolation_groups.specs.Groups.{IsFree};
 ghost use Rattle.placement_plan.specs.Plans.{IsReady};
 ghost use Rattle.placement_plan.specs.Refusals.{IsBusy, IsInitializing};
@@ -71,7 +71,7 @@ pub fn first_taken(
     group: &str,
 ) -> Option<u32>
     requires { length shards.now ≤ MOST_SHARDS }
-    ensures found { IfSome result (IsFirst (λ shard. Has node shard × ¬ IsFree instances.now shard node group.now) shards.now) }
+    ensures found { IfSome result (IsFirstWhere (λ shard. Has node shard × ¬ IsFree instances.now shard node group.now) shards.now) }
     ensures none { IfNone result ((shard : Shard) → IsIn shards.now shard → ¬ (Has node shard × ¬ IsFree instances.now shard node group.now)) }
 {
     for (number, shard) in shards.iter().enumerate() {

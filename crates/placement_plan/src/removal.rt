@@ -12,7 +12,7 @@ use crate::version::next_version;
 use m3_model::{Duplicate, Placement};
 use std::alloc::Global;
 
-/// The placement where the node, which has no shard, isn't listed any more. Its place among the nodes stays its own.
+/// The placement where the node, which has no shard, isn't listed any more. Its position among the nodes stays its own.
 /// Refused `Unknown` where no listed node has the name, and `Busy` with the least shard that the node has, and the node.
 ///
 /// See M3DB's page "Placement", on removing nodes.

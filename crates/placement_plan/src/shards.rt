@@ -6,7 +6,7 @@ ghost use Rattle.m3_model.specs.declared.limits.TheConstants.{MOST_SHARDS};
 ghost use Rattle.placement_core.specs.Shards.{Shard};
 ghost use Rattle.placement_core.specs.Lawful.{IsJoiningFrom};
 ghost use Rattle.placement_core.specs.Steps.{turned, without, settled};
-ghost use Rattle.placement_plan.specs.Nodes.{Has, IsFirst};
+ghost use Rattle.placement_plan.specs.Nodes.{Has, IsFirstWhere};
 ghost use Rattle.placement_plan.specs.Choices.{moved};
 ghost use Rattle.placement_plan.specs.Plans.{JoinsFrom, IsJoining};
 
@@ -29,7 +29,7 @@ pub fn has_node(shard: &[Assignment], node: u8) -> bool
 /// The least shard that the node has.
 pub fn first_shard_of(shards: &[Seq<Assignment>], node: u8) -> Option<u32>
     requires { length shards.now ≤ MOST_SHARDS }
-    ensures found { IfSome result (IsFirst (Has node) shards.now) }
+    ensures found { IfSome result (IsFirstWhere (Has node) shards.now) }
     ensures none { IfNone result ((shard : Shard) → IsIn shards.now shard → ¬ Has node shard) }
 {
     for (number, shard) in shards.iter().enumerate() {

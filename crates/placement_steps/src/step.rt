@@ -23,8 +23,8 @@ fn is_done_list(shards: usize, done: &[(u32, u8)]) -> bool
 fn keeps_names(old: &[Instance], next: &[Instance]) -> bool
     ensures { IsTrue result ↔ KeepsNames old.now next.now }
 {
-    for (place, was) in old.iter().enumerate() {
-        match next.get(place) {
+    for (position, was) in old.iter().enumerate() {
+        match next.get(position) {
             Some(is) if is.name.equals(was.name.as_str()) => {}
             _ => return false,
         }

@@ -26,14 +26,14 @@ replica_added past e other m t =
     ]
 
 -- what a caller adds itself
-pub added_alone : (past events : List Event) (e : Event) {E : Type 0} (result : Result ℕ E) → IfOk result (λ place. (place ≡ length past) × (events ≡ past ++ e ∷ [])) → IfOk result (λ place. HasAdded IsNothing e place (seen_in past) (seen_in events))
-added_alone past events e (Ok place) h =
+pub added_alone : (past events : List Event) (e : Event) {E : Type 0} (result : Result ℕ E) → IfOk result (λ position. (position ≡ length past) × (events ≡ past ++ e ∷ [])) → IfOk result (λ position. HasAdded IsNothing e position (seen_in past) (seen_in events))
+added_alone past events e (Ok position) h =
     let whole : past ++ e ∷ [] ≡ (past ++ []) ++ e ∷ [] = ap (λ l. l ++ e ∷ []) (sym (append-nil past)) in
     let own : own_events (past ++ e ∷ []) ≡ own_events past ++ own_events (e ∷ []) = own_append past (e ∷ []) in
     record {
       before = [];
       may_before = refl;
-      place_is = h.0 ∙ sym (ap length (append-nil past));
+      position_is = h.0 ∙ sym (ap length (append-nil past));
       after = ap seen_in h.1 ∙ (λ i. record { events = whole i; own = own i });
     }
 added_alone past events e (Err why) h = tt

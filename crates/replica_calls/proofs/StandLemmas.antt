@@ -38,7 +38,7 @@ module _ (MayCome : List Event → Type 0) (n s : ℕ) (c : StepCall) (a : StepR
   exchange_longer = longer_by old.events exchange_adds new.events exchange_grew
 
   -- the step stands past it
-  pub exchange_stands : (place : ℕ) × (length old.events ≤ place) × At new.events place (event.Step n s c a)
+  pub exchange_stands : (position : ℕ) × (length old.events ≤ position) × At new.events position (event.Step n s c a)
   exchange_stands =
       let first : List Event = old.events ++ h.before in
       let past : List Event = (first ++ ask_of n s c ∷ []) ++ h.between in
@@ -58,7 +58,7 @@ module _ (MayCome : List Event → Type 0) (n s : ℕ) (c : StepCall) (a : StepR
   pub stepped_longer : IsPrefix old.events new.events
   stepped_longer = longer_by old.events (h.before ++ event.Step n s c a ∷ []) new.events stepped_grew
 
-  pub stepped_stands : (place : ℕ) × (length old.events ≤ place) × At new.events place (event.Step n s c a)
+  pub stepped_stands : (position : ℕ) × (length old.events ≤ position) × At new.events position (event.Step n s c a)
   stepped_stands =
       let past : List Event = old.events ++ h.before in
       let b = length-append old.events h.before in
@@ -68,20 +68,20 @@ module _ (MayCome : List Event → Type 0) (n s : ℕ) (c : StepCall) (a : StepR
   pub stepped_own : new.own ≡ old.own
   stepped_own = ap (λ x. x.own) h.after
 
-module _ (MayCome : List Event → Type 0) (e : Event) (place : ℕ) (old new : Seen) (h : HasAdded MayCome e place old new) where
+module _ (MayCome : List Event → Type 0) (e : Event) (position : ℕ) (old new : Seen) (h : HasAdded MayCome e position old new) where
   pub added_grew : new.events ≡ old.events ++ (h.before ++ e ∷ [])
   added_grew = ap (λ x. x.events) h.after ∙ append_assoc old.events h.before (e ∷ [])
 
   pub added_longer : IsPrefix old.events new.events
   added_longer = longer_by old.events (h.before ++ e ∷ []) new.events added_grew
 
-  -- the event stands at its place, past what was seen
-  pub added_stands : (length old.events ≤ place) × At new.events place e
+  -- the event stands at its position, past what was seen
+  pub added_stands : (length old.events ≤ position) × At new.events position e
   added_stands =
       let past : List Event = old.events ++ h.before in
       let b = length-append old.events h.before in
-      let p = h.place_is in
-      (omega (arith, b, p), subst (λ k. At new.events k e) (sym h.place_is) (subst (λ l. At l (length past) e) (sym (ap (λ x. x.events) h.after)) (at_last past e)))
+      let p = h.position_is in
+      (omega (arith, b, p), subst (λ k. At new.events k e) (sym h.position_is) (subst (λ l. At l (length past) e) (sym (ap (λ x. x.events) h.after)) (at_last past e)))
 
   pub added_own : new.own ≡ old.own ++ own_events (e ∷ [])
   added_own = ap (λ x. x.own) h.after

@@ -161,9 +161,9 @@ module _ {D : Type 0} (state : D → DiskState) where
           by false e = e
 
   -- an event added that no replica makes
-  pub tracked_added : (m : BTreeMap Slot (Member D)) (past events : List Event) (e : Event) {E : Type 0} (result : Result ℕ E) → IsNoStep e → IfOk result (λ place. (place ≡ length past) × (events ≡ past ++ e ∷ [])) → OnErr result (events ≡ past)
+  pub tracked_added : (m : BTreeMap Slot (Member D)) (past events : List Event) (e : Event) {E : Type 0} (result : Result ℕ E) → IsNoStep e → IfOk result (λ position. (position ≡ length past) × (events ≡ past ++ e ∷ [])) → OnErr result (events ≡ past)
       → IsTracked state m past → IsTracked state m events
-  tracked_added m past events e (Ok place) other ok err tracked = record {
+  tracked_added m past events e (Ok position) other ok err tracked = record {
     opened = (let old = tracked.opened in let long = ap length ok.1 ∙ length-append past (e ∷ []) in omega (arith, old, long));
     sorted = tracked.sorted;
     are = λ s x at. subst (λ r. IsMachineOf state (state (x.first).value).images r x.machine) (sym (ap (λ l. replica s.node s.shard l) ok.1 ∙ replica_added past e other s.node s.shard)) (tracked.are s x at);

@@ -1,2 +1,12 @@
 pub mod Slots
 pub mod Calls
+pub use Rattle.replica_exchange.specs.Damages
+pub use Rattle.replica_exchange.specs.Exchanges
+pub use Rattle.replica_exchange.specs.MachineCalls
+pub use Rattle.replica_exchange.specs.Machines
+pub use Rattle.replica_exchange.specs.Steps
+pub use Rattle.replica_exchange.specs.declared.call_err.CallErr
+pub use Rattle.replica_exchange.specs.declared.call_err.CallErr.TheVariants
+pub use Rattle.replica_exchange.specs.declared.call_id.CallId
+pub use Rattle.replica_exchange.specs.declared.member.Member
+pub use Rattle.replica_exchange.specs.declared.slot.Slot

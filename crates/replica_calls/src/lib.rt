@@ -3,4 +3,5 @@
 
 pub mod replicas;
 
+pub use replica_exchange::CallId;
 pub use replicas::Replicas;

@@ -118,7 +118,7 @@ impl<D: Disk> Replicas<D> {
         self.trail.has_room(more)
     }
 
-    /// Adds an event that no replica makes and that is lawful after the list, and answers its place. Takes no memory.
+    /// Adds an event that no replica makes and that is lawful after the list, and answers its position. Takes no memory.
     ///
     /// # Errors
     ///
@@ -126,7 +126,7 @@ impl<D: Disk> Replicas<D> {
     pub fn add(&mut self, event: &EventView) -> Result<u64, Full>
         requires lawful { IsLawfulOver D.state self.old.events event.now }
         requires no_step { IsNoStep event.now }
-        ensures ok { IfOk result (λ place. HasAdded IsNothing event.now place (seen_in self.old.events) (seen_in self.new.events)) }
+        ensures ok { IfOk result (λ position. HasAdded IsNothing event.now position (seen_in self.old.events) (seen_in self.new.events)) }
         ensures members { self.new.members ≡ self.old.members }
         ensures err { OnErr result (self.new ≡ self.old) }
         ensures full { IsErr result ↔ (¬ HasRoom 1 self.old.events) }

@@ -212,7 +212,7 @@ fn slot_at(sending: Sending, node: u8) -> Slot {
     }
 }
 
-fn place_of(slot: Slot) -> usize {
+fn position_of(slot: Slot) -> usize {
     (slot.shard as usize)
         .saturating_mul(NODES as usize)
         .saturating_add(slot.node as usize)
@@ -265,7 +265,7 @@ impl<D: Disk> Double<D> {
         let slot = slot_at(sending, node);
         self.ask(slot, put_call(alloc, sending, rules, point)?)?;
         let call = put_call(alloc, sending, rules, point)?;
-        let reply = match self.machines.get_mut(place_of(slot)) {
+        let reply = match self.machines.get_mut(position_of(slot)) {
             Some(machine) => put_on(machine, rules, sending.version, point),
             None => no_reply(),
         };
@@ -285,7 +285,7 @@ impl<D: Disk> Double<D> {
         let slot = slot_at(sending, node);
         self.ask(slot, read_call(alloc, sending, rules, pick, range)?)?;
         let call = read_call(alloc, sending, rules, pick, range)?;
-        let reply = match self.machines.get_mut(place_of(slot)) {
+        let reply = match self.machines.get_mut(position_of(slot)) {
             Some(machine) => read_on(machine, rules, sending.version, pick, range),
             None => no_reply(),
         };
@@ -295,7 +295,7 @@ impl<D: Disk> Double<D> {
     /// Changes the replica at the slot, with such events.
     pub fn change(&mut self, slot: Slot, change: Change) -> Result<(), Memory> {
         self.ask(slot, call_of_change(change))?;
-        let reply = match self.machines.get_mut(place_of(slot)) {
+        let reply = match self.machines.get_mut(position_of(slot)) {
             Some(machine) => change_on(machine, change),
             None => no_reply(),
         };
@@ -308,7 +308,7 @@ impl<D: Disk> Double<D> {
     {
         self.ask(slot, call_of_job(alloc, job, rules)?)?;
         let call = call_of_job(alloc, job, rules)?;
-        let reply = match self.machines.get_mut(place_of(slot)) {
+        let reply = match self.machines.get_mut(position_of(slot)) {
             Some(machine) => run_on(machine, job, rules),
             None => no_reply(),
         };
@@ -317,7 +317,7 @@ impl<D: Disk> Double<D> {
 
     /// The replica at the slot reports, which nobody asks for: its step alone comes to the events.
     pub fn report(&mut self, slot: Slot) -> Result<(), Memory> {
-        let reply = match self.machines.get(place_of(slot)) {
+        let reply = match self.machines.get(position_of(slot)) {
             Some(machine) => StepReply::Told {
                 report: machine.report(),
             },

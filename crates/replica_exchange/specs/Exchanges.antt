@@ -48,9 +48,9 @@ pub record HasStepped (MayCome : List Event → Type 0) (n s : ℕ) (c : StepCal
   pub may_before : MayCome before
   pub after : new ≡ record old { events = (old.events ++ before) ++ event.Step n s c a ∷ [] }
 
--- the same of an event that a caller adds itself, or the placement, at this place
-pub record HasAdded (MayCome : List Event → Type 0) (e : Event) (place : ℕ) (old new : Seen) : Type 0 where
+-- the same of an event that a caller adds itself, or the placement, at this position
+pub record HasAdded (MayCome : List Event → Type 0) (e : Event) (position : ℕ) (old new : Seen) : Type 0 where
   pub before : List Event
   pub may_before : MayCome before
-  pub place_is : place ≡ length (old.events ++ before)
+  pub position_is : position ≡ length (old.events ++ before)
   pub after : new ≡ record { events = (old.events ++ before) ++ e ∷ []; own = old.own ++ own_events (e ∷ []) }

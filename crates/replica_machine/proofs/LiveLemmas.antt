@@ -14,7 +14,7 @@ use Rattle.m3_model.specs.declared.point.Series.{Series}
 use Rattle.m3_model.specs.declared.rules.Rules.{Rules}
 use Rattle.m3_model.specs.declared.rules.Space.{Space}
 use Rattle.placement_core.proofs.ListLemmas.{All-from_each}
-use Rattle.cluster_core.specs.Answers.{IsWanted, IsFound}
+use Rattle.cluster_core.specs.Answers.{IsWantedUnexpired, IsFoundBy}
 use Rattle.cluster_core.specs.Replicas.{Shows, IsGone}
 use Rattle.cluster_core.specs.declared.replica_state.ReplicaState.{ReplicaState}
 use Rattle.replica_machine.specs.Machines.{IsLiveAnswer}
@@ -64,12 +64,12 @@ kept_live rules p space at stays =
 
 -- the live points of a content that shows a replica are what a read of the replica may find
 pub live_found : (r : ReplicaState) (c : Contents) (rules : Rules) (pick : Pick) (from to : ℕ) (space : Space) (series : List Series) → slice_get rules.spaces (space_picked pick) ≡ Some space
-    → Shows r c → IsLiveAnswer c rules pick from to series → IsFound r rules pick from to series
+    → Shows r c → IsLiveAnswer c rules pick from to series → IsFoundBy r rules pick from to series
 live_found r c rules pick from to space series at shows a = record {
-  nothing_else = All-from_each (λ p. IsIn r.sure p × IsWanted rules pick from to p) (points_in (space_picked pick) series) (λ p m.
+  nothing_else = All-from_each (λ p. IsIn r.sure p × IsWantedUnexpired rules pick from to p) (points_in (space_picked pick) series) (λ p m.
       let w = a.nothing_else p m in
       (shows.sure (key_of p) p.v w.0.stands, record { matches = w.0.matches; in_range = w.0.in_range; unexpired = not_expired rules p w.1 }));
-  all_there = All-from_each (λ p. ¬ IsGone r p → IsWanted rules pick from to p → Covers (points_in (space_picked pick) series) p) r.sure (λ p m stays w.
+  all_there = All-from_each (λ p. ¬ IsGone r p → IsWantedUnexpired rules pick from to p → Covers (points_in (space_picked pick) series) p) r.sure (λ p m stays w.
       let holds = shows.all p m stays in
       let there = matched_space rules pick space p at w.matches in
       record {

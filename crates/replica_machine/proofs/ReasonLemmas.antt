@@ -15,7 +15,7 @@ use Rattle.m3_outside.specs.DiskState.{DiskState}
 use Rattle.m3_outside.specs.declared.disk_err.DiskErr.{DiskErr}
 use Rattle.m3_outside.specs.declared.disk_err.DiskErr.TheVariants as refused
 use Rattle.cluster_core.specs.Refusals.{reason_if, shut, unowned, outdated, outside_of, outside, first_refusal}
-use Rattle.cluster_core.specs.Rows.{MayRefuse, MayBeUnowned}
+use Rattle.cluster_core.specs.Rows.{ReplicaMayRefuse, MayBeUnowned}
 use Rattle.cluster_core.specs.declared.event.Event.{Event}
 use Rattle.cluster_core.specs.declared.event.StepCall.{StepCall}
 use Rattle.cluster_core.specs.declared.replica_state.ReplicaState.{ReplicaState}
@@ -100,7 +100,7 @@ plain_no_fault reason.Cut p e = absurd p
 plain_no_fault reason.Memory p e = absurd p
 plain_no_fault (reason.Corrupt damage) p e = absurd p
 
-pub plain_lawful : (tells : Bool) (past : List Event) (s : ℕ) (r : ReplicaState) (c : StepCall) → (first_refusal r c ≡ Some reason.NotOwned → MayBeUnowned tells r c) → (why : Reason) → IsPlain why → first_refusal r c ≡ Some why → MayRefuse tells past s r c why
+pub plain_lawful : (tells : Bool) (past : List Event) (s : ℕ) (r : ReplicaState) (c : StepCall) → (first_refusal r c ≡ Some reason.NotOwned → MayBeUnowned tells r c) → (why : Reason) → IsPlain why → first_refusal r c ≡ Some why → ReplicaMayRefuse tells past s r c why
 plain_lawful tells past s r c unowned reason.Down p e = e
 plain_lawful tells past s r c unowned reason.Boot p e = e
 plain_lawful tells past s r c unowned reason.NotOwned p e = unowned e

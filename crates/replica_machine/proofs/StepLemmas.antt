@@ -14,7 +14,7 @@ use Rattle.placement_core.proofs.ListLemmas.{All-from_each, each-from_All}
 use Rattle.shard_files.specs.Parts.{AreWhole}
 use Rattle.shard_files.specs.Gains.{nothing, a_point, a_fence, Gains}
 use Rattle.cluster_core.specs.Replicas.{Shows, greater}
-use Rattle.cluster_core.specs.Rows.{IsServing}
+use Rattle.cluster_core.specs.Rows.{IsServingAt}
 use Rattle.cluster_core.specs.declared.replica_state.ReplicaState.{ReplicaState}
 use Rattle.m3_outside.specs.declared.disk_err.DiskErr.{DiskErr}
 use Rattle.m3_outside.specs.declared.disk_err.DiskErr.TheVariants as refused
@@ -118,7 +118,7 @@ module _ {D : Type 0} (state : D → DiskState) (base : Files → Type 0) where
       }
 
   -- where nothing stands against a version the replica serves it
-  pub serving : (r : ReplicaState) (m : MachineState D) (version : ℕ) → IsMachineOf state base r m → unserved m version ≡ None → IsServing r version
+  pub serving : (r : ReplicaState) (m : MachineState D) (version : ℕ) → IsMachineOf state base r m → unserved m version ≡ None → IsServingAt r version
   serving r m version h e =
       let is_up : IsUp m.standing m.tenure m.fence version = up m.standing m.tenure m.fence version e in
       let all = h.open_ is_up.open_ in

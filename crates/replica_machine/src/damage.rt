@@ -125,7 +125,7 @@ pub(crate) fn named_damage(room: String, file: FileName) -> Damage
     }
 }
 
-/// The damage of the file, which goes on at this place as no such file does.
+/// The damage of the file, which goes on at this offset as no such file does.
 pub(crate) fn damaged_form(alloc: Global, file: FileName, at: u64) -> Result<Damage, Memory>
     ensures { IfOk result (λ damage. damage ≡ told_of (OfForm file at)) }
 {

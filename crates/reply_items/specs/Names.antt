@@ -9,7 +9,7 @@ use Rattle.m3_model.specs.declared.placement.Placement.{Placement}
 abbrev pub instances_of : Option Placement → List Instance
 instances_of place = option_map_or (λ p. p.instances) place []
 
--- the name of the instance at this place, which is the node's number; empty where none stands there
+-- the name of the instance at this position, which is the node's number; empty where none stands there
 abbrev pub node_name : List Instance → ℕ → List ℕ
 node_name instances node = option_map_or (λ i. i.name) (slice_get instances node) []
 

@@ -8,7 +8,7 @@ use Rattle.reply_values.specs.Json.{array_of, list_of, natural}
 use Rattle.reply_items.specs.Names.{node_data}
 use Rattle.reply_items.specs.Reasons.{reason_items}
 
--- [node, shard, "took"], or the reason in the last place
+-- [node, shard, "took"], or the reason in the last position
 abbrev pub outcome_data : List Instance → ℕ × ℕ × Option Reason → Data
 outcome_data instances o =
     array_of (node_data instances o.0 ∷ natural o.1 ∷ option_map_or reason_items o.2 (string (codes "took") ∷ []))

@@ -7,7 +7,7 @@ use Rattle.serde_json.specs.Data.{Data, item}
 use Rattle.serde_json.specs.Read.{of_items}
 use Rattle.serde_json.specs.View.{items_of}
 use Rattle.serde_json.specs.Written.{items_outline}
-use Rattle.reply_texts.specs.Tokens.{tokens_of, Reads}
+use Rattle.reply_texts.specs.Tokens.{tokens_of, ReadsBack}
 
 module _ {X : Type 0} (f : X → Data) where
   -- the tokens of the rest of a list, with its closing bracket
@@ -29,7 +29,7 @@ module _ {X : Type 0} (f : X → Data) where
       ∙ sym (ap (λ ys. old ++ rest_tokens ys) (next_item xs i d below)) ∙ was
 
   -- one more item reads as itself
-  pub reads_turn : (xs : List X) (i : ℕ) (d : X) → i < length xs → Reads (f (get_or xs i d)) → (RestReads (drop i xs) → RestReads xs) → RestReads (drop (i + 1) xs) → RestReads xs
+  pub reads_turn : (xs : List X) (i : ℕ) (d : X) → i < length xs → ReadsBack (f (get_or xs i d)) → (RestReads (drop i xs) → RestReads xs) → RestReads (drop (i + 1) xs) → RestReads xs
   reads_turn xs i d below one was rest =
       let first : RestReads (get_or xs i d ∷ drop (i + 1) xs) =
       ap (option_and_then (λ x. option_map (item x) (of_items (items_outline (items_of (map f (drop (i + 1) xs))))))) one ∙ ap (option_map (item (f (get_or xs i d)))) rest in

@@ -10,9 +10,9 @@ use Rattle.serde_json.specs.Find.{of_integer}
 use Rattle.serde_json.specs.Read.{read, of_json, max_depth}
 use Rattle.serde_json.specs.Written.{outline, items_outline, members_outline}
 use Rattle.serde_json.proofs.Numbers.{number_of-decimal, number_of-negative}
-use Rattle.reply_texts.specs.Tokens.{tokens_of, Reads}
+use Rattle.reply_texts.specs.Tokens.{tokens_of, ReadsBack}
 
-pub integer_reads : (z : ℤ) → SFits w64 z → Reads (number (of_integer z))
+pub integer_reads : (z : ℤ) → SFits w64 z → ReadsBack (number (of_integer z))
 integer_reads (pos n) fits = ap (option_map number) (number_of-decimal n (grind arith))
 integer_reads (negsuc n) fits = ap (option_map number) (number_of-negative n (grind arith))
 
@@ -34,7 +34,7 @@ mutual
   depth-members (member k d ms) = ap₂ max (depth-outline d) (depth-members ms)
 
 -- a text with a value's tokens reads as the value
-pub read_back : (d : Data) (text : List ℕ) → tokens text ≡ tokens_of d → Reads d → depth d ≤ max_depth → read text ≡ Some d
+pub read_back : (d : Data) (text : List ℕ) → tokens text ≡ tokens_of d → ReadsBack d → depth d ≤ max_depth → read text ≡ Some d
 read_back d text same reads shallow =
     ap (λ o. option_and_then of_json (option_and_then (λ p. json.if_last p.0 p.1) o))
     (ap (json.value max_depth) (same ∙ sym (append-nil (tokens_of d))) ∙ value-json_tokens (outline d) max_depth [] (omega (arith, depth-outline d)))

@@ -11,5 +11,5 @@ abbrev pub tokens_of : Data → List Token
 tokens_of d = json_tokens (outline d)
 
 -- the tokens read as the value: its numbers have at most 64 bits, and no key comes before an earlier one
-abbrev pub Reads : Data → Type 0
-Reads d = of_json (outline d) ≡ Some d
+abbrev pub ReadsBack : Data → Type 0
+ReadsBack d = of_json (outline d) ≡ Some d

@@ -5,7 +5,7 @@ ghost use Rattle.reply_values.specs.Json.{natural};
 ghost use Rattle.reply_items.specs.Names.{node_data};
 ghost use Rattle.reply_items.specs.Series.{pair_data, series_data};
 ghost use Rattle.reply_texts.specs.Texts.{series_of};
-ghost use Rattle.reply_texts.specs.Tokens.{tokens_of, Reads};
+ghost use Rattle.reply_texts.specs.Tokens.{tokens_of, ReadsBack};
 
 use crate::tokens::{Tokens, put_list, write_text};
 use json::Writer;
@@ -24,7 +24,7 @@ impl Tokens for u8 {
 
 fn write_time(t: u64, out: &mut Writer) -> Result<(), AllocError>
     ensures tokens { OnOk result (out.new.tokens ≡ out.old.tokens ++ tokens_of (natural t)) }
-    ensures reads { Reads (natural t) }
+    ensures reads { ReadsBack (natural t) }
     ensures before { out.new.before ≡ out.old.before }
 {
     out.u64(t)
@@ -32,7 +32,7 @@ fn write_time(t: u64, out: &mut Writer) -> Result<(), AllocError>
 
 fn write_value(v: i64, out: &mut Writer) -> Result<(), AllocError>
     ensures tokens { OnOk result (out.new.tokens ≡ out.old.tokens ++ tokens_of (number (of_integer v))) }
-    ensures reads { Reads (number (of_integer v)) }
+    ensures reads { ReadsBack (number (of_integer v)) }
     ensures before { out.new.before ≡ out.old.before }
 {
     out.i64(v)
@@ -57,7 +57,7 @@ fn write_series(
     out: &mut Writer,
 ) -> Result<(), AllocError>
     ensures tokens { OnOk result (out.new.tokens ≡ out.old.tokens ++ tokens_of (series_of id.now points.now)) }
-    ensures reads { OnOk result (Reads (series_of id.now points.now)) }
+    ensures reads { OnOk result (ReadsBack (series_of id.now points.now)) }
     ensures before { out.new.before ≡ out.old.before }
 {
     out.begin_object()?;

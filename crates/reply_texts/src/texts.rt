@@ -6,7 +6,7 @@ ghost use Rattle.serde_json.specs.Data.{depth};
 ghost use Rattle.serde_json.specs.Read.{read, max_depth};
 ghost use Rattle.serde_json.specs.Written.{compact_text};
 ghost use Rattle.reply_values.specs.Json.{object_of};
-ghost use Rattle.reply_texts.specs.Tokens.{tokens_of, Reads};
+ghost use Rattle.reply_texts.specs.Tokens.{tokens_of, ReadsBack};
 ghost use Rattle.reply_texts.specs.Texts.{acks_fields, found_fields};
 
 use crate::tokens::{put_list, write_flag};
@@ -25,7 +25,7 @@ const FIRST_SERIES: usize = 64;
 
 fn write_acks(acks: &[u8], instances: &[Instance], out: &mut Writer) -> Result<(), AllocError>
     ensures tokens { OnOk result (out.new.tokens ≡ out.old.tokens ++ tokens_of (object_of (acks_fields instances.now acks.now))) }
-    ensures reads { OnOk result (Reads (object_of (acks_fields instances.now acks.now))) }
+    ensures reads { OnOk result (ReadsBack (object_of (acks_fields instances.now acks.now))) }
     ensures before { out.new.before ≡ out.old.before }
 {
     out.begin_object()?;
@@ -41,7 +41,7 @@ fn write_found(
     out: &mut Writer,
 ) -> Result<(), AllocError>
     ensures tokens { OnOk result (out.new.tokens ≡ out.old.tokens ++ tokens_of (object_of (found_fields series.now short))) }
-    ensures reads { OnOk result (Reads (object_of (found_fields series.now short))) }
+    ensures reads { OnOk result (ReadsBack (object_of (found_fields series.now short))) }
     ensures before { out.new.before ≡ out.old.before }
 {
     out.begin_object()?;

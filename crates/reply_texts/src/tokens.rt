@@ -1,7 +1,7 @@
 ghost use Rattle.std.specs.Prelude.{◌≡◌, ◌++◌, [], ◌∷◌, OnOk};
 ghost use Rattle.json.specs.Token.{key, string, boolean};
 ghost use Rattle.reply_values.specs.Json.{list_of};
-ghost use Rattle.reply_texts.specs.Tokens.{tokens_of, Reads};
+ghost use Rattle.reply_texts.specs.Tokens.{tokens_of, ReadsBack};
 
 use json::Writer;
 use m3_model::Instance;
@@ -18,7 +18,7 @@ pub(crate) trait Tokens {
 
     fn write(&self, instances: &[Instance], out: &mut Writer) -> Result<(), AllocError>
         ensures tokens { OnOk result (out.new.tokens ≡ out.old.tokens ++ tokens_of (data_of instances.now self.now)) }
-        ensures reads { OnOk result (Reads (data_of instances.now self.now)) }
+        ensures reads { OnOk result (ReadsBack (data_of instances.now self.now)) }
         ensures before { out.new.before ≡ out.old.before };
 }
 
@@ -47,7 +47,7 @@ fn write_list<T: Tokens>(
     out: &mut Writer,
 ) -> Result<(), AllocError>
     ensures tokens { OnOk result (out.new.tokens ≡ out.old.tokens ++ tokens_of (list_of (T.data_of instances.now) items.now)) }
-    ensures reads { OnOk result (Reads (list_of (T.data_of instances.now) items.now)) }
+    ensures reads { OnOk result (ReadsBack (list_of (T.data_of instances.now) items.now)) }
     ensures before { out.new.before ≡ out.old.before }
 {
     out.begin_array()?;
@@ -65,7 +65,7 @@ pub(crate) fn put_list<T: Tokens>(
     out: &mut Writer,
 ) -> Result<(), AllocError>
     ensures tokens { OnOk result (out.new.tokens ≡ out.old.tokens ++ key name.now ∷ tokens_of (list_of (T.data_of instances.now) items.now)) }
-    ensures reads { OnOk result (Reads (list_of (T.data_of instances.now) items.now)) }
+    ensures reads { OnOk result (ReadsBack (list_of (T.data_of instances.now) items.now)) }
     ensures before { out.new.before ≡ out.old.before }
 {
     out.key(name)?;

@@ -7,7 +7,7 @@ ghost use Rattle.retention.specs.Expiry.{has_ended};
 
 use m3_model::{Rules, Space};
 
-/// The namespace at this place, if it is there.
+/// The namespace at this position, if it is there.
 pub fn space_of(rules: &Rules, ns: u8) -> Option<&Space>
     ensures { option_copied result ≡ slice_get rules.entry.now.spaces ns }
 {

@@ -77,7 +77,7 @@ fn read_of(ns: u8, series: u8, level: u8, range: &str) -> Read {
     }
 }
 
-fn is_same_place(a: &Point, b: &Point) -> bool {
+fn is_same_key(a: &Point, b: &Point) -> bool {
     a.ns == b.ns && a.series == b.series && a.t == b.t
 }
 
@@ -105,22 +105,22 @@ fn found_in(alloc: Global, ns: u8, answer: &str) -> Result<Vec<Point>, Memory> {
     Ok(found)
 }
 
-// Whether all of these are points that were written, that the read asks for and that haven't expired, each place once.
+// Whether all of these are points that were written, that the read asks for and that haven't expired, each position once.
 fn are_written(model: &Model, read: &Read, found: &[Point]) -> bool {
     found.iter().all(|p| {
         read.asks_for(p)
             && !has_expired(model.now, p)
-            && found.iter().filter(|q| is_same_place(p, q)).count() == 1
+            && found.iter().filter(|q| is_same_key(p, q)).count() == 1
             && model
                 .written
                 .iter()
-                .any(|q| is_same_place(p, q) && p.v == q.v)
+                .any(|q| is_same_key(p, q) && p.v == q.v)
     })
 }
 
 // Whether the point is among those found, or a higher value is.
 fn is_kept(p: &Point, found: &[Point]) -> bool {
-    found.iter().any(|q| is_same_place(p, q) && p.v <= q.v)
+    found.iter().any(|q| is_same_key(p, q) && p.v <= q.v)
 }
 
 impl Model {
@@ -168,8 +168,8 @@ impl Model {
     }
 
     fn runs(&self, node: u8) -> bool {
-        match place_of(node) {
-            Some(place) => !self.stopped[place],
+        match position_of(node) {
+            Some(position) => !self.stopped[position],
             None => false,
         }
     }
@@ -187,11 +187,11 @@ impl Model {
     }
 
     fn is_stop(&mut self, node: u8, answer: &str) -> bool {
-        match place_of(node) {
+        match position_of(node) {
             None => answer == "?x",
-            Some(place) if self.stopped[place] => answer.starts_with('='),
-            Some(place) => {
-                self.stopped[place] = true;
+            Some(position) if self.stopped[position] => answer.starts_with('='),
+            Some(position) => {
+                self.stopped[position] = true;
                 answer == "ok"
             }
         }
@@ -199,21 +199,21 @@ impl Model {
 
     // A disk that fails leaves the node stopped.
     fn is_restart(&mut self, node: u8, answer: &str) -> bool {
-        match place_of(node) {
+        match position_of(node) {
             None => answer == "?x",
-            Some(place) if !self.stopped[place] => answer.starts_with('='),
-            Some(place) => {
-                self.stopped[place] = answer != "ok";
+            Some(position) if !self.stopped[position] => answer.starts_with('='),
+            Some(position) => {
+                self.stopped[position] = answer != "ok";
                 answer == "ok" || answer.starts_with('~')
             }
         }
     }
 
     fn is_bootstrap(&self, node: u8, shard: &str, answer: &str) -> bool {
-        match place_of(node) {
+        match position_of(node) {
             None => answer == "?x",
             Some(_) if self.shards <= number(shard) => answer.trim_start_matches('?') == shard,
-            Some(place) if self.stopped[place] => answer.starts_with('='),
+            Some(position) if self.stopped[position] => answer.starts_with('='),
             Some(_) => answer.starts_with("v1") || answer.starts_with('~'),
         }
     }
@@ -298,8 +298,8 @@ impl Model {
     }
 }
 
-fn place_of(node: u8) -> Option<usize>
-    ensures { IfSome result (λ place. place < 3) }
+fn position_of(node: u8) -> Option<usize>
+    ensures { IfSome result (λ position. position < 3) }
 {
     match node {
         b'a' => Some(0),

@@ -13,7 +13,7 @@ use Rattle.series_id.specs.Names.{is_later_byte, begins_no_name, BeginsWithName}
 use Rattle.m3_model.specs.Identifiers.{begins_tagged, IsIdentifier}
 use Rattle.m3_model.specs.declared.limits.TheConstants.{MOST_ID_BYTES, MOST_TAGS}
 use Rattle.series_id.specs.Faults.{IsNameFault, IsSpellingFault, IsValueFault, IsTagFault, BeginsWithTag, IsEndFault, listed, last_name, MayFollow, FaultsAfter}
-use Rattle.series_id.specs.Places.{Closes}
+use Rattle.series_id.specs.Positions.{Closes}
 use Rattle.series_id.proofs.Orders.{below_trans, not_below_itself, not_both_below}
 use Rattle.series_id.proofs.Unique.{same_name, name_bytes, same_value, tag_text-append, same_tag, tail_of, joined_tail, same_tags}
 
@@ -81,12 +81,12 @@ named_so : (o : List ℕ × List ℕ) (rest y name later : List ℕ) → IsTrue 
 named_so o rest y name later h e b = same_name name o.0 later (61 ∷ 34 ∷ (escaped o.1 ++ 34 ∷ y)) (name_bytes name b.named) (name_bytes o.0 h) b.ends refl (sym b.split ∙ e ∙ tag_text-append o y)
 
 no_name_fault : (before : List ℕ) (at : ℕ) (o : List ℕ × List ℕ) (rest y : List ℕ) (e : IdErr) → IsTrue (is_tag_name o.0) → IsBelow before o.0 → rest ≡ tag_text o ++ y → IsNameFault before at rest e → ⊥
-no_name_fault before at o rest y (Name place) h above split f = begins_name o.0 _ h (subst (λ x. IsTrue (begins_no_name x)) (split ∙ tag_text-append o y) f.1)
+no_name_fault before at o rest y (Name position) h above split f = begins_name o.0 _ h (subst (λ x. IsTrue (begins_no_name x)) (split ∙ tag_text-append o y) f.1)
 no_name_fault before at o rest y Order h above split f = not_both_below before o.0 above (subst (λ n. IsBelow n before) (named_so o rest y f.0 f.1 h split f.2).0 f.3)
 no_name_fault before at o rest y Repeat h above split f = not_below_itself o.0 (subst (λ n. IsBelow n o.0) (named_so o rest y before f.0 h split f.1).0 above)
 no_name_fault before at o rest y Empty h above split f = f
 no_name_fault before at o rest y Long h above split f = f
-no_name_fault before at o rest y (Escape place) h above split f = f
+no_name_fault before at o rest y (Escape position) h above split f = f
 no_name_fault before at o rest y Brace h above split f = f
 no_name_fault before at o rest y Memory h above split f = f
 
@@ -95,12 +95,12 @@ no_spelling_fault at value y spelling Brace split f =
     let same = same_value f.0 value [] (34 ∷ y) refl refl (append-nil (escaped f.0) ∙ sym f.1 ∙ split) in
     let never : [] ≡ 34 ∷ y = same.1 in
     cc
-no_spelling_fault at value y spelling (Escape place) split f =
+no_spelling_fault at value y spelling (Escape position) split f =
     let same = same_value f.0 value (92 ∷ f.1) (34 ∷ y) f.3 refl (sym f.2 ∙ split) in
     let never : 92 ∷ f.1 ≡ 34 ∷ y = same.1 in
     let first : ◌≡◌ {A = ℕ} 92 34 = cc in
     absurd (omega (arith, first))
-no_spelling_fault at value y spelling (Name place) split f = f
+no_spelling_fault at value y spelling (Name position) split f = f
 no_spelling_fault at value y spelling Order split f = f
 no_spelling_fault at value y spelling Repeat split f = f
 no_spelling_fault at value y spelling Empty split f = f
@@ -128,10 +128,10 @@ no_end_fault number (u ∷ os) later Long few split f = absurd (omega (arith, f.
 no_end_fault number [] later Brace few split f = f.1 split
 no_end_fault number (u ∷ os) later Brace few split f = f.0 (tag_text u ++ tail_of os) split
 no_end_fault number os later Empty few split f = f
-no_end_fault number os later (Name place) few split f = f
+no_end_fault number os later (Name position) few split f = f
 no_end_fault number os later Order few split f = f
 no_end_fault number os later Repeat few split f = f
-no_end_fault number os later (Escape place) few split f = f
+no_end_fault number os later (Escape position) few split f = f
 no_end_fault number os later Memory few split f = f
 
 no_fault : (before : List ℕ) (at read : ℕ) (tags : List (List ℕ × List ℕ)) (rest : List ℕ) (o : List ℕ × List ℕ) (os : List (List ℕ × List ℕ)) (e : IdErr) → MayFollow before tags → MayFollow before (o ∷ os) → read + (1 + length os) ≤ MOST_TAGS

@@ -30,12 +30,12 @@ NameKinds before at text e = ((e ≡ Name at) × IsTrue (begins_no_name text))
     ⊎ ((e ≡ Repeat) × ((later : List ℕ) × BeginsWithName text before later)))
 
 name_kinds : (before : List ℕ) (at : ℕ) (text : List ℕ) (e : IdErr) → IsNameFault before at text e → NameKinds before at text e
-name_kinds before at text (Name place) f = inl (ap Name f.0, f.1)
+name_kinds before at text (Name position) f = inl (ap Name f.0, f.1)
 name_kinds before at text Order f = inr (inl (refl, f))
 name_kinds before at text Repeat f = inr (inr (refl, f))
 name_kinds before at text Empty f = absurd f
 name_kinds before at text Long f = absurd f
-name_kinds before at text (Escape place) f = absurd f
+name_kinds before at text (Escape position) f = absurd f
 name_kinds before at text Brace f = absurd f
 name_kinds before at text Memory f = absurd f
 
@@ -62,8 +62,8 @@ SpellingKinds at text e = ((e ≡ Brace) × ((value : List ℕ) × (text ≡ esc
 
 spelling_kinds : (at : ℕ) (text : List ℕ) (e : IdErr) → IsSpellingFault at text e → SpellingKinds at text e
 spelling_kinds at text Brace f = inl (refl, f)
-spelling_kinds at text (Escape place) f = inr (f.0, f.1, f.2, f.3, ap Escape f.4)
-spelling_kinds at text (Name place) f = absurd f
+spelling_kinds at text (Escape position) f = inr (f.0, f.1, f.2, f.3, ap Escape f.4)
+spelling_kinds at text (Name position) f = absurd f
 spelling_kinds at text Order f = absurd f
 spelling_kinds at text Repeat f = absurd f
 spelling_kinds at text Empty f = absurd f
@@ -109,10 +109,10 @@ end_kinds : (number : ℕ) (text : List ℕ) (e : IdErr) → IsEndFault number t
 end_kinds number text Long f = inl (refl, f.0, f.1)
 end_kinds number text Brace f = inr (refl, f.0)
 end_kinds number text Empty f = absurd f
-end_kinds number text (Name place) f = absurd f
+end_kinds number text (Name position) f = absurd f
 end_kinds number text Order f = absurd f
 end_kinds number text Repeat f = absurd f
-end_kinds number text (Escape place) f = absurd f
+end_kinds number text (Escape position) f = absurd f
 end_kinds number text Memory f = absurd f
 
 same_end_fault : (number : ℕ) (text : List ℕ) (e f : IdErr) → EndKinds number text e → EndKinds number text f → e ≡ f
@@ -121,22 +121,22 @@ same_end_fault number text e f (inl a) (inr b) = absurd (b.1 a.2.0 a.2.1)
 same_end_fault number text e f (inr a) (inl b) = absurd (a.1 b.2.0 b.2.1)
 same_end_fault number text e f (inr a) (inr b) = a.0 ∙ sym b.0
 
--- a fault at a place, in the tag or after it
-abbrev PlaceFault : List ℕ → ℕ → ℕ → List ℕ → IdErr → Type 0
-PlaceFault before at number text e = IsTagFault before at text e ⊎ ((tag : List ℕ × List ℕ) × (later : List ℕ) × BeginsWithTag before text tag later × IsEndFault number later e)
+-- a fault at a position, in the tag or after it
+abbrev PositionFault : List ℕ → ℕ → ℕ → List ℕ → IdErr → Type 0
+PositionFault before at number text e = IsTagFault before at text e ⊎ ((tag : List ℕ × List ℕ) × (later : List ℕ) × BeginsWithTag before text tag later × IsEndFault number later e)
 
-same_place_fault : (before : List ℕ) (at number : ℕ) (text : List ℕ) (e f : IdErr) → PlaceFault before at number text e → PlaceFault before at number text f → e ≡ f
-same_place_fault before at number text e f (inl a) (inl b) = same_tag_fault before at text e f a b
-same_place_fault before at number text e f (inl a) (inr b) = absurd (no_tag_fault before at b.0 text b.1 e b.2.named b.2.above b.2.split a)
-same_place_fault before at number text e f (inr a) (inl b) = absurd (no_tag_fault before at a.0 text a.1 f a.2.named a.2.above a.2.split b)
-same_place_fault before at number text e f (inr a) (inr b) =
+same_position_fault : (before : List ℕ) (at number : ℕ) (text : List ℕ) (e f : IdErr) → PositionFault before at number text e → PositionFault before at number text f → e ≡ f
+same_position_fault before at number text e f (inl a) (inl b) = same_tag_fault before at text e f a b
+same_position_fault before at number text e f (inl a) (inr b) = absurd (no_tag_fault before at b.0 text b.1 e b.2.named b.2.above b.2.split a)
+same_position_fault before at number text e f (inr a) (inl b) = absurd (no_tag_fault before at a.0 text a.1 f a.2.named a.2.above a.2.split b)
+same_position_fault before at number text e f (inr a) (inr b) =
     let same = same_tag a.0 b.0 a.1 b.1 a.2.named b.2.named (sym a.2.split ∙ b.2.split) in
     same_end_fault number b.1 e f (end_kinds number b.1 e (subst (λ l. IsEndFault number l e) same.1 a.3)) (end_kinds number b.1 f b.3)
 
 -- no fault where a tag and a `,` stand, of a number below 32
-no_place_fault : (before : List ℕ) (at number : ℕ) (text : List ℕ) (tag : List ℕ × List ℕ) (more : List ℕ) (e : IdErr) → IsTrue (is_tag_name tag.0) → IsBelow before tag.0 → number < MOST_TAGS → text ≡ tag_text tag ++ 44 ∷ more → PlaceFault before at number text e → ⊥
-no_place_fault before at number text tag more e named above few split (inl a) = no_tag_fault before at tag text (44 ∷ more) e named above split a
-no_place_fault before at number text tag more e named above few split (inr a) =
+no_position_fault : (before : List ℕ) (at number : ℕ) (text : List ℕ) (tag : List ℕ × List ℕ) (more : List ℕ) (e : IdErr) → IsTrue (is_tag_name tag.0) → IsBelow before tag.0 → number < MOST_TAGS → text ≡ tag_text tag ++ 44 ∷ more → PositionFault before at number text e → ⊥
+no_position_fault before at number text tag more e named above few split (inl a) = no_tag_fault before at tag text (44 ∷ more) e named above split a
+no_position_fault before at number text tag more e named above few split (inr a) =
     let same = same_tag a.0 tag a.1 (44 ∷ more) a.2.named named (sym a.2.split ∙ split) in
     elim (end_kinds number a.1 e a.3) as (λ _. ⊥) [ inl k ↦ absurd (omega (arith, k.1)) | inr k ↦ k.1 more same.1 ]
 
@@ -148,23 +148,23 @@ shifted_number read tag tags = omega arith
 
 one_fault : (before : List ℕ) (at read : ℕ) (ts us : List (List ℕ × List ℕ)) (x y : List ℕ) (e f : IdErr) → MayFollow before ts → MayFollow before us → read + length ts < MOST_TAGS → read + length us < MOST_TAGS
     → listed ts ++ x ≡ listed us ++ y
-    → PlaceFault (last_name before ts) (at + length (listed ts)) (read + length ts + 1) x e → PlaceFault (last_name before us) (at + length (listed us)) (read + length us + 1) y f → e ≡ f
-one_fault before at read [] [] x y e f ht hu lt lu split a b = same_place_fault before (at + 0) (read + 0 + 1) y e f (subst (λ z. PlaceFault before (at + 0) (read + 0 + 1) z e) split a) b
+    → PositionFault (last_name before ts) (at + length (listed ts)) (read + length ts + 1) x e → PositionFault (last_name before us) (at + length (listed us)) (read + length us + 1) y f → e ≡ f
+one_fault before at read [] [] x y e f ht hu lt lu split a b = same_position_fault before (at + 0) (read + 0 + 1) y e f (subst (λ z. PositionFault before (at + 0) (read + 0 + 1) z e) split a) b
 one_fault before at read [] (u ∷ us) x y e f ht hu lt lu split a b =
-    absurd (no_place_fault before (at + 0) (read + 0 + 1) x u (listed us ++ y) e hu.0 hu.1 (omega arith) (split ∙ append_assoc (tag_text u) (44 ∷ listed us) y) a)
+    absurd (no_position_fault before (at + 0) (read + 0 + 1) x u (listed us ++ y) e hu.0 hu.1 (omega arith) (split ∙ append_assoc (tag_text u) (44 ∷ listed us) y) a)
 one_fault before at read (t ∷ ts) [] x y e f ht hu lt lu split a b =
-    absurd (no_place_fault before (at + 0) (read + 0 + 1) y t (listed ts ++ x) f ht.0 ht.1 (omega arith) (sym split ∙ append_assoc (tag_text t) (44 ∷ listed ts) x) b)
+    absurd (no_position_fault before (at + 0) (read + 0 + 1) y t (listed ts ++ x) f ht.0 ht.1 (omega arith) (sym split ∙ append_assoc (tag_text t) (44 ∷ listed ts) x) b)
 one_fault before at read (t ∷ ts) (u ∷ us) x y e f ht hu lt lu split a b =
     let same : (t ≡ u) × (44 ∷ (listed ts ++ x) ≡ 44 ∷ (listed us ++ y)) = same_tag t u _ _ ht.0 hu.0 (sym (append_assoc (tag_text t) (44 ∷ listed ts) x) ∙ split ∙ append_assoc (tag_text u) (44 ∷ listed us) y) in
     let next : 44 ∷ (listed ts ++ x) ≡ 44 ∷ (listed us ++ y) = same.1 in
     let more : listed ts ++ x ≡ listed us ++ y = cc in
-    let here : PlaceFault (last_name t.0 ts) (at + (length (tag_text t) + 1) + length (listed ts)) (read + 1 + length ts + 1) x e
-    = subst (λ n. PlaceFault (last_name t.0 ts) n (read + 1 + length ts + 1) x e) (shifted_at at t ts) (subst (λ n. PlaceFault (last_name t.0 ts) (at + length (listed (t ∷ ts))) n x e) (shifted_number read t ts) a) in
-    let there : PlaceFault (last_name u.0 us) (at + (length (tag_text u) + 1) + length (listed us)) (read + 1 + length us + 1) y f
-    = subst (λ n. PlaceFault (last_name u.0 us) n (read + 1 + length us + 1) y f) (shifted_at at u us) (subst (λ n. PlaceFault (last_name u.0 us) (at + length (listed (u ∷ us))) n y f) (shifted_number read u us) b) in
+    let here : PositionFault (last_name t.0 ts) (at + (length (tag_text t) + 1) + length (listed ts)) (read + 1 + length ts + 1) x e
+    = subst (λ n. PositionFault (last_name t.0 ts) n (read + 1 + length ts + 1) x e) (shifted_at at t ts) (subst (λ n. PositionFault (last_name t.0 ts) (at + length (listed (t ∷ ts))) n x e) (shifted_number read t ts) a) in
+    let there : PositionFault (last_name u.0 us) (at + (length (tag_text u) + 1) + length (listed us)) (read + 1 + length us + 1) y f
+    = subst (λ n. PositionFault (last_name u.0 us) n (read + 1 + length us + 1) y f) (shifted_at at u us) (subst (λ n. PositionFault (last_name u.0 us) (at + length (listed (u ∷ us))) n y f) (shifted_number read u us) b) in
     let follow : MayFollow t.0 us = subst (λ s. MayFollow s.0 us) (sym same.0) hu.2 in
-    let moved : PlaceFault (last_name t.0 us) (at + (length (tag_text t) + 1) + length (listed us)) (read + 1 + length us + 1) y f
-    = subst (λ s. PlaceFault (last_name s.0 us) (at + (length (tag_text s) + 1) + length (listed us)) (read + 1 + length us + 1) y f) (sym same.0) there in
+    let moved : PositionFault (last_name t.0 us) (at + (length (tag_text t) + 1) + length (listed us)) (read + 1 + length us + 1) y f
+    = subst (λ s. PositionFault (last_name s.0 us) (at + (length (tag_text s) + 1) + length (listed us)) (read + 1 + length us + 1) y f) (sym same.0) there in
     one_fault t.0 (at + (length (tag_text t) + 1)) (read + 1) ts us x y e f ht.2 follow (omega arith) (omega arith) more here moved
 
 plus_none : (n : ℕ) → n ≡ 0 + n
@@ -175,8 +175,8 @@ one_after text ts us x y e f a b =
     let both : 123 ∷ (listed ts ++ x) ≡ 123 ∷ (listed us ++ y) = sym a.goes_on.begins ∙ b.goes_on.begins in
     let inside : listed ts ++ x ≡ listed us ++ y = cc in
     one_fault [] 1 0 ts us x y e f a.goes_on.follow b.goes_on.follow (omega (arith, a.goes_on.few)) (omega (arith, b.goes_on.few)) inside
-    (subst (λ n. PlaceFault (last_name [] ts) (1 + length (listed ts)) (n + 1) x e) (plus_none (length ts)) a.faults)
-    (subst (λ n. PlaceFault (last_name [] us) (1 + length (listed us)) (n + 1) y f) (plus_none (length us)) b.faults)
+    (subst (λ n. PositionFault (last_name [] ts) (1 + length (listed ts)) (n + 1) x e) (plus_none (length ts)) a.faults)
+    (subst (λ n. PositionFault (last_name [] us) (1 + length (listed us)) (n + 1) y f) (plus_none (length us)) b.faults)
 
 not_empty : (text : List ℕ) (ts : List (List ℕ × List ℕ)) (x : List ℕ) (e : IdErr) → text ≡ [] → FaultsAfter text ts x e → ⊥
 not_empty text ts x e h a = let never : [] ≡ 123 ∷ (listed ts ++ x) = sym h ∙ a.goes_on.begins in cc

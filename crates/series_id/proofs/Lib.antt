@@ -3,7 +3,7 @@ pub mod Groups
 pub mod Orders
 pub mod Names
 pub mod Spellings
-pub mod Places
+pub mod Positions
 pub mod Unique
 pub mod Excluded
 pub mod Walks

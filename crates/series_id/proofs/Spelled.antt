@@ -10,10 +10,10 @@ use Rattle.m3_model.specs.declared.limits.TheConstants.{MOST_ID_BYTES, MOST_TAGS
 use Rattle.series_id.specs.declared.id_err.IdErr.{IdErr}
 use Rattle.series_id.specs.declared.id_err.IdErr.TheVariants.{Empty, Long, Name, Order, Repeat, Escape, Brace, Memory}
 use Rattle.series_id.specs.Faults.{listed, last_name, MayFollow}
-use Rattle.series_id.specs.Given.{IsAddedFault, IsLaterFault, HasFault, IsFine, IsOutcome, IsGivenFault}
+use Rattle.series_id.specs.Given.{IsAddedFault, IsLaterFault, HasFault, IsFine, SpellsTags, IsGivenFault}
 use Rattle.series_id.proofs.Orders.{not_below_itself, not_both_below}
 use Rattle.series_id.proofs.Spellings.{escaped-append}
-use Rattle.series_id.proofs.Places.{follow_push, length-push, last_name-push}
+use Rattle.series_id.proofs.Positions.{follow_push, length-push, last_name-push}
 use Rattle.series_id.proofs.Texts.{utf8_tag_text, utf8_mark, utf8_brace}
 use Rattle.series_id.proofs.Unique.{tail_of, joined_tail}
 use Rattle.series_id.proofs.Excluded.{follow_of, closes_spelled}
@@ -93,11 +93,11 @@ follow_at before (t ∷ earlier) tag later h = follow_at t.0 earlier tag later h
 
 not_added : (number : ℕ) (before : List ℕ) (at : ℕ) (name : List ℕ) (e : IdErr) → number < MOST_TAGS → IsTrue (is_tag_name name) → IsBelow before name → IsAddedFault number before at name e → ⊥
 not_added number before at name Long few named above f = absurd (omega (arith, f))
-not_added number before at name (Name place) few named above f = let never : true ≡ false = sym named ∙ f.1 in cc
+not_added number before at name (Name position) few named above f = let never : true ≡ false = sym named ∙ f.1 in cc
 not_added number before at name Order few named above f = not_both_below before name above f.2
 not_added number before at name Repeat few named above f = not_below_itself name (subst (λ b. IsBelow b name) (sym f.2) above)
 not_added number before at name Empty few named above f = f
-not_added number before at name (Escape place) few named above f = f
+not_added number before at name (Escape position) few named above f = f
 not_added number before at name Brace few named above f = f
 not_added number before at name Memory few named above f = f
 
@@ -156,16 +156,16 @@ begun_more tags n tag text pushed after before name value mark at fault found h 
     let same : tag_text (name, value) ≡ tag_text tag = λ i. tag_text (en i, ev i) in
     let marked : mark ≡ cond (length done == 0) 123 44 = em ∙ ap (λ k. cond (k == 0) 123 44) count in
     let text_is : after ≡ (opened done ++ mark ∷ []) ++ tag_text tag = ef ∙ ap (λ xs. pushed ++ xs) same ∙ ap (λ xs. xs ++ tag_text tag) (ep ∙ ap (λ xs. xs ++ mark ∷ []) b.spelled) in
-    let place : at ≡ 1 + length (listed done) = omega (arith, ea, ap length ep, length-append text (mark ∷ []), ap length b.spelled, opened_length done) in
+    let position : at ≡ 1 + length (listed done) = omega (arith, ea, ap length ep, length-append text (mark ∷ []), ap length b.spelled, opened_length done) in
     record {
       spelled = text_is ∙ sym (opened-push done tag mark marked) ∙ ap opened more;
       utf8 = subst IsUtf8 (sym (ef ∙ ap (λ xs. xs ++ tag_text (name, value)) ep)) (IsUtf8-append (text ++ mark ∷ []) (tag_text (name, value)) (IsUtf8-append text (mark ∷ []) b.utf8 (utf8_mark mark (n == 0) em)) (utf8_tag_text (name, value) un uv));
       behind = en ∙ sym (last_name-push [] done tag) ∙ ap (last_name []) more;
       names = subst (λ ts. MatchOption found (IsFine ts) (HasFault ts)) more
-          (fault_step done tag before n at fault found count b.behind place b.names (subst (λ x. IsLaterFault n before at x fault found) en later));
+          (fault_step done tag before n at fault found count b.behind position b.names (subst (λ x. IsLaterFault n before at x fault found) en later));
     }
 
-pub begun_all : (tags : List (List ℕ × List ℕ)) (n : ℕ) (text closed before : List ℕ) (fault : Option IdErr) → length tags ≤ n → closed ≡ text ++ 125 ∷ [] → IsBegun tags n text before fault → IsOutcome tags closed fault
+pub begun_all : (tags : List (List ℕ × List ℕ)) (n : ℕ) (text closed before : List ℕ) (fault : Option IdErr) → length tags ≤ n → closed ≡ text ++ 125 ∷ [] → IsBegun tags n text before fault → SpellsTags tags closed fault
 begun_all tags n text closed before fault h e b =
     let all : take n tags ≡ tags = take_all n tags h in
     let brace : IsUtf8 (125 ∷ []) = utf8_brace in
@@ -175,13 +175,13 @@ begun_all tags n text closed before fault h e b =
       names = subst (λ ts. MatchOption fault (IsFine ts) (HasFault ts)) all b.names;
     }
 
-pub outcome_spelled : (tags : List (List ℕ × List ℕ)) (text : List ℕ) → 0 < length tags → length text ≤ MOST_ID_BYTES → IsOutcome tags text None → IsSpelledBy text tags
+pub outcome_spelled : (tags : List (List ℕ × List ℕ)) (text : List ℕ) → 0 < length tags → length text ≤ MOST_ID_BYTES → SpellsTags tags text None → IsSpelledBy text tags
 outcome_spelled tags text some short o = closes_spelled text tags (record { spelled = o.spelled some; follow = o.names.follow; some = some; few = o.names.few }) o.utf8 short
 
-pub outcome_long : (tags : List (List ℕ × List ℕ)) (text : List ℕ) (fault : Option IdErr) → 0 < length tags → MOST_ID_BYTES < length text → IsOutcome tags text fault → IsGivenFault tags Long
+pub outcome_long : (tags : List (List ℕ × List ℕ)) (text : List ℕ) (fault : Option IdErr) → 0 < length tags → MOST_ID_BYTES < length text → SpellsTags tags text fault → IsGivenFault tags Long
 outcome_long tags text fault some long o = inr (inl (omega (arith, long, ap length (o.spelled some)), refl))
 
-pub outcome_fault : (tags : List (List ℕ × List ℕ)) (text : List ℕ) (e : IdErr) → 0 < length tags → length text ≤ MOST_ID_BYTES → IsOutcome tags text (Some e) → IsGivenFault tags e
+pub outcome_fault : (tags : List (List ℕ × List ℕ)) (text : List ℕ) (e : IdErr) → 0 < length tags → length text ≤ MOST_ID_BYTES → SpellsTags tags text (Some e) → IsGivenFault tags e
 outcome_fault tags text e some short o = inr (inr (omega (arith, short, ap length (o.spelled some)), o.names))
 
 pub some_tags : (tags : List (List ℕ × List ℕ)) (empty : Bool) → empty ≡ (length tags == 0) → empty ≡ false → 0 < length tags

@@ -41,7 +41,7 @@ pub no_name : (name : List ℕ) → length name ≡ 0 → is_tag_name name ≡ f
 no_name [] h = refl
 no_name (b ∷ bs) h = absurd (omega arith)
 
--- the place of the wrong byte of something that is no name
+-- the position of the wrong byte of something that is no name
 pub wrong_some : (name : List ℕ) (at : ℕ) → at ≡ wrong_at name → at ≤ length name → (0 < length name → at ≢ length name) → is_tag_name name ≡ false
 wrong_some [] at e within apart = refl
 wrong_some (b ∷ bs) at e within apart =

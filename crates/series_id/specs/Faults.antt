@@ -8,7 +8,7 @@ use Rattle.series_id.specs.declared.id_err.IdErr.TheVariants as errors
 
 -- where a name has to begin none does, or it isn't above the one before it; `at` bytes stand before the name
 abbrev pub IsNameFault : List ℕ → ℕ → List ℕ → IdErr → Type 0
-IsNameFault before at text (errors.Name place) = (place ≡ at) × IsTrue (begins_no_name text)
+IsNameFault before at text (errors.Name position) = (position ≡ at) × IsTrue (begins_no_name text)
 IsNameFault before at text errors.Order = (name : List ℕ) × (later : List ℕ) × BeginsWithName text name later × IsBelow name before
 IsNameFault before at text errors.Repeat = (later : List ℕ) × BeginsWithName text before later
 IsNameFault before at text _ = ⊥
@@ -25,8 +25,8 @@ IsClosedAt text n = (value : List ℕ) × (later : List ℕ) × (text ≡ escape
 -- no `"` ends the value, or `\` escapes nothing; `at` bytes stand before the value
 abbrev pub IsSpellingFault : ℕ → List ℕ → IdErr → Type 0
 IsSpellingFault at text errors.Brace = (value : List ℕ) × (text ≡ escaped value)
-IsSpellingFault at text (errors.Escape place) = (value : List ℕ) × (later : List ℕ)
-    × (text ≡ escaped value ++ 92 ∷ later) × IsTrue (escapes_nothing later) × (place ≡ at + length (escaped value))
+IsSpellingFault at text (errors.Escape position) = (value : List ℕ) × (later : List ℕ)
+    × (text ≡ escaped value ++ 92 ∷ later) × IsTrue (escapes_nothing later) × (position ≡ at + length (escaped value))
 IsSpellingFault at text _ = ⊥
 
 -- the text begins with `="`, a value in this spelling, and `"`

@@ -8,7 +8,7 @@ use Rattle.series_id.specs.Faults.{listed, last_name, MayFollow}
 use Rattle.series_id.specs.declared.id_err.IdErr.{IdErr}
 use Rattle.series_id.specs.declared.id_err.IdErr.TheVariants as errors
 
--- the place of the first byte that no name has there, or the end
+-- the position of the first byte that no name has there, or the end
 abbrev pub wrong_at : List ℕ → ℕ
 wrong_at [] = 0
 wrong_at (b ∷ bs) = if is_first_byte b then 1 + prefix_len is_later_byte bs else 0
@@ -16,7 +16,7 @@ wrong_at (b ∷ bs) = if is_first_byte b then 1 + prefix_len is_later_byte bs el
 -- a name behind so many tags and `at` bytes, after the name `before`: it is one too many, or no name, or not above that one
 abbrev pub IsAddedFault : ℕ → List ℕ → ℕ → List ℕ → IdErr → Type 0
 IsAddedFault number before at name errors.Long = number ≡ MOST_TAGS
-IsAddedFault number before at name (errors.Name place) = (number < MOST_TAGS) × (is_tag_name name ≡ false) × (place ≡ at + wrong_at name)
+IsAddedFault number before at name (errors.Name position) = (number < MOST_TAGS) × (is_tag_name name ≡ false) × (position ≡ at + wrong_at name)
 IsAddedFault number before at name errors.Order = (number < MOST_TAGS) × IsTrue (is_tag_name name) × IsBelow name before
 IsAddedFault number before at name errors.Repeat = (number < MOST_TAGS) × IsTrue (is_tag_name name) × (name ≡ before)
 IsAddedFault number before at name _ = ⊥
@@ -42,7 +42,7 @@ pub record IsFine (tags : List (List ℕ × List ℕ)) : Type 0 where
   pub few : length tags ≤ MOST_TAGS
 
 -- what these tags spell, and the first fault of their names, if there is one
-pub record IsOutcome (tags : List (List ℕ × List ℕ)) (text : List ℕ) (fault : Option IdErr) : Type 0 where
+pub record SpellsTags (tags : List (List ℕ × List ℕ)) (text : List ℕ) (fault : Option IdErr) : Type 0 where
   pub spelled : 0 < length tags → text ≡ tags_text tags
   pub utf8 : IsUtf8 text
   pub names : MatchOption fault (IsFine tags) (HasFault tags)

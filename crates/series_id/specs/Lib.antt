@@ -1,4 +1,4 @@
 pub mod Names
 pub mod Faults
-pub mod Places
+pub mod Positions
 pub mod Given

@@ -5,7 +5,7 @@ mod bytes;
 mod hash;
 mod id_err;
 pub mod laws;
-mod place;
+mod position;
 mod read;
 mod scan;
 mod series_id;

@@ -4,21 +4,21 @@ ghost use Rattle.m3_model.specs.Tags.{escaped, HasTags};
 ghost use Rattle.m3_model.specs.Identifiers.{IsPlain, IsIdentifier};
 ghost use Rattle.m3_model.specs.declared.limits.TheConstants.{MOST_ID_BYTES};
 ghost use Rattle.series_id.specs.Faults.{IsFirstFault};
-ghost use Rattle.series_id.specs.Places.{Stands};
+ghost use Rattle.series_id.specs.Positions.{StandsBefore};
 ghost use Rattle.series_id.specs.declared.id_err.IdErr.TheVariants as errors;
 
 use crate::id_err::IdErr;
-use crate::place::{Place, Tag};
+use crate::position::{Position, Tag};
 use crate::scan::next_tag;
 use m3_model::limits::MOST_ID_BYTES;
 use m3_model::{Memory, Text};
 use std::alloc::Global;
 
-// The place of the first tag, if the text begins with `{`.
-fn first_place(text: &[u8]) -> Result<Option<Place<'_>>, IdErr>
+// The position of the first tag, if the text begins with `{`.
+fn first_position(text: &[u8]) -> Result<Option<Position<'_>>, IdErr>
     requires { IsUtf8 text.now }
     ensures within { OnOk result (length text.now ≤ MOST_ID_BYTES) }
-    ensures ok { IfOk result (λ place. MatchOption place (IsPlain text.now) (Stands text.now [])) }
+    ensures ok { IfOk result (λ position. MatchOption position (IsPlain text.now) (StandsBefore text.now [])) }
     ensures fault { IfErr result (IsFirstFault text.now) }
     ensures refused { OnErr result (¬ IsIdentifier text.now) }
 {
@@ -29,7 +29,7 @@ fn first_place(text: &[u8]) -> Result<Option<Place<'_>>, IdErr>
         return Err(IdErr::Long);
     }
     match text {
-        [b'{', rest @ ..] => Ok(Some(Place {
+        [b'{', rest @ ..] => Ok(Some(Position {
             rest,
             before: &[],
             at: 1,
@@ -46,9 +46,9 @@ pub(crate) fn check(text: &[u8]) -> Result<(), IdErr>
     ensures fault { IfErr result (IsFirstFault text.now) }
     ensures refused { OnErr result (¬ IsIdentifier text.now) }
 {
-    let mut place = first_place(text)?;
-    while let Some(here) = place {
-        place = next_tag(here)?.next;
+    let mut position = first_position(text)?;
+    while let Some(here) = position {
+        position = next_tag(here)?.next;
     }
     Ok(())
 }
@@ -93,11 +93,11 @@ pub(crate) fn find(text: &[u8], name: &[u8], value: &[u8]) -> Result<bool, IdErr
     ensures refused { OnErr result (¬ IsIdentifier text.now) }
 {
     let mut found = false;
-    let mut place = first_place(text)?;
-    while let Some(here) = place {
+    let mut position = first_position(text)?;
+    while let Some(here) = position {
         let tag = next_tag(here)?;
         found |= is_tag(tag, name, value);
-        place = tag.next;
+        position = tag.next;
     }
     Ok(found)
 }
@@ -143,13 +143,13 @@ pub(crate) fn list(alloc: Global, text: &[u8]) -> Result<Vec<(Text, Text)>, IdEr
     ensures refused { IfErr result (λ e. (e ≡ errors.Memory) ⊎ (¬ IsIdentifier text.now)) }
 {
     let mut tags = Vec::new(alloc);
-    let mut place = first_place(text)?;
-    while let Some(here) = place {
+    let mut position = first_position(text)?;
+    while let Some(here) = position {
         let tag = next_tag(here)?;
         let name = text_of(Vec::from_slice(alloc, tag.name)?);
         let value = text_of(value_of(alloc, tag.spelling)?);
         tags.push((name, value))?;
-        place = tag.next;
+        position = tag.next;
     }
     Ok(tags)
 }

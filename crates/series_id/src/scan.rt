@@ -3,11 +3,11 @@ ghost use Rattle.m3_model.specs.Tags.{escaped};
 ghost use Rattle.m3_model.specs.declared.limits.TheConstants.{MOST_ID_BYTES, MOST_TAGS};
 ghost use Rattle.series_id.specs.Names.{begins_no_name, BeginsWithName, BeginsAbove};
 ghost use Rattle.series_id.specs.Faults.{escapes_nothing, IsNameFault, IsClosedAt, BeginsQuoted, IsSpellingFault, IsValueFault, IsTagFault, BeginsSpelled, IsEndFault, FaultsAfter};
-ghost use Rattle.series_id.specs.Places.{Stands, Reads};
+ghost use Rattle.series_id.specs.Positions.{StandsBefore, ReadsTag};
 
 use crate::bytes::{is_first_byte, name_len};
 use crate::id_err::IdErr;
-use crate::place::{Place, Tag};
+use crate::position::{Position, Tag};
 use m3_model::limits::MOST_TAGS;
 use std::cmp::Ordering;
 
@@ -115,15 +115,15 @@ fn read_end(text: &[u8], number: u32) -> Result<Option<&[u8]>, IdErr>
     }
 }
 
-// The tag at the place.
-pub(crate) fn next_tag(place: Place<'_>) -> Result<Tag<'_>, IdErr>
-    requires within { place.at + length place.rest.now ≤ MOST_ID_BYTES }
-    requires few { place.number < MOST_TAGS }
-    ensures ok { IfOk result (λ read. (text : List ℕ) (tags : List (List ℕ × List ℕ)) → Stands text tags place.entry → Reads text tags read) }
-    ensures err { IfErr result (λ e. (text : List ℕ) (tags : List (List ℕ × List ℕ)) → Stands text tags place.entry → FaultsAfter text tags place.entry.rest.now e) }
+// The tag at the position.
+pub(crate) fn next_tag(position: Position<'_>) -> Result<Tag<'_>, IdErr>
+    requires within { position.at + length position.rest.now ≤ MOST_ID_BYTES }
+    requires few { position.number < MOST_TAGS }
+    ensures ok { IfOk result (λ read. (text : List ℕ) (tags : List (List ℕ × List ℕ)) → StandsBefore text tags position.entry → ReadsTag text tags read) }
+    ensures err { IfErr result (λ e. (text : List ℕ) (tags : List (List ℕ × List ℕ)) → StandsBefore text tags position.entry → FaultsAfter text tags position.entry.rest.now e) }
 {
-    let (name, spelling, later) = read_tag(place.rest, place.before, place.at)?;
-    let number = place.number + 1;
+    let (name, spelling, later) = read_tag(position.rest, position.before, position.at)?;
+    let number = position.number + 1;
     match read_end(later, number)? {
         None => Ok(Tag {
             name,
@@ -133,10 +133,10 @@ pub(crate) fn next_tag(place: Place<'_>) -> Result<Tag<'_>, IdErr>
         Some(rest) => Ok(Tag {
             name,
             spelling,
-            next: Some(Place {
+            next: Some(Position {
                 rest,
                 before: name,
-                at: place.at + (place.rest.len() - rest.len()),
+                at: position.at + (position.rest.len() - rest.len()),
                 number,
             }),
         }),

@@ -63,7 +63,7 @@ pub fn parse(alloc: Global, text: &str) -> Result<SeriesId, IdErr>
 }
 
 /// The identifier that these tags spell; otherwise the tags' first fault: `Long` where what they spell has more than 512
-/// bytes, and else the first one from the left. `Name` tells the place of the faulty byte in the text that the tags would
+/// bytes, and else the first one from the left. `Name` tells the position of the faulty byte in the text that the tags would
 /// spell, which is 1 where there are no tags.
 ///
 /// See M3DB's page "Series ID and tags".

@@ -1,7 +1,7 @@
 ghost use Rattle.std.specs.Prelude.{◌≡◌, ◌≢◌, false, ℕ, ◌+◌, ◌<◌, ◌≤◌, ◌^◌, List, [], ◌∷◌, ◌++◌, length, IfOk, IfErr, OnOk, MatchOption, IsTrue, string_bytes, ◌==◌, if◌then◌else◌, ⊤};
 ghost use Rattle.m3_model.specs.Tags.{IsBelow, is_tag_name, escaped, tag_text, IsSpelledBy};
 ghost use Rattle.m3_model.specs.declared.limits.TheConstants.{MOST_TAGS};
-ghost use Rattle.series_id.specs.Given.{wrong_at, IsAddedFault, IsLaterFault, IsOutcome, IsGivenFault};
+ghost use Rattle.series_id.specs.Given.{wrong_at, IsAddedFault, IsLaterFault, SpellsTags, IsGivenFault};
 ghost use Rattle.series_id.specs.declared.id_err.IdErr.TheVariants as errors;
 
 use crate::bytes::{is_first_byte, name_len};
@@ -43,7 +43,7 @@ fn push_tag(text: &mut Vec<u8>, name: &[u8], value: &[u8]) -> Result<(), Memory>
     Ok(())
 }
 
-// The place of the first byte that no name has there, or the end.
+// The position of the first byte that no name has there, or the end.
 fn wrong_at(name: &[u8]) -> usize
     ensures exact { result ≡ wrong_at name.now }
     ensures within { result ≤ length name.now }
@@ -54,7 +54,7 @@ fn wrong_at(name: &[u8]) -> usize
     }
 }
 
-// The place of the first byte that keeps the text from being a tag's name.
+// The position of the first byte that keeps the text from being a tag's name.
 fn wrong_byte(name: &[u8]) -> Option<usize>
     ensures { MatchOption result (IsTrue (is_tag_name name.now)) (λ at. (is_tag_name name.now ≡ false) × (at ≡ wrong_at name.now) × (at ≤ length name.now)) }
 {
@@ -112,7 +112,7 @@ fn mark_before(number: usize) -> u8
 
 // The text of the tags, and the first fault of their names.
 fn spell(alloc: Global, tags: &[(Text, Text)]) -> Result<(Vec<u8>, Option<IdErr>), Memory>
-    ensures { IfOk result (λ outcome. IsOutcome tags.now outcome.0.items outcome.1) }
+    ensures { IfOk result (λ outcome. SpellsTags tags.now outcome.0.items outcome.1) }
 {
     let mut text = Vec::new(alloc);
     let mut fault = None;

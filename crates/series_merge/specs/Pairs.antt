@@ -26,7 +26,7 @@ first_pair a b = match_ordering (nat_cmp a.0 b.0)
     (record { pair = (a.0, higher (Some a.1) b.1); of_one = 1; of_other = 1 })
     (record { pair = b; of_one = 0; of_other = 1 })
 
--- it is the first of the pairs at these places
+-- it is the first of the pairs at these positions
 pub record IsNext (one other : List (ℕ × ℤ)) (i j : ℕ) (first : First) : Type 0 where
   pub in_one : i < length one
   pub in_other : j < length other

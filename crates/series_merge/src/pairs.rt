@@ -38,7 +38,7 @@ fn first_of(one: (u64, i64), other: (u64, i64)) -> First
     }
 }
 
-// The pair that comes next from these places on, unless one of the lists ends there.
+// The pair that comes next from these positions on, unless one of the lists ends there.
 fn next_of(one: &[(u64, i64)], i: usize, other: &[(u64, i64)], j: usize) -> Option<First>
     ensures { MatchOption result ((length one.now ≤ i) ⊎ (length other.now ≤ j)) (IsNext one.now other.now i j) }
 {

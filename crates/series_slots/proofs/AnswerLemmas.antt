@@ -31,12 +31,12 @@ use Rattle.series_slots.specs.declared.series_key.SeriesKey.{SeriesKey}
 use Rattle.series_slots.specs.SeriesKeys.{series_cmp, series_cmp_total, series_eq, series_of}
 use Rattle.series_slots.specs.Slots.{Slots, settled, value_at, valued, valued_in}
 use Rattle.series_slots.specs.Points.{AllSlots, points_of, slot_in, value_of}
-use Rattle.series_slots.specs.Places.{Places, slots_of}
+use Rattle.series_slots.specs.SeriesEntries.{SeriesEntries, slots_of}
 use Rattle.series_slots.specs.Ranges.{IsRangeOf, some_series, series_in}
 use Rattle.series_slots.proofs.HashLemmas.{strictly_of, flips_of}
 use Rattle.series_slots.proofs.MoveLemmas.{IsIn-moved, IsIn-flat, flat-IsIn}
 use Rattle.series_slots.proofs.PointLemmas.{series_cmp-IsAntisymmetric, get-points}
-use Rattle.series_slots.proofs.SeriesLemmas.{places_move}
+use Rattle.series_slots.proofs.SeriesLemmas.{series_move}
 
 abbrev pub pairs_of : ℕ → ℕ → Slots → List (ℕ × ℤ)
 pairs_of from to s = filter_map (valued_in from to) (entries s)
@@ -232,7 +232,7 @@ each_so P (y ∷ xs) h x m = elim m as (λ _. P x) [ inl e ↦ subst P e h.0 | i
 other_id : (a b : SeriesKey) → nat_eq a.ns b.ns ≡ true → series_eq a b ≡ false → pointwise nat_eq a.id b.id ≡ false
 other_id a b e h = sym (ap (λ c. c && pointwise nat_eq a.id b.id) e) ∙ h
 
-first_differs : (ns from to : ℕ) (e : SeriesKey × Slots) (es : Places) → AllByRecursion (λ k. series_eq e.0 k ≡ false) (keys_of es)
+first_differs : (ns from to : ℕ) (e : SeriesKey × Slots) (es : SeriesEntries) → AllByRecursion (λ k. series_eq e.0 k ≡ false) (keys_of es)
     → IsDistinct same_id (flat_map (series_in ns from to) es) → (b : Bool) → nat_eq e.0.ns ns ≡ b → (ps : List (ℕ × ℤ))
     → IsDistinct same_id (cond b (some_series e.0.id ps) [] ++ flat_map (series_in ns from to) es)
 unfolding IsDistinct
@@ -247,7 +247,7 @@ first_differs ns from to e es differ rest true t (p ∷ ps) = (
   rest,
 )
 
-all_differ : (ns from to : ℕ) (es : Places) → IsDistinct series_eq (keys_of es) → IsDistinct same_id (flat_map (series_in ns from to) es)
+all_differ : (ns from to : ℕ) (es : SeriesEntries) → IsDistinct series_eq (keys_of es) → IsDistinct same_id (flat_map (series_in ns from to) es)
 unfolding IsDistinct
 all_differ ns from to [] h = tt
 all_differ ns from to (e ∷ es) h = first_differs ns from to e es h.0 (all_differ ns from to es h.1) (nat_eq e.0.ns ns) refl (pairs_of from to e.1)
@@ -268,11 +268,11 @@ some_slots None t v e = cc
 some_slots (Some s) t v e = (s, refl)
 
 -- the range of a namespace
-pub space_range : (es : Places) (ns from to : ℕ) (wanted : _) (series : List Series) → IsDistinct series_eq (keys_of es) → IsPermutation (flat_map (series_in ns from to) es) series
+pub space_range : (es : SeriesEntries) (ns from to : ℕ) (wanted : _) (series : List Series) → IsDistinct series_eq (keys_of es) → IsPermutation (flat_map (series_in ns from to) es) series
     → IsSortedByKey (λ (s : Series). s.id) (slice_cmp nat_cmp) series → IsRangeOf (points_of (slots_of es)) (pick.Match ns wanted) from to series
 space_range es ns from to wanted series distinct moved sorted =
     let all : AllSlots = slots_of es in
-    let places = places_move es distinct in
+    let positions = series_move es distinct in
     let given : (s : Series) → IsIn series s → IsAnswered ns from to es s =
     λ s m. all_answered ns from to es s (IsIn-moved series (flat_map (series_in ns from to) es) (IsPermutation-sym (flat_map (series_in ns from to) es) series moved) s m) in
     record {
@@ -284,7 +284,7 @@ space_range es ns from to wanted series distinct moved sorted =
       nothing_else = λ p m.
           let at = point_in ns series p m in
           let is = given at.0 at.1 in
-          let entry : IsIn (entries all) (is.key, is.slots) = IsIn-moved es (entries all) places (is.key, is.slots) is.entry in
+          let entry : IsIn (entries all) (is.key, is.slots) = IsIn-moved es (entries all) positions (is.key, is.slots) is.entry in
           let found : finite.get all is.key ≡ Some is.slots = IsIn-get series_cmp series_cmp_total series_cmp-IsAntisymmetric all is.key is.slots entry in
           let same : series_of (key_of p) ≡ is.key = λ i. record { ns = (at.2 ∙ sym is.of_space) i; id = (at.3 ∙ is.stands.named) i } in
           let pair = pair_stands is.slots from to (p.t, p.v) (subst (λ ps. IsIn ps (p.t, p.v)) is.stands.pairs at.4) in
@@ -293,7 +293,7 @@ space_range es ns from to wanted series distinct moved sorted =
           let value : value_of all (key_of p) ≡ Some p.v = sym (get-points all (key_of p)) ∙ stands in
           let slots = some_slots (finite.get all (series_of (key_of p))) p.t p.v value in
           let here : value_at slots.0 p.t ≡ Some p.v = sym (ap (λ o. settled (slot_in o p.t)) slots.1) ∙ value in
-          let entry = IsIn-moved (entries all) es (IsPermutation-sym es (entries all) places) (series_of (key_of p), slots.0)
+          let entry = IsIn-moved (entries all) es (IsPermutation-sym es (entries all) positions) (series_of (key_of p), slots.0)
           (get-IsIn series_cmp series_cmp_total series_cmp-IsAntisymmetric all (series_of (key_of p)) slots.0 slots.1) in
           let pair = stands_pair slots.0 from to p.t p.v here range.0 range.1 in
           let one : IsIn (series_in ns from to (series_of (key_of p), slots.0)) (record { id = p.id; points = pairs_of from to slots.0 }) =

@@ -11,7 +11,7 @@ use Rattle.series_slots.specs.Slots.{Slots, settled, value_at}
 use Rattle.series_slots.specs.declared.series_key.SeriesKey.{SeriesKey}
 use Rattle.series_slots.specs.SeriesKeys.{key_at}
 use Rattle.series_slots.specs.Points.{slot_in, value_of}
-use Rattle.series_slots.specs.Places.{Places, slots_of}
+use Rattle.series_slots.specs.SeriesEntries.{SeriesEntries, slots_of}
 use Rattle.series_slots.specs.SlotPlaces.{SlotList, IsPlaceFrom}
 use Rattle.series_slots.specs.Firsts.{IsBareFrom, IsFirstFrom, HasNoneLater, IsFirstAt}
 use Rattle.series_slots.proofs.SlotLemmas.{Slot, below_at, rest_sorted, missed, is_less, is_greater, is_equal}
@@ -54,7 +54,7 @@ one_valued low slots x v es h is = record {
       ∙ ap settled (none_below q x es h.sorted (omega (arith, early)));
 }
 
--- ---- the slots from a place on
+-- ---- the slots from a position on
 
 take_whole : (es : SlotList) → take (length es) es ≡ es
 take_whole [] = refl
@@ -86,7 +86,7 @@ tail_of low (e ∷ es) (suc n) h bound before after =
       same = λ q from. ap (λ b. cond b (Some e.1) (find nat_cmp q es)) (ap is_eq (is_greater q e.0 (omega (arith, early, from)))) ∙ rest.same q from;
     })
 
--- at first the slots from the place on are left
+-- at first the slots from the position on are left
 pub left_at_first : (low : ℕ) (es : SlotList) (n : ℕ) → is_sorted nat_cmp es ≡ true → IsPlaceFrom low es n → IsLeft low (from_sorted {R = nat_cmp} es) (take (length es - n) (drop n es))
 left_at_first low es n h at =
     let tail = tail_of low es n h at.bound (λ k d l. at.before k d (omega arith) l) at.after in
@@ -96,22 +96,22 @@ left_at_first low es n h at =
       same = λ q from. ap settled (get-from_sorted nat_cmp es q (holds_of _ h) ∙ tail.same q from);
     }
 
--- ---- a series at its place
+-- ---- a series at its position
 
 some_of : (o : Option (Option ℤ)) (v : ℤ) → settled o ≡ Some v → IsSome o
 some_of None v e = cc
 some_of (Some slot) v e = refl
 
-value_found : (es : Places) (s : SeriesKey) (slots : Slots) (q : ℕ) → map.get (slots_of es) s ≡ Some slots → value_of (slots_of es) (key_at s q) ≡ value_at slots q
+value_found : (es : SeriesEntries) (s : SeriesKey) (slots : Slots) (q : ℕ) → map.get (slots_of es) s ≡ Some slots → value_of (slots_of es) (key_at s q) ≡ value_at slots q
 value_found es s slots q found = ap (λ o. settled (slot_in o q)) found
 
 -- its slots have no value from the time on
-pub none_later : (es : Places) (s : SeriesKey) (slots : Slots) (low : ℕ) → map.get (slots_of es) s ≡ Some slots → IsBareFrom slots low → HasNoneLater es s low
+pub none_later : (es : SeriesEntries) (s : SeriesKey) (slots : Slots) (low : ℕ) → map.get (slots_of es) s ≡ Some slots → IsBareFrom slots low → HasNoneLater es s low
 none_later es s slots low found bare q from = value_found es s slots q found ∙ bare q from
 
 -- the first value of its slots
-pub first_of : (es : Places) (place : ℕ) (s : SeriesKey) (slots : Slots) (low t : ℕ) (v : ℤ) → slice_get es place ≡ Some (s, slots) → map.get (slots_of es) s ≡ Some slots → IsFirstFrom slots low t v → IsFirstAt es place s low t v
-first_of es place s slots low t v entry found h = record {
+pub first_of : (es : SeriesEntries) (position : ℕ) (s : SeriesKey) (slots : Slots) (low t : ℕ) (v : ℤ) → slice_get es position ≡ Some (s, slots) → map.get (slots_of es) s ≡ Some slots → IsFirstFrom slots low t v → IsFirstAt es position s low t v
+first_of es position s slots low t v entry found h = record {
   from = h.from;
   stands = record { slots = slots; entry = entry; slot = some_of (map.get slots t) v h.value };
   value = value_found es s slots t found ∙ h.value;

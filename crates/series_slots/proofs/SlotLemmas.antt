@@ -65,7 +65,7 @@ not_falling es i j d h a b = by (cases_lt i j)
 index_rises : (a b t : ℕ) → a ≤ b → ordering_index (nat_cmp a t) ≤ ordering_index (nat_cmp b t)
 index_rises a b t h = grind (arith, nat_tests)
 
--- ---- the place of a time
+-- ---- the position of a time
 
 stands_within : (t : ℕ) (w : Option ℤ) (es : SlotList) (i : ℕ) → slice_get es i ≡ Some (t, w) → i < length es
 stands_within t w es i h = slice_get_within es i (t, w) h
@@ -104,8 +104,8 @@ after_last t es n x h long some is above = record {
   after = λ k d l u. absurd (omega arith);
 }
 
-pub place_of_slot : (t : ℕ) (es : SlotList) (i : ℕ) → is_sorted nat_cmp es ≡ true → IsSlotAt t es i → IsPlaceFrom t es i
-place_of_slot t es i h at = record {
+pub disk_slot_of : (t : ℕ) (es : SlotList) (i : ℕ) → is_sorted nat_cmp es ≡ true → IsSlotAt t es i → IsPlaceFrom t es i
+disk_slot_of t es i h at = record {
   bound = let inside = stands_within t at.slot es i at.stands in omega arith;
   before = λ k d l u. omega (arith, rising es k i d h u (stands_within t at.slot es i at.stands), time_at t at.slot es i d at.stands);
   after = λ k d l u. omega (arith, not_falling es i k d h l u, time_at t at.slot es i d at.stands);
@@ -157,7 +157,7 @@ cut from to (e ∷ es) (suc low) n bound before within after =
     cut from to es low n (omega arith) (λ k d l. before (suc k) d (omega arith)) (λ k d l u. within (suc k) d (omega arith) (omega arith)) (λ k d l u. after (suc k) d (omega arith) (omega arith))
     ∙ sym (ap (λ b. cons_option (cond b (valued e) None) (filter_map (valued_in from to) es)) misses)
 
--- the values between the places of two times are those of the range
+-- the values between the positions of two times are those of the range
 pub paired : (from to : ℕ) (es : SlotList) (low high : ℕ) → low ≤ high → IsPlaceFrom from es low → IsPlaceFrom to es high
     → filter_map valued (take (high - low) (drop low es)) ≡ filter_map (valued_in from to) es
 paired from to es low high h first last =
@@ -176,7 +176,7 @@ pub not_both : {X : Type 0} (o : Option X) → o ≡ None → is_some o ≡ true
 not_both None e h = cc
 not_both (Some x) e h = cc
 
--- ---- a change at the place of a time
+-- ---- a change at the position of a time
 
 insert_put : (t : ℕ) (v : Option ℤ) (es : SlotList) (i : ℕ) → i ≤ length es → ((k : ℕ) (d : Slot) → k < i → (get_or es k d).0 < t)
     → ((k : ℕ) (d : Slot) → i ≤ k → k < length es → t < (get_or es k d).0) → insert es i (t, v) ≡ put nat_cmp t v es

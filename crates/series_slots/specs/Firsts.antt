@@ -4,7 +4,7 @@ use Rattle.series_slots.specs.declared.series_key.SeriesKey.{SeriesKey}
 use Rattle.series_slots.specs.SeriesKeys.{key_at}
 use Rattle.series_slots.specs.Slots.{Slots, value_at}
 use Rattle.series_slots.specs.Points.{value_of}
-use Rattle.series_slots.specs.Places.{Places, StandsAt, slots_of}
+use Rattle.series_slots.specs.SeriesEntries.{SeriesEntries, StandsAt, slots_of}
 
 -- no slot from the time on has a value
 abbrev pub IsBareFrom : Slots → ℕ → Type 0
@@ -17,12 +17,12 @@ pub record IsFirstFrom (slots : Slots) (low t : ℕ) (v : ℤ) : Type 0 where
   pub first : (q : ℕ) → low ≤ q → q < t → value_at slots q ≡ None
 
 -- the series has no value from the time on
-abbrev pub HasNoneLater : Places → SeriesKey → ℕ → Type 0
+abbrev pub HasNoneLater : SeriesEntries → SeriesKey → ℕ → Type 0
 HasNoneLater es s low = (q : ℕ) → low ≤ q → value_of (slots_of es) (key_at s q) ≡ None
 
--- the first value from `low` on of the series at the place stands at the time
-pub record IsFirstAt (es : Places) (place : ℕ) (s : SeriesKey) (low t : ℕ) (v : ℤ) : Type 0 where
+-- the first value from `low` on of the series at the position stands at the time
+pub record IsFirstAt (es : SeriesEntries) (position : ℕ) (s : SeriesKey) (low t : ℕ) (v : ℤ) : Type 0 where
   pub from : low ≤ t
-  pub stands : StandsAt es place t s
+  pub stands : StandsAt es position t s
   pub value : value_of (slots_of es) (key_at s t) ≡ Some v
   pub first : (q : ℕ) → low ≤ q → q < t → value_of (slots_of es) (key_at s q) ≡ None

@@ -13,8 +13,8 @@ use Rattle.series_slots.specs.declared.series_key.SeriesKey.{SeriesKey}
 use Rattle.series_slots.specs.Slots.{Slots, valued_in}
 
 -- the content has this very point
-abbrev pub Stands : Contents → Point → Type 0
-Stands c p = map.get c (key_of p) ≡ Some p.v
+abbrev pub ContentHas : Contents → Point → Type 0
+ContentHas c p = map.get c (key_of p) ≡ Some p.v
 
 -- the point is of the series, or of the namespace, that the pick names; its matchers don't count
 abbrev pub IsNamedBy : Pick → Point → Type 0
@@ -24,8 +24,8 @@ IsNamedBy (pick.Match ns wanted) p = p.ns ≡ ns
 -- The series hold exactly the points of the content that the pick names and that lie in the range, in order.
 pub record IsRangeOf (c : Contents) (pick : Pick) (from to : ℕ) (series : List Series) : Type 0 where
   pub ordered : IsOrdered series
-  pub nothing_else : (p : Point) → IsIn (points_in (space_picked pick) series) p → Stands c p × IsNamedBy pick p × InRange from to p
-  pub whole : (p : Point) → Stands c p → IsNamedBy pick p → InRange from to p → IsIn (points_in (space_picked pick) series) p
+  pub nothing_else : (p : Point) → IsIn (points_in (space_picked pick) series) p → ContentHas c p × IsNamedBy pick p × InRange from to p
+  pub whole : (p : Point) → ContentHas c p → IsNamedBy pick p → InRange from to p → IsIn (points_in (space_picked pick) series) p
 
 -- the series with these pairs, if there are any
 abbrev pub some_series : List ℕ → List (ℕ × ℤ) → List Series

@@ -1,9 +1,9 @@
-//! The slots of series, each series at its place: at a time stands a value, or room for one.
+//! The slots of series, each series at its position: at a time stands a value, or room for one.
 #![tactic(auto)]
 
-pub mod placed;
+pub mod indexed;
 mod series_buffer;
 pub mod series_key;
 
-pub use placed::PlacedSeries;
+pub use indexed::IndexedSeries;
 pub use series_key::SeriesKey;

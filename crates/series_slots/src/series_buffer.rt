@@ -74,9 +74,9 @@ fn time_of(slot: &(u64, Option<i64>)) -> u64
     slot.0
 }
 
-// The place of the slot of this time, or else that where one would stand: in constant time after all slots, else in the
+// The position of the slot of this time, or else that where one would stand: in constant time after all slots, else in the
 // logarithm of them.
-fn place_of(slots: &VecDeque<(u64, Option<i64>)>, t: u64) -> Result<usize, usize>
+fn position_of(slots: &VecDeque<(u64, Option<i64>)>, t: u64) -> Result<usize, usize>
     requires { IsTrue (is_sorted nat_cmp slots.now.items) }
     ensures there { IfOk result (IsSlotAt t slots.now.items) }
     ensures absent { IfErr result (IsGapFor t slots.now.items) }
@@ -87,14 +87,14 @@ fn place_of(slots: &VecDeque<(u64, Option<i64>)>, t: u64) -> Result<usize, usize
     slots.binary_search_by_key(&t, time_of)
 }
 
-// The place of the first slot from this time on.
+// The position of the first slot from this time on.
 fn place_from(slots: &VecDeque<(u64, Option<i64>)>, t: u64) -> usize
     requires { IsTrue (is_sorted nat_cmp slots.now.items) }
     ensures { IsPlaceFrom t slots.now.items result }
 {
-    match place_of(slots, t) {
-        Ok(place) => place,
-        Err(place) => place,
+    match position_of(slots, t) {
+        Ok(position) => position,
+        Err(position) => position,
     }
 }
 
@@ -133,20 +133,20 @@ impl SeriesBuffer {
     pub(crate) fn get(&self, t: u64) -> Option<Option<i64>>
         ensures { result ≡ finite.get self.now t }
     {
-        match place_of(&self.slots, t) {
-            Ok(place) => Some(self.slots[place].1),
+        match position_of(&self.slots, t) {
+            Ok(position) => Some(self.slots[position].1),
             Err(_) => None,
         }
     }
 
-    // Makes the slot at this time one without a value. A new one moves the slots on its shorter side by a place.
+    // Makes the slot at this time one without a value. A new one moves the slots on its shorter side by a position.
     pub(crate) fn hold(&mut self, t: u64) -> Result<(), Memory>
         ensures ok { OnOk result (self.new ≡ finite.insert self.old t None) }
         ensures err { OnErr result (self.new ≡ self.old) }
     {
-        match place_of(&self.slots, t) {
-            Ok(place) => self.slots[place] = (t, None),
-            Err(place) => self.slots.insert(place, (t, None))?,
+        match position_of(&self.slots, t) {
+            Ok(position) => self.slots[position] = (t, None),
+            Err(position) => self.slots.insert(position, (t, None))?,
         }
         Ok(())
     }
@@ -157,24 +157,24 @@ impl SeriesBuffer {
         ensures raised { self.new ≡ finite.insert self.old t (Some (higher (value_at self.old t) v)) }
         ensures changed { result ≡ is_higher (value_at self.old t) v }
     {
-        match place_of(&self.slots, t) {
-            Ok(place) => {
-                let mut slot = self.slots[place].1;
+        match position_of(&self.slots, t) {
+            Ok(position) => {
+                let mut slot = self.slots[position].1;
                 let rises = raise_slot(&mut slot, v);
-                self.slots[place] = (t, slot);
+                self.slots[position] = (t, slot);
                 rises
             }
             Err(_) => false,
         }
     }
 
-    // Takes the slot at this time out. That moves the slots on its shorter side by a place.
+    // Takes the slot at this time out. That moves the slots on its shorter side by a position.
     pub(crate) fn take(&mut self, t: u64)
         ensures { self.new ≡ finite.remove self.old t }
     {
-        match place_of(&self.slots, t) {
-            Ok(place) => {
-                self.slots.remove(place);
+        match position_of(&self.slots, t) {
+            Ok(position) => {
+                self.slots.remove(position);
             }
             Err(_) => {}
         }
@@ -195,8 +195,8 @@ impl SeriesBuffer {
         ensures none { result ≡ None → IsBareFrom self.now low }
         ensures some { IfSome result (λ x. IsFirstFrom self.now low x.0 x.1) }
     {
-        let place = place_from(&self.slots, low);
-        for (t, slot) in self.slots.range(place..) {
+        let position = place_from(&self.slots, low);
+        for (t, slot) in self.slots.range(position..) {
             if let Some(value) = slot {
                 return Some((*t, *value));
             }

@@ -6,7 +6,7 @@ use std::cmp::Ordering;
 use std::hash::{Hash, Hasher};
 use std::mem;
 
-/// A series: the place of its namespace among the namespaces, and its identifier.
+/// A series: the position of its namespace among the namespaces, and its identifier.
 #[derive(Drop)]
 pub struct SeriesKey {
     pub ns: u8,

@@ -12,14 +12,14 @@ use Rattle.m3_outside.specs.Depots.{Depot}
 use Rattle.m3_outside.specs.DiskState.{DiskState}
 use Rattle.m3_outside.specs.Slots.{Held, Out}
 use Rattle.m3_outside.specs.declared.disk.Disk.{Ghosts}
-use Rattle.m3_outside.specs.declared.slot.Slot.{Slot as Place}
+use Rattle.m3_outside.specs.declared.slot.DiskSlot.{DiskSlot}
 use Rattle.replica_exchange.specs.declared.member.Member.{Member}
 use Rattle.replica_exchange.specs.declared.slot.Slot.{Slot}
 use Rattle.replica_calls.specs.Slots.{MemberMap}
 use Rattle.session_net.specs.Runs.{slot_at}
 use Rattle.cluster_members.specs.declared.members.Members.{Members}
 use Rattle.first_cluster.specs.First.{IsRefusedInit}
-use Rattle.first_cluster.specs.Depots.{AreOut, OwnedBy, place_of_slot}
+use Rattle.first_cluster.specs.Depots.{AreOut, OwnedBy, disk_slot_of}
 use Rattle.first_cluster.specs.Lending.{HasGivenBack, HasReturned, IsBack, IsGivenBack, IsKept, IsUntouched}
 use Rattle.cluster_tracks.specs.Acts.{Does, IsServedBy, OnMembers, next_call}
 use Rattle.cluster_tracks.specs.Slots.{KeepsSlots}
@@ -44,19 +44,19 @@ refused_returned state rf shards seed nodes old new _ h = absurd h
 
 module _ {D : Type 0} (state : D → DiskState) where
   -- after an `init` that was refused no disk is out
-  pub none_returned : (old new : Depot D) → ((place : Place) → old.held place ≢ Out) → HasReturned state old finite.empty new → (place : Place) → new.held place ≢ Out
-  none_returned old new none h place out = by (h.each (slot_at place.node place.shard))
+  pub none_returned : (old new : Depot D) → ((disk_slot : DiskSlot) → old.held disk_slot ≢ Out) → HasReturned state old finite.empty new → (disk_slot : DiskSlot) → new.held disk_slot ≢ Out
+  none_returned old new none h disk_slot out = by (h.each (slot_at disk_slot.node disk_slot.shard))
     where
-      by : IsUntouched old finite.empty new (slot_at place.node place.shard) ⊎ IsGivenBack state old finite.empty new (slot_at place.node place.shard) → ⊥
-      by (inl same) = none place (sym same.held ∙ out)
+      by : IsUntouched old finite.empty new (slot_at disk_slot.node disk_slot.shard) ⊎ IsGivenBack state old finite.empty new (slot_at disk_slot.node disk_slot.shard) → ⊥
+      by (inl same) = none disk_slot (sym same.held ∙ out)
       by (inr back) = (let clash = sym back.held ∙ out in cc)
 
   -- nor once those of all slots are given back
-  pub none_given_back : (slots : List Slot) (old new : Depot D) (members left : MemberMap D) → AreOut slots members old.held → HasGivenBack state slots old members new left → (place : Place) → new.held place ≢ Out
-  none_given_back slots old new members left own h place out = by (h.each s)
+  pub none_given_back : (slots : List Slot) (old new : Depot D) (members left : MemberMap D) → AreOut slots members old.held → HasGivenBack state slots old members new left → (disk_slot : DiskSlot) → new.held disk_slot ≢ Out
+  none_given_back slots old new members left own h disk_slot out = by (h.each s)
     where
       s : Slot
-      s = slot_at place.node place.shard
+      s = slot_at disk_slot.node disk_slot.shard
 
       -- one that kept its replica would be none of the slots, and of no other
       none_left : (o : Option (Member D)) → finite.get members s ≡ o → finite.get left s ≡ finite.get members s → finite.get members s ≡ None
@@ -71,7 +71,7 @@ module _ {D : Type 0} (state : D → DiskState) where
 
 -- ---- acts other than `init`
 
-module _ {D : Type 0} {G : Ghosts D} (state : D → DiskState) (held : Place → Held D) where
+module _ {D : Type 0} {G : Ghosts D} (state : D → DiskState) (held : DiskSlot → Held D) where
   owned_on : (m g : Members D G) → KeepsSlots m g → OwnedBy (Some m) held → OwnedBy (Some g) held
   owned_on m g keeps own = record {
     only = λ s away. (keeps.same s).1 (own.only s (λ i. away (subst (λ slots. IsIn slots s) (sym keeps.slots) i)));
@@ -79,7 +79,7 @@ module _ {D : Type 0} {G : Ghosts D} (state : D → DiskState) (held : Place →
     there = λ s none. own.there s ((keeps.same s).0 none);
   }
     where
-      by_old : (s : Slot) (o : Option (Member D)) → finite.get m.net.replicas.members s ≡ o → (finite.get m.net.replicas.members s ≡ None → ⊥) → held (place_of_slot s) ≡ Out
+      by_old : (s : Slot) (o : Option (Member D)) → finite.get m.net.replicas.members s ≡ o → (finite.get m.net.replicas.members s ≡ None → ⊥) → held (disk_slot_of s) ≡ Out
       by_old s None is some = absurd (some is)
       by_old s (Some r) is some = own.lent s r is
 

@@ -9,7 +9,7 @@ use Rattle.m3_model.specs.declared.turn.Request.{Request}
 use Rattle.m3_model.specs.declared.turn.Request.TheVariants as request
 use Rattle.m3_model.specs.declared.turn.Turn.{Turn}
 use Rattle.m3_outside.specs.Depots.{Depot, TellAll}
-use Rattle.m3_outside.specs.DiskState.{DiskState, IsLawful}
+use Rattle.m3_outside.specs.DiskState.{DiskState, IsLawfulDisk}
 use Rattle.m3_outside.specs.declared.disk.Disk.{Ghosts}
 use Rattle.event_trail.specs.Trails.{IsLegalOver}
 use Rattle.replica_calls.specs.Calls.{AreMembersOf}
@@ -17,7 +17,7 @@ use Rattle.transcripts.specs.Placements.{placement_after}
 use Rattle.transcripts.specs.Record.{inner_turns, line_of}
 use Rattle.cluster_members.specs.declared.members.Members.{Members}
 use Rattle.cluster_tracks.proofs.StandLemmas.{no_placement}
-use Rattle.cluster_tracks.specs.Tracks.{MayStand, events_of}
+use Rattle.cluster_tracks.specs.Tracks.{MayStandSo, events_of}
 use Rattle.cluster_tracks.specs.Lines.{EachMember, IsLeft}
 use Rattle.cluster_tracks.proofs.LineLemmas.{lines_are_tracked}
 use Rattle.served_cluster.specs.Acts.{Serves}
@@ -29,7 +29,7 @@ module _ {D : Type 0} {G : Ghosts D} (state : D → DiskState) where
   pub place_left : (c : Cluster D G) (tells : Bool) (first now : Depot D) (turns : List Turn) → TracksTurns state tells first now turns c → placement_after None (inner_turns turns) ≡ place_of c
   place_left c tells first now turns t = by c.members t.after
     where
-      by : (o : Option (Members D G)) → MayStand state tells now turns o → placement_after None (inner_turns turns) ≡ option_map (λ m. m.net.state.place) o
+      by : (o : Option (Members D G)) → MayStandSo state tells now turns o → placement_after None (inner_turns turns) ≡ option_map (λ m. m.net.state.place) o
       by None h = no_placement turns h.none
       by (Some m) h = h.stands.left.place
 
@@ -39,7 +39,7 @@ module _ {D : Type 0} {G : Ghosts D} (state : D → DiskState) where
   each_left tells tell (Some m) legal ready = record { legal = legal tells tell; ready = ready.0 }
 
   -- and with one more line they are tracked
-  pub tracks_on : ((d : D) → IsLawful (state d)) → (old new : Cluster D G) (before after : Depot D) (asked : Request) (a : Act) (b : Answer) → asked ≡ request.One a → IsServedAct a → EachMember old.members (λ m. AreMembersOf state m.net.replicas)
+  pub tracks_on : ((d : D) → IsLawfulDisk (state d)) → (old new : Cluster D G) (before after : Depot D) (asked : Request) (a : Act) (b : Answer) → asked ≡ request.One a → IsServedAct a → EachMember old.members (λ m. AreMembersOf state m.net.replicas)
       → Serves state before old a b after new → IsLegalOver state (events_of new.members) → AreReady new.members → (tells : Bool) (first : Depot D) (turns : List Turn) → TracksTurns state tells first before turns old
       → TracksTurns state tells first after (turns ++ record { request = asked; reply = reply.One b } ∷ []) new
   tracks_on lawful old new before after asked a b is served are h legal ready tells first turns t =

@@ -5,7 +5,7 @@ use Rattle.m3_outside.specs.Depots.{Depot}
 use Rattle.m3_outside.specs.DiskState.{DiskState}
 use Rattle.m3_outside.specs.Slots.{Held}
 use Rattle.m3_outside.specs.declared.disk.Disk.{Ghosts}
-use Rattle.m3_outside.specs.declared.slot.Slot.{Slot as Place}
+use Rattle.m3_outside.specs.declared.slot.DiskSlot.{DiskSlot}
 use Rattle.m3_model.specs.declared.turn.Turn.{Turn}
 use Rattle.session_net.specs.Ready.{IsReady}
 use Rattle.cluster_members.specs.declared.members.Members.{Members}
@@ -20,7 +20,7 @@ AreReady None = ⊤
 AreReady (Some m) = IsReady m.net.state m.net.replicas m.net.bag × AreManned m.slots.items m.net.replicas
 
 -- and the disks that are out are those of its replicas
-pub record MayServe {D : Type 0} {G : Ghosts D} (c : Cluster D G) (held : Place → Held D) : Type 0 where
+pub record MayServeCluster {D : Type 0} {G : Ghosts D} (c : Cluster D G) (held : DiskSlot → Held D) : Type 0 where
   pub owned : OwnedBy c.members held
   pub ready : AreReady c.members
 

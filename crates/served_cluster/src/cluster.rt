@@ -7,22 +7,22 @@ ghost use Rattle.m3_model.specs.Limits.{IsInit, MeetsLimits, KeepsLimits};
 ghost use Rattle.served_acts.specs.NotYet.{fills_its_nodes, IsServedAct, IsServed};
 ghost use Rattle.m3_outside.specs.Depots.{Depot, TellAll};
 ghost use Rattle.m3_outside.specs.Slots.{Out};
-ghost use Rattle.m3_outside.specs.declared.slot.Slot.{Slot as Place};
+ghost use Rattle.m3_outside.specs.declared.slot.DiskSlot.{DiskSlot};
 ghost use Rattle.event_trail.specs.Trails.{IsLegalOver};
 ghost use Rattle.replica_exchange.specs.declared.slot.Slot.{Slot as AtSlot};
 ghost use Rattle.replica_calls.specs.Calls.{AreMembersOf};
 ghost use Rattle.transcripts.specs.Placements.{placement_after};
 ghost use Rattle.transcripts.specs.Record.{IsAnsweredBy, inner_turns};
 ghost use Rattle.first_cluster.specs.Bare.{AreBare};
-ghost use Rattle.first_cluster.specs.Depots.{RisesBy, count_at, depot_by, place_of_slot};
+ghost use Rattle.first_cluster.specs.Depots.{RisesBy, count_at, depot_by, disk_slot_of};
 ghost use Rattle.cluster_tracks.specs.Ends.{replica_at};
 ghost use Rattle.cluster_tracks.specs.Tracks.{events_of};
 ghost use Rattle.cluster_tracks.specs.Numbers.{last_number};
 ghost use Rattle.replica_exchange.specs.declared.call_id.CallId.{CallId as CallName};
-ghost use Rattle.cluster_tracks.specs.Acts.{Does, IsMade};
+ghost use Rattle.cluster_tracks.specs.Acts.{Does, IsInitAnswer};
 ghost use Rattle.cluster_tracks.specs.Lines.{EachMember};
 ghost use Rattle.served_cluster.specs.Acts.{Answers, Serves, is_init, sets_fates};
-ghost use Rattle.served_cluster.specs.Owned.{AreReady, MayServe, TracksTurns, place_of};
+ghost use Rattle.served_cluster.specs.Owned.{AreReady, MayServeCluster, TracksTurns, place_of};
 
 use cluster_members::{Members, Range};
 use cluster_upkeep::{flush, snapshot, status, tick};
@@ -178,9 +178,9 @@ impl<D: Disk> Cluster<D> {
     ) -> Answer
         requires limits { IsInit rf shards seed nodes }
         requires apart { IsTrue (fills_its_nodes rf nodes) }
-        requires owned { MayServe self.old (X.held disks.old) }
-        ensures owned { MayServe self.new (X.held disks.new) }
-        ensures made { IsMade D.state (depot_by X.held X.counted X.all_faults disks.old) self.old.members rf shards seed nodes result (depot_by X.held X.counted X.all_faults disks.new) self.new.members }
+        requires owned { MayServeCluster self.old (X.held disks.old) }
+        ensures owned { MayServeCluster self.new (X.held disks.new) }
+        ensures made { IsInitAnswer D.state (depot_by X.held X.counted X.all_faults disks.old) self.old.members rf shards seed nodes result (depot_by X.held X.counted X.all_faults disks.new) self.new.members }
         ensures calls { self.new.calls ≡ self.old.calls }
     {
         if self.members.is_some() {
@@ -274,8 +274,8 @@ impl<D: Disk> Cluster<D> {
     fn serve_act<X: Disks<D = D>>(&mut self, alloc: Global, disks: &mut X, act: Act) -> Answer
         requires limits { MeetsLimits act }
         requires served { IsServedAct act }
-        requires owned { MayServe self.old (X.held disks.old) }
-        ensures owned { MayServe self.new (X.held disks.new) }
+        requires owned { MayServeCluster self.old (X.held disks.old) }
+        ensures owned { MayServeCluster self.new (X.held disks.new) }
         ensures answers { Serves D.state (depot_by X.held X.counted X.all_faults disks.old) self.old act result (depot_by X.held X.counted X.all_faults disks.new) self.new }
     {
         if let Act::Init {
@@ -299,8 +299,8 @@ impl<D: Disk> Cluster<D> {
     ) -> Reply
         requires limits { KeepsLimits request }
         requires served { IsServed request }
-        requires owned { MayServe self.old (X.held disks.old) }
-        ensures owned { MayServe self.new (X.held disks.new) }
+        requires owned { MayServeCluster self.old (X.held disks.old) }
+        ensures owned { MayServeCluster self.new (X.held disks.new) }
         ensures answered { IsAnsweredBy request result }
         ensures tracks { (tells : Bool) (first : Depot D) (turns : List Turn)
             → TracksTurns D.state tells first (record { held = X.held disks.old; counted = X.counted disks.old; faults = X.all_faults disks.old }) turns self.old
@@ -320,9 +320,9 @@ impl<D: Disk> Cluster<D> {
     /// Gives all disks back. The count of all faults rises by as much as those of the disks rose since they were taken.
     /// Takes no memory.
     pub fn close<X: Disks<D = D>>(self, disks: &mut X)
-        requires owned { MayServe self (X.held disks.old) }
-        ensures none_out { (place : Place) → X.held disks.new place ≢ Out }
-        ensures counted { (s : AtSlot) → X.counted disks.new (place_of_slot s)
+        requires owned { MayServeCluster self (X.held disks.old) }
+        ensures none_out { (slot : DiskSlot) → X.held disks.new slot ≢ Out }
+        ensures counted { (s : AtSlot) → X.counted disks.new (disk_slot_of s)
             ≡ count_at D.state (record { held = X.held disks.old; counted = X.counted disks.old; faults = X.all_faults disks.old }) (replica_at self.members s) s }
         ensures rose { RisesBy D.state (depot_by X.held X.counted X.all_faults disks.old) self.members (X.all_faults disks.new) }
         ensures later { X.all_faults disks.old ≤ X.all_faults disks.new }

@@ -2,12 +2,12 @@
 ghost use Rattle.std.specs.Prelude.{◌≡◌, IfOk, IsTrue};
 ghost use Rattle.m3_outside.specs.Causes.{count_after};
 ghost use Rattle.m3_outside.specs.Slots.{Out};
-ghost use Rattle.m3_outside.specs.declared.slot.Slot.{Slot as Place};
+ghost use Rattle.m3_outside.specs.declared.slot.DiskSlot.{DiskSlot as AtSlot};
 ghost use Rattle.mem_disk.specs.Slots.{held_of};
 
 use cluster_runs::run;
 use m3_model::Memory;
-use m3_outside::{DiskErr, Disks, Slot};
+use m3_outside::{DiskErr, DiskSlot, Disks};
 use mem_disk::{MemDisk, MemDisks};
 use std::alloc::Global;
 use std::test::Fail;
@@ -50,7 +50,7 @@ impl Disks for LockedDisks {
     ghost all_faults = { λ d. count_with (faults_of d.disks) d.faults };
 
     #[tactic(auto, using(crate::proofs::CountLemmas::counts_more, crate::proofs::CountLemmas::counts_same))]
-    fn take(&mut self, slot: Slot) -> Result<MemDisk, DiskErr> {
+    fn take(&mut self, slot: DiskSlot) -> Result<MemDisk, DiskErr> {
         if self.next_fails() {
             return Err(DiskErr::Failed);
         }
@@ -58,7 +58,7 @@ impl Disks for LockedDisks {
     }
 
     #[tactic(auto, using(crate::proofs::CountLemmas::counts_given, crate::proofs::CountLemmas::rose_given))]
-    fn give(&mut self, slot: Slot, disk: MemDisk) {
+    fn give(&mut self, slot: DiskSlot, disk: MemDisk) {
         self.disks.give(slot, disk);
     }
 
@@ -79,7 +79,7 @@ fn numbers(alloc: Global, text: &str) -> Result<Vec<u64>, Memory> {
 }
 
 fn locked(alloc: Global, fail: &str) -> Result<LockedDisks, Memory>
-    ensures { IfOk result (λ made. (place : Place) → ¬ (held_of made.disks place ≡ Out)) }
+    ensures { IfOk result (λ made. (slot : AtSlot) → ¬ (held_of made.disks slot ≡ Out)) }
 {
     let fail = numbers(alloc, fail)?;
     let disks = MemDisks::new(alloc)?;

@@ -12,13 +12,13 @@ use Rattle.cluster_core.specs.declared.event.Event.{Event}
 use Rattle.cluster_core.specs.declared.event.StepCall.{StepCall}
 use Rattle.cluster_core.specs.declared.event.StepReply.{StepReply}
 use Rattle.net_plan.specs.Fates.{FateMap}
-use Rattle.replica_exchange.specs.Steps.{reply_by}
-use Rattle.replica_exchange.specs.MachineCalls.{Promise, HasRoom, result_of}
-use Rattle.replica_exchange.specs.declared.call_err.CallErr.{CallErr}
-use Rattle.replica_exchange.specs.declared.call_err.CallErr.TheVariants as call_err
-use Rattle.replica_exchange.specs.declared.call_id.CallId.{CallId}
-use Rattle.replica_exchange.specs.declared.member.Member.{Member}
-use Rattle.replica_exchange.specs.declared.slot.Slot.{Slot}
+use Rattle.replica_calls.specs.Steps.{reply_by}
+use Rattle.replica_calls.specs.MachineCalls.{Promise, HasRoom, result_of}
+use Rattle.replica_calls.specs.CallErr.{CallErr}
+use Rattle.replica_calls.specs.TheVariants as call_err
+use Rattle.replica_calls.specs.CallId.{CallId}
+use Rattle.replica_calls.specs.Member.{Member}
+use Rattle.replica_calls.specs.Slot.{Slot}
 use Rattle.replica_calls.specs.Calls.{Tracked, IsMissed, MayCall}
 use Rattle.session_net.specs.Messages.{exchange, IsHeard, Heard, AreHeard, fate_to}
 use Rattle.session_net.specs.Brought.{Delivered, Brought}

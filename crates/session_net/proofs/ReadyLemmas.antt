@@ -22,10 +22,10 @@ use Rattle.cluster_core.proofs.ExtendLemmas.{any_more}
 use Rattle.cluster_core.proofs.ListLemmas.{some_same, in_at, at_any}
 use Rattle.net_plan.specs.Fates.{FateMap}
 use Rattle.net_plan.specs.declared.late_write.LateWrite.{LateWrite}
-use Rattle.replica_exchange.specs.MachineCalls.{HasRoom}
-use Rattle.replica_exchange.specs.declared.call_id.CallId.{CallId}
-use Rattle.replica_exchange.specs.declared.member.Member.{Member}
-use Rattle.replica_exchange.specs.declared.slot.Slot.{Slot}
+use Rattle.replica_calls.specs.MachineCalls.{HasRoom}
+use Rattle.replica_calls.specs.CallId.{CallId}
+use Rattle.replica_calls.specs.Member.{Member}
+use Rattle.replica_calls.specs.Slot.{Slot}
 use Rattle.replica_calls.specs.Calls.{Tracked}
 use Rattle.session_net.specs.Messages.{exchange, IsDelivery, IsHeard, Heard, AreHeard}
 use Rattle.session_net.specs.Ready.{IsReady, IsLateSend}

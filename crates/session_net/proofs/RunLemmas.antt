@@ -11,13 +11,13 @@ use Rattle.cluster_core.specs.declared.event.Event.{Event}
 use Rattle.cluster_core.specs.declared.event.Event.TheVariants as event
 use Rattle.cluster_core.specs.declared.event.StepCall.{StepCall}
 use Rattle.cluster_core.specs.declared.event.StepReply.{StepReply}
-use Rattle.replica_exchange.specs.Machines.{MachineState}
-use Rattle.replica_exchange.specs.Steps.{reply_by}
-use Rattle.replica_exchange.specs.MachineCalls.{Promise, AddsBoth}
-use Rattle.replica_exchange.specs.Exchanges.{ask_of, seen_in, IsNothing, HasAdded}
-use Rattle.replica_exchange.specs.declared.call_err.CallErr.{CallErr}
-use Rattle.replica_exchange.specs.declared.member.Member.{Member}
-use Rattle.replica_exchange.specs.declared.slot.Slot.{Slot}
+use Rattle.replica_calls.specs.Machines.{MachineState}
+use Rattle.replica_calls.specs.Steps.{reply_by}
+use Rattle.replica_calls.specs.MachineCalls.{Promise, AddsBoth}
+use Rattle.replica_calls.specs.Exchanges.{ask_of, seen_in, IsNothing, HasAdded}
+use Rattle.replica_calls.specs.CallErr.{CallErr}
+use Rattle.replica_calls.specs.Member.{Member}
+use Rattle.replica_calls.specs.Slot.{Slot}
 use Rattle.replica_calls.specs.Calls.{Tracked, WasCalled, IsNoStep}
 use Rattle.replica_calls.proofs.SlotLemmas.{get-insert_here, get-insert_other}
 use Rattle.session_net.specs.Messages.{exchange}
@@ -68,8 +68,8 @@ module _ {D : Type 0} (state : D → DiskState) where
   no_step (event.FetchDone start nodes series) none s = refl
 
   -- an event came that no replica makes
-  pub ran_added : (e : Event) (place : ℕ) (old new : Tracked D) → IsNoStep e → HasAdded IsNothing e place (seen_in old.events) (seen_in new.events) → new.members ≡ old.members → Ran state old (e ∷ []) new
-  ran_added e place old new none h same = record {
+  pub ran_added : (e : Event) (position : ℕ) (old new : Tracked D) → IsNoStep e → HasAdded IsNothing e position (seen_in old.events) (seen_in new.events) → new.members ≡ old.members → Ran state old (e ∷ []) new
+  ran_added e position old new none h same = record {
     grew = ap (λ x. x.events) h.after ∙ ap (λ b. (old.events ++ b) ++ e ∷ []) h.may_before ∙ ap (λ es. es ++ e ∷ []) (append-nil old.events);
     stepped = λ s. subst (λ steps. IsStepped state steps (finite.get old.members s) (finite.get new.members s)) (sym (no_step e none s))
         (subst (λ m. IsStepped state [] (finite.get old.members s) (finite.get m s)) (sym same) (stays (finite.get old.members s)));

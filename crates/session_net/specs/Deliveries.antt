@@ -11,7 +11,7 @@ use Rattle.cluster_core.specs.declared.event.StepCall.{StepCall}
 use Rattle.cluster_core.specs.declared.event.StepCall.TheVariants as call
 use Rattle.cluster_core.specs.declared.event.StepReply.TheVariants as reply
 use Rattle.net_plan.specs.declared.late_write.LateWrite.{LateWrite}
-use Rattle.replica_exchange.specs.MachineCalls.{HasRoom}
+use Rattle.replica_calls.specs.MachineCalls.{HasRoom}
 use Rattle.session_net.specs.Messages.{IsDelivery}
 use Rattle.session_net.specs.Runs.{Ran}
 use Rattle.session_net.specs.declared.net.Net.{Net}
@@ -38,7 +38,7 @@ AreDelivered rules (one ∷ late) (d ∷ deliveries) events =
 AreDelivered rules _ _ events = ⊥
 
 -- all late writes of the bag, which were few, were delivered, and it is empty
-pub record IsDelivered {D : Type 0} {G : Ghosts D} (state : D → DiskState) (old : Net D G) (outcomes : List (ℕ × ℕ × Option Reason)) (new : Net D G) : Type 0 where
+pub record HasDelivered {D : Type 0} {G : Ghosts D} (state : D → DiskState) (old : Net D G) (outcomes : List (ℕ × ℕ × Option Reason)) (new : Net D G) : Type 0 where
   pub few : length old.bag ≤ MOST_LATE_WRITES
   pub deliveries : List (LateWrite × Result ⊤ Reason)
   pub puts : List Event

@@ -9,9 +9,9 @@ use Rattle.cluster_core.specs.declared.event.Event.TheVariants as event
 use Rattle.cluster_core.specs.declared.event.StepCall.{StepCall}
 use Rattle.cluster_core.specs.declared.event.StepReply.{StepReply}
 use Rattle.net_plan.specs.Fates.{FateMap, fate_of}
-use Rattle.replica_exchange.specs.Steps.{reply_by}
-use Rattle.replica_exchange.specs.Exchanges.{ask_of}
-use Rattle.replica_exchange.specs.declared.call_id.CallId.{CallId}
+use Rattle.replica_calls.specs.Steps.{reply_by}
+use Rattle.replica_calls.specs.Exchanges.{ask_of}
+use Rattle.replica_calls.specs.CallId.{CallId}
 
 -- what becomes of the message of the call to the node
 abbrev pub fate_to : FateMap → CallId → ℕ → Fate

@@ -14,28 +14,28 @@ use Rattle.session_net.specs.declared.session_err.SessionErr.{SessionErr}
 use Rattle.session_net.specs.declared.session_err.SessionErr.TheVariants as err
 
 -- the nodes whose answers count for the shard, each once; in a lawful placement they ascend by name
-pub record AreCounted (place : Placement) (shard : ℕ) (nodes : List ℕ) : Type 0 where
+pub record AreCountedOnce (place : Placement) (shard : ℕ) (nodes : List ℕ) : Type 0 where
   pub same : IsPermutation (counted (shard_at place shard)) nodes
   pub by_name : IsLawful place → Ascends (IsNamedBelow place) nodes
 
 -- A node with the reason for which it didn't answer, or with none where it did.
-abbrev pub Told : Type 0
-Told = ℕ × Option Reason
+abbrev pub NodeOutcome : Type 0
+NodeOutcome = ℕ × Option Reason
 
 -- what is counted of what a node said
-abbrev pub told_of : {X : Type 0} → Heard X → Told
+abbrev pub told_of : {X : Type 0} → Heard X → NodeOutcome
 told_of x = (x.0, result_err x.1)
 
 -- the nodes that answered, in their order
-abbrev pub answering : List Told → List ℕ
+abbrev pub answering : List NodeOutcome → List ℕ
 answering told = map (λ x. x.0) (filter (λ x. is_none x.1) told)
 
 -- the others with their reasons, in their order
-abbrev pub refusing : List Told → List (ℕ × Reason)
+abbrev pub refusing : List NodeOutcome → List (ℕ × Reason)
 refusing told = filter_map (λ x. option_map (λ why. (x.0, why)) x.1) told
 
 -- fewer than due of the nodes that were asked of the shard answered, and the others have these reasons
-pub record IsTooFew (due asked : ℕ) (told : List Told) (shard needed got : ℕ) (reasons : List (ℕ × Reason)) : Type 0 where
+pub record IsTooFew (due asked : ℕ) (told : List NodeOutcome) (shard needed got : ℕ) (reasons : List (ℕ × Reason)) : Type 0 where
   pub shard_is : shard ≡ asked
   pub needed_is : needed ≡ due
   pub got_is : got ≡ length (answering told)

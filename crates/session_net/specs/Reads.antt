@@ -26,12 +26,12 @@ use Rattle.cluster_core.specs.declared.event.StepCall.{StepCall}
 use Rattle.cluster_core.specs.declared.event.StepCall.TheVariants as call
 use Rattle.cluster_core.specs.declared.event.StepReply.TheVariants as reply
 use Rattle.net_plan.specs.Fates.{FateMap}
-use Rattle.replica_exchange.specs.MachineCalls.{HasRoom}
-use Rattle.replica_exchange.specs.declared.call_id.CallId.{CallId}
+use Rattle.replica_calls.specs.MachineCalls.{HasRoom}
+use Rattle.replica_calls.specs.CallId.{CallId}
 use Rattle.replica_calls.specs.Calls.{Tracked}
-use Rattle.replica_exchange.specs.Damages.{IsFileDamage}
+use Rattle.replica_calls.specs.Damages.{IsFileDamage}
 use Rattle.session_net.specs.Messages.{Heard, AreHeard}
-use Rattle.session_net.specs.Outcomes.{Told, told_of, answering, AreCounted, IsTooFew}
+use Rattle.session_net.specs.Outcomes.{NodeOutcome, told_of, answering, AreCountedOnce, IsTooFew}
 use Rattle.session_net.specs.Runs.{Ran}
 use Rattle.session_net.specs.declared.net.Net.{Net}
 use Rattle.session_net.specs.declared.session_err.SessionErr.{SessionErr}
@@ -59,7 +59,7 @@ asked_shards state (pick.Match ns wanted) = count_from 0 (length state.place.sha
 
 -- ---- one shard
 
--- A read of one shard: the place at which it begins, the nodes that count for the shard, what each that was asked was heard to say, the events that its
+-- A read of one shard: the position at which it begins, the nodes that count for the shard, what each that was asked was heard to say, the events that its
 -- messages brought, and the series of its end.
 pub record ShardRead : Type 0 where
   pub begun : ℕ
@@ -69,7 +69,7 @@ pub record ShardRead : Type 0 where
   pub series : List Series
 
 -- what is counted of it
-abbrev pub told_in : ShardRead → List Told
+abbrev pub told_in : ShardRead → List NodeOutcome
 told_in r = map told_of r.heard
 
 -- the answers of those that answered
@@ -82,18 +82,18 @@ AreForms heard = (x : Heard (List Series)) → IsIn heard x → (damage : Damage
 
 -- all nodes that count for the shard were asked, one after the other
 pub record IsAsked (state : MetaState) (fates : FateMap) (id : CallId) (w : Wish) (shard : ℕ) (r : ShardRead) : Type 0 where
-  pub counted : AreCounted state.place shard r.nodes
+  pub counted : AreCountedOnce state.place shard r.nodes
   pub heard : AreHeard reply.Found fates id shard (read_of id state.rules state.place.version w) r.nodes r.heard r.reads
   pub forms : AreForms r.heard
 
 -- so many first ones of them were
 pub record IsPartlyAsked (state : MetaState) (fates : FateMap) (id : CallId) (w : Wish) (shard k : ℕ) (r : ShardRead) : Type 0 where
-  pub counted : AreCounted state.place shard r.nodes
+  pub counted : AreCountedOnce state.place shard r.nodes
   pub heard : AreHeard reply.Found fates id shard (read_of id state.rules state.place.version w) (take k r.nodes) r.heard r.reads
 
--- it began at this place, enough answered, and the series are the join of all their answers
-pub record IsEnded (w : Wish) (needed place : ℕ) (r : ShardRead) : Type 0 where
-  pub begun : r.begun ≡ place
+-- it began at this position, enough answered, and the series are the join of all their answers
+pub record IsEnded (w : Wish) (needed position : ℕ) (r : ShardRead) : Type 0 where
+  pub begun : r.begun ≡ position
   pub enough : needed ≤ length (answering (told_in r))
   pub joined : IsJoin (space_picked w.pick) (answers_in r) r.series
 
@@ -105,17 +105,17 @@ start_of state w shard = event.FetchStart state.place.version shard state.rules 
 abbrev pub done_of : ShardRead → Event
 done_of r = event.FetchDone r.begun (answering (told_in r)) r.series
 
--- the place of its end
+-- the position of its end
 abbrev pub ended_of : ShardRead → ℕ
 ended_of r = r.begun + (1 + length r.reads)
 
 -- ---- shards one after the other
 
--- the reads of these shards, each from its start to its end, of which the first begins at this place of the list
+-- the reads of these shards, each from its start to its end, of which the first begins at this position of the list
 abbrev pub AreRead : MetaState → FateMap → CallId → Wish → ℕ → ℕ → List ℕ → (ℕ → ShardRead) → List Event → Type 0
-AreRead state fates id w needed place [] reads events = events ≡ []
-AreRead state fates id w needed place (s ∷ shards) reads events =
-    IsAsked state fates id w s (reads s) × IsEnded w needed place (reads s) × (rest : List Event) × (events ≡ start_of state w s ∷ ((reads s).reads ++ done_of (reads s) ∷ rest))
+AreRead state fates id w needed position [] reads events = events ≡ []
+AreRead state fates id w needed position (s ∷ shards) reads events =
+    IsAsked state fates id w s (reads s) × IsEnded w needed position (reads s) × (rest : List Event) × (events ≡ start_of state w s ∷ ((reads s).reads ++ done_of (reads s) ∷ rest))
     × AreRead state fates id w needed (suc (ended_of (reads s))) shards reads rest
 
 -- the series have a point only where a shard's read has it, and cover each of theirs
@@ -126,7 +126,7 @@ pub record AreTogether (ns : ℕ) (shards : List ℕ) (reads : ℕ → ShardRead
 
 -- Enough nodes of each shard that is asked answered, and the series are all answers together. They are short exactly where the level is unstrict and fewer
 -- than a majority of one of the shards answered.
-pub record IsFound {D : Type 0} {G : Ghosts D} (disk : D → DiskState) (old : Net D G) (id : CallId) (w : Wish) (level : ReadLevel) (series : List Series) (short : Bool) (new : Net D G) : Type 0 where
+pub record IsReadFound {D : Type 0} {G : Ghosts D} (disk : D → DiskState) (old : Net D G) (id : CallId) (w : Wish) (level : ReadLevel) (series : List Series) (short : Bool) (new : Net D G) : Type 0 where
   pub reads : ℕ → ShardRead
   pub events : List Event
   pub are : AreRead old.state old.fates id w (needed_read level old.state.place.rf) (length old.replicas.events) (asked_shards old.state w.pick) reads events
@@ -137,9 +137,9 @@ pub record IsFound {D : Type 0} {G : Ghosts D} (disk : D → DiskState) (old : N
 -- ---- a fetch that doesn't find
 
 -- some first ones of the shards that are asked were read, each to its end, and these are left
-pub record WereRead (state : MetaState) (fates : FateMap) (id : CallId) (w : Wish) (needed place : ℕ) (before after : List ℕ) (reads : ℕ → ShardRead) (events : List Event) : Type 0 where
+pub record WereRead (state : MetaState) (fates : FateMap) (id : CallId) (w : Wish) (needed position : ℕ) (before after : List ℕ) (reads : ℕ → ShardRead) (events : List Event) : Type 0 where
   pub asked : asked_shards state w.pick ≡ before ++ after
-  pub are : AreRead state fates id w needed place before reads events
+  pub are : AreRead state fates id w needed position before reads events
 
 -- so many events the read of one shard may add: its FetchStart, two for each delivery to a node, of which there may be two, and its FetchDone
 abbrev pub most_added : List ℕ → ℕ
@@ -191,7 +191,7 @@ module _ {D : Type 0} (disk : D → DiskState) (state : MetaState) (fates : Fate
     pub were : WereRead state fates id w due (length old.events) before (here ∷ after) reads events
     pub ran : Ran disk old events new
     pub nodes : List ℕ
-    pub counted : AreCounted state.place here nodes
+    pub counted : AreCountedOnce state.place here nodes
     pub no_room : ¬ HasRoom (most_added nodes) new.events
 
   -- too few answered of one of the shards; or memory was wanted; or the list had no room for the next one

@@ -7,10 +7,10 @@ use Rattle.cluster_core.specs.declared.event.Event.{Event}
 use Rattle.cluster_core.specs.declared.event.Event.TheVariants as event
 use Rattle.cluster_core.specs.declared.event.StepCall.{StepCall}
 use Rattle.cluster_core.specs.declared.event.StepReply.{StepReply}
-use Rattle.replica_exchange.specs.Machines.{MachineState}
-use Rattle.replica_exchange.specs.Steps.{IsStep}
-use Rattle.replica_exchange.specs.declared.member.Member.{Member}
-use Rattle.replica_exchange.specs.declared.slot.Slot.{Slot}
+use Rattle.replica_calls.specs.Machines.{MachineState}
+use Rattle.replica_calls.specs.Steps.{IsStep}
+use Rattle.replica_calls.specs.Member.{Member}
+use Rattle.replica_calls.specs.Slot.{Slot}
 use Rattle.replica_calls.specs.Calls.{Tracked}
 
 -- the slot of a node for a shard

@@ -25,11 +25,11 @@ use Rattle.net_plan.specs.declared.late_write.LateWrite.{LateWrite}
 use Rattle.placement_core.specs.Lawful.{IsLawful}
 use Rattle.placement_core.specs.NodeNames.{IsNamedBelow}
 use Rattle.placement_core.specs.Shards.{Shard, shard_at, nodes_of, counts}
-use Rattle.replica_exchange.specs.MachineCalls.{HasRoom}
-use Rattle.replica_exchange.specs.declared.call_id.CallId.{CallId}
+use Rattle.replica_calls.specs.MachineCalls.{HasRoom}
+use Rattle.replica_calls.specs.CallId.{CallId}
 use Rattle.replica_calls.specs.Calls.{Tracked}
 use Rattle.session_net.specs.Messages.{Heard, AreHeard, fate_to}
-use Rattle.session_net.specs.Outcomes.{Told, told_of, answering, refusing, IsTooFew, IsShortOf}
+use Rattle.session_net.specs.Outcomes.{NodeOutcome, told_of, answering, refusing, IsTooFew, IsShortOf}
 use Rattle.session_net.specs.Runs.{Ran}
 use Rattle.session_net.specs.declared.net.Net.{Net}
 use Rattle.session_net.specs.declared.session_err.SessionErr.{SessionErr}
@@ -82,7 +82,7 @@ counted_among (a ∷ members) (y ∷ ys) = if counts a.state then y ∷ counted_
 counted_among _ _ = []
 
 -- what is counted of what a member was told
-abbrev pub told_if_counted : Assignment → Option Reason → List Told
+abbrev pub told_if_counted : Assignment → Option Reason → List NodeOutcome
 told_if_counted a outcome = if counts a.state then (a.node, outcome) ∷ [] else []
 
 -- A write's messages to its members: what each was heard to say, and the events that they brought.
@@ -92,7 +92,7 @@ pub record Sent : Type 0 where
   pub puts : List Event
 
 -- what is counted of it
-abbrev pub told_in : Sent → List Told
+abbrev pub told_in : Sent → List NodeOutcome
 told_in sent = map told_of (counted_among sent.members sent.heard)
 
 -- the write went to all members of its shard

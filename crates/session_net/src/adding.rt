@@ -1,7 +1,7 @@
 //! Events of calls of clients.
 ghost use Rattle.std.specs.Prelude.{◌≡◌, [], ◌∷◌, length, Bool};
 ghost use Rattle.cluster_core.specs.Legal.{Lawful};
-ghost use Rattle.replica_exchange.specs.MachineCalls.{HasRoom};
+ghost use Rattle.replica_calls.specs.MachineCalls.{HasRoom};
 ghost use Rattle.replica_calls.specs.Calls.{IsNoStep};
 ghost use Rattle.session_net.specs.Runs.{Ran};
 
@@ -10,17 +10,17 @@ use m3_outside::Disk;
 use replica_calls::Replicas;
 
 /// Adds an event that no replica makes to the list, after which it is lawful and which has room for it, and answers its
-/// place. Takes no memory.
+/// position. Takes no memory.
 pub fn add<D: Disk>(replicas: &mut Replicas<D>, event: &EventView) -> u64
     requires lawful { (tells : Bool) → Lawful tells replicas.old.events event.now }
     requires no_step { IsNoStep event.now }
     requires room { HasRoom 1 replicas.old.events }
-    ensures place { result ≡ length replicas.old.events }
+    ensures position { result ≡ length replicas.old.events }
     ensures ran { Ran D.state replicas.old (event.now ∷ []) replicas.new }
 {
     replicas.know();
     match replicas.add(event) {
-        Ok(place) => place,
+        Ok(position) => position,
         Err(_) => unreachable!(),
     }
 }

@@ -5,7 +5,7 @@ ghost use Rattle.session_net.specs.Messages.{fate_to};
 
 use m3_model::Fate;
 use net_plan::{FateKey, Fates};
-use replica_exchange::CallId;
+use replica_calls::CallId;
 
 /// What becomes of the call's message to the node.
 pub fn fate_to(fates: &Fates, call: CallId, node: u8) -> Fate

@@ -1,6 +1,6 @@
 //! The answers to one call, as they come in.
 ghost use Rattle.std.specs.Prelude.{◌≡◌, ℕ, List, [], ◌∷◌, ◌++◌, suc, ◌<◌, length, IfOk};
-ghost use Rattle.session_net.specs.Outcomes.{Told, answering, refusing, IsShortOf};
+ghost use Rattle.session_net.specs.Outcomes.{NodeOutcome, answering, refusing, IsShortOf};
 ghost use Rattle.session_net.specs.Tallies.{HasRoom};
 
 use crate::session_err::SessionErr;
@@ -30,8 +30,8 @@ impl Tally {
     pub fn add(&mut self, node: u8, outcome: Option<Reason>)
         requires { HasRoom 1 self.old }
         ensures room { (n : ℕ) → HasRoom (suc n) self.old → HasRoom n self.new }
-        ensures answered { (told : List Told) → self.old.answered.items ≡ answering told → self.new.answered.items ≡ answering (told ++ (node, outcome) ∷ []) }
-        ensures reasons { (told : List Told) → self.old.reasons.items ≡ refusing told → self.new.reasons.items ≡ refusing (told ++ (node, outcome) ∷ []) }
+        ensures answered { (told : List NodeOutcome) → self.old.answered.items ≡ answering told → self.new.answered.items ≡ answering (told ++ (node, outcome) ∷ []) }
+        ensures reasons { (told : List NodeOutcome) → self.old.reasons.items ≡ refusing told → self.new.reasons.items ≡ refusing (told ++ (node, outcome) ∷ []) }
     {
         match outcome {
             None => self.answered.push_reserved(node),

@@ -32,9 +32,9 @@ pub record Left {D : Type 0} (disk : D → DiskState) (old new : Tracked D) : Ty
   pub quiet : AreQuiet events
 
 module _ (state : MetaState) (fates : FateMap) (id : CallId) (w : Wish) (needed : ℕ) where
-  quiet_reads : (place : ℕ) (shards : List ℕ) (reads : ℕ → ShardRead) (events : List Event) → AreRead state fates id w needed place shards reads events → AreQuiet events
-  quiet_reads place [] reads events h = subst AreQuiet (sym h) (λ e m. absurd m)
-  quiet_reads place (s ∷ shards) reads events h =
+  quiet_reads : (position : ℕ) (shards : List ℕ) (reads : ℕ → ShardRead) (events : List Event) → AreRead state fates id w needed position shards reads events → AreQuiet events
+  quiet_reads position [] reads events h = subst AreQuiet (sym h) (λ e m. absurd m)
+  quiet_reads position (s ∷ shards) reads events h =
       subst AreQuiet (sym h.3)
       (quiet_between (start_of state w s) (reads s).reads (done_of (reads s) ∷ h.2) tt (quiet_messages reply.Found fates id s (read_of id state.rules state.place.version w) (reads s).nodes (reads s).heard (reads s).reads h.0.heard)
       (quiet_first (done_of (reads s)) h.2 tt (quiet_reads (suc (ended_of (reads s))) shards reads h.2 h.4)))

@@ -46,7 +46,7 @@ count_split a zero m =
     let here : a ≡ a + zero = omega arith in ap (λ n. count_from a n) none ∙ ap (λ b. count_from b m) here
 count_split a (suc k) m =
     let size : suc k + m ≡ suc (k + m) = omega arith in
-    let place : suc a + k ≡ a + suc k = omega arith in ap (λ n. count_from a n) size ∙ ap (λ xs. a ∷ xs) (count_split (suc a) k m) ∙ ap (λ b. (a ∷ count_from (suc a) k) ++ count_from b m) place
+    let same : suc a + k ≡ a + suc k = omega arith in ap (λ n. count_from a n) size ∙ ap (λ xs. a ∷ xs) (count_split (suc a) k m) ∙ ap (λ b. (a ∷ count_from (suc a) k) ++ count_from b m) same
 
 pub count_more : (i : ℕ) → count_from 0 (i + 1) ≡ count_from 0 i ++ i ∷ []
 count_more i = let same : 0 + i ≡ i = omega arith in count_split 0 i 1 ∙ ap (λ k. count_from 0 i ++ k ∷ []) same
@@ -97,26 +97,26 @@ each_more P reads s r shards fresh each here j m = elim (IsIn-append_cases shard
 ]
 
 module _ (state : MetaState) (fates : FateMap) (id : CallId) (w : Wish) (needed : ℕ) where
-  are_same : (place : ℕ) (shards : List ℕ) (was now : ℕ → ShardRead) (events : List Event) → ((j : ℕ) → IsIn shards j → now j ≡ was j) → AreRead state fates id w needed place shards was events → AreRead state fates id w needed place shards now events
-  are_same place [] was now events same h = h
-  are_same place (s ∷ shards) was now events same h =
+  are_same : (position : ℕ) (shards : List ℕ) (was now : ℕ → ShardRead) (events : List Event) → ((j : ℕ) → IsIn shards j → now j ≡ was j) → AreRead state fates id w needed position shards was events → AreRead state fates id w needed position shards now events
+  are_same position [] was now events same h = h
+  are_same position (s ∷ shards) was now events same h =
       subst
-      (λ (r : ShardRead). IsAsked state fates id w s r × IsEnded w needed place r × (rest : List Event) × (events ≡ start_of state w s ∷ (r.reads ++ done_of r ∷ rest)) × AreRead state fates id w needed (suc (ended_of r)) shards now rest)
+      (λ (r : ShardRead). IsAsked state fates id w s r × IsEnded w needed position r × (rest : List Event) × (events ≡ start_of state w s ∷ (r.reads ++ done_of r ∷ rest)) × AreRead state fates id w needed (suc (ended_of r)) shards now rest)
       (sym (same s (inl refl))) (h.0, h.1, h.2, h.3, are_same (suc (ended_of (was s))) shards was now h.2 (λ j m. same j (inr m)) h.4)
 
   abbrev whole_read : ℕ → ShardRead → List Event
   whole_read s r = start_of state w s ∷ (r.reads ++ done_of r ∷ [])
 
-  are_last : (place : ℕ) (shards : List ℕ) (reads : ℕ → ShardRead) (events : List Event) (s : ℕ) → AreRead state fates id w needed place shards reads events → IsAsked state fates id w s (reads s) → IsEnded w needed (place + length events) (reads s)
-      → AreRead state fates id w needed place (shards ++ s ∷ []) reads (events ++ whole_read s (reads s))
-  are_last place [] reads events s h asked ended =
-      let same : place + length events ≡ place = let none : length events ≡ 0 = ap length h in omega (arith, none) in
+  are_last : (position : ℕ) (shards : List ℕ) (reads : ℕ → ShardRead) (events : List Event) (s : ℕ) → AreRead state fates id w needed position shards reads events → IsAsked state fates id w s (reads s) → IsEnded w needed (position + length events) (reads s)
+      → AreRead state fates id w needed position (shards ++ s ∷ []) reads (events ++ whole_read s (reads s))
+  are_last position [] reads events s h asked ended =
+      let same : position + length events ≡ position = let none : length events ≡ 0 = ap length h in omega (arith, none) in
       (asked, subst (λ k. IsEnded w needed k (reads s)) same ended, [], ap (λ es. es ++ whole_read s (reads s)) h, refl)
-  are_last place (t ∷ shards) reads events s h asked ended =
+  are_last position (t ∷ shards) reads events s h asked ended =
       let long : length events ≡ length (start_of state w t ∷ ((reads t).reads ++ done_of (reads t) ∷ h.2)) = ap length h.3 in
       let sum = length-append (reads t).reads (done_of (reads t) ∷ h.2) in
       let at = h.1.begun in
-      let size : place + length events ≡ suc ((reads t).begun + (1 + length (reads t).reads)) + length h.2 = omega (arith, long, sum, at) in
+      let size : position + length events ≡ suc ((reads t).begun + (1 + length (reads t).reads)) + length h.2 = omega (arith, long, sum, at) in
       let last = whole_read s (reads s) in (
         h.0,
         h.1,

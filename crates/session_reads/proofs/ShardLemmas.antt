@@ -45,7 +45,7 @@ use Rattle.placement_core.proofs.OrderLemmas.{came}
 use Rattle.replica_exchange.specs.declared.call_id.CallId.{CallId}
 use Rattle.session_net.specs.Calls.{Tracked}
 use Rattle.session_net.specs.Messages.{IsDelivery, IsHeard, Heard, AreHeard, fate_to}
-use Rattle.session_net.specs.Outcomes.{AreCounted, told_of, answering, refusing, IsShortOf}
+use Rattle.session_net.specs.Outcomes.{AreCountedOnce, told_of, answering, refusing, IsShortOf}
 use Rattle.session_net.specs.Reads.{Wish, AreForms, read_of, start_of}
 use Rattle.session_net.specs.Ready.{IsReady}
 use Rattle.session_net.specs.Runs.{Ran}
@@ -72,11 +72,11 @@ swap_in xs i j n li lj h =
 permuted-IsIn : (xs ys : List ℕ) → IsPermutation xs ys → (n : ℕ) → IsIn ys n → IsIn xs n
 permuted-IsIn xs ys p = IsPermutation-keeps xs (λ l. (n : ℕ) → IsIn l n → IsIn xs n) (λ n h. h) (λ l i j li lj keeps n h. keeps n (swap_in l i j n li lj h)) ys p
 
-counted_in : (place : Placement) (s : ℕ) (nodes : List ℕ) → AreCounted place s nodes → (n : ℕ) → IsIn nodes n → IsIn (counted (shard_at place s)) n
+counted_in : (place : Placement) (s : ℕ) (nodes : List ℕ) → AreCountedOnce place s nodes → (n : ℕ) → IsIn nodes n → IsIn (counted (shard_at place s)) n
 counted_in place s nodes h n m = permuted-IsIn (counted (shard_at place s)) nodes h.same n m
 
 -- each has a replica of the shard
-pub counted_member : (place : Placement) (s : ℕ) (nodes : List ℕ) → AreCounted place s nodes → (n : ℕ) → IsIn nodes n → IsIn (nodes_of (shard_at place s)) n
+pub counted_member : (place : Placement) (s : ℕ) (nodes : List ℕ) → AreCountedOnce place s nodes → (n : ℕ) → IsIn nodes n → IsIn (nodes_of (shard_at place s)) n
 counted_member place s nodes h n m =
     let from = IsIn-map (λ (a : Assignment). a.node) (filter is_available (shard_at place s)) n (counted_in place s nodes h n m) in
     subst (IsIn (nodes_of (shard_at place s))) from.2 (map-IsIn (λ (a : Assignment). a.node) (shard_at place s) from.0 (IsIn-filter is_available (shard_at place s) from.0 from.1))
@@ -171,7 +171,7 @@ shard_same (y ∷ ys) zero x d e = some_same y x e
 shard_same (y ∷ ys) (suc s) x d e = shard_same ys s x d e
 
 module _ {D : Type 0} (disk : D → DiskState) (state : MetaState) (fates : FateMap) (id : CallId) (w : Wish) (s : ℕ) (nodes : List ℕ) (old mid after : Tracked D) (heard : List (Heard (List Series))) (ready : IsReady state old []) (within : s < length state.place.shards)
-    (counts : AreCounted state.place s nodes) (began : Ran disk old (start_of state w s ∷ []) mid) (told : WereAsked disk fates id s (read_of id state.rules state.place.version w) nodes heard mid after) where
+    (counts : AreCountedOnce state.place s nodes) (began : Ran disk old (start_of state w s ∷ []) mid) (told : WereAsked disk fates id s (read_of id state.rules state.place.version w) nodes heard mid after) where
   -- its start and what came of it
   ran_start : Ran disk old (start_of state w s ∷ told.reads) after
   ran_start = ran_then disk (start_of state w s ∷ []) told.reads old mid after began told.ran
@@ -192,11 +192,11 @@ module _ {D : Type 0} (disk : D → DiskState) (state : MetaState) (fates : Fate
       (λ done. (refl, there.0, there.1, All-from_each (λ n. IsIn (counted there.0) n) some (λ n m. subst (λ (shard : Shard). IsIn (counted shard) n) (shard_same state.place.shards s there.0 [] there.1) (counted_in state.place s nodes counts n (sub n m))))))
 
   -- those that answered may be named by its end
-  pub may_end : (place : ℕ) → place ≡ length old.events → (answered : List ℕ) → answered ≡ answering (map told_of heard) → (series : List Series) → IsJoin (space_picked w.pick) (answers_of heard) series → IsFetched after.events place answered series
-  may_end place is answered are series joined =
+  pub may_end : (position : ℕ) → position ≡ length old.events → (answered : List ℕ) → answered ≡ answering (map told_of heard) → (series : List Series) → IsJoin (space_picked w.pick) (answers_of heard) series → IsFetched after.events position answered series
+  may_end position is answered are series joined =
       let who : List ℕ = answering (map told_of heard) in
       let same = heard_nodes state fates id w s nodes heard told.reads told.are in
-      subst (λ ns. IsFetched after.events place ns series) (sym are) (
+      subst (λ ns. IsFetched after.events position ns series) (sym are) (
         start_of state w s,
         subst (λ k. At after.events k (start_of state w s)) (sym is) start_at,
         (
@@ -213,16 +213,16 @@ module _ {D : Type 0} (disk : D → DiskState) (state : MetaState) (fates : Fate
       )
 
   module _ (forms : AreForms heard) (series : List Series) (content : IsContentOf (space_picked w.pick) (answers_of heard) (content_of (points_in (space_picked w.pick) series))) (ordered : IsOrdered series)
-      (answered : List ℕ) (reasons : List (ℕ × Reason)) (answered_are : answered ≡ answering (map told_of heard)) (reasons_are : reasons ≡ refusing (map told_of heard)) (place : ℕ) (is : place ≡ length old.events) where
+      (answered : List ℕ) (reasons : List (ℕ × Reason)) (answered_are : answered ≡ answering (map told_of heard)) (reasons_are : reasons ≡ refusing (map told_of heard)) (position : ℕ) (is : position ≡ length old.events) where
     joined_here : IsJoin (space_picked w.pick) (answers_of heard) series
     joined_here = joined_answers (space_picked w.pick) (answers_of heard) series content ordered
 
-    pub may_end_so : IsFetched after.events place answered series
-    may_end_so = may_end place is answered answered_are series joined_here
+    pub may_end_so : IsFetched after.events position answered series
+    may_end_so = may_end position is answered answered_are series joined_here
 
     module _ (new : Tracked D) (needed most : ℕ) where
       -- it ended
-      pub ended : (result : Result Gave SessionErr) → IfOk result (λ gave. (gave.series ≡ series) × (needed ≤ length answered) × (gave.whole ≡ nat_le most (length answered)) × Ran disk after (event.FetchDone place answered gave.series ∷ []) new)
+      pub ended : (result : Result Gave SessionErr) → IfOk result (λ gave. (gave.series ≡ series) × (needed ≤ length answered) × (gave.whole ≡ nat_le most (length answered)) × Ran disk after (event.FetchDone position answered gave.series ∷ []) new)
           → IfOk result (λ gave. IsShardRead disk state fates id w s needed most gave.series gave.whole old new)
       ended (Ok gave) h = record {
         read = record { begun = length old.events; nodes = nodes; heard = heard; reads = told.reads; series = gave.series };
@@ -233,7 +233,7 @@ module _ {D : Type 0} (disk : D → DiskState) (state : MetaState) (fates : Fate
         fewer = λ e. subst (λ ns. length ns < most) answered_are (leb-false most (length answered) (sym h.2 ∙ e));
         ran = subst (λ ns. Ran disk old (start_of state w s ∷ (told.reads ++ event.FetchDone (length old.events) ns gave.series ∷ [])) new) answered_are
             (subst (λ k. Ran disk old (start_of state w s ∷ (told.reads ++ event.FetchDone k answered gave.series ∷ [])) new) is
-            (ran_then disk (start_of state w s ∷ told.reads) (event.FetchDone place answered gave.series ∷ []) old after new ran_start h.3));
+            (ran_then disk (start_of state w s ∷ told.reads) (event.FetchDone position answered gave.series ∷ []) old after new ran_start h.3));
       }
       ended (Err e) h = h
 
@@ -259,7 +259,7 @@ module _ {D : Type 0} (disk : D → DiskState) (state : MetaState) (fates : Fate
           short_by err.Full short = absurd short
 
 -- some first nodes were asked, and memory was wanted
-pub half_read : {D : Type 0} (disk : D → DiskState) (state : MetaState) (fates : FateMap) (id : CallId) (w : Wish) (s k : ℕ) (nodes : List ℕ) (old mid new : Tracked D) (heard : List (Heard (List Series))) → AreCounted state.place s nodes → Ran disk old (start_of state w s ∷ []) mid
+pub half_read : {D : Type 0} (disk : D → DiskState) (state : MetaState) (fates : FateMap) (id : CallId) (w : Wish) (s k : ℕ) (nodes : List ℕ) (old mid new : Tracked D) (heard : List (Heard (List Series))) → AreCountedOnce state.place s nodes → Ran disk old (start_of state w s ∷ []) mid
     → WereAsked disk fates id s (read_of id state.rules state.place.version w) (take k nodes) heard mid new → IsHalfRead disk state fates id w s old new
 half_read disk state fates id w s k nodes old mid new heard counts began told = record {
   read = record { begun = length old.events; nodes = nodes; heard = heard; reads = told.reads; series = [] };

@@ -18,7 +18,7 @@ use Rattle.replica_exchange.specs.MachineCalls.{HasRoom}
 use Rattle.replica_exchange.specs.declared.call_id.CallId.{CallId}
 use Rattle.session_net.specs.Calls.{Tracked}
 use Rattle.session_net.specs.Messages.{Heard, AreHeard}
-use Rattle.session_net.specs.Outcomes.{answering, AreCounted, IsTooFew}
+use Rattle.session_net.specs.Outcomes.{answering, AreCountedOnce, IsTooFew}
 use Rattle.session_net.specs.Reads.{Wish, ShardRead, told_in, IsAsked, IsPartlyAsked, IsEnded, start_of, done_of, most_added, AreRead, AreTogether}
 use Rattle.session_net.specs.Runs.{Ran}
 use Rattle.series_merge.specs.Merges.{IsMergeOf}
@@ -80,7 +80,7 @@ pub record IsHalfRead {D : Type 0} (disk : D → DiskState) (state : MetaState) 
 abbrev pub IsUnread : {D : Type 0} → (D → DiskState) → MetaState → FateMap → CallId → Wish → ℕ → ℕ → Tracked D → Tracked D → SessionErr → Type 0
 IsUnread disk state fates id w asked due old new (err.Consistency shard needed got reasons) = IsShortRead disk state fates id w asked due shard needed got reasons old new
 IsUnread disk state fates id w asked due old new err.Memory = (new ≡ old) ⊎ IsHalfRead disk state fates id w asked old new
-IsUnread disk state fates id w asked due old new err.Full = (new ≡ old) × ((nodes : List ℕ) × AreCounted state.place asked nodes × ¬ HasRoom (most_added nodes) old.events)
+IsUnread disk state fates id w asked due old new err.Full = (new ≡ old) × ((nodes : List ℕ) × AreCountedOnce state.place asked nodes × ¬ HasRoom (most_added nodes) old.events)
 
 -- ---- shards
 

@@ -15,7 +15,7 @@ ghost use Rattle.cluster_core.specs.declared.event.StepReply.TheVariants as repl
 ghost use Rattle.replica_exchange.specs.MachineCalls.{HasRoom};
 ghost use Rattle.session_net.specs.Brought.{Delivered, Brought};
 ghost use Rattle.session_net.specs.Messages.{Heard};
-ghost use Rattle.session_net.specs.Outcomes.{Told, told_of, answering, refusing};
+ghost use Rattle.session_net.specs.Outcomes.{NodeOutcome, told_of, answering, refusing};
 ghost use Rattle.session_net.specs.Reads.{read_of, AreForms};
 ghost use Rattle.session_net.specs.Runs.{slot_at};
 ghost use Rattle.session_net.specs.Tallies.{HasRoom as Counts};
@@ -137,8 +137,8 @@ fn take_answer(
     requires ordered { IsOrdered into.old }
     requires answer { IfOk said IsOrdered }
     ensures room { (n : ℕ) → Counts (suc n) tally.old → OnOk result (Counts n tally.new) }
-    ensures answered { (told : List Told) → tally.old.answered.items ≡ answering told → OnOk result (tally.new.answered.items ≡ answering (told ++ (node, result_err said) ∷ [])) }
-    ensures reasons { (told : List Told) → tally.old.reasons.items ≡ refusing told → OnOk result (tally.new.reasons.items ≡ refusing (told ++ (node, result_err said) ∷ [])) }
+    ensures answered { (told : List NodeOutcome) → tally.old.answered.items ≡ answering told → OnOk result (tally.new.answered.items ≡ answering (told ++ (node, result_err said) ∷ [])) }
+    ensures reasons { (told : List NodeOutcome) → tally.old.reasons.items ≡ refusing told → OnOk result (tally.new.reasons.items ≡ refusing (told ++ (node, result_err said) ∷ [])) }
     ensures joins { OnOk result (TakesIn into.old said into.new) }
 {
     match said {

@@ -2,7 +2,7 @@ ghost use Rattle.std.specs.Prelude.{◌≡◌, ◌<◌, length, true, false, IfO
 ghost use Rattle.m3_model.specs.Reads.{space_picked};
 ghost use Rattle.m3_model.specs.declared.act.ReadLevel.TheVariants as read;
 ghost use Rattle.session_net.specs.Ready.{IsReady};
-ghost use Rattle.session_net.specs.Reads.{IsFound, IsRefusedRead};
+ghost use Rattle.session_net.specs.Reads.{IsReadFound, IsRefusedRead};
 
 use crate::ask::{Asking, Quorum};
 use crate::gather::gather;
@@ -59,7 +59,7 @@ pub fn fetch<D: Disk>(
     requires ready { IsReady net.old.state net.old.replicas net.old.bag }
     requires known { space_picked pick.now < length net.old.state.rules.spaces }
     ensures ready { IsReady net.new.state net.new.replicas net.new.bag }
-    ensures ok { IfOk result (λ found. IsFound D.state net.old id (record { pick = pick.now; from = from; to = to }) level found.series found.short net.new) }
+    ensures ok { IfOk result (λ found. IsReadFound D.state net.old id (record { pick = pick.now; from = from; to = to }) level found.series found.short net.new) }
     ensures err { IfErr result (IsRefusedRead D.state net.old id (record { pick = pick.now; from = from; to = to }) level net.new) }
     ensures state { net.new.state ≡ net.old.state }
     ensures fates { net.new.fates ≡ net.old.fates }

@@ -6,7 +6,7 @@ ghost use Rattle.cluster_core.specs.Legal.{IsFetched};
 ghost use Rattle.cluster_core.specs.declared.event.Event.TheVariants as event;
 ghost use Rattle.event_book.specs.Lists.{most_entries};
 ghost use Rattle.replica_exchange.specs.MachineCalls.{HasRoom};
-ghost use Rattle.session_net.specs.Outcomes.{AreCounted, IsShortOf};
+ghost use Rattle.session_net.specs.Outcomes.{AreCountedOnce, IsShortOf};
 ghost use Rattle.session_net.specs.Reads.{most_added};
 ghost use Rattle.session_net.specs.Tallies.{HasRoom as Counts};
 ghost use Rattle.session_net.specs.Ready.{IsReady};
@@ -29,7 +29,7 @@ pub(crate) struct Gave {
     pub(crate) whole: bool,
 }
 
-// Adds the FetchStart of a shard to the list, which has room for it, and gives its place.
+// Adds the FetchStart of a shard to the list, which has room for it, and gives its position.
 fn start<D: Disk>(
     replicas: &mut Replicas<D>,
     state: &MetaState,
@@ -40,7 +40,7 @@ fn start<D: Disk>(
     requires clock { HasClock replicas.old.events state.now.rules }
     requires shard { HasShard replicas.old.events state.now.place.version shard }
     requires room { HasRoom 1 replicas.old.events }
-    ensures place { result ≡ length replicas.old.events }
+    ensures position { result ≡ length replicas.old.events }
     ensures ran { Ran D.state replicas.old (event.FetchStart state.entry.now.place.version shard state.entry.now.rules pick.now asking.now.from asking.now.to ∷ []) replicas.new }
 {
     let version = state.place.version;
@@ -48,7 +48,7 @@ fn start<D: Disk>(
     add(replicas, &event)
 }
 
-// Adds the FetchDone of the FetchStart at this place to the list, which has room for it.
+// Adds the FetchDone of the FetchStart at this position to the list, which has room for it.
 fn finish<D: Disk>(replicas: &mut Replicas<D>, start: u64, nodes: &Seq<u8>, series: &Seq<Series>)
     requires ends { IsFetched replicas.old.events start nodes.now series.now }
     requires room { HasRoom 1 replicas.old.events }
@@ -58,7 +58,7 @@ fn finish<D: Disk>(replicas: &mut Replicas<D>, start: u64, nodes: &Seq<u8>, seri
     add(replicas, &done);
 }
 
-// Ends the read of the shard that began at this place, where enough nodes answered: then the list has its FetchDone.
+// Ends the read of the shard that began at this position, where enough nodes answered: then the list has its FetchDone.
 fn settle<D: Disk>(
     replicas: &mut Replicas<D>,
     start: u64,
@@ -108,7 +108,7 @@ fn read_nodes<D: Disk>(
     requires ready { IsReady state.now replicas.old [] }
     requires known { space_picked pick.now < length state.now.rules.spaces }
     requires shard { shard < length state.now.place.shards }
-    requires counted { AreCounted state.now.place shard nodes.now }
+    requires counted { AreCountedOnce state.now.place shard nodes.now }
     requires room { HasRoom (most_added nodes.now) replicas.old.events }
     requires counts { Counts (length nodes.now) tally }
     requires none_answered { tally.answered.items ≡ [] }
@@ -116,7 +116,7 @@ fn read_nodes<D: Disk>(
     ensures ok { IfOk result (λ gave. IsShardRead D.state state.entry.now fates.now asking.now.id (wish_of pick.now asking.now) shard asking.now.quorum.needed asking.now.quorum.majority gave.series gave.whole replicas.old replicas.new) }
     ensures err { IfErr result (IsUnread D.state state.entry.now fates.now asking.now.id (wish_of pick.now asking.now) shard asking.now.quorum.needed replicas.old replicas.new) }
 {
-    let place = start(replicas, state, asking, pick, shard);
+    let position = start(replicas, state, asking, pick, shard);
     let mut joined = Seq::new(alloc);
     ask_nodes(
         alloc,
@@ -130,7 +130,7 @@ fn read_nodes<D: Disk>(
         &mut tally,
         &mut joined,
     )?;
-    settle(replicas, place, shard, asking, tally, joined)
+    settle(replicas, position, shard, asking, tally, joined)
 }
 
 // Reads one shard: its FetchStart comes to the list first, then what each message to a node that counts brings, and at

@@ -56,9 +56,9 @@ late_from fates id s version p nodes one m =
 
 -- ---- what is left
 
-quiet_ack : (place : ℕ) (acks : List ℕ) → AreQuiet (event.Ack place acks ∷ [])
-quiet_ack place acks e (inl is) = subst IsQuiet is tt
-quiet_ack place acks e (inr none) = absurd none
+quiet_ack : (position : ℕ) (acks : List ℕ) → AreQuiet (event.Ack position acks ∷ [])
+quiet_ack position acks e (inl is) = subst IsQuiet is tt
+quiet_ack position acks e (inr none) = absurd none
 
 first_in : (k : ℕ) (members : Shard) (n : ℕ) → IsIn (nodes_of (take k members)) n → IsIn (nodes_of members) n
 first_in zero [] n m = absurd m

@@ -54,12 +54,12 @@ module _ {D : Type 0} (disk : D → DiskState) (fates : FateMap) (w : Putting) (
 
   -- those that took it may be named by an Ack
   pub may_ack : ((nodes : List ℕ) → ((n : ℕ) → IsIn nodes n → (a : Assignment) × IsIn members a × (counts a.state ≡ true) × (a.node ≡ n)) → AreCounted old.events w.version w.shard nodes) → Ascends (λ a b. a.node ≢ b.node) members
-      → (place : ℕ) → place ≡ length old.events → (acks : List ℕ) → acks ≡ answering (map told_of (counted_among members heard)) → IsAck after.events place acks
-  may_ack counted differ place is acks acks_are =
+      → (position : ℕ) → position ≡ length old.events → (acks : List ℕ) → acks ≡ answering (map told_of (counted_among members heard)) → IsAck after.events position acks
+  may_ack counted differ position is acks acks_are =
       let took : List ℕ = took_of members heard in
       let same : took ≡ acks = took_answers members heard ∙ sym acks_are in
       let c = put_of w.id w.rules w.version w.point in
-      subst (λ ns. IsAck after.events place ns) same (
+      subst (λ ns. IsAck after.events position ns) same (
         sending,
         subst (λ k. At after.events k sending) (sym is) send_at,
         (
@@ -71,15 +71,15 @@ module _ {D : Type 0} (disk : D → DiskState) (fates : FateMap) (w : Putting) (
       )
 
   module _ (new : Tracked D) (needed : ℕ) (bag later : List LateWrite) (back : later ≡ filled bag (late_among fates w.id w.shard w.version w.point (nodes_of members))) (answered : List ℕ) (reasons : List (ℕ × Reason))
-      (answered_are : answered ≡ answering (map told_of (counted_among members heard))) (reasons_are : reasons ≡ refusing (map told_of (counted_among members heard))) (place : ℕ) (is : place ≡ length old.events) where
+      (answered_are : answered ≡ answering (map told_of (counted_among members heard))) (reasons_are : reasons ≡ refusing (map told_of (counted_among members heard))) (position : ℕ) (is : position ≡ length old.events) where
     -- it is settled
-    pub settled : (result : Result (List ℕ) SessionErr) → IfOk result (λ acks. (acks ≡ answered) × (needed ≤ length acks) × Ran disk after (event.Ack place acks ∷ []) new) → IfOk result (λ acks. IsSettled disk fates w members needed acks old new bag later)
+    pub settled : (result : Result (List ℕ) SessionErr) → IfOk result (λ acks. (acks ≡ answered) × (needed ≤ length acks) × Ran disk after (event.Ack position acks ∷ []) new) → IfOk result (λ acks. IsSettled disk fates w members needed acks old new bag later)
     settled (Ok acks) h = record {
       sent = record { members = members; heard = heard; puts = puts };
       to = refl;
       has_sent = record {
         heard = are;
-        ran = subst (λ k. Ran disk old (event.Send w.version w.shard w.point ∷ (puts ++ event.Ack k acks ∷ [])) new) is (ran_then disk (event.Send w.version w.shard w.point ∷ puts) (event.Ack place acks ∷ []) old after new ran_put h.2);
+        ran = subst (λ k. Ran disk old (event.Send w.version w.shard w.point ∷ (puts ++ event.Ack k acks ∷ [])) new) is (ran_then disk (event.Send w.version w.shard w.point ∷ puts) (event.Ack position acks ∷ []) old after new ran_put h.2);
         held_back = back;
       };
       acks_are = h.0 ∙ answered_are;

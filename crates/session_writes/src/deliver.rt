@@ -11,7 +11,7 @@ ghost use Rattle.net_plan.specs.declared.late_write.LateWrite.{LateWrite as Late
 ghost use Rattle.replica_exchange.specs.MachineCalls.{HasRoom};
 ghost use Rattle.session_net.specs.Ready.{IsReady};
 ghost use Rattle.session_net.specs.Runs.{Ran, slot_at};
-ghost use Rattle.session_net.specs.Deliveries.{known, outcome_of, AreDelivered, IsDelivered, IsUndelivered};
+ghost use Rattle.session_net.specs.Deliveries.{known, outcome_of, AreDelivered, HasDelivered, IsUndelivered};
 
 use crate::put::put_once;
 use m3_model::limits::MOST_LATE_WRITES;
@@ -78,7 +78,7 @@ pub fn deliver<D: Disk>(
 ) -> Result<Seq<(u8, u32, Option<Reason>)>, SessionErr>
     requires ready { IsReady net.old.state net.old.replicas net.old.bag }
     ensures ready { IsReady net.new.state net.new.replicas net.new.bag }
-    ensures ok { IfOk result (λ outcomes. IsDelivered D.state net.old outcomes net.new) }
+    ensures ok { IfOk result (λ outcomes. HasDelivered D.state net.old outcomes net.new) }
     ensures err { IfErr result (IsUndelivered net.old net.new) }
     ensures state { net.new.state ≡ net.old.state }
     ensures fates { net.new.fates ≡ net.old.fates }

@@ -12,7 +12,7 @@ ghost use Rattle.cluster_core.specs.declared.event.StepReply.TheVariants as repl
 ghost use Rattle.placement_core.specs.Shards.{counts, nodes_of};
 ghost use Rattle.replica_exchange.specs.MachineCalls.{HasRoom};
 ghost use Rattle.session_net.specs.Messages.{Heard, AreHeard};
-ghost use Rattle.session_net.specs.Outcomes.{Told, told_of, answering, refusing, IsShortOf};
+ghost use Rattle.session_net.specs.Outcomes.{NodeOutcome, told_of, answering, refusing, IsShortOf};
 ghost use Rattle.session_net.specs.Ready.{IsReady};
 ghost use Rattle.session_net.specs.Runs.{Ran, slot_at};
 ghost use Rattle.session_net.specs.Tallies.{HasRoom as Counts};
@@ -41,11 +41,11 @@ struct Sending {
     version: u64,
 }
 
-// Adds the Send of the write to the list, which has room for it, and gives its place.
+// Adds the Send of the write to the list, which has room for it, and gives its position.
 fn send<D: Disk>(replicas: &mut Replicas<D>, sending: &Sending, point: &Point) -> u64
     requires shard { HasShard replicas.old.events sending.now.version sending.now.shard }
     requires room { HasRoom 1 replicas.old.events }
-    ensures place { result ≡ length replicas.old.events }
+    ensures position { result ≡ length replicas.old.events }
     ensures ran { Ran D.state replicas.old (event.Send sending.now.version sending.now.shard point.now ∷ []) replicas.new }
 {
     let event = EventView::send(sending.version, sending.shard, point);
@@ -101,8 +101,8 @@ fn keep_one(
 fn count(tally: &mut Tally, member: &Assignment, outcome: Option<Reason>)
     requires { Counts 1 tally.old }
     ensures room { (n : ℕ) → Counts (suc n) tally.old → Counts n tally.new }
-    ensures answered { (told : List Told) → tally.old.answered.items ≡ answering told → tally.new.answered.items ≡ answering (told ++ told_if_counted member.now outcome) }
-    ensures reasons { (told : List Told) → tally.old.reasons.items ≡ refusing told → tally.new.reasons.items ≡ refusing (told ++ told_if_counted member.now outcome) }
+    ensures answered { (told : List NodeOutcome) → tally.old.answered.items ≡ answering told → tally.new.answered.items ≡ answering (told ++ told_if_counted member.now outcome) }
+    ensures reasons { (told : List NodeOutcome) → tally.old.reasons.items ≡ refusing told → tally.new.reasons.items ≡ refusing (told ++ told_if_counted member.now outcome) }
 {
     if member.state == ShardState::Available {
         tally.add(member.node, outcome);
@@ -154,7 +154,7 @@ fn put_all<D: Disk>(
     }
 }
 
-// Adds the Ack of the Send at this place to the list, which has room for it.
+// Adds the Ack of the Send at this position to the list, which has room for it.
 fn acknowledge<D: Disk>(replicas: &mut Replicas<D>, send: u64, nodes: &Seq<u8>)
     requires acks { IsAck replicas.old.events send nodes.now }
     requires room { HasRoom 1 replicas.old.events }
@@ -211,10 +211,10 @@ fn send_all<D: Disk>(
     ensures err { IfErr result (IsUnsettled D.state fates.now (record { id = sending.now.id; rules = rules.entry.now; version = sending.now.version; shard = sending.now.shard; point = point.now }) members.now needed replicas.old replicas.new bag.old bag.new) }
 {
     let mut tally = Tally::with_room(alloc, members.len())?;
-    let place = send(replicas, sending, point);
+    let position = send(replicas, sending, point);
     keep_late(alloc, bag, fates, sending, point, members)?;
     put_all(replicas, fates, sending, rules, point, members, &mut tally);
-    settle(replicas, place, sending.shard, needed, tally)
+    settle(replicas, position, sending.shard, needed, tally)
 }
 
 // To whom a write goes: a shard, and all its replicas.

@@ -2,7 +2,7 @@
 use Rattle.std.proofs.Common.{◌≡◌, List, sym, subst}
 use Rattle.m3_outside.specs.declared.file_name.FileName.{FileName}
 use Rattle.m3_outside.specs.Files.{Files}
-use Rattle.m3_outside.specs.DiskState.{DiskState, IsLawful}
+use Rattle.m3_outside.specs.DiskState.{DiskState, IsLawfulDisk}
 use Rattle.m3_outside.specs.Removal.{MayTakeAway}
 use Rattle.m3_outside.proofs.Moments.{elapses_as}
 use Rattle.shard_files.specs.StepLaws.{StepsKeep}
@@ -15,7 +15,7 @@ use Rattle.shard_files.proofs.CutSteps.{cut_keeps}
 take_as : (ms ns : List FileName) (x y : Files) → ms ≡ ns → MayTakeAway ns x y → MayTakeAway ms x y
 take_as ms ns x y same takes = subst (λ l. MayTakeAway l x y) (sym same) takes
 
-module _ {D : Type 0} (state : D → DiskState) (lawful : (d : D) → IsLawful (state d)) where
+module _ {D : Type 0} (state : D → DiskState) (lawful : (d : D) → IsLawfulDisk (state d)) where
   pub steps_keep : StepsKeep state
   steps_keep = record {
     written = λ old new kept v rows tells each goes. elapses_as (state old) (state new) (λ x y image step. write_keeps kept v rows x y (each tells x image) step) goes;

@@ -3,10 +3,10 @@ use Rattle.std.proofs.Common.{◌≡◌, inl, inr, ⊎_elim, ℕ, List, [], ◌�
 use Rattle.m3_model.specs.Members.{IsIn}
 use Rattle.m3_outside.specs.Files.{Files}
 use Rattle.commit_log.specs.Segment.{segment}
-use Rattle.commit_log.specs.LogEnd.{NoneFrom, MayBegin}
+use Rattle.commit_log.specs.LogEnd.{NoneFrom, MayBeginSegment}
 use Rattle.commit_log.specs.Contents.{numbers, PartsHold}
 use Rattle.commit_log.proofs.Numbers.{in_there, there_in}
-use Rattle.log_chunks.proofs.Shapes.{zeros_end}
+use Rattle.commit_log.proofs.Shapes.{zeros_end}
 use Rattle.std.specs.FinMap.{get}
 use Rattle.std.proofs.lemmas.List.{length-replicate}
 use Rattle.std.proofs.lemmas.Bool.{cases_eq}
@@ -34,7 +34,7 @@ only_zeros (n ∷ ns) y here zero_all = record {
 absent_all : (x : Files) → NoneFrom 0 x → (n : ℕ) → IsIn (numbers x) n → ⊥
 absent_all x none n m = let there = in_there x n m in let gone = none n (omega arith) in absurd (cc)
 
-pub first_segment : (es : List LogEntry) (x y : Files) → HoldsEntries es x → NoneFrom 0 x → MayBegin 0 x y → HoldsEntries es y
+pub first_segment : (es : List LogEntry) (x y : Files) → HoldsEntries es x → NoneFrom 0 x → MayBeginSegment 0 x y → HoldsEntries es y
 first_segment es x y holds none (inl same) = subst (HoldsEntries es) (sym same) holds
 first_segment es x y holds none (inr done) = record {
   parts = subst (PartsHold (numbers y) y) (sym (no_chunks (numbers x) x (map spelled es) (absent_all x none) holds.parts)) (only_zeros (numbers y) y here zero_all);

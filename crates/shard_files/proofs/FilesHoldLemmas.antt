@@ -9,7 +9,7 @@ use Rattle.m3_outside.specs.declared.file_name.FileName.{FileName}
 use Rattle.m3_outside.specs.Files.{Files, name_cmp}
 use Rattle.m3_outside.proofs.Names.{get_apart}
 use Rattle.commit_log.specs.Segment.{segment, MayAdd, Adds, OthersStay}
-use Rattle.commit_log.specs.LogEnd.{NoneFrom, MayBegin}
+use Rattle.commit_log.specs.LogEnd.{NoneFrom, MayBeginSegment}
 use Rattle.shard_files.specs.declared.entries.LogEntry.{LogEntry}
 use Rattle.shard_files.specs.HeldEntries.{HoldsEntries, points_in, tenure_in, fence_in, points_of}
 use Rattle.shard_files.specs.Gains.{nothing, HoldsAll, HoldsPart}
@@ -140,15 +140,15 @@ module _ (x y : Files) (same : OthersSame x y) (before : List Point) (tenure fen
 
 -- ---- a segment that begins
 
-begun_same : (number : ℕ) (x y : Files) → MayBegin number x y → OthersSame x y
+begun_same : (number : ℕ) (x y : Files) → MayBeginSegment number x y → OthersSame x y
 begun_same number x y (inl same) q apart = ap (λ (f : Files). get f q) same
 begun_same number x y (inr done) q apart = ap (λ (f : Files). get f q) done ∙ get_apart x (segment number) _ q (λ e. apart (ap (λ (n : FileName). n.kind) e))
 
-begun_log : (number : ℕ) (x y : Files) (es : List LogEntry) → NoneFrom number x → MayBegin number x y → HoldsEntries es x → HoldsEntries es y
+begun_log : (number : ℕ) (x y : Files) (es : List LogEntry) → NoneFrom number x → MayBeginSegment number x y → HoldsEntries es x → HoldsEntries es y
 begun_log zero x y es none may log = first_segment es x y log none may
 begun_log (suc last) x y es none may log =
     let up : suc last ≡ last + 1 = omega arith in
-    begun_entries es last x y log (λ n lt. none n (omega (arith, lt))) (subst (λ (n : ℕ). MayBegin n x y) up may)
+    begun_entries es last x y log (λ n lt. none n (omega (arith, lt))) (subst (λ (n : ℕ). MayBeginSegment n x y) up may)
 
 pub append_brings : AppendBrings
 append_brings = record {

@@ -11,8 +11,8 @@ use Rattle.m3_model.proofs.MemberLemmas.{IsIn-append_right, IsIn-append_cases, I
 use Rattle.m3_outside.specs.declared.file_name.FileName.{FileName}
 use Rattle.m3_outside.specs.Files.{Files}
 use Rattle.commit_log.specs.Contents.{numbers, PartsHold}
-use Rattle.commit_log.specs.Segment.{segment, chunk_bytes, written, IsEnd, Reads, HasChunks}
-use Rattle.log_chunks.proofs.LawLemmas.{same_chunk, no_chunk, chunk_long}
+use Rattle.commit_log.specs.Segment.{segment, chunk_bytes, written, IsEnd, ReadsChunks, HasChunks}
+use Rattle.commit_log.proofs.LawLemmas.{same_chunk, no_chunk, chunk_long}
 use Rattle.wire_bytes.specs.Volumes.{VolumeHead, Part, Info, Summaries, Index, Data, Bloom, Digests, Checkpoint, part_bytes, digests_bytes, info_bytes, summaries_bytes, index_bytes, data_bytes, bloom_bytes, count_of, checkpoint_bytes}
 use Rattle.wire_bytes.specs.Snapshots.{Snapshot, snapshot_bytes}
 use Rattle.wire_bytes.specs.Entries.{AnEntry}
@@ -20,12 +20,12 @@ use Rattle.wire_bytes.proofs.StopLemmas.{stops_one}
 use Rattle.shard_files.specs.declared.entries.LogEntry.{LogEntry}
 use Rattle.shard_files.specs.Entries.{spelled, IsWithin, AreWithin}
 use Rattle.shard_files.specs.Parts.{part_name, part_of, VolumeHolds, counted_volumes, counted_snapshots, snapshot_data, snapshot_checkpoint, SnapshotHolds, NewestIs, KnownVolume, VolumesAre}
-use Rattle.shard_files.specs.Damage.{Damage, OfForm, OfDigest, bytes_at, FirstFound, BreaksForm, BreaksDigest, IsGone, Differs, IsGate, IsInfo, IsSomeInfo, IsDerived, FormOf, kept_of, Look, AtForm, AtDigest, AtHead, looks, BreaksKept, LookFinds, IsBody, SnapshotLook, AtGate, AtKept, AtBody, SnapshotFinds, SegmentStops, BreaksSegment, Place, InVolume, InSnapshot, InSegment, last_of, places, PlaceFinds, DamagedHoldNothing, DamageIsOne, DigestsDiffer, ToldDigestsDiffer}
+use Rattle.shard_files.specs.Damage.{Damage, OfForm, OfDigest, bytes_at, FirstFound, BreaksForm, BreaksDigest, IsGone, Differs, IsGate, IsInfo, IsSomeInfo, IsDerived, FormOf, kept_of, Look, AtForm, AtDigest, AtHead, looks, BreaksKept, LookFinds, IsBody, SnapshotLook, AtGate, AtKept, AtBody, SnapshotFinds, SegmentStops, BreaksSegment, Location, InVolume, InSnapshot, InSegment, last_of, locations, LocationFinds, DamagedHoldNothing, DamageIsOne, DigestsDiffer, ToldDigestsDiffer}
 use Rattle.shard_files.specs.Loading.{LogDamageIsFirst}
 use Rattle.shard_files.proofs.SpellingLemmas.{bytes_are}
 use Rattle.shard_files.proofs.VolumeSteps.{of_name}
 
--- ---- one place, one damage
+-- ---- one offset, one damage
 
 form_one : (Form : List ℕ → Type 0) (files : Files) (name : FileName) (d e : Damage) → BreaksForm Form files name d → BreaksForm Form files name e → d ≡ e
 form_one Form files name d e a b = a.is ∙ ap (OfForm name) (stops_one Form (bytes_at files name) a.at b.at a.stops b.stops) ∙ sym b.is
@@ -68,17 +68,17 @@ snapshot_one number files AtGate d e a b = form_one IsGate files (snapshot_check
 snapshot_one number files AtKept d e a b = digest_one (drop 1 (bytes_at files (snapshot_checkpoint number))) files (snapshot_data number) d e a b
 snapshot_one number files AtBody d e a b = form_one (IsBody number) files (snapshot_data number) d e a b
 
-place_one : (files : Files) (place : Place) (d e : Damage) → PlaceFinds files place d → PlaceFinds files place e → d ≡ e
-place_one files (InVolume name) d e a b = first_one (LookFinds name.ns name.block name.number files) (look_one name.ns name.block name.number files) d e looks a b
-place_one files (InSnapshot name) d e a b = first_one (SnapshotFinds name.number files) (snapshot_one name.number files) d e (AtGate ∷ AtKept ∷ AtBody ∷ []) a b
-place_one files (InSegment number) d e a b =
+location_one : (files : Files) (location : Location) (d e : Damage) → LocationFinds files location d → LocationFinds files location e → d ≡ e
+location_one files (InVolume name) d e a b = first_one (LookFinds name.ns name.block name.number files) (look_one name.ns name.block name.number files) d e looks a b
+location_one files (InSnapshot name) d e a b = first_one (SnapshotFinds name.number files) (snapshot_one name.number files) d e (AtGate ∷ AtKept ∷ AtBody ∷ []) a b
+location_one files (InSegment number) d e a b =
     let low = a.stops.first b.at b.stops.stops in
     let high = b.stops.first a.at a.stops.stops in
     let same : a.at ≡ b.at = omega (arith, low, high) in
     a.is ∙ ap (OfForm (segment number)) same ∙ sym b.is
 
 pub damage_is_one : DamageIsOne
-damage_is_one files one other a b = first_one (PlaceFinds files) (place_one files) one other (places files) a b
+damage_is_one files one other a b = first_one (LocationFinds files) (location_one files) one other (locations files) a b
 
 -- ---- damaged files hold nothing
 
@@ -90,7 +90,7 @@ no_differ : (kept : List ℕ) (files : Files) (name : FileName) (bytes : List �
 no_differ kept files name bytes d there is (IsGone gone told) = let some = there in let none = gone in cc
 no_differ kept files name bytes d there is (Differs other have differ told) = differ (is ∙ ap sha256 (some_one bytes other (sym there ∙ have)))
 
--- each digest in its place among the five
+-- each digest at its offset among the five
 record Fives (a b c d e all : List ℕ) : Type 0 where
   pub first : take 32 all ≡ a
   pub second : take 32 (drop 32 all) ≡ b
@@ -219,7 +219,7 @@ entries_in (k ∷ ns) files es all parts n (inr m) =
     entries_in ns files f.later f.later_within (subst (PartsHold ns files) f.back_is parts.later) n m
 
 -- a chunk that stands among those that are read is one of them
-reads_it : (before cs : List (List ℕ)) (chunk rest bytes : List ℕ) → length bytes ≤ 65536 → Reads cs bytes → bytes ≡ written before ++ (chunk_bytes chunk ++ rest) → IsIn cs chunk
+reads_it : (before cs : List (List ℕ)) (chunk rest bytes : List ℕ) → length bytes ≤ 65536 → ReadsChunks cs bytes → bytes ≡ written before ++ (chunk_bytes chunk ++ rest) → IsIn cs chunk
 reads_it [] [] chunk rest bytes le r is = absurd (no_chunk chunk rest (subst IsEnd is r))
 reads_it [] (c ∷ cs) chunk rest bytes le r is =
     let a = chunk_long c r.0 bytes le r.1 in
@@ -239,7 +239,7 @@ within_one (d ∷ es) e all (inl same) = subst IsWithin same all.0
 within_one (d ∷ es) e all (inr m) = within_one es e all.1 m
 
 -- a segment of entries stops nowhere
-whole_segment : (es : List LogEntry) (bytes : List ℕ) (at : ℕ) → AreWithin es → length bytes ≡ 65536 → Reads (map spelled es) bytes → SegmentStops bytes at → ⊥
+whole_segment : (es : List LogEntry) (bytes : List ℕ) (at : ℕ) → AreWithin es → length bytes ≡ 65536 → ReadsChunks (map spelled es) bytes → SegmentStops bytes at → ⊥
 whole_segment es bytes at all long reads (inl s) = s.none (record { chunks = map spelled es; long = long; reads = reads })
 whole_segment es bytes at all long reads (inr s) =
     let m = reads_it s.before (map spelled es) s.chunk s.rest bytes (omega (arith, long)) reads s.split in
@@ -264,33 +264,33 @@ in_split before x after = IsIn-append_right before (x ∷ after) x (inl refl)
 
 -- nothing is found in whole volumes and in a whole snapshot
 module _ (files : Files) where
-  volume_unbroken : (known : List KnownVolume) → VolumesAre known files → (name : FileName) → IsIn (counted_volumes files) name → (d : Damage) → PlaceFinds files (InVolume name) d → ⊥
+  volume_unbroken : (known : List KnownVolume) → VolumesAre known files → (name : FileName) → IsIn (counted_volumes files) name → (d : Damage) → LocationFinds files (InVolume name) d → ⊥
   volume_unbroken known are name m d f =
       let k = of_name files (counted_volumes files) known are name m in
-      let g = subst (λ (q : FileName). PlaceFinds files (InVolume q) d) k.2.named f in
+      let g = subst (λ (q : FileName). LocationFinds files (InVolume q) d) k.2.named f in
       whole_volume k.0.head k.0.rows files k.2.holds g.one d g.found
 
-  snapshot_unbroken : (o : Option Snapshot) → NewestIs o files → (name : FileName) → IsIn (last_of (counted_snapshots files)) name → (d : Damage) → PlaceFinds files (InSnapshot name) d → ⊥
+  snapshot_unbroken : (o : Option Snapshot) → NewestIs o files → (name : FileName) → IsIn (last_of (counted_snapshots files)) name → (d : Damage) → LocationFinds files (InSnapshot name) d → ⊥
   snapshot_unbroken None is name m d f = absurd (subst (λ l. IsIn l name) (ap last_of is) m)
   snapshot_unbroken (Some s) is name m d f =
       let listed : IsIn (snapshot_checkpoint s.number ∷ []) name = subst (λ l. IsIn l name) (ap last_of is.last ∙ last_only is.older (snapshot_checkpoint s.number)) m in
       ⊎_elim (λ (e : snapshot_checkpoint s.number ≡ name).
-      let g = subst (λ (q : FileName). PlaceFinds files (InSnapshot q) d) (sym e) f in
+      let g = subst (λ (q : FileName). LocationFinds files (InSnapshot q) d) (sym e) f in
       whole_snapshot s files is.holds g.one d g.found) (λ (none : ⊥). none) listed
 
-  -- of these places none finds anything, where no segment of these does
-  places_unbroken : (known : List KnownVolume) (newest : Option Snapshot) (ns : List ℕ) → VolumesAre known files → NewestIs newest files → ((n : ℕ) → IsIn ns n → (d : Damage) → BreaksSegment files n d → ⊥)
-      → (place : Place) → IsIn (map InVolume (counted_volumes files) ++ (map InSnapshot (last_of (counted_snapshots files)) ++ map InSegment ns)) place → (d : Damage) → PlaceFinds files place d → ⊥
-  places_unbroken known newest ns are is none place m d f =
-      ⊎_elim (λ (v : IsIn (map InVolume (counted_volumes files)) place). let at = IsIn-map InVolume (counted_volumes files) place v in volume_unbroken known are at.0 at.1 d (subst (λ q. PlaceFinds files q d) (sym at.2) f))
-      (λ (rest : IsIn (map InSnapshot (last_of (counted_snapshots files)) ++ map InSegment ns) place).
-      ⊎_elim (λ (s : IsIn (map InSnapshot (last_of (counted_snapshots files))) place). let at = IsIn-map InSnapshot (last_of (counted_snapshots files)) place s in snapshot_unbroken newest is at.0 at.1 d (subst (λ q. PlaceFinds files q d) (sym at.2) f))
-      (λ (n : IsIn (map InSegment ns) place). let at = IsIn-map InSegment ns place n in none at.0 at.1 d (subst (λ q. PlaceFinds files q d) (sym at.2) f)) (IsIn-append_cases (map InSnapshot (last_of (counted_snapshots files))) (map InSegment ns) place rest))
-      (IsIn-append_cases (map InVolume (counted_volumes files)) (map InSnapshot (last_of (counted_snapshots files)) ++ map InSegment ns) place m)
+  -- of these offsets none finds anything, where no segment of these does
+  locations_unbroken : (known : List KnownVolume) (newest : Option Snapshot) (ns : List ℕ) → VolumesAre known files → NewestIs newest files → ((n : ℕ) → IsIn ns n → (d : Damage) → BreaksSegment files n d → ⊥)
+      → (location : Location) → IsIn (map InVolume (counted_volumes files) ++ (map InSnapshot (last_of (counted_snapshots files)) ++ map InSegment ns)) location → (d : Damage) → LocationFinds files location d → ⊥
+  locations_unbroken known newest ns are is none location m d f =
+      ⊎_elim (λ (v : IsIn (map InVolume (counted_volumes files)) location). let at = IsIn-map InVolume (counted_volumes files) location v in volume_unbroken known are at.0 at.1 d (subst (λ q. LocationFinds files q d) (sym at.2) f))
+      (λ (rest : IsIn (map InSnapshot (last_of (counted_snapshots files)) ++ map InSegment ns) location).
+      ⊎_elim (λ (s : IsIn (map InSnapshot (last_of (counted_snapshots files))) location). let at = IsIn-map InSnapshot (last_of (counted_snapshots files)) location s in snapshot_unbroken newest is at.0 at.1 d (subst (λ q. LocationFinds files q d) (sym at.2) f))
+      (λ (n : IsIn (map InSegment ns) location). let at = IsIn-map InSegment ns location n in none at.0 at.1 d (subst (λ q. LocationFinds files q d) (sym at.2) f)) (IsIn-append_cases (map InSnapshot (last_of (counted_snapshots files))) (map InSegment ns) location rest))
+      (IsIn-append_cases (map InVolume (counted_volumes files)) (map InSnapshot (last_of (counted_snapshots files)) ++ map InSegment ns) location m)
 
 pub damaged_hold_nothing : DamagedHoldNothing
 damaged_hold_nothing files damage first points tenure fence held =
-    places_unbroken files held.parts.volumes held.parts.newest (numbers files) held.holds.volumes held.holds.newest (λ n m d f. segment_unbroken (numbers files) files held.parts.entries held.holds.log.within held.holds.log.parts n m d f) first.one
+    locations_unbroken files held.parts.volumes held.parts.newest (numbers files) held.holds.volumes held.holds.newest (λ n m d f. segment_unbroken (numbers files) files held.parts.entries held.holds.log.within held.holds.log.parts n m d f) first.one
     (subst (λ l. IsIn l first.one) (sym first.split) (in_split first.before first.one first.after)) damage first.found
 
 pub log_damage_is_first : LogDamageIsFirst
@@ -303,8 +303,8 @@ log_damage_is_first known newest damage files are is h =
       before = vs ++ (ss ++ bs);
       one = InSegment h.one;
       after = map InSegment h.after;
-      split = ap (λ (l : List Place). vs ++ (ss ++ l)) (ap (map InSegment) h.split ∙ map-append InSegment h.before (h.one ∷ h.after)) ∙ ap (λ (l : List Place). vs ++ l) (sym (append_assoc ss bs later)) ∙ sym (append_assoc vs (ss ++ bs) later);
-      none = λ place m other f. places_unbroken files known newest h.before are is (λ n k d g. h.none n k d g) place m other f;
+      split = ap (λ (l : List Location). vs ++ (ss ++ l)) (ap (map InSegment) h.split ∙ map-append InSegment h.before (h.one ∷ h.after)) ∙ ap (λ (l : List Location). vs ++ l) (sym (append_assoc ss bs later)) ∙ sym (append_assoc vs (ss ++ bs) later);
+      none = λ location m other f. locations_unbroken files known newest h.before are is (λ n k d g. h.none n k d g) location m other f;
       found = h.found;
     }
 
@@ -331,10 +331,10 @@ told_snapshot number files AtGate name kept found f = absurd (no_form IsGate fil
 told_snapshot number files AtKept name kept found f = told_differ (drop 1 (bytes_at files (snapshot_checkpoint number))) files (snapshot_data number) name kept found f
 told_snapshot number files AtBody name kept found f = absurd (no_form (IsBody number) files (snapshot_data number) name kept found f)
 
-told_place : (files : Files) (place : Place) (name : FileName) (kept found : List ℕ) → PlaceFinds files place (OfDigest name kept found) → DigestsDiffer files name kept found
-told_place files (InVolume q) name kept found f = told_look q.ns q.block q.number files f.one name kept found f.found
-told_place files (InSnapshot q) name kept found f = told_snapshot q.number files f.one name kept found f.found
-told_place files (InSegment n) name kept found f = absurd (let told = f.is in cc)
+told_location : (files : Files) (location : Location) (name : FileName) (kept found : List ℕ) → LocationFinds files location (OfDigest name kept found) → DigestsDiffer files name kept found
+told_location files (InVolume q) name kept found f = told_look q.ns q.block q.number files f.one name kept found f.found
+told_location files (InSnapshot q) name kept found f = told_snapshot q.number files f.one name kept found f.found
+told_location files (InSegment n) name kept found f = absurd (let told = f.is in cc)
 
 pub told_digests_differ : ToldDigestsDiffer
-told_digests_differ files name kept found first = told_place files first.one name kept found first.found
+told_digests_differ files name kept found first = told_location files first.one name kept found first.found

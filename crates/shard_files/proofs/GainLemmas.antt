@@ -6,7 +6,7 @@ use Rattle.m3_model.specs.Members.{IsIn}
 use Rattle.m3_model.specs.Reads.{Covers}
 use Rattle.m3_model.specs.declared.point.Point.{Point}
 use Rattle.m3_outside.specs.Files.{Files}
-use Rattle.m3_outside.specs.DiskState.{DiskState, StepOf, IsLawful}
+use Rattle.m3_outside.specs.DiskState.{DiskState, StepOf, IsLawfulDisk}
 use Rattle.shard_files.specs.FilesHold.{FilesHold}
 use Rattle.shard_files.specs.Gains.{Gain, nothing, Grows, HoldsPart, Gains, MayGain}
 use Rattle.shard_files.specs.HeldLaws.{StopLeavesPart, WasGrown}
@@ -105,7 +105,7 @@ gains_nothing x = record {
 part_of_itself : (gain : Gain) (before : List Point) (tenure fence : ℕ) (x : Files) → FilesHold before tenure fence x → HoldsPart before tenure fence gain x
 part_of_itself gain before tenure fence x held = record { points = before; tenure_now = tenure; fence_now = fence; held = held; grows = grows_itself before gain; numbers = inl (refl, refl) }
 
-module _ {D : Type 0} (state : D → DiskState) (lawful : (d : D) → IsLawful (state d)) where
+module _ {D : Type 0} (state : D → DiskState) (lawful : (d : D) → IsLawfulDisk (state d)) where
   pub stop_leaves_part : StopLeavesPart state
   stop_leaves_part old new gain tells sound elapses c left =
       ⊎_elim (λ (was : (state old).since (state old).moment c).

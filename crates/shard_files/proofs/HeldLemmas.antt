@@ -6,7 +6,7 @@ use Rattle.m3_outside.specs.Files.{Files, name_cmp}
 use Rattle.m3_outside.specs.declared.file_name.FileName.{FileName}
 use Rattle.commit_log.specs.Contents.{numbers, numbers_of, PartsHold}
 use Rattle.commit_log.specs.Segment.{segment, MayAdd, Adds}
-use Rattle.commit_log.specs.LogEnd.{NoneAbove, MayBegin}
+use Rattle.commit_log.specs.LogEnd.{NoneAbove, MayBeginSegment}
 use Rattle.commit_log.specs.LogLaws.{IsLog}
 use Rattle.commit_log.proofs.Parts.{parts_one}
 use Rattle.commit_log.proofs.LogLemmas.{may_add_log, adds_log, begun_log}
@@ -81,7 +81,7 @@ pub adds_entry : (es : List LogEntry) (e : LogEntry) (number : ℕ) (x y : Files
 adds_entry es e number x y within holds above adds = grown es e number y holds.within within (adds_log number (spelled e) (map spelled es) x y (as_log es number x holds above) adds)
 
 -- a segment that may have begun behind the last
-pub begun_entries : (es : List LogEntry) (number : ℕ) (x y : Files) → HoldsEntries es x → NoneAbove number x → MayBegin (number + 1) x y → HoldsEntries es y
+pub begun_entries : (es : List LogEntry) (number : ℕ) (x y : Files) → HoldsEntries es x → NoneAbove number x → MayBeginSegment (number + 1) x y → HoldsEntries es y
 begun_entries es number x y holds above may =
     let log = begun_log number (number + 1) (omega arith) (map spelled es) x y (as_log es number x holds above) may in
     record { parts = log.parts; within = holds.within }

@@ -1,6 +1,6 @@
 -- Calls that rearrange, one after another, and what a stop within one leaves.
 use Rattle.std.proofs.Common.{⊎_elim, arith}
-use Rattle.m3_outside.specs.DiskState.{DiskState, StepOf, IsLawful}
+use Rattle.m3_outside.specs.DiskState.{DiskState, StepOf, IsLawfulDisk}
 use Rattle.shard_files.specs.Keeps.{Keeps, KeepsThen, WasKept, StopKeeps}
 
 pub keeps_then : KeepsThen
@@ -12,7 +12,7 @@ keeps_then kept x y z one two = record {
   snapshots = λ all. two.snapshots (one.snapshots all);
 }
 
-module _ {D : Type 0} (state : D → DiskState) (lawful : (d : D) → IsLawful (state d)) where
+module _ {D : Type 0} (state : D → DiskState) (lawful : (d : D) → IsLawfulDisk (state d)) where
   pub stop_keeps : StopKeeps state
   stop_keeps old new kept tells sound there elapses c left =
       ⊎_elim (λ (was : (state old).since (state old).moment c).

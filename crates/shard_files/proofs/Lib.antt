@@ -2,7 +2,7 @@ pub mod SpellingLemmas
 pub mod HeldLemmas
 pub mod DamageLemmas
 pub mod SegmentStops
-pub mod PlaceLemmas
+pub mod LocationLemmas
 pub mod AmountLemmas
 pub mod GainLemmas
 pub mod EntryLemmas
@@ -20,3 +20,5 @@ pub mod RefusedLemmas
 pub mod FirstDamageLemmas
 pub mod AloneLemmas
 pub mod DiskSteps
+pub use Rattle.commit_log.proofs.Leaves
+pub use Rattle.commit_log.proofs.ReadLemmas

@@ -118,10 +118,10 @@ some_one a b e = cc
 
 pub one_known : (x : Files) (n : FileName) (j k : KnownVolume) → IsKnown x n j → IsKnown x n k → j ≡ k
 one_known x n j k a b =
-    let place : part_of Checkpoint j.head ≡ part_of Checkpoint k.head = sym a.named ∙ b.named in
-    let ns = ap (λ (q : FileName). q.ns) place in
-    let start = ap (λ (q : FileName). q.block) place in
-    let number = ap (λ (q : FileName). q.number) place in
+    let offset : part_of Checkpoint j.head ≡ part_of Checkpoint k.head = sym a.named ∙ b.named in
+    let ns = ap (λ (q : FileName). q.ns) offset in
+    let start = ap (λ (q : FileName). q.block) offset in
+    let number = ap (λ (q : FileName). q.number) offset in
     let same : (part : Part) → part_bytes part j.head j.rows ≡ part_bytes part k.head k.rows = λ part.
     let name : part_of part j.head ≡ part_of part k.head = λ i. record { kind = kind_of part; ns = ns i; block = start i; number = number i } in
     some_one (part_bytes part j.head j.rows) (part_bytes part k.head k.rows) (sym (a.holds.parts part) ∙ ap (get x) name ∙ b.holds.parts part) in

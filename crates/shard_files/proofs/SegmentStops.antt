@@ -1,4 +1,4 @@
--- The first place at which a segment stops to be one of entries, found a chunk at a time.
+-- The first offset at which a segment stops to be one of entries, found a chunk at a time.
 use Rattle.std.proofs.Common.{◌≡◌, ◌⊎◌, inl, inr, ℕ, suc, ◌+◌, ◌-◌, ◌≤◌, List, [], ◌∷◌, ◌++◌, length, take, drop, map, Bool, Result, IsErrAnd, IfErr, refl, sym, ap, subst, ◌∙◌, arith, append_assoc, length-append, length-take}
 use Rattle.std.proofs.lemmas.List.{drop_at, drop-drop, take-append-drop, take-append-le, take-take, length-take-le, take_all}
 use Rattle.std.proofs.lemmas.Bool.{cases_lt}
@@ -12,9 +12,9 @@ use Rattle.wire_bytes.proofs.FieldLemmas.{begins_take}
 use Rattle.wire_bytes.proofs.StopLemmas.{stops_one}
 use Rattle.commit_log.specs.Segment.{chunk_bytes, written, IsSegment}
 use Rattle.commit_log.specs.Reading.{ChunkStands, IsFront}
-use Rattle.log_chunks.proofs.Chunks.{written_push}
-use Rattle.log_chunks.proofs.Fronts.{length_chunk, chunk_push, chunks_fit}
-use Rattle.log_chunks.proofs.LawLemmas.{same_chunk}
+use Rattle.commit_log.proofs.Chunks.{written_push}
+use Rattle.commit_log.proofs.Fronts.{length_chunk, chunk_push, chunks_fit}
+use Rattle.commit_log.proofs.LawLemmas.{same_chunk}
 use Rattle.shard_files.specs.declared.entries.LogEntry.{LogEntry}
 use Rattle.shard_files.specs.declared.entries.EntryErr.{EntryErr}
 use Rattle.shard_files.specs.declared.entries.EntryErr.TheVariants as refused
@@ -84,8 +84,8 @@ module _ (es : List LogEntry) (within : AreWithin es) (front file : List ℕ) (w
   entries : (c : List ℕ) → IsIn cs c → AnEntry c
   entries c m = let e = IsIn-map spelled es c m in subst AnEntry e.2 (bytes_are e.0 (within_one es e.0 within e.1))
 
-  place : length (written cs) ≡ at
-  place = sym (ap length done) ∙ length-take-le at front inside
+  offset : length (written cs) ≡ at
+  offset = sym (ap length done) ∙ length-take-le at front inside
 
   front_long : length front ≤ 65536
   front_long = (let l = ap length f.is in let t = length-take 65536 file in omega (arith, l, t))
@@ -101,7 +101,7 @@ module _ (es : List LogEntry) (within : AreWithin es) (front file : List ℕ) (w
       let l = length-append (written t.before) (chunk_bytes t.chunk) in
       let k = length_chunk t.chunk in
       let i = t.inside in
-      let p = place in
+      let p = offset in
       let q = front_long in
       behind cs t.before t.chunk (drop at file) t.rest 65536 entries t.stops.none (sym split ∙ t.split) (omega (arith, l, k, i)) (omega arith) (omega (arith, p, q, inside))
 
@@ -114,7 +114,7 @@ module _ (es : List LogEntry) (within : AreWithin es) (front file : List ℕ) (w
       let n = s.stands.ends in
       let w = s.stands.within in
       let fl = front_long in
-      let pl = place in
+      let pl = offset in
       let from_is = s.behind in
       let short = stop.inside in
       let cut : file ≡ written (cs ++ p ∷ []) ++ drop next file = sym (take-append-drop next file) ∙ ap (λ (l : List ℕ). l ++ drop next file) (sym (front_take next w) ∙ more) in
@@ -122,7 +122,7 @@ module _ (es : List LogEntry) (within : AreWithin es) (front file : List ℕ) (w
       let long : length (written cs ++ chunk_bytes p) ≡ next = (let l = length-append (written cs) (chunk_bytes p) in omega (arith, l, pl, n)) in
       let here : drop at file ≡ chunk_bytes p ++ drop next file = ap (drop at) chunked ∙ drop_at (written cs) (chunk_bytes p ++ drop next file) at pl in
       record {
-        stops = inr (record { before = cs; chunk = p; rest = drop next file; split = chunked; inside = omega (arith, long, w, fl); inner = inner; stops = stop; place = omega (arith, from_is, pl) });
+        stops = inr (record { before = cs; chunk = p; rest = drop next file; split = chunked; inside = omega (arith, long, w, fl); inner = inner; stops = stop; offset = omega (arith, from_is, pl) });
         first = λ other o. first_of other o p inner stop here (omega (arith, from_is, k, n, short)) (λ g.
             let long_more : length (written (cs ++ p ∷ [])) ≡ next = ap length (written_push cs p) ∙ long in
             let ge = grammar_behind (cs ++ p ∷ []) (drop next file) file other cut (omega (arith, long_more, w, fl)) g in
@@ -134,10 +134,10 @@ module _ (es : List LogEntry) (within : AreWithin es) (front file : List ℕ) (w
       first_of other (inr t) p inner stop here le grammar from_is few =
           let b = behind_stop other t in
           let i = b.inside in
-          let pl = place in
+          let pl = offset in
           let same = (same_chunk b.d p b.r (drop next file) (omega (arith, i)) (omega (arith, few)) (sym b.stands ∙ here)).0 in
           let e = ap length same in
-          let at_is = t.place in
+          let at_is = t.offset in
           by b.order same e at_is
         where
           by : (let b = behind_stop other t in ((b.d ≡ t.chunk) × (length (written t.before) ≡ length (written cs))) ⊎ (length (written cs) + (5 + length b.d) ≤ length (written t.before))) → (behind_stop other t).d ≡ p → length (behind_stop other t).d ≡ length p → other ≡ length (written t.before) + 5 + t.inner → from + inner ≤ other
@@ -145,9 +145,9 @@ module _ (es : List LogEntry) (within : AreWithin es) (front file : List ℕ) (w
               let chunk_is : t.chunk ≡ p = sym o.0 ∙ same in
               let inner_is = stops_one AnEntry p inner t.inner stop (subst (λ (l : List ℕ). StopsAt AnEntry l t.inner) chunk_is t.stops) in
               let l = o.1 in
-              let pl = place in
+              let pl = offset in
               omega (arith, inner_is, l, pl, at_is, from_is)
-          by (inr o) same e at_is = let pl = place in omega (arith, o, e, pl, at_is, le)
+          by (inr o) same e at_is = let pl = offset in omega (arith, o, e, pl, at_is, le)
 
   -- what is told of a chunk that isn't read as an entry
   pub entry_stops : (from next : ℕ) (s : ChunkStands front at from next) (e : EntryErr) → MayBreakFrom from s.payload e → MayStop file e
@@ -160,7 +160,7 @@ module _ (es : List LogEntry) (within : AreWithin es) (front file : List ℕ) (w
   in_front : (d r : List ℕ) → drop at file ≡ chunk_bytes d ++ r → length (written cs) + (5 + length d) ≤ 65536 → ChunkStands front at (at + 5) (at + 5 + length d)
   in_front d r here le =
       let m = at + 5 + length d in
-      let pl = place in
+      let pl = offset in
       let k = length_chunk d in
       let whole_file : file ≡ written cs ++ (chunk_bytes d ++ r) = split ∙ ap (λ (l : List ℕ). written cs ++ l) here in
       let long = ap length whole_file ∙ (length-append (written cs) (chunk_bytes d ++ r) ∙ ap (λ (n : ℕ). length (written cs) + n) (length-append (chunk_bytes d) r)) in
@@ -185,7 +185,7 @@ module _ (es : List LogEntry) (within : AreWithin es) (front file : List ℕ) (w
       take_whole : (a b : List ℕ) (n : ℕ) → length a ≡ n → take n (a ++ b) ≡ a
       take_whole a b n long = take-append-le n a b (omega (arith, long)) ∙ (let e : n ≡ length a = sym long in ap (λ (k : ℕ). take k a) e ∙ take_length a)
 
-  -- where no chunk stands, the place at which no segment goes on is the first
+  -- where no chunk stands, the offset at which no segment goes on is the first
   pub end_stops : (stop : ℕ) → StopsAt IsSegment file stop → ((from next : ℕ) → ¬ (ChunkStands front at from next)) → FirstStop file stop
   end_stops stop s none = record { stops = inl s; first = by }
     where

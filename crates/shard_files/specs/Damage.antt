@@ -17,7 +17,7 @@ use Rattle.wire_bytes.specs.Snapshots.{Snapshot, IsSnapshot, snapshot_bytes}
 use Rattle.shard_files.specs.Parts.{part_name, part_of, IsRead, counted_volumes, counted_snapshots, snapshot_data, snapshot_checkpoint}
 use Rattle.shard_files.specs.FilesHold.{FilesHold}
 
--- What is told of a damaged file: the first place at which no bytes of its form go on, or the digest that is kept of it and the one that is found.
+-- What is told of a damaged file: the first offset at which no bytes of its form go on, or the digest that is kept of it and the one that is found.
 pub data Damage : Type 0 where
   OfForm : FileName → ℕ → Damage
   OfDigest : FileName → List ℕ → List ℕ → Damage
@@ -35,7 +35,7 @@ pub record FirstFound {X : Type 0} (Finds : X → Damage → Type 0) (all : List
   pub none : (x : X) → IsIn before x → (other : Damage) → ¬ (Finds x other)
   pub found : Finds one damage
 
--- the file hasn't the form, by this place
+-- the file hasn't the form, by this offset
 pub record BreaksForm (Form : List ℕ → Type 0) (files : Files) (name : FileName) (damage : Damage) : Type 0 where
   pub at : ℕ
   pub stops : StopsAt Form (bytes_at files name) at
@@ -153,7 +153,7 @@ SnapshotFinds number files AtGate damage = BreaksForm IsGate files (snapshot_che
 SnapshotFinds number files AtKept damage = BreaksDigest (drop 1 (bytes_at files (snapshot_checkpoint number))) files (snapshot_data number) damage
 SnapshotFinds number files AtBody damage = BreaksForm (IsBody number) files (snapshot_data number) damage
 
--- a whole chunk of a segment is no entry, by this place: that in the chunk, behind its gate and its length
+-- a whole chunk of a segment is no entry, by this offset: that in the chunk, behind its gate and its length
 pub record EntryStops (bytes : List ℕ) (at : ℕ) : Type 0 where
   pub before : List (List ℕ)
   pub chunk : List ℕ
@@ -162,18 +162,18 @@ pub record EntryStops (bytes : List ℕ) (at : ℕ) : Type 0 where
   pub inside : length (written before ++ chunk_bytes chunk) ≤ SEGMENT_BYTES
   pub inner : ℕ
   pub stops : StopsAt AnEntry chunk inner
-  pub place : at ≡ length (written before) + 5 + inner
+  pub offset : at ≡ length (written before) + 5 + inner
 
--- the bytes are no segment of entries, by this place: no segment of a log goes on here, or a chunk stops to be an entry
+-- the bytes are no segment of entries, by this offset: no segment of a log goes on here, or a chunk stops to be an entry
 abbrev pub SegmentStops : List ℕ → ℕ → Type 0
 SegmentStops bytes at = StopsAt IsSegment bytes at ⊎ EntryStops bytes at
 
--- the first such place
+-- the first such offset
 pub record FirstStop (bytes : List ℕ) (at : ℕ) : Type 0 where
   pub stops : SegmentStops bytes at
   pub first : (other : ℕ) → SegmentStops bytes other → at ≤ other
 
--- the first such place of the segment of this number
+-- the first such offset of the segment of this number
 pub record BreaksSegment (files : Files) (number : ℕ) (damage : Damage) : Type 0 where
   pub at : ℕ
   pub stops : FirstStop (bytes_at files (segment number)) at
@@ -182,10 +182,10 @@ pub record BreaksSegment (files : Files) (number : ℕ) (damage : Damage) : Type
 -- ---- all files
 
 -- what damage is looked for in: a volume or a snapshot by its checkpoint, and a segment by its number
-pub data Place : Type 0 where
-  InVolume : FileName → Place
-  InSnapshot : FileName → Place
-  InSegment : ℕ → Place
+pub data Location : Type 0 where
+  InVolume : FileName → Location
+  InSnapshot : FileName → Location
+  InSegment : ℕ → Location
 
 -- the last of the names, where there is one
 abbrev pub last_of : List FileName → List FileName
@@ -193,19 +193,19 @@ last_of [] = []
 last_of (name ∷ []) = name ∷ []
 last_of (name ∷ names) = last_of names
 
--- the places in their order; of the snapshots the newest alone
-abbrev pub places : Files → List Place
-places files = map InVolume (counted_volumes files) ++ (map InSnapshot (last_of (counted_snapshots files)) ++ map InSegment (numbers files))
+-- the locations in their order; of the snapshots the newest alone
+abbrev pub locations : Files → List Location
+locations files = map InVolume (counted_volumes files) ++ (map InSnapshot (last_of (counted_snapshots files)) ++ map InSegment (numbers files))
 
--- the first damage at this place is this one
-abbrev pub PlaceFinds : Files → Place → Damage → Type 0
-PlaceFinds files (InVolume name) damage = FirstFound (LookFinds name.ns name.block name.number files) looks damage
-PlaceFinds files (InSnapshot name) damage = FirstFound (SnapshotFinds name.number files) (AtGate ∷ AtKept ∷ AtBody ∷ []) damage
-PlaceFinds files (InSegment number) damage = BreaksSegment files number damage
+-- the first damage at this location is this one
+abbrev pub LocationFinds : Files → Location → Damage → Type 0
+LocationFinds files (InVolume name) damage = FirstFound (LookFinds name.ns name.block name.number files) looks damage
+LocationFinds files (InSnapshot name) damage = FirstFound (SnapshotFinds name.number files) (AtGate ∷ AtKept ∷ AtBody ∷ []) damage
+LocationFinds files (InSegment number) damage = BreaksSegment files number damage
 
 -- the first damage of the files is this one
 abbrev pub FirstDamage : Files → Damage → Type 0
-FirstDamage files damage = FirstFound (PlaceFinds files) (places files) damage
+FirstDamage files damage = FirstFound (LocationFinds files) (locations files) damage
 
 -- ---- laws
 

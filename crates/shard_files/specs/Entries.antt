@@ -33,28 +33,28 @@ pub record IsEntry (bytes : List ℕ) (e : LogEntry) : Type 0 where
   pub within : IsWithin e
   pub is : bytes ≡ spelled e
 
--- these bytes stop to be an entry at the place; memory may always be wanted
+-- these bytes stop to be an entry at the offset; memory may always be wanted
 abbrev pub MayBreak : List ℕ → EntryErr → Type 0
 MayBreak bytes refused.Memory = ⊤
 MayBreak bytes (refused.Form at) = StopsAt AnEntry bytes at
 
--- the same of bytes that stand at this place
+-- the same of bytes that stand at this offset
 abbrev pub MayBreakFrom : ℕ → List ℕ → EntryErr → Type 0
 MayBreakFrom from bytes refused.Memory = ⊤
 MayBreakFrom from bytes (refused.Form at) = (from ≤ at) × StopsAt AnEntry bytes (at - from)
 
--- the place behind the entry
+-- the offset behind the entry
 abbrev pub end_of : EntryAt → ℕ
 end_of (found.Points count from next) = next
 end_of (found.Fence n next) = next
 end_of (found.Tenure n next) = next
 
--- some point stands at the place
+-- some point stands at the offset
 pub record HasPoint (bytes : List ℕ) (at : ℕ) : Type 0 where
   pub p : PointAt
   pub stands : PointStands bytes at p
 
--- so many points stand from the place on
+-- so many points stand from the offset on
 pub record HavePoints (count : ℕ) (bytes : List ℕ) (from : ℕ) : Type 0 where
   pub ps : List Point
   pub next : ℕ

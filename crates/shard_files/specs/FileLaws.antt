@@ -5,7 +5,7 @@ use Rattle.m3_model.specs.declared.point.Point.{Point}
 use Rattle.m3_model.specs.declared.point.Series.{Series}
 use Rattle.m3_outside.specs.Files.{Files, IsAbsent}
 use Rattle.m3_outside.specs.declared.file_name.FileName.{FileName}
-use Rattle.commit_log.specs.LogEnd.{NoneAbove, NoneFrom, MayBegin}
+use Rattle.commit_log.specs.LogEnd.{NoneAbove, NoneFrom, MayBeginSegment}
 use Rattle.commit_log.specs.Segment.{segment, MayAdd, Adds}
 use Rattle.wire_bytes.specs.Snapshots.{Snapshot}
 use Rattle.wire_bytes.specs.Volumes.{VolumeHead, points_of_rows}
@@ -52,7 +52,7 @@ pub record AppendKeepsOthers : Type 0 where
 pub record AppendBrings : Type 0 where
   pub all : (e : LogEntry) (bytes : List ℕ) (number : ℕ) (x y : Files) → IsEntry bytes e → NoneAbove number x → Adds (segment number) bytes x y → Gains (gain_in e) x y
   pub part : (e : LogEntry) (bytes : List ℕ) (number : ℕ) (x y : Files) → IsEntry bytes e → NoneAbove number x → MayAdd (segment number) bytes x y → MayGain (gain_in e) x y
-  pub begins : (number : ℕ) (x y : Files) → NoneFrom number x → MayBegin number x y → Gains nothing x y
+  pub begins : (number : ℕ) (x y : Files) → NoneFrom number x → MayBeginSegment number x y → Gains nothing x y
 
 -- files that are those of one volume alone hold its points
 abbrev pub VolumeIsHeld : Type 0

@@ -5,7 +5,7 @@ use Rattle.m3_outside.specs.Files.{Files}
 use Rattle.m3_outside.specs.declared.disk_err.DiskErr.{DiskErr}
 use Rattle.m3_outside.specs.declared.disk_err.DiskErr.TheVariants as disk
 use Rattle.commit_log.specs.Contents.{numbers, PartsHold}
-use Rattle.commit_log.specs.Segment.{segment, Reads}
+use Rattle.commit_log.specs.Segment.{segment, ReadsChunks}
 use Rattle.shard_files.specs.declared.entries.LogEntry.{LogEntry}
 use Rattle.shard_files.specs.declared.entries.EntryErr.{EntryErr}
 use Rattle.shard_files.specs.declared.entries.EntryErr.TheVariants as refused
@@ -26,9 +26,9 @@ pub record ReadsEntries (bytes : List ℕ) (old new : List LogEntry) : Type 0 wh
   pub is : new ≡ old ++ entries
   pub within : AreWithin entries
   pub long : length bytes ≡ SEGMENT_BYTES
-  pub reads : Reads (map spelled entries) bytes
+  pub reads : ReadsChunks (map spelled entries) bytes
 
--- the first place at which these bytes stop to be a segment of entries is this one; memory may always be wanted
+-- the first offset at which these bytes stop to be a segment of entries is this one; memory may always be wanted
 abbrev pub MayStop : List ℕ → EntryErr → Type 0
 MayStop bytes refused.Memory = ⊤
 MayStop bytes (refused.Form at) = FirstStop bytes at
@@ -52,7 +52,7 @@ pub record FindsEntries (ns : List ℕ) (files : Files) (old new : List LogEntry
   pub within : AreWithin entries
   pub has : PartsHold ns files (map spelled entries)
 
--- the lowest damaged segment, and the first place at which it stops to be a segment of entries
+-- the lowest damaged segment, and the first offset at which it stops to be a segment of entries
 abbrev pub LogTells : Files → Damage → Type 0
 LogTells files damage = FirstFound (BreaksSegment files) (numbers files) damage
 

@@ -25,7 +25,7 @@ pub enum EntryErr {
     /// Want of memory.
     #[error("out of memory")]
     Memory,
-    /// They are none: some entry, or some segment of entries, begins with the bytes before the place `at`, and none goes on
+    /// They are none: some entry, or some segment of entries, begins with the bytes before the offset `at`, and none goes on
     /// with the byte there, or there is none.
     #[error("no entry goes on with the byte at {at}")]
     Form { at: usize },
@@ -53,7 +53,7 @@ impl<T: Drop> From<AllocFailed<T>> for EntryErr {
     }
 }
 
-// The point at the place, and the place behind it.
+// The point at the offset, and the offset behind it.
 fn read_point(alloc: Global, bytes: &[u8], at: usize) -> Result<(Point, usize), Memory>
     requires { HasPoint bytes.now at }
     ensures { IfOk result (λ r. IsBounded r.0 × Stands (bytes_of_point r.0) bytes.now at r.1) }
@@ -69,22 +69,22 @@ fn read_point(alloc: Global, bytes: &[u8], at: usize) -> Result<(Point, usize), 
     Ok((point, found.next))
 }
 
-// So many points, from the place on.
+// So many points, from the offset on.
 fn read_points(alloc: Global, bytes: &[u8], from: usize, count: usize) -> Result<Seq<Point>, Memory>
     requires { HavePoints count bytes.now from }
     ensures { IfOk result (λ points. (next : ℕ) × (length points ≡ count) × PointsStand points bytes.now from next) }
 {
     let mut points = Vec::new(alloc);
-    let mut place = from;
+    let mut offset = from;
     for _i in 0..count {
-        let (point, next) = read_point(alloc, bytes, place)?;
+        let (point, next) = read_point(alloc, bytes, offset)?;
         points.push(point)?;
-        place = next;
+        offset = next;
     }
     Ok(Seq::from_vec(points))
 }
 
-// The place behind the entry.
+// The offset behind the entry.
 fn end_of(found: EntryAt) -> usize
     ensures { result ≡ end_of found }
 {
@@ -117,7 +117,7 @@ fn find_entry(chunk: &[u8]) -> Result<EntryAt, EntryErr>
 ///
 /// # Errors
 ///
-/// Want of memory. Where the chunk is no entry, the first place at which it breaks, which is its length where an entry goes
+/// Want of memory. Where the chunk is no entry, the first offset at which it breaks, which is its length where an entry goes
 /// on beyond it.
 pub fn read_entry(alloc: Global, chunk: &[u8]) -> Result<LogEntry, EntryErr>
     ensures ok { IfOk result (λ e. IsEntry chunk.now e) }

@@ -18,8 +18,8 @@ pub enum LoadErr {
         kept: [u8; 32],
         found: [u8; 32],
     },
-    /// With the byte at the place `at`, or for want of it, no such file goes on. It is 0 where the file isn't there, and where it
-    /// keeps to its digest and is damaged all the same: no place in it is looked for then.
+    /// With the byte at the offset `at`, or for want of it, no such file goes on. It is 0 where the file isn't there, and where it
+    /// keeps to its digest and is damaged all the same: no offset in it is looked for then.
     #[error("{file:?} is damaged at byte {at}")]
     Form {
         file: FileName,

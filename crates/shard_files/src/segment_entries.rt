@@ -8,7 +8,7 @@ use crate::entries::{EntryErr, LogEntry, read_entry};
 use commit_log::{ChunkAt, Front, get_chunk};
 use std::alloc::Global;
 
-// The entry that the bytes between the two places are; where they are none, its place is one in all the bytes.
+// The entry that the bytes between the two offsets are; where they are none, its offset is one in all the bytes.
 fn read_between(alloc: Global, bytes: &[u8], from: usize, next: usize) -> Result<LogEntry, EntryErr>
     requires order { from ≤ next }
     requires inside { next ≤ length bytes.now }
@@ -26,7 +26,7 @@ fn read_between(alloc: Global, bytes: &[u8], from: usize, next: usize) -> Result
 ///
 /// # Errors
 ///
-/// Want of memory. The first place at which no segment goes on, or at which a whole chunk stops to be an entry.
+/// Want of memory. The first offset at which no segment goes on, or at which a whole chunk stops to be an entry.
 pub fn read_segment(
     alloc: Global,
     front: &Front,

@@ -3,3 +3,4 @@ pub mod SyncLemmas
 pub mod OnceLemmas
 pub mod ToldLemmas
 pub mod OpenLemmas
+pub mod ClaimLemmas

@@ -12,7 +12,7 @@ use Rattle.m3_outside.specs.Causes.{CountsFaults}
 use Rattle.m3_outside.specs.declared.file_name.FileName.{FileName}
 use Rattle.m3_outside.specs.declared.failed.Failed.{Failed}
 use Rattle.m3_outside.specs.Files.{Files, IsPresent, Stays, name_cmp}
-use Rattle.m3_outside.specs.DiskState.{DiskState, EachImage, Elapses, IsLawful}
+use Rattle.m3_outside.specs.DiskState.{DiskState, EachImage, Elapses, IsLawfulDisk}
 use Rattle.m3_outside.specs.DiskCalls.{Syncs, LeavesFiles}
 use Rattle.m3_outside.proofs.Names.{name_total, name_same, same_files}
 use Rattle.m3_outside.proofs.Moments.{elapses_then}
@@ -83,7 +83,7 @@ module _ (names : List FileName) (i : ℕ) (d : FileName) (lt : i < length names
   }
 
 -- all files are as each stop leaves them, and it leaves no others
-pub all_synced : (names : List FileName) (i : ℕ) (a b : DiskState) → length names ≤ i → Synced names i a b → (a.tells ≡ true → names ≡ keys a.files) → IsLawful b → EachImage b (λ c. c ≡ b.files)
+pub all_synced : (names : List FileName) (i : ℕ) (a b : DiskState) → length names ≤ i → Synced names i a b → (a.tells ≡ true → names ≡ keys a.files) → IsLawfulDisk b → EachImage b (λ c. c ≡ b.files)
 all_synced names i a b le so listed lawful tells c image = same_files c b.files at
   where
     told : a.tells ≡ true

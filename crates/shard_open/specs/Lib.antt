@@ -1,3 +1,4 @@
 pub mod Ranks
 pub mod Told
 pub mod Loads
+pub mod Claims

@@ -53,7 +53,7 @@ IsUnreadAs (unread.Form name) why = why ≡ failures.Form name 0
 abbrev pub ToldAreUnsound : Type 0
 ToldAreUnsound = (files : Files) (damage : Damage) → FilesTell files damage → ¬ IsSound files
 
--- a place was looked for: it isn't in data that keeps to its digest, nor in a volume whose name none has
+-- an offset was looked for: it isn't in data that keeps to its digest, nor in a volume whose name none has
 abbrev pub IsPlaced : {files : Files} {damage : Damage} → FilesTell files damage → Type 0
 IsPlaced (OfVolumes t) = (¬ (t.told.one ≡ AtForm Data)) × IsInside t.one.ns t.one.block t.one.number
 IsPlaced (OfSnapshot known are t) = ¬ (t.told.one ≡ AtBody)

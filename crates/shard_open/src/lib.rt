@@ -1,6 +1,7 @@
 //! What the files of one replica's disk hold, read when the replica opens: volumes, the newest snapshot and the log.
 #![tactic(auto)]
 
+mod claims;
 pub mod laws;
 pub mod load;
 mod log;

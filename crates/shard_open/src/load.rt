@@ -8,14 +8,17 @@ ghost use Rattle.commit_log.specs.LogEnd.{NoneFrom};
 ghost use Rattle.shard_files.specs.Once.{HeldOnce, IsEachOnce};
 ghost use Rattle.shard_files.specs.Parts.{IsNewestNumber};
 ghost use Rattle.shard_files.specs.declared.load_err.LoadErr.TheVariants as failures;
+ghost use Rattle.shard_open.specs.Claims.{claims_by_tenure};
 ghost use Rattle.shard_open.specs.Loads.{AreOpened};
 ghost use Rattle.shard_open.specs.Told.{AreApart, MayBeUnsound};
 
+use crate::claims::claim_by_tenure;
 use crate::log::held_entries;
 use crate::newest::{Newest, read_newest};
 use crate::once::each_once;
 use crate::sync::sync_all;
 use crate::volumes::{OpenVolume, open_volumes};
+use boot_chain::Claims;
 use m3_model::{Memory, Point, Seq};
 use m3_outside::Disk;
 use shard_files::{Amount, LoadErr, join_entries};
@@ -39,6 +42,9 @@ pub struct Loaded {
     pub snapshot: u64,
     /// The volumes that count, ascending by namespace, start and number.
     pub volumes: Seq<OpenVolume>,
+    /// Which bootstrapper claims which times of the shard, of all times of each namespace that there may be: where there is a tenure,
+    /// the filesystem's the blocks with a volume that counts, and the commit log's the rest; where there is none, the last one all.
+    pub claims: Claims,
 }
 
 // The points, each once, of volumes, a snapshot and a log.
@@ -70,6 +76,7 @@ fn read_disk<D: Disk>(alloc: Global, disk: &mut D) -> Result<Loaded, LoadErr>
     ensures segments { (D.state disk.old).tells ≡ true → IfOk result (λ l. l.segments ≡ length (numbers_in (D.state disk.old).files)) }
     ensures fresh { IfOk result (λ l. Told (D.state disk.new) (NoneFrom l.next_segment)) }
     ensures order { IfOk result (λ l. l.tenure ≤ l.fence) }
+    ensures claims { IfOk result (λ l. l.claims ≡ claims_by_tenure l.tenure l.volumes) }
     ensures err { (D.state disk.old).tells ≡ true → IfErr result (MayBeUnsound (D.state disk.old).files) }
     ensures apart { IfErr result AreApart }
 {
@@ -78,26 +85,29 @@ fn read_disk<D: Disk>(alloc: Global, disk: &mut D) -> Result<Loaded, LoadErr>
     let newest = read_newest(alloc, disk)?;
     let log = held_entries(alloc, disk)?;
     let amount = join_entries(alloc, log.entries)?;
+    let tenure = greater(newest.tenure, amount.tenure);
+    let claims = claim_by_tenure(alloc, volumes.as_slice(), tenure)?;
     Ok(Loaded {
         points: join_points(alloc, of_volumes, newest.points, amount.points)?,
-        tenure: greater(newest.tenure, amount.tenure),
+        tenure,
         fence: greater(newest.fence, amount.fence),
         next_segment: log.next,
         segments: log.segments,
         snapshot: newest.number,
         volumes,
+        claims,
     })
 }
 
 /// Syncs each file of a disk and reads what they hold: this is then what each stop leaves. The volumes and the newest snapshot are
 /// checked whole. The log goes on in a fresh segment of the number `next_segment`, and never in one that was read. Each point costs
-/// logarithmic time.
+/// logarithmic time. Then the bootstrappers are run, which claim the times of the shard by what was read.
 ///
 /// # Errors
 ///
 /// A fault. Damage, of the first of these that isn't whole: a volume that counts, by namespace, start and number, the newest snapshot
-/// that counts, a segment by number. It is two digests that differ, or the first place at which no such file goes on, in a segment also
-/// at which a whole chunk stops to be an entry; of data that keeps to its digest no place is told. An older snapshot isn't looked into.
+/// that counts, a segment by number. It is two digests that differ, or the first offset at which no such file goes on, in a segment also
+/// at which a whole chunk stops to be an entry; of data that keeps to its digest no offset is told. An older snapshot isn't looked into.
 /// Want of memory, also where the next segment would have the number `NUMBER_END` or a higher one. Reads give what they gave, and a
 /// stop leaves what it might have left before.
 pub fn load<D: Disk>(alloc: Global, disk: &mut D) -> Result<Loaded, LoadErr>
@@ -108,6 +118,7 @@ pub fn load<D: Disk>(alloc: Global, disk: &mut D) -> Result<Loaded, LoadErr>
     ensures only { IfOk result (λ _. EachImage (D.state disk.new) (λ c. c ≡ (D.state disk.new).files)) }
     ensures fresh { IfOk result (λ l. Told (D.state disk.new) (NoneFrom l.next_segment)) }
     ensures order { IfOk result (λ l. l.tenure ≤ l.fence) }
+    ensures claims { IfOk result (λ l. l.claims ≡ claims_by_tenure l.tenure l.volumes) }
     ensures err { IfErr result (λ e. Told (D.state disk.old) (λ files. MayBeUnsound files e)) }
     ensures apart { IfErr result AreApart }
     ensures any_moment { (D.state disk.old).tells ≡ true → Elapses Stays (D.state disk.old) (D.state disk.new) }

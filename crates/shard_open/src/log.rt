@@ -19,7 +19,7 @@ use std::alloc::Global;
 /// What a replica's log holds.
 #[derive(Drop)]
 pub(crate) struct HeldEntries {
-    /// The entries of all segments, by ascending number and place.
+    /// The entries of all segments, by ascending number and offset.
     pub entries: Seq<LogEntry>,
     /// How many segments there are.
     pub segments: u64,
@@ -88,7 +88,7 @@ fn read_segments<D: Disk>(
 ///
 /// # Errors
 ///
-/// A fault. The lowest damaged segment, and the first place at which it stops to be one. Want of memory.
+/// A fault. The lowest damaged segment, and the first offset at which it stops to be one. Want of memory.
 pub(crate) fn held_entries<D: Disk>(alloc: Global, disk: &mut D) -> Result<HeldEntries, LoadErr>
     ensures leaves { LeavesFiles (IsErrOf result failures.Disk) (D.state disk.old) (D.state disk.new) }
     ensures ok { (D.state disk.old).tells ≡ true → IfOk result (λ held. HoldsEntries held.entries (D.state disk.old).files) }

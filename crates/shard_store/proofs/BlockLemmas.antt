@@ -29,7 +29,7 @@ use Rattle.shard_files.proofs.GainLemmas.{≤ℤ_trans}
 use Rattle.shard_files.proofs.NextLemmas.{next_volume_is_new}
 use Rattle.shard_files.proofs.PartLemmas.{one_known}
 use Rattle.shard_files.proofs.VolumeSteps.{of_known}
-use Rattle.volume_points.specs.Known.{is_of}
+use Rattle.listed_volumes.specs.Known.{is_of}
 use Rattle.volume_steps.specs.Known.{HaveContent, HaveRows, StandsIn}
 use Rattle.volume_steps.specs.KnownLists.{IsOfOne, is_volume_at, is_one_of, volume_of, with_volume, without_volumes}
 use Rattle.volume_steps.proofs.KnownLemmas.{points_of_known, known_of_points}

@@ -34,7 +34,7 @@ use Rattle.series_merge.specs.Merges.{IsMergeOf}
 use Rattle.series_merge.proofs.OrderLemmas.{content_in, merge_joins}
 use Rattle.series_merge.proofs.JoinLemmas.{join_swap}
 use Rattle.wire_bytes.specs.Volumes.{count_of}
-use Rattle.volume_points.proofs.AnswerLemmas.{block_is_range}
+use Rattle.listed_volumes.proofs.AnswerLemmas.{block_is_range}
 use Rattle.shard_store.specs.Ticks.{keys_in}
 use Rattle.shard_store.proofs.PointLemmas.{has_fewer, has_holds, has_kept, has_untested, joined_holds, joined_source, parted, same_by_points}
 

@@ -18,7 +18,7 @@ use Rattle.shard_files.specs.Steps.{next_volume}
 use Rattle.shard_files.proofs.CountedLemmas.{IsIn-filter}
 use Rattle.shard_store.specs.Blocks.{IsOneVolume, OtherNumbersStay}
 use Rattle.shard_store.specs.Flushes.{AreFlushed, AreFlushedTo, block_size, ended_size, is_in, is_in_one, may_be_flushed}
-use Rattle.shard_store.specs.Listed.{known_in}
+use Rattle.listed_volumes.specs.Listed.{known_in}
 use Rattle.shard_store.specs.StoreParts.{IsCountedIn, IsOpenOn, content_of_opened}
 use Rattle.shard_store.specs.declared.opened.Opened.{Opened}
 use Rattle.shard_store.proofs.FlushedLemmas.{IsAligned, flushed_more, has_ended_size, without_more}

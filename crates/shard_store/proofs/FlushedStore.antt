@@ -4,14 +4,14 @@ use Rattle.std.specs.Prelude.{IfOk, OnOk, IsErrOf}
 use Rattle.m3_model.specs.Answers.{HasPoint}
 use Rattle.m3_model.specs.declared.point.Point.{Point}
 use Rattle.m3_model.specs.declared.rules.Rules.{Rules}
-use Rattle.m3_outside.specs.DiskState.{DiskState, IsLawful}
+use Rattle.m3_outside.specs.DiskState.{DiskState, IsLawfulDisk}
 use Rattle.block_buffer.specs.Held.{without}
 use Rattle.shard_files.specs.Keeps.{Rearranges}
 use Rattle.shard_files.specs.Parts.{KnownVolume}
 use Rattle.fileset_read.specs.declared.file_err.FileErr.{FileErr}
 use Rattle.fileset_read.specs.declared.file_err.FileErr.TheVariants as failures
 use Rattle.shard_store.specs.Flushes.{AreFlushed, AreFlushedTo, HasFlushed, IsPartFlushed, is_in_one}
-use Rattle.shard_store.specs.Listed.{known_in}
+use Rattle.listed_volumes.specs.Listed.{known_in}
 use Rattle.shard_store.specs.StoreParts.{IsOpenOn, content_of_opened, state_of}
 use Rattle.shard_store.specs.Stores.{StoreState}
 use Rattle.shard_store.specs.declared.opened.Opened.{Opened}
@@ -28,7 +28,7 @@ module _ {D : Type 0} (state : D → DiskState) (disk last : D) (first later : O
   }
 
   -- these blocks are flushed
-  pub has_flushed : (rules : Rules) (blocks : List (ℕ × ℕ)) → IsLawful (state disk) → IsLawful (state last) → (state last).tells ≡ (state disk).tells → IsOpenOn first (state disk) → IsOpenOn later (state last) → later.held.points ≡ without first.held.points (is_in_one rules blocks)
+  pub has_flushed : (rules : Rules) (blocks : List (ℕ × ℕ)) → IsLawfulDisk (state disk) → IsLawfulDisk (state last) → (state last).tells ≡ (state disk).tells → IsOpenOn first (state disk) → IsOpenOn later (state last) → later.held.points ≡ without first.held.points (is_in_one rules blocks)
       → ((state disk).tells ≡ true → AreFlushedTo rules first.held.points blocks (known_in first.volumes.items) (state disk).files (known_in later.volumes.items))
       → HasFlushed state rules blocks (state_of disk (Some first)) (state_of last (Some later))
   has_flushed rules blocks lawful lawful_last same kept kept_last held volumes = record {
@@ -55,7 +55,7 @@ module _ {D : Type 0} (state : D → DiskState) (disk last : D) (first later : O
         subst (λ (x : StoreState D). IsPartFlushed state x (state_of last new)) shown
         (subst (λ (o : Option Opened). IsPartFlushed state (state_of disk (Some first)) (state_of last o)) (sym (memory (sym said ∙ is))) (is_part_flushed fewer))
 
-    module _ (rules : Rules) (lawful : IsLawful (state disk)) (lawful_last : IsLawful (state last)) (same : (state last).tells ≡ (state disk).tells) (kept : IsOpenOn first (state disk)) (new : Option Opened) where
+    module _ (rules : Rules) (lawful : IsLawfulDisk (state disk)) (lawful_last : IsLawfulDisk (state last)) (same : (state last).tells ≡ (state disk).tells) (kept : IsOpenOn first (state disk)) (new : Option Opened) where
       abbrev Answered : ℕ → Type 0
       Answered n = (blocks : List (ℕ × ℕ)) × AreFlushed rules s.buffered blocks × HasFlushed state rules blocks s (state_of last new) × (n ≡ length blocks)
 

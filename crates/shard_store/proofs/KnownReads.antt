@@ -2,7 +2,7 @@
 use Rattle.std.proofs.Common.{◌≡◌, inl, inr, ⊎_elim, ℕ, ℤ, List, [], ◌∷◌, map, length, refl, sym, subst, ◌∙◌, arith, Bool, true}
 use Rattle.std.specs.Prelude.{filter}
 use Rattle.m3_model.specs.Contents.{Contents}
-use Rattle.m3_outside.specs.DiskState.{DiskState, Told, EachImage, IsLawful}
+use Rattle.m3_outside.specs.DiskState.{DiskState, Told, EachImage, IsLawfulDisk}
 use Rattle.m3_outside.specs.Files.{Files}
 use Rattle.m3_model.specs.Members.{IsIn}
 use Rattle.m3_model.specs.declared.point.Point.{Point}
@@ -10,7 +10,7 @@ use Rattle.m3_model.specs.declared.point.Series.{Series}
 use Rattle.m3_model.proofs.MemberLemmas.{IsIn-append_cases, IsIn-map}
 use Rattle.wire_bytes.specs.Entries.{IsBounded}
 use Rattle.wire_bytes.specs.Volumes.{IsVolume, points_of_row, points_of_rows}
-use Rattle.volume_points.specs.Blocks.{block_head}
+use Rattle.listed_volumes.specs.Blocks.{block_head}
 use Rattle.m3_outside.specs.declared.file_name.FileName.{FileName}
 use Rattle.volume_bytes.specs.declared.heads.Head.{Head}
 use Rattle.volume_bytes.specs.Heads.{head_of}
@@ -18,17 +18,21 @@ use Rattle.shard_files.specs.Parts.{AreKnown, KnownVolume, VolumesAre, counted_v
 use Rattle.shard_files.proofs.CountedLemmas.{IsIn-filter}
 use Rattle.shard_files.proofs.PartLemmas.{one_volumes}
 use Rattle.shard_files.proofs.VolumeSteps.{of_known}
-use Rattle.volume_points.specs.Known.{AreOf, AreThere}
-use Rattle.volume_points.proofs.KnownLemmas.{volumes_are_known, known_are_there}
+use Rattle.listed_volumes.specs.Known.{AreOf, AreThere}
+use Rattle.listed_volumes.proofs.KnownLemmas.{volumes_are_known, known_are_there}
 use Rattle.volume_steps.specs.Known.{HoldsKnown}
 use Rattle.volume_steps.proofs.KnownLemmas.{are_known}
-use Rattle.shard_store.specs.Listed.{known_in}
-use Rattle.shard_store.specs.declared.volumes.ListedVolume.{ListedVolume}
+use Rattle.listed_volumes.specs.Listed.{AreHeld, known_in}
+use Rattle.listed_volumes.specs.declared.volume.ListedVolume.{ListedVolume}
 
-module _ (m : Contents) (known : List KnownVolume) (tenure fence : ℕ) (d : DiskState) (lawful : IsLawful d) (each : EachImage d (HoldsKnown m known tenure fence)) where
+module _ (m : Contents) (known : List KnownVolume) (tenure fence : ℕ) (d : DiskState) (lawful : IsLawfulDisk d) (each : EachImage d (HoldsKnown m known tenure fence)) where
   -- the volumes that count are the known ones
   pub known_counted : Told d (VolumesAre known)
   known_counted tells = are_known m known tenure fence d.files (each tells d.files (lawful.read_is_image tells))
+
+  -- the known volumes are there whole
+  pub held_known : Told d (AreHeld known)
+  held_known tells = λ k mem. let n = of_known d.files (counted_volumes d.files) known (known_counted tells) k mem in n.2.holds
 
   pub of_heads : (heads : List Head) → map (λ k. k.head) known ≡ map head_of heads → Told d (AreOf heads known)
   of_heads heads is tells = volumes_are_known heads known d.files is (known_counted tells)

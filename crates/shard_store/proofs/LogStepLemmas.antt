@@ -3,12 +3,12 @@ use Rattle.std.proofs.Common.{◌≡◌, inl, ⊎_elim, ℕ, ◌+◌, ◌≤◌,
 use Rattle.std.specs.Prelude.{⊤, IsErr, IsErrAnd, IsErrOf, IfOk, OnOk}
 use Rattle.m3_outside.specs.Causes.{CountsFaults}
 use Rattle.m3_outside.specs.Files.{Files}
-use Rattle.m3_outside.specs.DiskState.{DiskState, Told, EachImage, StepOf, Elapses, IsLawful}
+use Rattle.m3_outside.specs.DiskState.{DiskState, Told, EachImage, StepOf, Elapses, IsLawfulDisk}
 use Rattle.m3_outside.specs.declared.disk_err.DiskErr.{DiskErr}
 use Rattle.m3_outside.specs.declared.disk_err.DiskErr.TheVariants.{Memory, Failed as DiskFailed}
 use Rattle.m3_outside.proofs.Moments.{step_as, elapses_as, elapses_then}
 use Rattle.commit_log.specs.Segment.{segment, MayAdd, Adds}
-use Rattle.commit_log.specs.LogEnd.{LogEnd, NoneAbove, NoneFrom, Stands, MayBegin}
+use Rattle.commit_log.specs.LogEnd.{LogEnd, NoneAbove, NoneFrom, LogEndStands, MayBeginSegment}
 use Rattle.shard_files.specs.declared.entries.LogEntry.{LogEntry}
 use Rattle.shard_files.specs.Entries.{IsEntry}
 use Rattle.shard_files.specs.Parts.{KnownVolume, VolumesAre, counted_volumes}
@@ -16,7 +16,7 @@ use Rattle.shard_files.specs.FilesHold.{file_points, volume_points}
 use Rattle.shard_files.specs.Once.{HeldOnce}
 use Rattle.shard_files.specs.Gains.{Gain, nothing, Gains, MayGain, Brings}
 use Rattle.shard_files.specs.LogSteps.{gain_in}
-use Rattle.block_buffer.specs.Held.{Held as InMemory}
+use Rattle.block_buffer.specs.Held.{InMemory}
 use Rattle.block_buffer.specs.Taken.{settled_with}
 use Rattle.m3_model.specs.Answers.{HasPoint}
 use Rattle.m3_model.specs.Contents.{Contents, content_of, key_of, raised}
@@ -25,7 +25,7 @@ use Rattle.shard_files.specs.declared.entries.LogEntry.TheVariants as entry
 use Rattle.shard_store.specs.declared.opened.Opened.{Opened}
 use Rattle.shard_store.specs.StoreParts.{state_of, IsKept}
 use Rattle.shard_store.specs.Stores.{StoreState, HoldsOpened, IsKeptOn, joined_with, memory_with}
-use Rattle.shard_store.specs.Listed.{known_in}
+use Rattle.listed_volumes.specs.Listed.{known_in}
 use Rattle.wire_bytes.specs.Entries.{IsBounded, ArePoints}
 use Rattle.m3_model.specs.Members.{IsIn}
 use Rattle.m3_model.specs.declared.point.Point.{Point}
@@ -44,7 +44,7 @@ use Rattle.volume_steps.proofs.LogLemmas.{log_steps_keep}
 use Rattle.shard_store.proofs.PointLemmas.{settled_source}
 
 -- no image has a segment above the log's end
-above_all : (log : LogEnd) (d : DiskState) → IsLawful d → Stands log d → d.tells ≡ true → (c : Files) → d.images c → NoneAbove log.number c
+above_all : (log : LogEnd) (d : DiskState) → IsLawfulDisk d → LogEndStands log d → d.tells ≡ true → (c : Files) → d.images c → NoneAbove log.number c
 above_all log d lawful stands tells c image n lt = (lawful.same_names tells c image (segment n)).0 (stands.above tells n lt)
 
 -- what each image keeps, a step on
@@ -56,12 +56,12 @@ kept_as old new same keeps steps each tells c image =
     keeps told step.before c step.was step.stepped (each told step.before step.was)
 
 -- the log's next segment isn't there, and none above
-none_next : (log : LogEnd) (d : DiskState) → IsLawful d → Stands log d → d.tells ≡ true → (x : Files) → d.images x → NoneFrom (log.number + 1) x
+none_next : (log : LogEnd) (d : DiskState) → IsLawfulDisk d → LogEndStands log d → d.tells ≡ true → (x : Files) → d.images x → NoneFrom (log.number + 1) x
 none_next log d lawful stands tells x image n le = above_all log d lawful stands tells x image n (omega (arith, le))
 
 -- what is in memory is what each stop leaves still, where a segment begins
-pub kept_by_begin : (number : ℕ) (log end : LogEnd) (memory : InMemory) (known : List KnownVolume) (tenure fence : ℕ) (old new : DiskState) → new.tells ≡ old.tells → Stands end new → (old.tells ≡ true → (x : Files) → old.images x → NoneFrom number x)
-    → (old.tells ≡ true → Elapses (MayBegin number) old new) → IsKeptOn log memory known tenure fence old → IsKeptOn end memory known tenure fence new
+pub kept_by_begin : (number : ℕ) (log end : LogEnd) (memory : InMemory) (known : List KnownVolume) (tenure fence : ℕ) (old new : DiskState) → new.tells ≡ old.tells → LogEndStands end new → (old.tells ≡ true → (x : Files) → old.images x → NoneFrom number x)
+    → (old.tells ≡ true → Elapses (MayBeginSegment number) old new) → IsKeptOn log memory known tenure fence old → IsKeptOn end memory known tenure fence new
 kept_by_begin number log end memory known tenure fence old new same stands none goes kept = record {
   stands = stands;
   exact = kept_as old new same (λ told x y image may has. log_steps_keep.begins number memory.points known tenure fence x y (none told x image) may has) (λ told. (goes told).images) kept.exact;
@@ -69,12 +69,12 @@ kept_by_begin number log end memory known tenure fence old new same stands none 
   order = kept.order;
 }
 
-pub kept_by_ready : (log end : LogEnd) (memory : InMemory) (known : List KnownVolume) (tenure fence : ℕ) (old new : DiskState) → IsLawful old → Stands log old → new.tells ≡ old.tells → Stands end new → (old.tells ≡ true → Elapses (MayBegin (log.number + 1)) old new)
+pub kept_by_ready : (log end : LogEnd) (memory : InMemory) (known : List KnownVolume) (tenure fence : ℕ) (old new : DiskState) → IsLawfulDisk old → LogEndStands log old → new.tells ≡ old.tells → LogEndStands end new → (old.tells ≡ true → Elapses (MayBeginSegment (log.number + 1)) old new)
     → IsKeptOn log memory known tenure fence old → IsKeptOn end memory known tenure fence new
 kept_by_ready log end memory known tenure fence old new lawful stood same stands goes kept = kept_by_begin (log.number + 1) log end memory known tenure fence old new same stands (none_next log old lawful stood) goes kept
 
 -- and where an entry is added
-pub kept_by_entry : {X E : Type 0} (r : Result X E) (e : LogEntry) (bytes : List ℕ) → IsEntry bytes e → (log end : LogEnd) (memory : InMemory) (known : List KnownVolume) (tenure fence : ℕ) (old new : DiskState) → IsLawful old → Stands log old → new.tells ≡ old.tells → Stands end new
+pub kept_by_entry : {X E : Type 0} (r : Result X E) (e : LogEntry) (bytes : List ℕ) → IsEntry bytes e → (log end : LogEnd) (memory : InMemory) (known : List KnownVolume) (tenure fence : ℕ) (old new : DiskState) → IsLawfulDisk old → LogEndStands log old → new.tells ≡ old.tells → LogEndStands end new
     → (old.tells ≡ true → OnOk r ((c : Files) → new.images c → StepOf (Adds (segment log.number) bytes) old.images c)) → IsKeptOn log memory known tenure fence old
     → OnOk r (IsKeptOn end (memory_with e memory) known (max tenure (tenure_in e)) (max fence (fence_in e)) new)
 kept_by_entry (Ok x) e bytes is log end memory known tenure fence old new lawful stood same stands steps kept = record {
@@ -86,13 +86,13 @@ kept_by_entry (Ok x) e bytes is log end memory known tenure fence old new lawful
 kept_by_entry (Err x) e bytes is log end memory known tenure fence old new lawful stood same stands steps kept = tt
 
 -- a segment that may begin
-module _ (log : LogEnd) (old new : DiskState) (lawful : IsLawful old) (stands : Stands log old) where
-  pub begin_elapses : old.tells ≡ true → Elapses (MayBegin (log.number + 1)) old new → Elapses (Gains nothing) old new
+module _ (log : LogEnd) (old new : DiskState) (lawful : IsLawfulDisk old) (stands : LogEndStands log old) where
+  pub begin_elapses : old.tells ≡ true → Elapses (MayBeginSegment (log.number + 1)) old new → Elapses (Gains nothing) old new
   begin_elapses tells goes = elapses_as old new (λ x y image may.
       append_brings.begins (log.number + 1) x y (λ n le. above_all log old lawful stands tells x image n (omega (arith, le))) may) goes
 
 -- an entry that may be added
-module _ (log : LogEnd) (old new : DiskState) (lawful : IsLawful old) (stands : Stands log old) (bytes : List ℕ) (e : LogEntry) (is : IsEntry bytes e) where
+module _ (log : LogEnd) (old new : DiskState) (lawful : IsLawfulDisk old) (stands : LogEndStands log old) (bytes : List ℕ) (e : LogEntry) (is : IsEntry bytes e) where
   pub append_elapses : old.tells ≡ true → Elapses (MayAdd (segment log.number) bytes) old new → Elapses (MayGain (gain_in e)) old new
   append_elapses tells goes = elapses_as old new (λ x y image may. append_brings.part e bytes log.number x y is (above_all log old lawful stands tells x image) may) goes
 
@@ -128,6 +128,11 @@ on_ok_as (Err e) to p = tt
 pub err_is : {X E : Type 0} (r : Result X E) (e : E) → IsErr r × IsErrAnd r (λ x. x ≡ e) → r ≡ Err e
 err_is (Ok x) e is = let no = is.0 in absurd (cc)
 err_is (Err x) e is = ap Err is.1
+
+-- what failed, but for no fault, failed for want of memory
+pub want_else : (r : Result ⊤ DiskErr) (q : Result ℕ DiskErr) (e : DiskErr) → q ≡ Err e → r ≡ Err e → (IsErrOf r DiskFailed → ⊥) → IsErrOf q Memory
+want_else r q Memory was is fine = was
+want_else r q DiskFailed was is fine = absurd (fine is)
 
 -- a fault that came after a call that brought nothing
 pub brings_fault : (gain : Gain) (r : Result ⊤ DiskErr) (a c : DiskState) → r ≡ Err DiskFailed → (a.tells ≡ true → Elapses (MayGain gain) a c) → c.tells ≡ a.tells → CountsFaults ⊤ a.faults c.faults → Brings gain r a c
@@ -189,16 +194,16 @@ pub one_bounded : (p : Point) → IsBounded p → ArePoints (p ∷ [])
 one_bounded p bounded = record { some = omega arith; most = omega arith; bounded = (bounded, tt) }
 
 -- a fresh segment, where no image has one of its number or above
-pub fresh_elapses : (number : ℕ) (old new : DiskState) → IsLawful old → Told old (NoneFrom number) → old.tells ≡ true → Elapses (MayBegin number) old new → Elapses (Gains nothing) old new
+pub fresh_elapses : (number : ℕ) (old new : DiskState) → IsLawfulDisk old → Told old (NoneFrom number) → old.tells ≡ true → Elapses (MayBeginSegment number) old new → Elapses (Gains nothing) old new
 fresh_elapses number old new lawful none tells goes = elapses_as old new (λ x y image may. append_brings.begins number x y (λ n le. (lawful.same_names tells x image (segment n)).0 (none tells n le)) may) goes
 
-pub begun_kept : (r : Result LogEnd DiskErr) (log : LogEnd) (memory : InMemory) (known : List KnownVolume) (tenure fence : ℕ) (d : DiskState) → IfOk r (λ end. end ≡ log) → OnOk r (Stands log d)
+pub begun_kept : (r : Result LogEnd DiskErr) (log : LogEnd) (memory : InMemory) (known : List KnownVolume) (tenure fence : ℕ) (d : DiskState) → IfOk r (λ end. end ≡ log) → OnOk r (LogEndStands log d)
     → EachImage d (HoldsKnown memory.points known tenure fence) → memory.room ≡ None → tenure ≤ fence → IfOk r (λ end. IsKeptOn end memory known tenure fence d)
-begun_kept (Ok end) log memory known tenure fence d is stands exact at_rest order = record { stands = subst (λ l. Stands l d) (sym is) stands; exact = exact; at_rest = at_rest; order = order }
+begun_kept (Ok end) log memory known tenure fence d is stands exact at_rest order = record { stands = subst (λ l. LogEndStands l d) (sym is) stands; exact = exact; at_rest = at_rest; order = order }
 begun_kept (Err e) log memory known tenure fence d is stands exact at_rest order = tt
 
 -- each image holds what it held where a fresh segment begins
-pub known_fresh : (number : ℕ) (memory : Contents) (known : List KnownVolume) (tenure fence : ℕ) (old new : DiskState) → IsLawful old → Told old (NoneFrom number) → new.tells ≡ old.tells → (old.tells ≡ true → Elapses (MayBegin number) old new)
+pub known_fresh : (number : ℕ) (memory : Contents) (known : List KnownVolume) (tenure fence : ℕ) (old new : DiskState) → IsLawfulDisk old → Told old (NoneFrom number) → new.tells ≡ old.tells → (old.tells ≡ true → Elapses (MayBeginSegment number) old new)
     → EachImage old (HoldsKnown memory known tenure fence) → EachImage new (HoldsKnown memory known tenure fence)
 known_fresh number memory known tenure fence old new lawful none same goes each =
     kept_as old new same (λ told x y image may has. log_steps_keep.begins number memory known tenure fence x y (λ n le. (lawful.same_names told x image (segment n)).0 (none told n le)) may has) (λ told. (goes told).images) each

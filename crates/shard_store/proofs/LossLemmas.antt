@@ -14,7 +14,7 @@ use Rattle.m3_model.specs.declared.point.Series.{Series}
 use Rattle.m3_model.specs.declared.rules.Rules.{Rules}
 use Rattle.m3_model.specs.declared.rules.Space.{Space}
 use Rattle.m3_outside.specs.DiskCalls.{LeavesFiles}
-use Rattle.m3_outside.specs.DiskState.{DiskState, EachImage, IsLawful, Told}
+use Rattle.m3_outside.specs.DiskState.{DiskState, EachImage, IsLawfulDisk, Told}
 use Rattle.m3_outside.specs.Files.{Files}
 use Rattle.m3_outside.specs.declared.disk_err.DiskErr.{DiskErr}
 use Rattle.m3_outside.specs.declared.disk_err.DiskErr.TheVariants.{Failed as DiskFailed, Memory as WantOfMemory}
@@ -204,7 +204,7 @@ module _ (rules : Rules) (ks : List KnownVolume) (m : Contents) where
   abbrev live : Contents
   live = without m (has_expired rules)
 
-  module _ (goes : List Head) (goes_are : map head_of goes ≡ map (λ k. k.head) (filter (has_outlived rules) ks)) (tenure fence : ℕ) (a : DiskState) (lawful : IsLawful a) (each : EachImage a (HoldsKnown m ks tenure fence)) where
+  module _ (goes : List Head) (goes_are : map head_of goes ≡ map (λ k. k.head) (filter (has_outlived rules) ks)) (tenure fence : ℕ) (a : DiskState) (lawful : IsLawfulDisk a) (each : EachImage a (HoldsKnown m ks tenure fence)) where
     pub live_known : EachImage a (HoldsKnown live ks tenure fence)
     live_known tells x image = hold_with_fewer m live ks tenure fence x (each tells x image) (λ p h. has_fewer m (has_expired rules) p h)
 

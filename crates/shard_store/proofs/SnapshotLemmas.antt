@@ -13,12 +13,12 @@ use Rattle.m3_model.specs.declared.point.Point.{Point}
 use Rattle.m3_model.specs.declared.point.Series.{Series}
 use Rattle.m3_model.proofs.MemberLemmas.{IsIn-append_left, IsIn-append_right, IsIn-append_cases}
 use Rattle.m3_outside.specs.Files.{Files}
-use Rattle.m3_outside.specs.DiskState.{DiskState, EachImage, IsLawful}
+use Rattle.m3_outside.specs.DiskState.{DiskState, EachImage, IsLawfulDisk}
 use Rattle.m3_outside.specs.declared.disk_err.DiskErr.{DiskErr}
 use Rattle.m3_outside.specs.declared.disk_err.DiskErr.TheVariants.{Memory, Failed as DiskFailed}
 use Rattle.commit_log.specs.Contents.{numbers, numbers_of}
-use Rattle.commit_log.specs.LogEnd.{LogEnd, Stands}
-use Rattle.commit_log.specs.Segment.{segment, HasChunks, Reads, written}
+use Rattle.commit_log.specs.LogEnd.{LogEnd, LogEndStands}
+use Rattle.commit_log.specs.Segment.{segment, HasChunks, ReadsChunks, written}
 use Rattle.series_slots.specs.Ranges.{IsRangeOf}
 use Rattle.wire_bytes.specs.Entries.{AllBounded, IsBounded}
 use Rattle.wire_bytes.specs.Snapshots.{Snapshot}
@@ -92,7 +92,7 @@ memory_bounded memory known tenure fence files has p m =
     ⊎_elim (λ (saved : IsIn (points_in_newest parts.newest) p). newest_bounded parts.newest files has.held.holds.newest p saved)
     (λ (logged : IsIn (points_of parts.entries) p). entries_bounded parts.entries has.held.holds.log.within p logged) (IsIn-append_cases (points_in_newest parts.newest) (points_of parts.entries) p (has.there p m))
 
-module _ (memory : Contents) (known : List KnownVolume) (tenure fence : ℕ) (d : DiskState) (lawful : IsLawful d) (each : EachImage d (HoldsKnown memory known tenure fence)) where
+module _ (memory : Contents) (known : List KnownVolume) (tenure fence : ℕ) (d : DiskState) (lawful : IsLawfulDisk d) (each : EachImage d (HoldsKnown memory known tenure fence)) where
   pub are_in : (points : List Point) → AreBelow MOST_NAMESPACES memory points → d.tells ≡ true → AreIn memory points
   are_in points below tells p = ((λ m. ((below p).0 m).0), (λ m. let b = memory_bounded memory known tenure fence d.files (each tells d.files (lawful.read_is_image tells)) p m in (below p).1 (m, (b.namespace, b.time))))
 
@@ -103,25 +103,25 @@ empty_of [] e = refl
 empty_of (x ∷ xs) e = absurd (omega (arith, e))
 
 -- zeros are no chunk
-zeros_end : (n : ℕ) → Reads [] (replicate n 0)
+zeros_end : (n : ℕ) → ReadsChunks [] (replicate n 0)
 zeros_end n = ends n (replicate n 0) refl
   where
-    ends : (n : ℕ) (l : List ℕ) → l ≡ replicate n 0 → Reads [] l
+    ends : (n : ℕ) (l : List ℕ) → l ≡ replicate n 0 → ReadsChunks [] l
     ends n [] e = tt
     ends zero (x ∷ l) e = absurd (cc)
     ends (suc n) (x ∷ l) e = inl (λ one. absurd (cc))
 
 -- the files after a snapshot
-module _ (d : DiskState) (lawful : IsLawful d) (log : LogEnd) (stands : Stands log d) (at : log.at ≡ 0) (clean : log.clean ≡ true) (tells : d.tells ≡ true) (c : Files) (image : d.images c) where
+module _ (d : DiskState) (lawful : IsLawfulDisk d) (log : LogEnd) (stands : LogEndStands log d) (at : log.at ≡ 0) (clean : log.clean ≡ true) (tells : d.tells ≡ true) (c : Files) (image : d.images c) where
   no_chunks : HasChunks (segment log.number) [] c
   no_chunks =
       let kept = stands.kept clean in
       let rest = kept.rest tells in
-      let place : length (written rest.chunks) ≡ 0 = rest.place ∙ at in
+      let offset : length (written rest.chunks) ≡ 0 = rest.offset ∙ at in
       let zeros = replicate (SEGMENT_BYTES - log.at) 0 in
       record {
         file = zeros;
-        there = kept.synced tells c image ∙ rest.there ∙ ap (λ (b : List ℕ). Some (b ++ zeros)) (empty_of (written rest.chunks) place);
+        there = kept.synced tells c image ∙ rest.there ∙ ap (λ (b : List ℕ). Some (b ++ zeros)) (empty_of (written rest.chunks) offset);
         size = length-replicate (SEGMENT_BYTES - log.at) 0 ∙ ap (λ (n : ℕ). SEGMENT_BYTES - n) at;
         reads = zeros_end (SEGMENT_BYTES - log.at);
       }
@@ -152,16 +152,16 @@ module _ (memory : Contents) (known : List KnownVolume) (tenure fence : ℕ) (po
   each_after (Err Memory) fine saved wanted tells c image = wanted (are (sym same ∙ tells)) refl tells c image
   each_after (Err DiskFailed) fine saved wanted tells c image = absurd (fine refl)
 
-  pub one_after : (r : Result ℕ DiskErr) (first : ℕ) → IsLawful new → (AreIn memory points → IfOk r (λ n. EachImage new (HoldsSaved (snapshot_of n tenure fence log.number points) memory known tenure fence)))
+  pub one_after : (r : Result ℕ DiskErr) (first : ℕ) → IsLawfulDisk new → (AreIn memory points → IfOk r (λ n. EachImage new (HoldsSaved (snapshot_of n tenure fence log.number points) memory known tenure fence)))
       → (AreIn memory points → IfOk r (λ n. EachImage new (λ files. counted_snapshots files ≡ snapshot_checkpoint n ∷ []))) → OnOk r ((log.at ≡ 0) × (log.clean ≡ true)) → (old.tells ≡ true → OnOk r (numbers new.files ≡ log.number ∷ []))
-      → (old.tells ≡ true → OnOk r (log.number ≡ first)) → OnOk r (Stands log new) → IfOk r (λ n. EachImage new (HasOneSnapshot n first memory tenure fence))
+      → (old.tells ≡ true → OnOk r (log.number ≡ first)) → OnOk r (LogEndStands log new) → IfOk r (λ n. EachImage new (HasOneSnapshot n first memory tenure fence))
   one_after (Ok n) first lawful saved alone end segments number stands = λ tells c image.
       let told = sym same ∙ tells in
       let in_points = are told in
       has_one new lawful log stands end.0 end.1 tells c image n first memory known tenure fence points in_points (saved in_points tells c image) (alone in_points tells c image) (segments told) (number told)
   one_after (Err e) first lawful saved alone end segments number stands = tt
 
-pub stands_after : (r : Result ℕ DiskErr) (log : LogEnd) (d : DiskState) → (IsErrOf r DiskFailed → ⊥) → OnOk r (Stands log d) → (IsErrOf r Memory → Stands log d) → Stands log d
+pub stands_after : (r : Result ℕ DiskErr) (log : LogEnd) (d : DiskState) → (IsErrOf r DiskFailed → ⊥) → OnOk r (LogEndStands log d) → (IsErrOf r Memory → LogEndStands log d) → LogEndStands log d
 stands_after (Ok n) log d fine ok wanted = ok
 stands_after (Err Memory) log d fine ok wanted = wanted refl
 stands_after (Err DiskFailed) log d fine ok wanted = absurd (fine refl)

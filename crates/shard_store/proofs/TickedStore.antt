@@ -6,14 +6,14 @@ use Rattle.m3_model.specs.Answers.{HasPoint}
 use Rattle.m3_model.specs.Contents.{Contents}
 use Rattle.m3_model.specs.declared.point.Point.{Point}
 use Rattle.m3_model.specs.declared.rules.Rules.{Rules}
-use Rattle.m3_outside.specs.DiskState.{DiskState, IsLawful, Told}
-use Rattle.block_buffer.specs.Held.{Held as InMemory, has_expired, without}
+use Rattle.m3_outside.specs.DiskState.{DiskState, IsLawfulDisk, Told}
+use Rattle.block_buffer.specs.Held.{InMemory, has_expired, without}
 use Rattle.shard_files.specs.Keeps.{HoldContent, Rearranges}
 use Rattle.shard_files.specs.Parts.{KnownVolume, VolumesAre}
 use Rattle.fileset_read.specs.declared.file_err.FileErr.{FileErr}
 use Rattle.fileset_read.specs.declared.file_err.FileErr.TheVariants as unread
 use Rattle.volume_steps.proofs.KnownLemmas.{is_file_point}
-use Rattle.shard_store.specs.Listed.{known_in}
+use Rattle.listed_volumes.specs.Listed.{known_in}
 use Rattle.shard_store.specs.StoreParts.{IsOpenOn, content_of_opened, state_of}
 use Rattle.shard_store.specs.Stores.{StoreState, joined_with}
 use Rattle.shard_store.specs.Ticks.{HasTicked, live_volumes, ticked_content}
@@ -33,7 +33,7 @@ abbrev pub KeepsLive : Rules → Contents → Contents → Type 0
 KeepsLive rules content left = (p : Point) → HasPoint (without content (has_expired rules)) p → HasPoint left p
 
 module _ {D : Type 0} (state : D → DiskState) (disk last : D) (first later : Opened) (rules : Rules) (numbers : (later.tenure ≡ first.tenure) × (later.fence ≡ first.fence)) where
-  has_ticked : IsLawful (state disk) → IsLawful (state last) → (state last).tells ≡ (state disk).tells → IsOpenOn first (state disk) → IsOpenOn later (state last) → AreDropped rules first later
+  has_ticked : IsLawfulDisk (state disk) → IsLawfulDisk (state last) → (state last).tells ≡ (state disk).tells → IsOpenOn first (state disk) → IsOpenOn later (state last) → AreDropped rules first later
       → HasTicked state rules (state_of disk (Some first)) (state_of last (Some later))
   has_ticked lawful lawful_last same kept kept_last dropped = record {
     same = λ i. record { disk = last; open_ = true; buffered = dropped.0 i; content = content_of_opened later; tenure = numbers.0 i; fence = numbers.1 i };
@@ -46,7 +46,7 @@ module _ {D : Type 0} (state : D → DiskState) (disk last : D) (first later : O
   }
 
   -- each point that is left was there
-  was_there : IsLawful (state disk) → IsOpenOn first (state disk) → AreDropped rules first later → Told (state disk) (HoldContent (content_of_opened later))
+  was_there : IsLawfulDisk (state disk) → IsOpenOn first (state disk) → AreDropped rules first later → Told (state disk) (HoldContent (content_of_opened later))
   was_there lawful kept dropped tells =
       let ticked : content_of_opened later ≡ ticked_content rules first.held.points (known_in first.volumes.items) = λ i. joined_with (dropped.0 i) (dropped.1 i) in
       let has = kept.exact tells (state disk).files (lawful.read_is_image tells) in
@@ -54,7 +54,7 @@ module _ {D : Type 0} (state : D → DiskState) (disk last : D) (first later : O
       is_file_point first.held.points (known_in first.volumes.items) first.tenure first.fence (state disk).files has p (ticked_there rules (known_in first.volumes.items) first.held.points p h))
 
   -- each point that hasn't expired is left
-  stays_live : IsLawful (state disk) → IsOpenOn first (state disk) → AreDropped rules first later → (state disk).tells ≡ true → KeepsLive rules (content_of_opened first) (content_of_opened later)
+  stays_live : IsLawfulDisk (state disk) → IsOpenOn first (state disk) → AreDropped rules first later → (state disk).tells ≡ true → KeepsLive rules (content_of_opened first) (content_of_opened later)
   stays_live lawful kept dropped tells p h =
       let m = first.held.points in
       let ks = known_in first.volumes.items in
@@ -80,14 +80,14 @@ module _ {D : Type 0} (state : D → DiskState) (disk last : D) (first later : O
         λ i. record { disk = last; open_ = true; buffered = held i; content = content i; tenure = numbers.0 i; fence = numbers.1 i } in
         ap (state_of last) (memory (sym said ∙ is)) ∙ now ∙ ap (λ (x : StoreState D). record x { disk = last }) shown
 
-    module _ (lawful : IsLawful (state disk)) (kept : IsOpenOn first (state disk)) (new : Option Opened) where
-      ticked_as : IsLawful (state last) → (state last).tells ≡ (state disk).tells → (r : Result ℕ FileErr) → OnOk r (IsOpenOn later (state last)) → OnOk r (new ≡ Some later) → OnOk r (AreDropped rules first later) → OnOk r (HasTicked state rules s (state_of last new))
+    module _ (lawful : IsLawfulDisk (state disk)) (kept : IsOpenOn first (state disk)) (new : Option Opened) where
+      ticked_as : IsLawfulDisk (state last) → (state last).tells ≡ (state disk).tells → (r : Result ℕ FileErr) → OnOk r (IsOpenOn later (state last)) → OnOk r (new ≡ Some later) → OnOk r (AreDropped rules first later) → OnOk r (HasTicked state rules s (state_of last new))
       ticked_as lawful_last same (Ok n) kept_last open_ dropped =
           subst (λ (x : StoreState D). HasTicked state rules x (state_of last new)) shown
           (subst (λ (o : Option Opened). HasTicked state rules (state_of disk (Some first)) (state_of last o)) (sym open_) (has_ticked lawful lawful_last same kept kept_last dropped))
       ticked_as lawful_last same (Err e) kept_last open_ dropped = tt
 
-      pub store_ticked : IsLawful (state last) → (state last).tells ≡ (state disk).tells → OnOk r (IsOpenOn later (state last)) → OnOk r (new ≡ Some later) → OnOk r (AreDropped rules first later) → OnOk q (HasTicked state rules s (state_of last new))
+      pub store_ticked : IsLawfulDisk (state last) → (state last).tells ≡ (state disk).tells → OnOk r (IsOpenOn later (state last)) → OnOk r (new ≡ Some later) → OnOk r (AreDropped rules first later) → OnOk q (HasTicked state rules s (state_of last new))
       store_ticked lawful_last same kept_last open_ dropped = subst (λ x. OnOk x (HasTicked state rules s (state_of last new))) (sym said) (ticked_as lawful_last same r kept_last open_ dropped)
 
       there_as : (r : Result ℕ FileErr) → OnOk r (new ≡ Some later) → OnOk r (AreDropped rules first later) → OnOk r (Told (state s.disk) (HoldContent (state_of last new).content))

@@ -4,13 +4,14 @@ use Rattle.std.specs.Prelude.{⊤, filter, insert, is_ok, IsOk}
 use Rattle.std.specs.Ordering.{is_lt}
 use Rattle.std.proofs.lemmas.List.{drop_more, take_all, drop_all}
 use Rattle.m3_model.specs.Members.{IsIn}
+use Rattle.m3_model.specs.declared.point.Series.{Series}
 use Rattle.wire_bytes.specs.Volumes.{VolumeHead}
 use Rattle.volume_bytes.specs.declared.heads.Head.{Head}
 use Rattle.volume_bytes.specs.Heads.{head_of}
 use Rattle.shard_files.specs.Parts.{KnownVolume}
-use Rattle.volume_steps.specs.KnownLists.{head_cmp, with_volume}
-use Rattle.shard_store.specs.Listed.{known_as, known_in}
-use Rattle.shard_store.specs.declared.volumes.ListedVolume.{ListedVolume}
+use Rattle.volume_steps.specs.KnownLists.{head_cmp, volume_of, with_volume}
+use Rattle.listed_volumes.specs.Listed.{known_as, known_in}
+use Rattle.listed_volumes.specs.declared.volume.ListedVolume.{ListedVolume}
 use Rattle.shard_store.proofs.ListLemmas.{map_append, map_more}
 
 -- the rest of the list begins with the next volume
@@ -97,3 +98,11 @@ in_at (x ∷ xs) (suc k) d lt = inr (in_at xs k d (omega (arith, lt)))
 
 pub item_in : {X : Type 0} (xs : List X) (k : ℕ) (x : X) → k < length xs → x ≡ get_or xs k x → IsIn xs x
 item_in xs k x lt is = subst (IsIn xs) (sym is) (in_at xs k x lt)
+
+-- ---- a volume under another number
+
+abbrev pub under : ℕ → KnownVolume → KnownVolume
+under n k = record { head = record { format = k.head.format; ns = k.head.ns; start = k.head.start; size = k.head.size; number = n }; rows = k.rows }
+
+pub numbered : (k : KnownVolume) (ns start size old n : ℕ) (rows : List Series) → k ≡ volume_of ns start size old rows → under n k ≡ volume_of ns start size n rows
+numbered k ns start size old n rows is = ap (under n) is

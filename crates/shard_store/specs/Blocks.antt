@@ -12,9 +12,9 @@ use Rattle.wire_bytes.specs.Volumes.{points_of_rows}
 use Rattle.shard_files.specs.Steps.{next_volume}
 use Rattle.fileset_read.specs.declared.file_err.FileErr.{FileErr}
 use Rattle.fileset_read.specs.declared.file_err.FileErr.TheVariants as failures
-use Rattle.volume_points.specs.Known.{is_of}
-use Rattle.volume_points.specs.declared.block_err.BlockErr.{BlockErr}
-use Rattle.volume_points.specs.declared.block_err.BlockErr.TheVariants as errors
+use Rattle.listed_volumes.specs.Known.{is_of}
+use Rattle.listed_volumes.specs.BlockErr.{BlockErr}
+use Rattle.listed_volumes.specs.TheVariants as errors
 use Rattle.shard_store.specs.Stores.{joined_with}
 
 -- a block that has more than a volume may have wants memory

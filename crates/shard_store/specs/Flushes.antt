@@ -16,7 +16,7 @@ use Rattle.block_buffer.specs.Held.{is_in_block, without}
 use Rattle.shard_files.specs.Parts.{KnownVolume, VolumesAre}
 use Rattle.shard_files.specs.FilesHold.{points_known}
 use Rattle.shard_files.specs.Steps.{next_volume}
-use Rattle.volume_points.specs.Known.{is_of}
+use Rattle.listed_volumes.specs.Known.{is_of}
 use Rattle.shard_store.specs.Stores.{StoreState, joined_with}
 
 -- ---- which blocks

@@ -1,5 +1,4 @@
 pub mod Stores
-pub mod Listed
 pub mod Openings
 pub mod StoreParts
 pub mod Blocks

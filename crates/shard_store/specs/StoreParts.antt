@@ -4,7 +4,7 @@ use Rattle.std.specs.FinMap as finite
 use Rattle.m3_model.specs.Contents.{Contents}
 use Rattle.m3_outside.specs.DiskState.{DiskState, Told}
 use Rattle.snapshot_steps.specs.Counts.{AreCounted}
-use Rattle.shard_store.specs.Listed.{known_in}
+use Rattle.listed_volumes.specs.Listed.{known_in}
 use Rattle.shard_store.specs.Stores.{StoreState, IsKeptOn, joined_with}
 use Rattle.shard_store.specs.declared.opened.Opened.{Opened}
 

@@ -8,9 +8,9 @@ use Rattle.m3_model.specs.Members.{IsIn}
 use Rattle.m3_model.specs.declared.point.Point.{Point}
 use Rattle.m3_outside.specs.Files.{Files}
 use Rattle.m3_outside.specs.DiskState.{DiskState, EachImage}
-use Rattle.block_buffer.specs.Held.{Held as InMemory}
+use Rattle.block_buffer.specs.Held.{InMemory}
 use Rattle.block_buffer.specs.Joins.{joined}
-use Rattle.commit_log.specs.LogEnd.{LogEnd, Stands}
+use Rattle.commit_log.specs.LogEnd.{LogEnd, LogEndStands}
 use Rattle.shard_files.specs.HeldEntries.{points_in}
 use Rattle.shard_files.specs.Parts.{KnownVolume}
 use Rattle.shard_files.specs.FilesHold.{FilesHold, volume_points}
@@ -50,7 +50,7 @@ pub record HoldsOpened (content : Contents) (tenure fence : ℕ) (files : Files)
 -- The log ends on the disk where it says. In the files that a stop leaves just the known volumes count, and each point in memory stands in the newest snapshot
 -- or in the log. No put is under way, and a tenure is a fence too.
 pub record IsKeptOn (log : LogEnd) (memory : InMemory) (known : List KnownVolume) (tenure fence : ℕ) (d : DiskState) : Type 0 where
-  pub stands : Stands log d
+  pub stands : LogEndStands log d
   pub exact : EachImage d (HoldsKnown memory.points known tenure fence)
   pub at_rest : memory.room ≡ None
   pub order : tenure ≤ fence

@@ -11,18 +11,18 @@ ghost use Rattle.block_buffer.specs.Joins.{joined};
 ghost use Rattle.fileset_read.specs.Volumes.{IsUndamaged};
 ghost use Rattle.fileset_read.specs.declared.file_err.FileErr.TheVariants as failures;
 ghost use Rattle.series_merge.specs.Merges.{IsMergeOf};
-ghost use Rattle.shard_store.specs.Listed.{known_in};
+ghost use Rattle.listed_volumes.specs.Listed.{known_in};
 ghost use Rattle.shard_store.specs.StoreParts.{IsOpenOn, content_of_opened};
 
 use crate::opened::Opened;
-use crate::volumes::{ListedVolume, heads};
+use crate::volumes::heads;
 use fileset_read::FileErr;
 use held_points::HeldPoints;
+use listed_volumes::{ListedVolume, fetch, join};
 use m3_model::{Pick, Seq, Series};
 use m3_outside::Disk;
 use std::alloc::Global;
 use volume_bytes::Head;
-use volume_points::{join, read};
 
 // The points in memory that a read asks for.
 pub(crate) fn fetch_held(
@@ -52,7 +52,7 @@ pub(crate) fn heads_of(alloc: Global, listed: &[ListedVolume]) -> Result<Vec<Hea
     }
 }
 
-// Both answers in one, as `volume_points::join`.
+// Both answers in one, as `join`.
 pub(crate) fn join_both(
     alloc: Global,
     one: Seq<Series>,
@@ -91,8 +91,7 @@ impl Opened {
         ensures sound { (D.state disk.old).tells ≡ true → IfErr result IsUndamaged }
     {
         let here = fetch_held(&self.held, pick, from, to)?;
-        let heads = heads_of(alloc, &self.volumes)?;
-        let there = read(alloc, disk, &heads, pick, from, to)?;
+        let there = fetch(alloc, disk, &self.volumes, pick, from, to)?;
         join_both(alloc, here, there)
     }
 }

@@ -18,28 +18,27 @@ ghost use Rattle.shard_files.specs.Steps.{OthersStay, next_volume};
 ghost use Rattle.volume_bytes.specs.Heads.{head_of};
 ghost use Rattle.fileset_read.specs.Volumes.{IsUndamaged};
 ghost use Rattle.fileset_read.specs.declared.file_err.FileErr.TheVariants as unread;
-ghost use Rattle.volume_points.specs.Blocks.{block_head};
-ghost use Rattle.volume_points.specs.Known.{is_head_of, is_of};
+ghost use Rattle.listed_volumes.specs.Blocks.{block_head};
+ghost use Rattle.listed_volumes.specs.Known.{is_head_of, is_of};
 ghost use Rattle.volume_steps.specs.Known.{HaveContent};
 ghost use Rattle.volume_steps.specs.KnownLists.{IsOfOne, volume_of, with_volume, without_volumes};
 ghost use Rattle.shard_store.specs.Blocks.{IsBlockJoin, IsOneVolume, OtherNumbersStay, block_said};
 ghost use Rattle.shard_store.specs.Flushes.{AreFlushed, AreFlushedTo, ended_size, is_in_one};
-ghost use Rattle.shard_store.specs.Listed.{known_in};
+ghost use Rattle.listed_volumes.specs.Listed.{known_in};
 ghost use Rattle.shard_store.specs.StoreParts.{IsOpenOn, content_of_opened, IsCountedIn};
 
 use crate::fetch::heads_of;
 use crate::moments::is_past;
 use crate::opened::Opened;
-use crate::volumes::{ListedVolume, add, take_off};
+use crate::volumes::{add, take_off};
 use fileset_read::FileErr;
 use held_points::HeldPoints;
+use listed_volumes::{BlockErr, ListedVolume, block_rows, list_volume};
 use m3_model::{Rules, Seq, Series, Space};
 use m3_outside::{Disk, DiskErr};
 use shard_open::is_volume;
 use std::alloc::Global;
-use std::snapshot::Snapshot;
 use volume_bytes::Head;
-use volume_points::{BlockErr, block_rows};
 use volume_steps::{remove_volumes, write_volume};
 
 // Why a block wasn't joined, of the replica's files.
@@ -177,11 +176,11 @@ impl Opened {
         ensures disk { Rearranges (content_of_opened self.old) (IsErrOf result DiskFailed) (D.state disk.old) (D.state disk.new) }
     {
         self.volumes.reserve(1)?;
+        let mut volume = list_volume(alloc, *head, rows)?;
         let number = write_volume(alloc, disk, head.ns, head.start, head.size, rows)?;
-        let rows = Snapshot::of(rows);
+        volume.head.number = number;
         self.held.drop_block(head.ns, head.start, head.size);
-        let head = Head { number, ..*head };
-        add(&mut self.volumes, ListedVolume { head, rows });
+        add(&mut self.volumes, volume);
         Ok(())
     }
 

@@ -5,8 +5,8 @@ ghost use Rattle.m3_outside.specs.Causes.{CountsFaults};
 ghost use Rattle.m3_outside.specs.DiskState.{DiskState, Told, EachImage, Elapses, StepOf, Becomes};
 ghost use Rattle.m3_outside.specs.Files.{Files};
 ghost use Rattle.m3_outside.specs.declared.disk_err.DiskErr.TheVariants.{Failed as DiskFailed, Memory as WantOfMemory};
-ghost use Rattle.block_buffer.specs.Held.{Held as InMemory};
-ghost use Rattle.commit_log.specs.LogEnd.{LogEnd, NoneFrom, Stands, IsReadyFor};
+ghost use Rattle.block_buffer.specs.Held.{InMemory};
+ghost use Rattle.commit_log.specs.LogEnd.{LogEnd, NoneFrom, LogEndStands, IsReadyFor};
 ghost use Rattle.commit_log.specs.Contents.{numbers};
 ghost use Rattle.shard_files.specs.Entries.{IsEntry};
 ghost use Rattle.shard_files.specs.Gains.{Gains, MayGain, Brings, nothing};
@@ -45,12 +45,12 @@ pub(crate) fn begin_log<D: Disk>(disk: &mut D, number: u64) -> Result<Log, DiskE
 /// A fault: the files hold what they held. Want of memory: the files are as they were.
 pub(crate) fn ready_entry<D: Disk>(disk: &mut D, log: &mut Log, len: u32) -> Result<(), DiskErr>
     requires short { 5 + len ≤ SEGMENT_BYTES }
-    requires stands { Stands log.old (D.state disk.old) }
+    requires stands { LogEndStands log.old (D.state disk.old) }
     ensures ready { OnOk result (IsReadyFor log.new len (D.state disk.new)) }
     ensures kept { (memory : InMemory) (known : List KnownVolume) (tenure fence : ℕ) → IsKeptOn log.old memory known tenure fence (D.state disk.old) → IsKeptOn log.new memory known tenure fence (D.state disk.new) }
     ensures unchanged { (D.state disk.old).tells ≡ true → IsErrOf result WantOfMemory → Becomes (λ files. files) (D.state disk.old) (D.state disk.new) }
     ensures counts { (D.state disk.old).tells ≡ true → ¬ (IsErrOf result DiskFailed) → StayCounted log.old log.new (D.state disk.old).files (D.state disk.new).files }
-    ensures stands { Stands log.new (D.state disk.new) }
+    ensures stands { LogEndStands log.new (D.state disk.new) }
     ensures any_moment { (D.state disk.old).tells ≡ true → Elapses (Gains nothing) (D.state disk.old) (D.state disk.new) }
     ensures tells { (D.state disk.new).tells ≡ (D.state disk.old).tells }
     ensures faults { CountsFaults (IsErrOf result DiskFailed) (D.state disk.old).faults (D.state disk.new).faults }
@@ -68,7 +68,7 @@ pub(crate) fn append_entry<D: Disk>(disk: &mut D, log: &mut Log, bytes: &[u8]) -
     requires entry { (e : Entry) × IsEntry bytes.now e }
     ensures kept { (e : Entry) → IsEntry bytes.now e → (memory : InMemory) (known : List KnownVolume) (tenure fence : ℕ) → IsKeptOn log.old memory known tenure fence (D.state disk.old) → OnOk result (IsKeptOn log.new (memory_with e memory) known (max tenure (tenure_in e)) (max fence (fence_in e)) (D.state disk.new)) }
     ensures counts { (D.state disk.old).tells ≡ true → OnOk result (StayCounted log.old log.new (D.state disk.old).files (D.state disk.new).files) }
-    ensures stands { Stands log.new (D.state disk.new) }
+    ensures stands { LogEndStands log.new (D.state disk.new) }
     ensures any_moment { (e : Entry) → IsEntry bytes.now e → (D.state disk.old).tells ≡ true → Elapses (MayGain (gain_in e)) (D.state disk.old) (D.state disk.new) }
     ensures acknowledged { (e : Entry) → IsEntry bytes.now e → (D.state disk.old).tells ≡ true → OnOk result ((c : Files) → (D.state disk.new).images c → StepOf (Gains (gain_in e)) (D.state disk.old).images c) }
     ensures tells { (D.state disk.new).tells ≡ (D.state disk.old).tells }
@@ -84,13 +84,13 @@ pub(crate) fn append_entry<D: Disk>(disk: &mut D, log: &mut Log, bytes: &[u8]) -
 /// A fault: the entry may be there after a stop, or not. Want of memory: the files are as they were.
 pub(crate) fn log_entry<D: Disk>(disk: &mut D, log: &mut Log, bytes: &[u8]) -> Result<(), DiskErr>
     requires short { 5 + length bytes.now ≤ SEGMENT_BYTES }
-    requires stands { Stands log.old (D.state disk.old) }
+    requires stands { LogEndStands log.old (D.state disk.old) }
     requires entry { (e : Entry) × IsEntry bytes.now e }
     ensures kept { (e : Entry) → IsEntry bytes.now e → (memory : InMemory) (known : List KnownVolume) (tenure fence : ℕ) → IsKeptOn log.old memory known tenure fence (D.state disk.old) → OnOk result (IsKeptOn log.new (memory_with e memory) known (max tenure (tenure_in e)) (max fence (fence_in e)) (D.state disk.new)) }
     ensures memory { (memory : InMemory) (known : List KnownVolume) (tenure fence : ℕ) → IsKeptOn log.old memory known tenure fence (D.state disk.old) → IsErrOf result WantOfMemory → IsKeptOn log.new memory known tenure fence (D.state disk.new) }
     ensures unchanged { (D.state disk.old).tells ≡ true → IsErrOf result WantOfMemory → Becomes (λ files. files) (D.state disk.old) (D.state disk.new) }
     ensures counts { (D.state disk.old).tells ≡ true → ¬ (IsErrOf result DiskFailed) → StayCounted log.old log.new (D.state disk.old).files (D.state disk.new).files }
-    ensures stands { Stands log.new (D.state disk.new) }
+    ensures stands { LogEndStands log.new (D.state disk.new) }
     ensures brings { (e : Entry) → IsEntry bytes.now e → Brings (gain_in e) result (D.state disk.old) (D.state disk.new) }
 {
     ready_entry(disk, log, bytes.len() as u32)?;

@@ -7,14 +7,14 @@ ghost use Rattle.commit_log.specs.Contents.{numbers};
 ghost use Rattle.wire_bytes.specs.Entries.{IsBounded};
 ghost use Rattle.shard_files.specs.Gains.{Brings, a_point, a_fence, a_tenure};
 ghost use Rattle.snapshot_steps.specs.Counts.{AreCounted};
-ghost use Rattle.shard_store.specs.Listed.{known_in};
+ghost use Rattle.listed_volumes.specs.Listed.{known_in};
 ghost use Rattle.shard_store.specs.Stores.{IsKeptOn, joined_with};
 ghost use Rattle.shard_store.specs.StoreParts.{IsCountedIn};
 
 use crate::log_step::{append_entry, log_entry, ready_entry};
-use crate::volumes::ListedVolume;
 use commit_log::Log;
 use held_points::HeldPoints;
+use listed_volumes::ListedVolume;
 use m3_model::Point;
 use m3_outside::{Disk, DiskErr};
 use snapshot_steps::Counts;

@@ -5,11 +5,12 @@ ghost use Rattle.block_buffer.specs.Taken.{settled_with};
 ghost use Rattle.wire_bytes.specs.Volumes.{points_of_rows};
 ghost use Rattle.shard_files.specs.FilesHold.{volume_points};
 ghost use Rattle.shard_open.specs.Loads.{known_of};
-ghost use Rattle.shard_store.specs.Listed.{known_in};
+ghost use Rattle.listed_volumes.specs.Listed.{known_in};
 ghost use Rattle.shard_store.specs.Openings.{beside_volumes};
 
-use crate::volumes::{ListedVolume, listed};
+use crate::volumes::listed;
 use held_points::{HeldPoints, hold};
+use listed_volumes::ListedVolume;
 use m3_model::{Memory, Point, Series};
 use shard_open::{Loaded, OpenVolume};
 use std::alloc::Global;

@@ -239,8 +239,9 @@ impl<D: Disk> Store<D> {
     }
 
     /// The points with `from <= t < to` of the series that the pick asks for: those in memory, as `HeldPoints::fetch` finds them,
-    /// joined with those of the volumes, as `volume_points::read` does. Identifiers ascend strictly by bytes, times ascend
-    /// strictly, and no series is empty.
+    /// joined with those of the volumes, as `listed_volumes::fetch` does. Identifiers ascend strictly by bytes, times ascend
+    /// strictly, and no series is empty. Of one identifier a piece of the index and one record are read of each volume whose
+    /// block has a time in the range, and neither where its bloom filter or summaries exclude it; these two are in memory.
     ///
     /// # Errors
     ///

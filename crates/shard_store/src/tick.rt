@@ -11,20 +11,19 @@ ghost use Rattle.shard_files.specs.Keeps.{Rearranges};
 ghost use Rattle.volume_bytes.specs.Heads.{head_of};
 ghost use Rattle.fileset_read.specs.Volumes.{IsUndamaged};
 ghost use Rattle.fileset_read.specs.declared.file_err.FileErr.TheVariants as unread;
-ghost use Rattle.shard_store.specs.Listed.{known_in};
+ghost use Rattle.listed_volumes.specs.Listed.{known_in};
 ghost use Rattle.shard_store.specs.StoreParts.{IsOpenOn, content_of_opened, IsCountedIn};
 ghost use Rattle.shard_store.specs.Ticks.{expired_in, has_outlived, is_outlived, keys_in, live_volumes, ticked_content};
 
 use crate::fetch::{fetch_held, heads_of, join_both};
 use crate::moments::is_past;
 use crate::opened::Opened;
-use crate::volumes::ListedVolume;
 use fileset_read::FileErr;
+use listed_volumes::{ListedVolume, read};
 use m3_model::{Pick, Rules, Seq, Series};
 use m3_outside::Disk;
 use std::alloc::Global;
 use volume_bytes::Head;
-use volume_points::read;
 use volume_steps::remove_volumes;
 
 // The device calls that the removal of a volume uses up room for.

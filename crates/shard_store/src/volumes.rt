@@ -1,25 +1,17 @@
-//! The volumes that a store knows, by their heads; their rows are for proofs alone.
+//! Lists of the volumes that a store knows, by namespace, start and number.
 ghost use Rattle.std.specs.Prelude.{◌≡◌, ◌≤◌, ◌<◌, ◌++◌, ◌∷◌, List, length, map, take, drop, vec_len, vec_capacity, IfOk};
 ghost use Rattle.std.specs.Ordering.{is_lt};
 ghost use Rattle.m3_model.specs.declared.point.Series.{Series};
 ghost use Rattle.volume_bytes.specs.Heads.{head_of};
 ghost use Rattle.shard_open.specs.Loads.{known_of};
 ghost use Rattle.volume_steps.specs.KnownLists.{head_cmp, is_one_of, with_volume, without_volumes};
-ghost use Rattle.shard_store.specs.Listed.{known_as, known_in};
+ghost use Rattle.listed_volumes.specs.Listed.{known_as, known_in};
 
-use m3_model::{Memory, Seq, Series};
+use listed_volumes::{ListedVolume, list_volume};
+use m3_model::Memory;
 use shard_open::OpenVolume;
 use std::alloc::Global;
-use std::snapshot::Snapshot;
 use volume_bytes::Head;
-
-// A volume that counts.
-#[derive(Drop)]
-pub(crate) struct ListedVolume {
-    pub(crate) head: Head,
-    // Its series, for proofs alone.
-    pub(crate) rows: Snapshot<Seq<Series>>,
-}
 
 // The volumes, as they were loaded.
 pub(crate) fn listed(alloc: Global, opened: &[OpenVolume]) -> Result<Vec<ListedVolume>, Memory>
@@ -27,11 +19,7 @@ pub(crate) fn listed(alloc: Global, opened: &[OpenVolume]) -> Result<Vec<ListedV
 {
     let mut listed = Vec::new(alloc);
     for volume in opened {
-        let rows = Snapshot::of(&volume.rows);
-        listed.push(ListedVolume {
-            head: volume.volume.head,
-            rows,
-        })?;
+        listed.push(list_volume(alloc, volume.volume.head, &volume.rows)?)?;
     }
     Ok(listed)
 }

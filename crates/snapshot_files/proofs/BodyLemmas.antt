@@ -10,7 +10,7 @@ use Rattle.wire_bytes.proofs.FieldLemmas.{stands_both}
 use Rattle.wire_bytes.proofs.VolumeLemmas.{points_front}
 use Rattle.shard_files.specs.Damage.{IsBody}
 use Rattle.shard_files.specs.Entries.{HavePoints}
-use Rattle.shard_files.proofs.PlaceLemmas.{stands_apart, whole_stands}
+use Rattle.shard_files.proofs.LocationLemmas.{stands_apart, whole_stands}
 use Rattle.snapshot_files.specs.Snaps.{head_bytes}
 
 -- where the fields of a snapshot stand

@@ -9,7 +9,7 @@ use Rattle.m3_outside.specs.declared.file_name.FileName.{FileName}
 use Rattle.commit_log.specs.Contents.{numbers}
 use Rattle.wire_bytes.specs.Snapshots.{Snapshot, snapshot_bytes}
 use Rattle.shard_files.specs.Parts.{SnapshotHolds, counted_volumes, snapshot_checkpoint, snapshot_data}
-use Rattle.shard_files.specs.Damage.{Damage, OfForm, FirstFound, SnapshotLook, AtGate, AtKept, AtBody, SnapshotFinds, bytes_at, last_of, Place, InVolume, InSnapshot, InSegment, PlaceFinds}
+use Rattle.shard_files.specs.Damage.{Damage, OfForm, FirstFound, SnapshotLook, AtGate, AtKept, AtBody, SnapshotFinds, bytes_at, last_of, Location, InVolume, InSnapshot, InSegment, LocationFinds}
 use Rattle.shard_files.proofs.FirstDamageLemmas.{whole_volume}
 use Rattle.shard_files.proofs.VolumeSteps.{of_name}
 use Rattle.fileset_check.proofs.DigestLemmas.{unbroken}
@@ -64,10 +64,10 @@ told_is_first files damage known are t other =
       one = InSnapshot (snapshot_checkpoint t.number);
       after = segments;
       split = ap (λ (l : List FileName). volumes ++ (map InSnapshot l ++ segments)) t.last;
-      none = λ place m o f.
-          let at = IsIn-map InVolume (counted_volumes files) place m in
+      none = λ location m o f.
+          let at = IsIn-map InVolume (counted_volumes files) location m in
           let k = of_name files (counted_volumes files) known are at.0 at.1 in
-          let g = subst (λ (q : FileName). PlaceFinds files (InVolume q) o) k.2.named (subst (λ (q : Place). PlaceFinds files q o) (sym at.2) f) in
+          let g = subst (λ (q : FileName). LocationFinds files (InVolume q) o) k.2.named (subst (λ (q : Location). LocationFinds files q o) (sym at.2) f) in
           whole_volume k.0.head k.0.rows files k.2.holds g.one o g.found;
       found = first_finds t.number files damage t.told other;
     }

@@ -5,7 +5,7 @@ use Rattle.sha2.specs.Sha256.{sha256}
 use Rattle.m3_model.specs.Members.{IsIn}
 use Rattle.m3_outside.specs.declared.file_name.FileName.{FileName}
 use Rattle.m3_outside.specs.Files.{Files, IsAbsent}
-use Rattle.m3_outside.specs.DiskState.{DiskState, StepOf, Elapses, Becomes, IsLawful}
+use Rattle.m3_outside.specs.DiskState.{DiskState, StepOf, Elapses, Becomes, IsLawfulDisk}
 use Rattle.m3_outside.proofs.Names.{get_here, get_apart}
 use Rattle.m3_outside.proofs.Moments.{elapses_as, step_as}
 use Rattle.wire_bytes.specs.Snapshots.{Snapshot, IsSnapshot, snapshot_bytes}
@@ -90,7 +90,7 @@ module _ (s : Snapshot) where
 
   -- ---- nothing was called yet
 
-  module _ (a : DiskState) (lawful : IsLawful a) (told : a.tells ≡ true) (new : IsNew s.number a.files) where
+  module _ (a : DiskState) (lawful : IsLawfulDisk a) (told : a.tells ≡ true) (new : IsNew s.number a.files) where
     absent_each : (x : Files) → a.images x → IsAbsent name x
     absent_each x image = (lawful.same_names told x image name).0 (new name (inr refl))
 

@@ -20,12 +20,12 @@ pub record IsThere (number : ℕ) (files : Files) (s : Snap) : Type 0 where
   pub numbered : s.number ≡ number
   pub holds : SnapshotHolds (seen s) files
 
--- the bytes are the data of no snapshot of this number; the place in them isn't looked for
+-- the bytes are the data of no snapshot of this number; the offset in them isn't looked for
 pub record IsUnfit (number : ℕ) (bytes : List ℕ) (damage : Damage) : Type 0 where
   pub none : ¬ (IsBody number bytes)
   pub is : damage ≡ OfForm (snapshot_data number) 0
 
--- what each look tells: the damage that it finds, of data that keeps to its digest without the place
+-- what each look tells: the damage that it finds, of data that keeps to its digest without the offset
 abbrev pub LookTells : ℕ → Files → SnapshotLook → Damage → Type 0
 LookTells number files AtGate damage = SnapshotFinds number files AtGate damage
 LookTells number files AtKept damage = SnapshotFinds number files AtKept damage

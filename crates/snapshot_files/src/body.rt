@@ -47,7 +47,7 @@ fn read_head(number: u64, bytes: &[u8]) -> Result<Head, WireErr>
     })
 }
 
-// The point at the place, and the place behind it.
+// The point at the offset, and the offset behind it.
 fn read_point(alloc: Global, bytes: &[u8], at: usize) -> Result<(Point, usize), RowErr>
     ensures ok { IfOk result (λ r. IsBounded r.0 × Stands (bytes_of_point r.0) bytes.now at r.1) }
     ensures err { IfErr result (Refuses (HasPoint bytes.now at)) }
@@ -63,7 +63,7 @@ fn read_point(alloc: Global, bytes: &[u8], at: usize) -> Result<(Point, usize), 
     Ok((point, found.next))
 }
 
-// So many points, from the place on, and the place behind them.
+// So many points, from the offset on, and the offset behind them.
 fn read_points(
     alloc: Global,
     bytes: &[u8],
@@ -75,16 +75,16 @@ fn read_points(
     ensures err { IfErr result (Refuses (HavePoints count bytes.now from)) }
 {
     let mut points = Vec::new(alloc);
-    let mut place = from;
+    let mut offset = from;
     for _i in 0..count {
-        let (point, next) = read_point(alloc, bytes, place)?;
+        let (point, next) = read_point(alloc, bytes, offset)?;
         points.push(point)?;
-        place = next;
+        offset = next;
     }
-    Ok((Seq::from_vec(points), place))
+    Ok((Seq::from_vec(points), offset))
 }
 
-// Whether the points ascend, and the place behind them is the end.
+// Whether the points ascend, and the offset behind them is the end.
 fn fill(points: &[Point], next: usize, end: usize) -> bool
     ensures { IsTrue result ↔ ((next ≡ end) × Ascends IsBefore points.now) }
 {

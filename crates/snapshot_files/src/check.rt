@@ -41,7 +41,7 @@ fn bytes_in(file: &Option<Seq<u8>>) -> &[u8]
     }
 }
 
-// The place at which the bytes stop to be those of a checkpoint with an open gate; none where they are such.
+// The offset at which the bytes stop to be those of a checkpoint with an open gate; none where they are such.
 fn gate_stop(bytes: &[u8]) -> Option<usize>
     ensures none { IfNone result (IsGate bytes.now) }
     ensures some { IfSome result (StopsAt IsGate bytes.now) }

@@ -85,7 +85,7 @@ fn newest_number<D: Disk>(disk: &mut D) -> Result<Option<u64>, DiskErr>
 /// # Errors
 ///
 /// A fault, by which the disk's count rose in this call. Want of memory. The first damage of the newest snapshot: of its
-/// checkpoint, of the data's digest, or of the data; in data that keeps to its digest no place is looked for. In any case the
+/// checkpoint, of the data's digest, or of the data; in data that keeps to its digest no offset is looked for. In any case the
 /// files, and what a stop leaves of them, are as they were.
 pub fn newest<D: Disk>(alloc: Global, disk: &mut D) -> Result<Option<Snap>, CheckErr>
     ensures leaves { LeavesFiles (IsErrOf result failures.Disk) (D.state disk.old) (D.state disk.new) }

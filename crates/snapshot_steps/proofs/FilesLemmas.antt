@@ -18,7 +18,7 @@ use Rattle.m3_outside.specs.DiskState.{HaveSameNames}
 use Rattle.m3_outside.specs.Removal.{without_files, MayTakeAway}
 use Rattle.m3_outside.proofs.Names.{name_is}
 use Rattle.m3_outside.proofs.Removal.{gone_none, left_same}
-use Rattle.commit_log.specs.LogEnd.{NoneFrom, MayBegin}
+use Rattle.commit_log.specs.LogEnd.{NoneFrom, MayBeginSegment}
 use Rattle.commit_log.specs.Cutting.{segments_below}
 use Rattle.wire_bytes.specs.Snapshots.{Snapshot}
 use Rattle.shard_files.specs.HeldEntries.{points_of, tenure_of, fence_of}
@@ -75,7 +75,7 @@ none_above x s is n m = by (nat_lt s.number n.number) refl
 
 -- ---- a segment that begins
 
-pub begun_keeps : (memory : Contents) (known : List KnownVolume) (tenure fence : ℕ) (x y : Files) → HoldsKnown memory known tenure fence x → (kept : Contents) → HaveContent memory known kept → (number : ℕ) → NoneFrom number x → MayBegin number x y → Keeps kept x y
+pub begun_keeps : (memory : Contents) (known : List KnownVolume) (tenure fence : ℕ) (x y : Files) → HoldsKnown memory known tenure fence x → (kept : Contents) → HaveContent memory known kept → (number : ℕ) → NoneFrom number x → MayBeginSegment number x y → Keeps kept x y
 begun_keeps memory known tenure fence x y has kept have number none may =
     let gains = append_brings.begins number x y none may in
     record {

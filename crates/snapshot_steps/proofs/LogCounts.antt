@@ -15,7 +15,7 @@ use Rattle.m3_outside.specs.DiskState.{DiskState}
 use Rattle.m3_outside.specs.Files.{Files, files_with_zeros}
 use Rattle.m3_outside.proofs.Names.{get_here, get_apart, name_is}
 use Rattle.commit_log.specs.Contents.{next_after, numbers}
-use Rattle.commit_log.specs.LogEnd.{LogEnd, NoneFrom, Stands, BeganOrNot}
+use Rattle.commit_log.specs.LogEnd.{LogEnd, NoneFrom, LogEndStands, BeganOrNot}
 use Rattle.commit_log.specs.Segment.{segment}
 use Rattle.commit_log.proofs.Numbers.{in_there, there_in, absent_not_in, ascend, none_from_after, same_members}
 use Rattle.wire_bytes.specs.Snapshots.{Snapshot}
@@ -140,7 +140,7 @@ counted_next log end first x y next made here limit missing snapshot has =
     counted_made first x y (none_from_after x first next) made end missing snapshot here (subst (λ (n : ℕ). n < NUMBER_END) (sym here) limit) (omega (arith, next, last, segments)) has.newest
 
 -- room was made for an entry, or memory was wanted
-module _ (log end : LogEnd) (old new : DiskState) (tells : old.tells ≡ true) (same : new.tells ≡ old.tells) (limit : log.number < NUMBER_END → end.number < NUMBER_END) (stood : Stands log old) (stands : Stands end new) where
+module _ (log end : LogEnd) (old new : DiskState) (tells : old.tells ≡ true) (same : new.tells ≡ old.tells) (limit : log.number < NUMBER_END → end.number < NUMBER_END) (stood : LogEndStands log old) (stands : LogEndStands end new) where
   moved_counts : (end ≡ log) ⊎ (end ≡ record { number = log.number + 1; at = 0; clean = true }) → BeganOrNot (log.number + 1) old new → StayCounted log end old.files new.files
   moved_counts (inl still) (inl none) missing snapshot has = subst (λ (e : LogEnd). AreCounted e missing snapshot new.files) (sym still) (subst (λ (f : Files). AreCounted log missing snapshot f) (sym none.files) has)
   moved_counts (inl still) (inr made) missing snapshot has =
@@ -164,7 +164,7 @@ module _ (log end : LogEnd) (old new : DiskState) (tells : old.tells ≡ true) (
   ready_counts (Err DiskFailed) fine fresh wanted began = absurd (fine refl)
 
 -- an entry was added
-module _ (log end : LogEnd) (old new : DiskState) (tells : old.tells ≡ true) (same : new.tells ≡ old.tells) (stood : Stands log old) (stands : Stands end new) where
+module _ (log end : LogEnd) (old new : DiskState) (tells : old.tells ≡ true) (same : new.tells ≡ old.tells) (stood : LogEndStands log old) (stands : LogEndStands end new) where
   pub added_counts : log.clean ≡ true → end.clean ≡ true → end.number ≡ log.number → ((q : FileName) → (q ≡ segment log.number → ⊥) → get new.files q ≡ get old.files q) → StayCounted log end old.files new.files
   added_counts was is number others_stay missing snapshot has =
       let kept = counted_alike log missing snapshot snapshot old.files new.files same_segments

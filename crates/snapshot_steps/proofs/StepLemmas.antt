@@ -10,7 +10,7 @@ use Rattle.m3_model.proofs.MemberLemmas.{map-IsIn, IsIn-map}
 use Rattle.m3_outside.specs.declared.disk_err.DiskErr.{DiskErr}
 use Rattle.m3_outside.specs.declared.disk_err.DiskErr.TheVariants.{Memory, Failed as DiskFailed}
 use Rattle.m3_outside.specs.declared.file_name.FileName.{FileName}
-use Rattle.m3_outside.specs.DiskState.{DiskState, Told, EachImage, StepOf, Elapses, Becomes, IsLawful}
+use Rattle.m3_outside.specs.DiskState.{DiskState, Told, EachImage, StepOf, Elapses, Becomes, IsLawfulDisk}
 use Rattle.m3_outside.specs.DiskCalls.{LeavesFiles}
 use Rattle.m3_outside.specs.Files.{Files, IsAbsent, IsPresent}
 use Rattle.m3_outside.specs.Removal.{without_files, MayTakeAway, HasTakenAway}
@@ -18,7 +18,7 @@ use Rattle.m3_outside.proofs.Moments.{step_as, elapses_as, elapses_then}
 use Rattle.m3_outside.proofs.Removal.{none_stays, gone_none, left_same}
 use Rattle.commit_log.specs.Contents.{next_after, numbers}
 use Rattle.commit_log.specs.Cutting.{numbers_below, numbers_from, segments_below}
-use Rattle.commit_log.specs.LogEnd.{LogEnd, NoneFrom, NoneAbove, MayBegin, Stands}
+use Rattle.commit_log.specs.LogEnd.{LogEnd, NoneFrom, NoneAbove, MayBeginSegment, LogEndStands}
 use Rattle.commit_log.specs.Segment.{segment}
 use Rattle.commit_log.proofs.Numbers.{in_there, there_in, ascend, same_members}
 use Rattle.wire_bytes.specs.Snapshots.{Snapshot}
@@ -46,14 +46,14 @@ then_keeps kept a b c one two = elapses_then a b c (λ x y image keeps. keeps) (
 
 -- ---- a segment that begins
 
-module _ (number : ℕ) (b c : DiskState) (lawful : IsLawful b) (none : Told b (NoneFrom number)) where
+module _ (number : ℕ) (b c : DiskState) (lawful : IsLawfulDisk b) (none : Told b (NoneFrom number)) where
   none_in : b.tells ≡ true → (x : Files) → b.images x → NoneFrom number x
   none_in tells x image n le = (lawful.same_names tells x image (segment n)).0 (none tells n le)
 
-  pub begin_moment : (kept memory : Contents) (known : List KnownVolume) (tenure fence : ℕ) → EachImage b (HoldsKnown memory known tenure fence) → HaveContent memory known kept → b.tells ≡ true → Elapses (MayBegin number) b c → Elapses (Keeps kept) b c
+  pub begin_moment : (kept memory : Contents) (known : List KnownVolume) (tenure fence : ℕ) → EachImage b (HoldsKnown memory known tenure fence) → HaveContent memory known kept → b.tells ≡ true → Elapses (MayBeginSegment number) b c → Elapses (Keeps kept) b c
   begin_moment kept memory known tenure fence each have tells goes = elapses_as b c (λ x y image may. begun_keeps memory known tenure fence x y (each tells x image) kept have number (none_in tells x image) may) goes
 
-  pub begin_known : (memory : Contents) (known : List KnownVolume) (tenure fence : ℕ) → c.tells ≡ b.tells → (b.tells ≡ true → Elapses (MayBegin number) b c) → EachImage b (HoldsKnown memory known tenure fence) → EachImage c (HoldsKnown memory known tenure fence)
+  pub begin_known : (memory : Contents) (known : List KnownVolume) (tenure fence : ℕ) → c.tells ≡ b.tells → (b.tells ≡ true → Elapses (MayBeginSegment number) b c) → EachImage b (HoldsKnown memory known tenure fence) → EachImage c (HoldsKnown memory known tenure fence)
   begin_known memory known tenure fence same goes each = kept_as b c same (λ told x y image may has. begun_known number memory known tenure fence x y (none_in told x image) may has) (λ told. (goes told).images) each
 
 -- ---- a snapshot that is saved
@@ -65,7 +65,7 @@ saved_low number x y others q low high = others q (λ own. ⊎_elim (λ e. let k
 pub save_segments : (s : Snapshot) (x y : Files) → MaySave s x y → numbers y ≡ numbers x
 save_segments s x y may = same_numbers x y (saved_low s.number x y may.others)
 
-pub save_stands : (s : Snapshot) (log : LogEnd) (a b : DiskState) → b.tells ≡ a.tells → (a.tells ≡ true → MaySave s a.files b.files) → (a.tells ≡ true → Elapses (MaySave s) a b) → Stands log a → Stands log b
+pub save_stands : (s : Snapshot) (log : LogEnd) (a b : DiskState) → b.tells ≡ a.tells → (a.tells ≡ true → MaySave s a.files b.files) → (a.tells ≡ true → Elapses (MaySave s) a b) → LogEndStands log a → LogEndStands log b
 save_stands s log a b same files goes st = stands_through log a b same (λ tells. saved_low s.number a.files b.files (files tells).others) (λ tells c image. step_as (λ x y was may. saved_low s.number x y may.others) c ((goes tells).images c image)) st
 
 -- no file of the next snapshot is there, and none that counts is above it
@@ -74,7 +74,7 @@ next_is_new number a b F leaves is tells =
     let told = sym leaves.proceeds.tells ∙ tells in
     subst (λ (k : ℕ). IsNew k b.files) (sym (is told ∙ ap next_snapshot (sym (leaves.files told)))) (next_snapshot_is_new.absent b.files)
 
-module _ (s : Snapshot) (F : Type 0) (a b c : DiskState) (lawful : IsLawful b) (leaves : LeavesFiles F a b) (is : a.tells ≡ true → s.number ≡ next_snapshot a.files) where
+module _ (s : Snapshot) (F : Type 0) (a b c : DiskState) (lawful : IsLawfulDisk b) (leaves : LeavesFiles F a b) (is : a.tells ≡ true → s.number ≡ next_snapshot a.files) where
   absent_in : b.tells ≡ true → (x : Files) → b.images x → (name : FileName) → IsOfSnapshot s.number name → IsAbsent name x
   absent_in tells x image name own = (lawful.same_names tells x image name).0 (next_is_new s.number a b F leaves is tells name own)
 
@@ -101,7 +101,7 @@ module _ (s : Snapshot) (F : Type 0) (a b c : DiskState) (lawful : IsLawful b) (
 
 -- ---- a log that is cut
 
-module _ (number : ℕ) (old new : DiskState) (lawful : IsLawful old) where
+module _ (number : ℕ) (old new : DiskState) (lawful : IsLawfulDisk old) where
   cut_as : old.tells ≡ true → (x y : Files) → old.images x → MayTakeAway (segments_below number old.files) x y → MayTakeAway (segments_below number x) x y
   cut_as tells x y image step = subst (λ l. MayTakeAway l x y) (sym (taken_by_names.segments number old.files x (lawful.same_names tells x image))) step
 
@@ -172,7 +172,7 @@ only_last number x there none = same_members (numbers_from number x) (number ∷
 
 -- ---- older snapshots that are taken away
 
-module _ (number : ℕ) (old new : DiskState) (lawful : IsLawful old) where
+module _ (number : ℕ) (old new : DiskState) (lawful : IsLawfulDisk old) where
   clear_as : old.tells ≡ true → (x y : Files) → old.images x → MayTakeAway (snapshots_below number old.files) x y → MayTakeAway (snapshots_below number x) x y
   clear_as tells x y image step = subst (λ l. MayTakeAway l x y) (sym (taken_by_names.snapshots number old.files x (lawful.same_names tells x image))) step
 
@@ -202,7 +202,7 @@ module _ (number : ℕ) (old new : DiskState) (lawful : IsLawful old) where
   pub clear_segments : HasTakenAway (snapshots_below number old.files) old new → numbers new.files ≡ numbers old.files
   clear_segments has = same_numbers old.files new.files (clear_low old.files new.files (clear_files has))
 
-  pub clear_stands : (log : LogEnd) → new.tells ≡ old.tells → (old.tells ≡ true → HasTakenAway (snapshots_below number old.files) old new) → (old.tells ≡ true → Elapses (MayTakeAway (snapshots_below number old.files)) old new) → Stands log old → Stands log new
+  pub clear_stands : (log : LogEnd) → new.tells ≡ old.tells → (old.tells ≡ true → HasTakenAway (snapshots_below number old.files) old new) → (old.tells ≡ true → Elapses (MayTakeAway (snapshots_below number old.files)) old new) → LogEndStands log old → LogEndStands log new
   clear_stands log same files goes st = stands_through log old new same (λ tells. clear_low old.files new.files (clear_files (files tells))) (λ tells c image. step_as (λ x y was may. clear_low x y may) c ((goes tells).images c image)) st
 
 -- ---- answers that are handed on
@@ -220,7 +220,7 @@ err_to {X} {Y} {E} r q e d was same f = was ∙ ap Err (err_same e d (sym same �
     err_same e d is = cc
 
 -- the log's end stands where nothing changes
-pub same_stands : (log : LogEnd) (b c : DiskState) → c.tells ≡ b.tells → (b.tells ≡ true → Becomes (λ files. files) b c) → Stands log b → Stands log c
+pub same_stands : (log : LogEnd) (b c : DiskState) → c.tells ≡ b.tells → (b.tells ≡ true → Becomes (λ files. files) b c) → LogEndStands log b → LogEndStands log c
 same_stands log b c same becomes st =
     stands_through log b c same (λ tells q low high. ap (λ (z : Files). get z q) (becomes tells).files) (λ tells d image. step_as (λ x y was e q low high. ap (λ (z : Files). get z q) e) d ((becomes tells).images d image)) st
 

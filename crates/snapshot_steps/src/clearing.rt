@@ -4,7 +4,7 @@ ghost use Rattle.m3_outside.specs.Causes.{CountsFaults};
 ghost use Rattle.m3_outside.specs.DiskState.{DiskState, EachImage, Elapses, Becomes};
 ghost use Rattle.m3_outside.specs.declared.disk_err.DiskErr.TheVariants.{Failed as DiskFailed, Memory as WantOfMemory};
 ghost use Rattle.commit_log.specs.Contents.{numbers};
-ghost use Rattle.commit_log.specs.LogEnd.{LogEnd, Stands};
+ghost use Rattle.commit_log.specs.LogEnd.{LogEnd, LogEndStands};
 ghost use Rattle.wire_bytes.specs.Snapshots.{Snapshot};
 ghost use Rattle.shard_files.specs.Keeps.{Keeps};
 ghost use Rattle.shard_files.specs.Parts.{KnownVolume, counted_snapshots, snapshot_checkpoint};
@@ -32,7 +32,7 @@ pub fn clear_snapshots<D: Disk>(alloc: Global, disk: &mut D, number: u64) -> Res
 
     ensures memory { (D.state disk.old).tells ≡ true → IsErrOf result WantOfMemory → Becomes (λ files. files) (D.state disk.old) (D.state disk.new) }
     ensures segments { (D.state disk.old).tells ≡ true → numbers (D.state disk.new).files ≡ numbers (D.state disk.old).files }
-    ensures log_stands { (log : LogEnd) → Stands log (D.state disk.old) → Stands log (D.state disk.new) }
+    ensures log_stands { (log : LogEnd) → LogEndStands log (D.state disk.old) → LogEndStands log (D.state disk.new) }
     ensures tells { (D.state disk.new).tells ≡ (D.state disk.old).tells }
     ensures faults { CountsFaults (IsErrOf result DiskFailed) (D.state disk.old).faults (D.state disk.new).faults }
 {

@@ -5,7 +5,7 @@ ghost use Rattle.m3_outside.specs.DiskState.{DiskState, EachImage, Elapses, Beco
 ghost use Rattle.m3_outside.specs.declared.disk_err.DiskErr.TheVariants.{Failed as DiskFailed, Memory as WantOfMemory};
 ghost use Rattle.commit_log.specs.Contents.{numbers};
 ghost use Rattle.commit_log.specs.Cutting.{numbers_from};
-ghost use Rattle.commit_log.specs.LogEnd.{LogEnd, Stands};
+ghost use Rattle.commit_log.specs.LogEnd.{LogEnd, LogEndStands};
 ghost use Rattle.wire_bytes.specs.Snapshots.{Snapshot};
 ghost use Rattle.shard_files.specs.Keeps.{Keeps};
 ghost use Rattle.shard_files.specs.Parts.{KnownVolume};
@@ -29,7 +29,7 @@ pub fn cut_log<D: Disk>(alloc: Global, disk: &mut D, number: u64) -> Result<(), 
     ensures saved { (s : Snapshot) (memory : Contents) (known : List KnownVolume) (tenure fence : ℕ) → EachImage (D.state disk.old) (HoldsSaved s memory known tenure fence) → EachImage (D.state disk.new) (HoldsSaved s memory known tenure fence) }
     ensures memory { (D.state disk.old).tells ≡ true → IsErrOf result WantOfMemory → Becomes (λ files. files) (D.state disk.old) (D.state disk.new) }
     ensures segments { (D.state disk.old).tells ≡ true → OnOk result (numbers (D.state disk.new).files ≡ numbers_from number (D.state disk.old).files) }
-    ensures log_stands { (log : LogEnd) → number ≤ log.number → Stands log (D.state disk.old) → Stands log (D.state disk.new) }
+    ensures log_stands { (log : LogEnd) → number ≤ log.number → LogEndStands log (D.state disk.old) → LogEndStands log (D.state disk.new) }
     ensures tells { (D.state disk.new).tells ≡ (D.state disk.old).tells }
     ensures faults { CountsFaults (IsErrOf result DiskFailed) (D.state disk.old).faults (D.state disk.new).faults }
 {

@@ -7,7 +7,7 @@ ghost use Rattle.m3_outside.specs.DiskCalls.{LeavesFiles};
 ghost use Rattle.m3_outside.specs.declared.disk_err.DiskErr.TheVariants.{Failed as DiskFailed, Memory as WantOfMemory};
 ghost use Rattle.commit_log.specs.Contents as contents;
 ghost use Rattle.commit_log.specs.Contents.{numbers};
-ghost use Rattle.commit_log.specs.LogEnd.{LogEnd, Stands};
+ghost use Rattle.commit_log.specs.LogEnd.{LogEnd, LogEndStands};
 ghost use Rattle.shard_files.specs.Keeps.{Keeps};
 ghost use Rattle.shard_files.specs.Parts.{KnownVolume, IsNewestNumber};
 ghost use Rattle.shard_files.specs.Steps as steps;
@@ -98,7 +98,7 @@ pub fn save_snapshot<D: Disk>(
     ensures memory { (memory : Contents) (known : List KnownVolume) (t f : ℕ) → EachImage (D.state disk.old) (HoldsKnown memory known t f) → IsErrOf result WantOfMemory → EachImage (D.state disk.new) (HoldsKnown memory known t f) }
     ensures newest { (D.state disk.old).tells ≡ true → IsErrOf result WantOfMemory → (n : ℕ) → IsNewestNumber n (D.state disk.old).files → IsNewestNumber n (D.state disk.new).files }
     ensures segments { (D.state disk.old).tells ≡ true → numbers (D.state disk.new).files ≡ numbers (D.state disk.old).files }
-    ensures log_stands { (log : LogEnd) → Stands log (D.state disk.old) → Stands log (D.state disk.new) }
+    ensures log_stands { (log : LogEnd) → LogEndStands log (D.state disk.old) → LogEndStands log (D.state disk.new) }
     ensures tells { (D.state disk.new).tells ≡ (D.state disk.old).tells }
     ensures faults { CountsFaults (IsErrOf result DiskFailed) (D.state disk.old).faults (D.state disk.new).faults }
 {

@@ -6,7 +6,7 @@ ghost use Rattle.m3_outside.specs.DiskState.{DiskState, EachImage, Elapses, Beco
 ghost use Rattle.m3_outside.specs.Files.{IsPresent, files_with_zeros};
 ghost use Rattle.m3_outside.specs.declared.disk_err.DiskErr.TheVariants.{Failed as DiskFailed, Memory as WantOfMemory};
 ghost use Rattle.commit_log.specs.Contents.{next_after, numbers};
-ghost use Rattle.commit_log.specs.LogEnd.{LogEnd, Stands};
+ghost use Rattle.commit_log.specs.LogEnd.{LogEnd, LogEndStands};
 ghost use Rattle.commit_log.specs.Segment.{segment};
 ghost use Rattle.shard_files.specs.Keeps.{Keeps};
 ghost use Rattle.shard_files.specs.Parts.{KnownVolume};
@@ -28,7 +28,7 @@ pub fn begin_segment<D: Disk>(alloc: Global, disk: &mut D, log: &mut Log) -> Res
     ensures limit { IfOk result (λ n. n < NUMBER_END) }
     ensures end { IfOk result (λ n. log.new ≡ record { number = n; at = 0; clean = true }) }
     ensures same { IsErr result → log.new ≡ log.old }
-    ensures stands { OnOk result (Stands log.new (D.state disk.new)) }
+    ensures stands { OnOk result (LogEndStands log.new (D.state disk.new)) }
     ensures there { (D.state disk.old).tells ≡ true → IfOk result (λ n. IsPresent (segment n) (D.state disk.new).files) }
     ensures made { (D.state disk.old).tells ≡ true → IfOk result (λ n. (D.state disk.new).files ≡ files_with_zeros (segment n) SEGMENT_BYTES (D.state disk.old).files) }
     ensures snapshots { (D.state disk.old).tells ≡ true → next_snapshot (D.state disk.new).files ≡ next_snapshot (D.state disk.old).files }
@@ -38,7 +38,7 @@ pub fn begin_segment<D: Disk>(alloc: Global, disk: &mut D, log: &mut Log) -> Res
     ensures any_moment { (kept memory : Contents) (known : List KnownVolume) (tenure fence : ℕ) → EachImage (D.state disk.old) (HoldsKnown memory known tenure fence) → HaveContent memory known kept → (D.state disk.old).tells ≡ true → Elapses (Keeps kept) (D.state disk.old) (D.state disk.new) }
 
     ensures known { (memory : Contents) (known : List KnownVolume) (tenure fence : ℕ) → EachImage (D.state disk.old) (HoldsKnown memory known tenure fence) → EachImage (D.state disk.new) (HoldsKnown memory known tenure fence) }
-    ensures log_stands { IsErrOf result WantOfMemory → Stands log.old (D.state disk.old) → Stands log.new (D.state disk.new) }
+    ensures log_stands { IsErrOf result WantOfMemory → LogEndStands log.old (D.state disk.old) → LogEndStands log.new (D.state disk.new) }
     ensures tells { (D.state disk.new).tells ≡ (D.state disk.old).tells }
     ensures faults { CountsFaults (IsErrOf result DiskFailed) (D.state disk.old).faults (D.state disk.new).faults }
 {

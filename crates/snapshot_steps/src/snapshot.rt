@@ -4,7 +4,7 @@ ghost use Rattle.m3_outside.specs.Causes.{CountsFaults};
 ghost use Rattle.m3_outside.specs.DiskState.{DiskState, EachImage, Elapses};
 ghost use Rattle.m3_outside.specs.declared.disk_err.DiskErr.TheVariants.{Failed as DiskFailed, Memory as WantOfMemory};
 ghost use Rattle.commit_log.specs.Contents.{next_after, numbers};
-ghost use Rattle.commit_log.specs.LogEnd.{LogEnd, Stands};
+ghost use Rattle.commit_log.specs.LogEnd.{LogEnd, LogEndStands};
 ghost use Rattle.shard_files.specs.Keeps.{Keeps};
 ghost use Rattle.shard_files.specs.Parts.{KnownVolume, counted_snapshots, snapshot_checkpoint};
 ghost use Rattle.shard_files.specs.Steps.{next_snapshot};
@@ -54,9 +54,9 @@ pub fn take_snapshot<D: Disk>(
     ensures end { OnOk result ((log.new.at ≡ 0) × (log.new.clean ≡ true)) }
     ensures segments { (D.state disk.old).tells ≡ true → OnOk result (numbers (D.state disk.new).files ≡ log.new.number ∷ []) }
     ensures number { (D.state disk.old).tells ≡ true → OnOk result (log.new.number ≡ next_after (numbers (D.state disk.old).files)) }
-    ensures stands { OnOk result (Stands log.new (D.state disk.new)) }
+    ensures stands { OnOk result (LogEndStands log.new (D.state disk.new)) }
     ensures memory { (memory : Contents) (known : List KnownVolume) → EachImage (D.state disk.old) (HoldsKnown memory known tenure fence) → AreIn memory points → IsErrOf result WantOfMemory → EachImage (D.state disk.new) (HoldsKnown memory known tenure fence) }
-    ensures log_stands { IsErrOf result WantOfMemory → Stands log.old (D.state disk.old) → Stands log.new (D.state disk.new) }
+    ensures log_stands { IsErrOf result WantOfMemory → LogEndStands log.old (D.state disk.old) → LogEndStands log.new (D.state disk.new) }
     ensures counted { (memory : Contents) (known : List KnownVolume) → EachImage (D.state disk.old) (HoldsKnown memory known tenure fence) → AreIn memory points → (D.state disk.old).tells ≡ true → ¬ (IsErrOf result DiskFailed) → AreCounted log.old counts.old.missing counts.old.snapshot (D.state disk.old).files → AreCounted log.new counts.new.missing counts.new.snapshot (D.state disk.new).files }
     ensures tells { (D.state disk.new).tells ≡ (D.state disk.old).tells }
     ensures faults { CountsFaults (IsErrOf result DiskFailed) (D.state disk.old).faults (D.state disk.new).faults }

@@ -430,8 +430,8 @@ fn put_chunks<D: Disk>(
     Ok(())
 }
 
-// The place of the damage in the segment of this number; 0 where nothing is told of it.
-fn place_of(said: Result<Began, Reason>, file: &str) -> u64 {
+// The offset of the damage in the segment of this number; 0 where nothing is told of it.
+fn position_of(said: Result<Began, Reason>, file: &str) -> u64 {
     match said {
         Err(Reason::Corrupt(Damage::Form { file: named, at })) => {
             if named.equals(file) { at } else { 0 }
@@ -449,10 +449,10 @@ fn damage<D: Disk>(alloc: Global, disk: D, chunk: &[u8]) -> Result<D, Fail> {
     Ok(disk)
 }
 
-// The place of the damage that a machine is told of, where it is closed then.
+// The offset of the damage that a machine is told of, where it is closed then.
 fn found_damage<D: Disk>(alloc: Global, disk: D) -> u64 {
     let mut machine = Machine::new(alloc, disk);
-    let at = place_of(machine.boot(1), "log-2.db");
+    let at = position_of(machine.boot(1), "log-2.db");
     if matches!(machine.boot(1), Err(Reason::Down)) {
         at
     } else {

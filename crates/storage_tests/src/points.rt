@@ -80,11 +80,11 @@ fn find(
 {
     let pick = pick_of(alloc, if ns == "0" { 0 } else { 1 }, pick)?;
     let found = held.fetch(&pick, 10, if to == "10" { 10 } else { 11 })?;
-    for (place, series) in found.as_slice().iter().enumerate() {
+    for (position, series) in found.as_slice().iter().enumerate() {
         write!(
             out,
             "{}{}",
-            if place == 0 { "" } else { ";" },
+            if position == 0 { "" } else { ";" },
             series.id.as_str()
         )?;
     }
@@ -119,7 +119,7 @@ fn series_are_found(rt: HostRuntime) -> Result<(), Fail> {
     Ok(())
 }
 
-// Bytes, each behind the entry that they are, or the place at which they break.
+// Bytes, each behind the entry that they are, or the offset at which they break.
 const ENTRIES: &str =
     "points 1 => 01 00 01 00 00 05 68 65 6c 6c 6f 00 00 00 00 00 00 00 64 00 00 00 00 00 00 00 05
 fence 3 => 02 00 00 00 00 00 00 00 03

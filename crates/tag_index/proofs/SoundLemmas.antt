@@ -58,12 +58,12 @@ sound_added n n' s s' l l' e o sound absent free small numbers slots links = rec
         ap (option_map (λ (e : Entry). e.id)) (slots p ∙ ap (λ b. cond b (Some e) (s p)) (eq-eqb p o at)) ∙ ap Some (sym same)
     named id p false t is =
         let stood = sound.named id p is in
-        let apart : nat_eq p o ≡ false = by_place p id stood (nat_eq p o) refl in
+        let apart : nat_eq p o ≡ false = by_position p id stood (nat_eq p o) refl in
         ap (option_map (λ (e : Entry). e.id)) (slots p ∙ ap (λ b. cond b (Some e) (s p)) apart) ∙ stood
       where
-        by_place : (p : ℕ) (id : List ℕ) → option_map (λ (e : Entry). e.id) (s p) ≡ Some id → (b : Bool) → nat_eq p o ≡ b → b ≡ false
-        by_place p id stood true t = let wrong : option_map (λ (e : Entry). e.id) None ≡ Some id = sym (ap (option_map (λ (e : Entry). e.id)) (ap s (eqb-true p o t) ∙ free)) ∙ stood in cc
-        by_place p id stood false t = refl
+        by_position : (p : ℕ) (id : List ℕ) → option_map (λ (e : Entry). e.id) (s p) ≡ Some id → (b : Bool) → nat_eq p o ≡ b → b ≡ false
+        by_position p id stood true t = let wrong : option_map (λ (e : Entry). e.id) None ≡ Some id = sym (ap (option_map (λ (e : Entry). e.id)) (ap s (eqb-true p o t) ∙ free)) ∙ stood in cc
+        by_position p id stood false t = refl
 
     numbered : (p : ℕ) (f : Entry) (b : Bool) → nat_eq p o ≡ b → cond b (Some e) (s p) ≡ Some f → n' f.id ≡ Some p
     numbered p f true t is =
@@ -104,14 +104,14 @@ sound_removed n n' s s' l l' e o sound at numbers slots links = record {
     named id p true t is = cc
     named id p false t is =
         let stood = sound.named id p is in
-        ap (option_map (λ (e : Entry). e.id)) (slots p ∙ ap (λ b. cond b None (s p)) (by_place (nat_eq p o) refl stood)) ∙ stood
+        ap (option_map (λ (e : Entry). e.id)) (slots p ∙ ap (λ b. cond b None (s p)) (by_position (nat_eq p o) refl stood)) ∙ stood
       where
-        by_place : (b : Bool) → nat_eq p o ≡ b → option_map (λ (e : Entry). e.id) (s p) ≡ Some id → b ≡ false
-        by_place true u stood =
+        by_position : (b : Bool) → nat_eq p o ≡ b → option_map (λ (e : Entry). e.id) (s p) ≡ Some id → b ≡ false
+        by_position true u stood =
             let ids : Some e.id ≡ Some id = sym (ap (option_map (λ (e : Entry). e.id)) (ap s (eqb-true p o u) ∙ at)) ∙ stood in
             let same : id ≡ e.id = cc in
             sym ((bytes_eq-Decides id e.id).1 same) ∙ t
-        by_place false u stood = refl
+        by_position false u stood = refl
 
     numbered : (p : ℕ) (f : Entry) (b : Bool) → nat_eq p o ≡ b → cond b None (s p) ≡ Some f → n' f.id ≡ Some p
     numbered p f true t is = cc
@@ -121,7 +121,7 @@ sound_removed n n' s s' l l' e o sound at numbers slots links = record {
       where
         by_id : (b : Bool) → bytes_eq f.id e.id ≡ b → n f.id ≡ Some p → b ≡ false
         by_id true u had =
-            let places : Some o ≡ Some p = sym (sound.numbered o e at) ∙ ap n (sym ((bytes_eq-Decides f.id e.id).0 u)) ∙ had in
+            let positions : Some o ≡ Some p = sym (sound.numbered o e at) ∙ ap n (sym ((bytes_eq-Decides f.id e.id).0 u)) ∙ had in
             let same : p ≡ o = cc in
             sym (eq-eqb p o same) ∙ t
         by_id false u had = refl
@@ -136,10 +136,10 @@ sound_removed n n' s s' l l' e o sound at numbers slots links = record {
 
     linked : (q : Link) (b : Bool) → nat_eq q.ordinal o ≡ b → (l q && not (is_link_of e.tags o q)) ≡ is_linked (cond b None (s q.ordinal)) q
     linked q true t =
-        let place : q.ordinal ≡ o = eqb-true q.ordinal o t in
-        gone (l q) (is_link_of e.tags o q) (sound.links q ∙ ap (λ f. is_linked f q) (ap s place ∙ at) ∙ ap (λ k. is_link_of e.tags k q) place)
+        let position : q.ordinal ≡ o = eqb-true q.ordinal o t in
+        gone (l q) (is_link_of e.tags o q) (sound.links q ∙ ap (λ f. is_linked f q) (ap s position ∙ at) ∙ ap (λ k. is_link_of e.tags k q) position)
     linked q false t =
-        let apart : is_link_of e.tags o q ≡ false = other_ordinal e.tags o q (λ place. true≢false (sym (eq-eqb q.ordinal o (sym place)) ∙ t)) in
+        let apart : is_link_of e.tags o q ≡ false = other_ordinal e.tags o q (λ position. true≢false (sym (eq-eqb q.ordinal o (sym position)) ∙ t)) in
         ap (λ c. l q && not c) apart ∙ and_true (l q) ∙ sound.links q
 
 pub turned : (a b : List ℕ) → bytes_eq a b ≡ bytes_eq b a

@@ -5,12 +5,12 @@ use Rattle.tag_index.specs.declared.entry.Entry.{Entry}
 use Rattle.tag_index.specs.Listed.{Listed, IsAt, HasTagAt}
 
 -- the series is present, at some ordinal
-abbrev pub Lists : Listed → Entry → Type 0
-Lists m e = (o : ℕ) × (finite.get m o ≡ Some e)
+abbrev pub ListsEntry : Listed → Entry → Type 0
+ListsEntry m e = (o : ℕ) × (finite.get m o ≡ Some e)
 
 -- both have the same series, at whatever ordinals
 abbrev pub HaveSameSeries : Listed → Listed → Type 0
-HaveSameSeries m n = (e : Entry) → Lists m e ↔ Lists n e
+HaveSameSeries m n = (e : Entry) → ListsEntry m e ↔ ListsEntry n e
 
 -- the identifier is that of an ordinal of the posting
 abbrev pub IsPosted : Listed → List ℕ → List ℕ → List ℕ → Type 0

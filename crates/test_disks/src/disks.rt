@@ -1,18 +1,18 @@
 //! Disks in memory, of which some fail.
 ghost use Rattle.std.specs.Prelude.{◌≡◌, IfOk};
 ghost use Rattle.m3_outside.specs.Slots.{Out};
-ghost use Rattle.m3_outside.specs.declared.slot.Slot.{Slot as Place};
+ghost use Rattle.m3_outside.specs.declared.slot.DiskSlot.{DiskSlot as AtSlot};
 ghost use Rattle.mem_disk.specs.Slots.{held_of};
 
 use m3_model::Memory;
-use m3_outside::{Disk, Slot};
+use m3_outside::{Disk, DiskSlot};
 use mem_disk::{MemDisk, MemDisks};
 use std::alloc::Global;
 
 /// Puts a disk into a slot.
-pub fn put(disks: &mut MemDisks, slot: Slot, disk: MemDisk)
-    requires { (place : Place) → ¬ (held_of disks.old place ≡ Out) }
-    ensures { (place : Place) → ¬ (held_of disks.new place ≡ Out) }
+pub fn put(disks: &mut MemDisks, slot: DiskSlot, disk: MemDisk)
+    requires { (slot : AtSlot) → ¬ (held_of disks.old slot ≡ Out) }
+    ensures { (slot : AtSlot) → ¬ (held_of disks.new slot ≡ Out) }
 {
     drop(disks.put(slot, disk));
 }
@@ -21,16 +21,16 @@ pub fn put(disks: &mut MemDisks, slot: Slot, disk: MemDisk)
 /// others all, until it is restarted.
 pub fn disks_with(
     alloc: Global,
-    place: (u8, u32),
+    slot: (u8, u32),
     fail: &[u64],
     fuse: Option<u64>,
 ) -> Result<MemDisks, Memory>
-    ensures { IfOk result (λ disks. (place : Place) → ¬ (held_of disks place ≡ Out)) }
+    ensures { IfOk result (λ disks. (slot : AtSlot) → ¬ (held_of disks slot ≡ Out)) }
 {
-    let (node, shard) = place;
+    let (node, shard) = slot;
     let disk = MemDisk::new(alloc, fail, fuse)?;
     let mut disks = MemDisks::new(alloc)?;
-    put(&mut disks, Slot { node, shard }, disk);
+    put(&mut disks, DiskSlot { node, shard }, disk);
     Ok(disks)
 }
 
@@ -42,7 +42,7 @@ fn faults_in(
     shard: u32,
 ) -> Result<Option<u64>, Memory> {
     let other = MemDisk::new(alloc, &[], None)?;
-    let slot = Slot { node, shard };
+    let slot = DiskSlot { node, shard };
     Ok(disks.put(slot, other).map(|disk| disk.faults()))
 }
 

@@ -4,7 +4,7 @@ use Rattle.std.specs.Prelude.{Option}
 use Rattle.std.proofs.lemmas.Bool.{cases_lt}
 use Rattle.m3_model.specs.Members.{IsIn}
 use Rattle.transcripts.specs.Placements.{IsCounted}
-use Rattle.transcripts.specs.Record.{TurnPlace, IsTurnPlace}
+use Rattle.transcripts.specs.Record.{TurnPosition, IsTurnPosition}
 use Rattle.m3_model.specs.declared.answer.Answer.TheVariants as answer
 use Rattle.m3_model.specs.declared.placement.Placement.{Placement}
 use Rattle.m3_model.specs.declared.point.Point.{Point}
@@ -20,7 +20,7 @@ use Rattle.cluster_core.proofs.ListLemmas.{at_same, at_take, at_within}
 use Rattle.cluster_core.proofs.PastLemmas.{CountedAt, counted_at}
 use Rattle.cluster_core.proofs.PlaceLemmas.{IsAt, at_place, at_version}
 use Rattle.cluster_core.proofs.TraceLemmas.{lawful_ack}
-use Rattle.told_by.specs.Acks.{AreCounted}
+use Rattle.told_by.specs.Acks.{AreAckersCounted}
 use Rattle.told_by.specs.Told.{ToldBy}
 use Rattle.told_by.specs.Writes.{IsSendOf}
 use Rattle.told_by.proofs.OpeningLemmas.{first_event, place_fine}
@@ -44,12 +44,12 @@ same_shard events legal first there s i j p q ds es x y hp hq version hx hy =
 counted_in : {tells : Bool} → (events : List Event) (legal : Legal tells events) (place : Placement) (at : ℕ) (done : List (ℕ × ℕ)) → At events at (event.Place place done) → (s version : ℕ) → version ≡ place.version → (before : ℕ) (nodes : List ℕ)
     → CountedAt (take before events) version s nodes → (node : ℕ) → IsIn nodes node → IsCounted place s node
 counted_in events legal place at done there s version is before nodes c node m =
-    let other = at_take events c.place before (event.Place c.placement c.done) c.there in
+    let other = at_take events c.position before (event.Place c.placement c.done) c.there in
     let first = first_event events legal at (event.Place place done) there in
     let fine = place_fine events legal first.place first.there at place done there in
-    let fine_other = place_fine events legal first.place first.there c.place c.placement c.done other.0 in
+    let fine_other = place_fine events legal first.place first.there c.position c.placement c.done other.0 in
     let low : s < length place.shards = omega (arith, at_within (c.placement).shards s c.shard c.shard_is, fine.count, fine_other.count) in
-    let same : c.shard ≡ shard_at place s = same_shard events legal first.place first.there s c.place at c.placement place c.done done c.shard (shard_at place s) other.0 there (c.version_is ∙ is) c.shard_is (shard_stands place s low) in
+    let same : c.shard ≡ shard_at place s = same_shard events legal first.place first.there s c.position at c.placement place c.done done c.shard (shard_at place s) other.0 there (c.version_is ∙ is) c.shard_is (shard_stands place s low) in
     subst (λ (x : Shard). IsIn (counted x) node) same (c.within node m)
 
 -- the nodes of an Ack of a Send of this version and shard
@@ -57,7 +57,7 @@ record AckedAs (place : Placement) (s : ℕ) (nodes : List ℕ) : Type 0 where
   distinct : IsDistinct nodes
   counted : (node : ℕ) → IsIn nodes node → IsCounted place s node
 
-acked_as : {tells : Bool} → (start : Option MetaState) (events : List Event) → Legal tells events → (p : TurnPlace) (ack send version s : ℕ) (point : Point) (nodes : List ℕ) → At events ack (event.Ack send nodes) → At events send (event.Send version s point)
+acked_as : {tells : Bool} → (start : Option MetaState) (events : List Event) → Legal tells events → (p : TurnPosition) (ack send version s : ℕ) (point : Point) (nodes : List ℕ) → At events ack (event.Ack send nodes) → At events send (event.Send version s point)
     → (own : IsSendOf start events p version s point) → AckedAs own.place s nodes
 acked_as start events legal p ack send version s point nodes acked there own =
     let law = lawful_ack events legal ack send nodes acked in
@@ -69,7 +69,7 @@ acked_as start events legal p ack send version s point nodes acked there own =
           (counted_in events legal own.place (own.uses).place_at (own.uses).done (own.uses).there law.s law.version (same.0 ∙ own.version_is) ack nodes (counted_at (take ack events) law.version law.s nodes law.counted) node m);
     }
 
-pub acks_counted : {tells : Bool} → (start : Option MetaState) (turns : List Turn) (events : List Event) → Legal tells events → ToldBy start turns events → (p : TurnPlace) → IsTurnPlace turns p → (nodes : List ℕ) → p.turn.answer ≡ answer.Acks nodes → AreCounted start p nodes
+pub acks_counted : {tells : Bool} → (start : Option MetaState) (turns : List Turn) (events : List Event) → Legal tells events → ToldBy start turns events → (p : TurnPosition) → IsTurnPosition turns p → (nodes : List ℕ) → p.turn.answer ≡ answer.Acks nodes → AreAckersCounted start p nodes
 acks_counted start turns events legal told p in_run nodes answered =
     let ack = (told.tells).writes.acked p in_run nodes answered in
     let send = ack.sent in

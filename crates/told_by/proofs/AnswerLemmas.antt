@@ -8,7 +8,7 @@ use Rattle.m3_model.specs.Hash.{shard_of, murmur3}
 use Rattle.m3_model.specs.Levels.{majority, needed_read, is_strong}
 use Rattle.m3_model.specs.Members.{IsIn}
 use Rattle.m3_model.specs.Reads.{Read, Found, Matches, read_of, found_of, points_in, space_picked}
-use Rattle.m3_model.specs.Rules.{namespace_place}
+use Rattle.m3_model.specs.Rules.{namespace_position}
 use Rattle.transcripts.specs.Calls.{IsAskedOf, Call, call_of}
 use Rattle.transcripts.specs.Points.{was_acked, acked_point, sent_point, was_sent, point_of}
 use Rattle.transcripts.specs.Record.{InnerTurn}
@@ -25,7 +25,7 @@ use Rattle.m3_model.specs.declared.point.Series.{Series}
 use Rattle.m3_model.specs.declared.rules.Rules.{Rules}
 use Rattle.m3_model.specs.declared.rules.Space.{Space}
 use Rattle.placement_core.proofs.ListLemmas.{each-from_All, IsIn-from_Any}
-use Rattle.cluster_core.specs.Answers.{IsWanted}
+use Rattle.cluster_core.specs.Answers.{IsWantedUnexpired}
 use Rattle.cluster_core.specs.Legal.{Legal, EachAnswered}
 use Rattle.cluster_core.specs.Lists.{At}
 use Rattle.cluster_core.specs.Replicas.{replica}
@@ -100,10 +100,10 @@ asks_by (Some k) make read P each e = let is : make k ≡ read = cc in subst P i
 pub needed_is : (spaces : List Space) (a : Act) (read : Read) (c : Call) → read_of spaces a ≡ Some read → call_of a ≡ Some c → (rf : ℕ) → c.needed rf ≡ needed_read read.level rf
 needed_is spaces (act.Fetch ns id from to level version) read c e f rf =
     let is : record { id = Some id; version = version; needed = needed_read level } ≡ c = cc in
-    sym (ap (λ (x : Call). x.needed rf) is) ∙ asks_by (namespace_place ns spaces) (λ k. record { pick = pick.One k id; from = from; to = to; level = level }) read (λ r. needed_read level rf ≡ needed_read r.level rf) (λ k. refl) e
+    sym (ap (λ (x : Call). x.needed rf) is) ∙ asks_by (namespace_position ns spaces) (λ k. record { pick = pick.One k id; from = from; to = to; level = level }) read (λ r. needed_read level rf ≡ needed_read r.level rf) (λ k. refl) e
 needed_is spaces (act.Match ns wanted from to level version) read c e f rf =
     let is : record { id = None; version = version; needed = needed_read level } ≡ c = cc in
-    sym (ap (λ (x : Call). x.needed rf) is) ∙ asks_by (namespace_place ns spaces) (λ k. record { pick = pick.Match k wanted; from = from; to = to; level = level }) read (λ r. needed_read level rf ≡ needed_read r.level rf) (λ k. refl) e
+    sym (ap (λ (x : Call). x.needed rf) is) ∙ asks_by (namespace_position ns spaces) (λ k. record { pick = pick.Match k wanted; from = from; to = to; level = level }) read (λ r. needed_read level rf ≡ needed_read r.level rf) (λ k. refl) e
 needed_is spaces _ read c e f rf = cc
 
 pub shard_below : (id : List ℕ) (seed shards : ℕ) → 0 < shards → shard_of id seed shards < shards
@@ -113,7 +113,7 @@ shard_below id seed shards some = mod_below (murmur3 id seed) shards some
 pub asks_shard : (spaces : List Space) (a : Act) (read : Read) (c : Call) → read_of spaces a ≡ Some read → call_of a ≡ Some c → (p : Point) → Matches read.pick p → (seed shards : ℕ) → 0 < shards → IsAskedOf c.id seed shards (shard_of p.id seed shards)
 asks_shard spaces (act.Fetch ns id from to level version) read c e f p m seed shards some =
     let is : record { id = Some id; version = version; needed = needed_read level } ≡ c = cc in
-    let same = asks_by (namespace_place ns spaces) (λ k. record { pick = pick.One k id; from = from; to = to; level = level }) read (λ r. Matches r.pick p → p.id ≡ id) (λ k h. h.1) e m in
+    let same = asks_by (namespace_position ns spaces) (λ k. record { pick = pick.One k id; from = from; to = to; level = level }) read (λ r. Matches r.pick p → p.id ≡ id) (λ k h. h.1) e m in
     subst (λ (x : Call). IsAskedOf x.id seed shards (shard_of p.id seed shards)) is (ap (λ i. shard_of i seed shards) same)
 asks_shard spaces (act.Match ns wanted from to level version) read c e f p m seed shards some =
     let is : record { id = None; version = version; needed = needed_read level } ≡ c = cc in
@@ -154,7 +154,7 @@ answer_of past start s version rules chosen from to (m ∷ nodes) (b ∷ answers
 
 -- what is known of a FetchDone with its FetchStart
 pub record DoneAt (rules : Rules) (chosen : Pick) (from to : ℕ) (series : List Series) : Type 0 where
-  pub wanted : (p : Point) → IsIn (points_in (space_picked chosen) series) p → IsWanted rules chosen from to p
+  pub wanted : (p : Point) → IsIn (points_in (space_picked chosen) series) p → IsWantedUnexpired rules chosen from to p
 
 pub done_at : (events : List Event) → Legal true events → (i start : ℕ) (nodes : List ℕ) (series : List Series) → At events i (event.FetchDone start nodes series)
     → (version s : ℕ) (rules : Rules) (chosen : Pick) (from to : ℕ) → At events start (event.FetchStart version s rules chosen from to) → DoneAt rules chosen from to series
@@ -162,19 +162,19 @@ done_at events legal i start nodes series done version s rules chosen from to st
     let f = lawful_fetched events legal i start nodes series done in
     let begun = at_take events start i (event.FetchStart f.version f.s f.rules f.pick f.from f.to) f.started in
     let same = same_start version f.version s f.s rules f.rules chosen f.pick from f.from to f.to (at_same events start (event.FetchStart f.version f.s f.rules f.pick f.from f.to) (event.FetchStart version s rules chosen from to) begun.0 started) in
-    let wanted : (p : Point) → IsIn (points_in (space_picked f.pick) series) p → IsWanted f.rules f.pick f.from f.to p =
+    let wanted : (p : Point) → IsIn (points_in (space_picked f.pick) series) p → IsWantedUnexpired f.rules f.pick f.from f.to p =
     λ p m.
     let any = each-from_All (λ q. Any (λ one. IsIn (points_in (space_picked f.pick) one) q) f.answers) (points_in (space_picked f.pick) series) (f.joined).nothing_else p m in
     let from_one = IsIn-from_Any (λ one. IsIn (points_in (space_picked f.pick) one) p) f.answers any in
     let a = answer_of (take i events) start f.s f.version f.rules f.pick f.from f.to nodes f.answers from_one.0 f.answered from_one.1 in
-    let there = at_take events (a.1).place i (event.Step a.0 f.s (call.Read (a.1).client (a.1).number f.rules f.version f.pick f.from f.to) (reply.Found from_one.0)) (a.1).there in
-    let row = lawful_step events legal (a.1).place a.0 f.s (call.Read (a.1).client (a.1).number f.rules f.version f.pick f.from f.to) (reply.Found from_one.0) there.0 in
-    (each-from_All (λ q. IsIn (replica a.0 f.s (take (a.1).place events)).sure q × IsWanted f.rules f.pick f.from f.to q) (points_in (space_picked f.pick) from_one.0) (row.2).nothing_else p from_one.2).1 in
+    let there = at_take events (a.1).position i (event.Step a.0 f.s (call.Read (a.1).client (a.1).number f.rules f.version f.pick f.from f.to) (reply.Found from_one.0)) (a.1).there in
+    let row = lawful_step events legal (a.1).position a.0 f.s (call.Read (a.1).client (a.1).number f.rules f.version f.pick f.from f.to) (reply.Found from_one.0) there.0 in
+    (each-from_All (λ q. IsIn (replica a.0 f.s (take (a.1).position events)).sure q × IsWantedUnexpired f.rules f.pick f.from f.to q) (points_in (space_picked f.pick) from_one.0) (row.2).nothing_else p from_one.2).1 in
     record {
       wanted = λ p m.
-          subst (λ k. IsWanted rules k from to p) same.picks
-          (subst (λ r. IsWanted r f.pick from to p) same.rules_are
-          (subst (λ a. IsWanted f.rules f.pick a to p) same.first
-          (subst (λ b. IsWanted f.rules f.pick f.from b p) same.last
+          subst (λ k. IsWantedUnexpired rules k from to p) same.picks
+          (subst (λ r. IsWantedUnexpired r f.pick from to p) same.rules_are
+          (subst (λ a. IsWantedUnexpired f.rules f.pick a to p) same.first
+          (subst (λ b. IsWantedUnexpired f.rules f.pick f.from b p) same.last
           (wanted p (subst (λ k. IsIn (points_in (space_picked k) series) p) (sym same.picks) m)))));
     }

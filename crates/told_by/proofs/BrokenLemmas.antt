@@ -12,7 +12,7 @@ use Rattle.transcripts.specs.Calls.{call_of}
 use Rattle.transcripts.specs.Fates.{call_number}
 use Rattle.transcripts.specs.Rules.{rules_at}
 use Rattle.m3_model.specs.declared.rules.Rules.{Rules}
-use Rattle.transcripts.specs.Record.{joined, lists_of, InnerTurn, TurnPlace, IsTurnPlace, inner_turns}
+use Rattle.transcripts.specs.Record.{joined, lists_of, InnerTurn, TurnPosition, IsTurnPosition, inner_turns}
 use Rattle.cluster_core.specs.Lists.{At}
 use Rattle.cluster_core.specs.declared.event.Asked.TheVariants as asked
 use Rattle.cluster_core.specs.declared.event.Event.TheVariants as event
@@ -20,19 +20,19 @@ use Rattle.cluster_core.specs.declared.event.StepCall.TheVariants as call
 use Rattle.cluster_core.specs.declared.event.StepReply.TheVariants as reply
 use Rattle.cluster_core.proofs.ListLemmas.{at_in, at_take, take_at}
 use Rattle.told_by.specs.Broken.{AckOfOtherPut, AskOfNobody, LostSend, PrintedUnplaced, SendOfNobody, StopWithoutLine, other_place, other_put, other_write, three, two}
-use Rattle.told_by.specs.Lines.{place_after}
+use Rattle.told_by.specs.Lines.{position_after}
 use Rattle.told_by.specs.Makes.{MayAsk}
 use Rattle.told_by.specs.Sample.{begun, of_init, of_space, place, point, rules, spaced, written}
-use Rattle.told_by.proofs.LineLemmas.{place_last}
+use Rattle.told_by.proofs.LineLemmas.{position_last}
 use Rattle.told_by.proofs.OneLemmas.{is_last}
 use Rattle.told_by.proofs.TurnLemmas.{flat_map-IsIn, in_cut, in_its_line}
 
--- a turn at a place of the run is one of the run's
-pub turn_among : (turns : List Turn) (q : TurnPlace) → IsTurnPlace turns q → IsIn (inner_turns turns) q.turn
+-- a turn at a position of the run is one of the run's
+pub turn_among : (turns : List Turn) (q : TurnPosition) → IsTurnPosition turns q → IsIn (inner_turns turns) q.turn
 turn_among turns q at = flat_map-IsIn (λ (line : Turn). joined (lists_of line)) turns q.line q.turn (subst (λ ts. IsIn ts q.line) (sym at.in_run) (in_cut q.lines q.line at.after)) (in_its_line q at.stands)
 
 -- the two acts of the run up to its namespace
-two_acts : (q : TurnPlace) → IsTurnPlace two q → (begun ≡ q.turn.act) ⊎ (spaced ≡ q.turn.act)
+two_acts : (q : TurnPosition) → IsTurnPosition two q → (begun ≡ q.turn.act) ⊎ (spaced ≡ q.turn.act)
 two_acts q at =
     elim (turn_among two q at) as (λ _. (begun ≡ q.turn.act) ⊎ (spaced ≡ q.turn.act)) [
       | inl is ↦ inl (ap (λ (t : InnerTurn). t.act) is)
@@ -68,12 +68,12 @@ nobody_asks told =
       | inr is ↦ subst (λ (a : Act). MayAsk None (take 6 list) (told.makers 6) a what) (sym is) asks
     ]
 
--- the place of the write
-abbrev writing : TurnPlace
-writing = place_after two written (answer.Acks (0 ∷ []))
+-- the position of the write
+abbrev writing : TurnPosition
+writing = position_after two written (answer.Acks (0 ∷ []))
 
-writing_in : IsTurnPlace three writing
-writing_in = place_last two (line_of written (answer.Acks (0 ∷ []))) writing (is_last None two [] written (answer.Acks (0 ∷ [])) [])
+writing_in : IsTurnPosition three writing
+writing_in = position_last two (line_of written (answer.Acks (0 ∷ []))) writing (is_last None two [] written (answer.Acks (0 ∷ [])) [])
 
 no_send : (v s : ℕ) (p : Point) → IsIn (of_init ++ of_space) (event.Send v s p) → ⊥
 no_send v s p (inl e) = cc
@@ -102,8 +102,8 @@ no_place9 done (inr (inr (inr (inr none)))) = none
 
 pub never_placed : PrintedUnplaced
 never_placed told =
-    let own = place_after [] begun (answer.Placed other_place 9) in
-    let at = place_last [] (line_of begun (answer.Placed other_place 9)) own (is_last None [] [] begun (answer.Placed other_place 9) []) in
+    let own = position_after [] begun (answer.Placed other_place 9) in
+    let at = position_last [] (line_of begun (answer.Placed other_place 9)) own (is_last None [] [] begun (answer.Placed other_place 9) []) in
     let h = (told.tells).placements.is_place own at other_place refl in
     no_place9 h.done (at_in of_init h.place_at (event.Place other_place h.done) h.there)
 
@@ -133,11 +133,11 @@ other_puts told =
     let makes = (told.tells).makes ack.ack (event.Ack ack.send (0 ∷ [])) (omega arith) late ack.acked in
     let sent_before = own_send ack.ack ack.send s.version s.s s.point ack.acked s.there in
     let took = makes s.version s.s s.point sent_before 0 (inl refl) in
-    let client : (told.makers ack.ack).client ≡ 0 = ap (λ (x : TurnPlace). x.client) ack.own in
+    let client : (told.makers ack.ack).client ≡ 0 = ap (λ (x : TurnPosition). x.client) ack.own in
     no_own_put (call_number (told.makers ack.ack)) s.s s.version (rules_at None (told.makers ack.ack)) s.point
     (subst (λ c. IsIn list (event.Step 0 s.s (call.Put c (call_number (told.makers ack.ack)) (rules_at None (told.makers ack.ack)) s.version s.point) reply.Done)) client
-    (at_in list took.place (event.Step 0 s.s (call.Put (told.makers ack.ack).client (call_number (told.makers ack.ack)) (rules_at None (told.makers ack.ack)) s.version s.point) reply.Done)
-    (at_take list took.place ack.ack (event.Step 0 s.s (call.Put (told.makers ack.ack).client (call_number (told.makers ack.ack)) (rules_at None (told.makers ack.ack)) s.version s.point) reply.Done) took.took).0))
+    (at_in list took.position (event.Step 0 s.s (call.Put (told.makers ack.ack).client (call_number (told.makers ack.ack)) (rules_at None (told.makers ack.ack)) s.version s.point) reply.Done)
+    (at_take list took.position ack.ack (event.Step 0 s.s (call.Put (told.makers ack.ack).client (call_number (told.makers ack.ack)) (rules_at None (told.makers ack.ack)) s.version s.point) reply.Done) took.took).0))
   where
     ack_late : (i send : ℕ) → At ((of_init ++ of_space) ++ other_write) i (event.Ack send (0 ∷ [])) → 2 ≤ i
     ack_late zero send e = cc
@@ -145,31 +145,31 @@ other_puts told =
     ack_late (suc (suc i)) send e = omega arith
 
     -- the one Send stands before the one Ack
-    ack_place : (i send : ℕ) → At ((of_init ++ of_space) ++ other_write) i (event.Ack send (0 ∷ [])) → i ≡ 9
-    ack_place zero send e = cc
-    ack_place (suc zero) send e = cc
-    ack_place (suc (suc zero)) send e = cc
-    ack_place (suc (suc (suc zero))) send e = cc
-    ack_place (suc (suc (suc (suc zero)))) send e = cc
-    ack_place (suc (suc (suc (suc (suc zero))))) send e = cc
-    ack_place (suc (suc (suc (suc (suc (suc zero)))))) send e = cc
-    ack_place (suc (suc (suc (suc (suc (suc (suc zero))))))) send e = cc
-    ack_place (suc (suc (suc (suc (suc (suc (suc (suc zero)))))))) send e = cc
-    ack_place (suc (suc (suc (suc (suc (suc (suc (suc (suc zero))))))))) send e = refl
-    ack_place (suc (suc (suc (suc (suc (suc (suc (suc (suc (suc i)))))))))) send e = cc
+    ack_position : (i send : ℕ) → At ((of_init ++ of_space) ++ other_write) i (event.Ack send (0 ∷ [])) → i ≡ 9
+    ack_position zero send e = cc
+    ack_position (suc zero) send e = cc
+    ack_position (suc (suc zero)) send e = cc
+    ack_position (suc (suc (suc zero))) send e = cc
+    ack_position (suc (suc (suc (suc zero)))) send e = cc
+    ack_position (suc (suc (suc (suc (suc zero))))) send e = cc
+    ack_position (suc (suc (suc (suc (suc (suc zero)))))) send e = cc
+    ack_position (suc (suc (suc (suc (suc (suc (suc zero))))))) send e = cc
+    ack_position (suc (suc (suc (suc (suc (suc (suc (suc zero)))))))) send e = cc
+    ack_position (suc (suc (suc (suc (suc (suc (suc (suc (suc zero))))))))) send e = refl
+    ack_position (suc (suc (suc (suc (suc (suc (suc (suc (suc (suc i)))))))))) send e = cc
 
-    send_place : (i v s : ℕ) (p : Point) → At ((of_init ++ of_space) ++ other_write) i (event.Send v s p) → i ≡ 6
-    send_place zero v s p e = cc
-    send_place (suc zero) v s p e = cc
-    send_place (suc (suc zero)) v s p e = cc
-    send_place (suc (suc (suc zero))) v s p e = cc
-    send_place (suc (suc (suc (suc zero)))) v s p e = cc
-    send_place (suc (suc (suc (suc (suc zero))))) v s p e = cc
-    send_place (suc (suc (suc (suc (suc (suc zero)))))) v s p e = refl
-    send_place (suc (suc (suc (suc (suc (suc (suc zero))))))) v s p e = cc
-    send_place (suc (suc (suc (suc (suc (suc (suc (suc zero)))))))) v s p e = cc
-    send_place (suc (suc (suc (suc (suc (suc (suc (suc (suc zero))))))))) v s p e = cc
-    send_place (suc (suc (suc (suc (suc (suc (suc (suc (suc (suc i)))))))))) v s p e = cc
+    send_position : (i v s : ℕ) (p : Point) → At ((of_init ++ of_space) ++ other_write) i (event.Send v s p) → i ≡ 6
+    send_position zero v s p e = cc
+    send_position (suc zero) v s p e = cc
+    send_position (suc (suc zero)) v s p e = cc
+    send_position (suc (suc (suc zero))) v s p e = cc
+    send_position (suc (suc (suc (suc zero)))) v s p e = cc
+    send_position (suc (suc (suc (suc (suc zero))))) v s p e = cc
+    send_position (suc (suc (suc (suc (suc (suc zero)))))) v s p e = refl
+    send_position (suc (suc (suc (suc (suc (suc (suc zero))))))) v s p e = cc
+    send_position (suc (suc (suc (suc (suc (suc (suc (suc zero)))))))) v s p e = cc
+    send_position (suc (suc (suc (suc (suc (suc (suc (suc (suc zero))))))))) v s p e = cc
+    send_position (suc (suc (suc (suc (suc (suc (suc (suc (suc (suc i)))))))))) v s p e = cc
 
     own_send : (i send v s : ℕ) (p : Point) → At ((of_init ++ of_space) ++ other_write) i (event.Ack send (0 ∷ [])) → At ((of_init ++ of_space) ++ other_write) send (event.Send v s p) → At (take i ((of_init ++ of_space) ++ other_write)) send (event.Send v s p)
-    own_send i send v s p acked there = take_at ((of_init ++ of_space) ++ other_write) send i (event.Send v s p) there (omega (arith, ack_place i send acked, send_place send v s p there))
+    own_send i send v s p acked there = take_at ((of_init ++ of_space) ++ other_write) send i (event.Send v s p) there (omega (arith, ack_position i send acked, send_position send v s p there))

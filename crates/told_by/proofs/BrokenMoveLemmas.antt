@@ -17,7 +17,7 @@ use Rattle.m3_model.specs.declared.turn.Turn.{Turn}
 use Rattle.transcripts.specs.Calls.{Call, IsAskedOf}
 use Rattle.transcripts.specs.Joined.{IsBootstrapOf}
 use Rattle.transcripts.specs.Placements.{printed, seed_at}
-use Rattle.transcripts.specs.Record.{InnerTurn, TurnPlace, IsTurnPlace, inner_turns, line_of, lists_of}
+use Rattle.transcripts.specs.Record.{InnerTurn, TurnPosition, IsTurnPosition, inner_turns, line_of, lists_of}
 use Rattle.cluster_core.specs.Joins.{HasFenced, HasStreamed}
 use Rattle.cluster_core.specs.Lists.{At}
 use Rattle.cluster_core.specs.declared.event.Asked.TheVariants as asked
@@ -30,14 +30,14 @@ use Rattle.told_by.specs.Reads.{IsAskedBy}
 use Rattle.told_by.specs.Sample.{fetched, name, place, rules, series}
 use Rattle.told_by.specs.Told.{ToldBy}
 use Rattle.told_by.proofs.BrokenLemmas.{turn_among}
-use Rattle.told_by.proofs.LineLemmas.{place_last, place_stays}
+use Rattle.told_by.proofs.LineLemmas.{position_last, position_stays}
 use Rattle.told_by.proofs.OneLemmas.{is_last}
 use Rattle.told_by.proofs.SampleLemmas.{Each, each_at, found, reading, third}
 
 -- ---- a moment within a read
 
-reading_in : IsTurnPlace five reading
-reading_in = place_stays (third ++ line_of fetched found ∷ []) (line_of (act.Now 1) answer.Done) reading (place_last third (line_of fetched found) reading (is_last None third [] fetched found []))
+reading_in : IsTurnPosition five reading
+reading_in = position_stays (third ++ line_of fetched found ∷ []) (line_of (act.Now 1) answer.Done) reading (position_last third (line_of fetched found) reading (is_last None third [] fetched found []))
 
 -- the end of a fetch
 abbrev IsEnd : Event → Type 0
@@ -57,7 +57,7 @@ sets_nothing t e = let same : record { act = fetched; answer = found } ≡ t = c
 
 module _ (told : ToldBy None five clocked) where
   -- the turn that made the Clock within the read is neither before the read nor after it, and isn't the read
-  by_line : (q : TurnPlace) → IsTurnPlace five q → (told.spans).from q ≤ 12 → 12 < (told.spans).to q → IsClockOf None five q later_rules → (told.spans).from reading ≤ 10 → 15 < (told.spans).to reading → ⊥
+  by_line : (q : TurnPosition) → IsTurnPosition five q → (told.spans).from q ≤ 12 → 12 < (told.spans).to q → IsClockOf None five q later_rules → (told.spans).from reading ≤ 10 → 15 < (told.spans).to reading → ⊥
   by_line q at begins finishes clock low high =
       elim (cases_lt (length q.lines) 3) as (λ _. ⊥) [
         | inl before ↦ omega (arith, finishes, low, (told.tells).order.order q reading at reading_in (inl before))
@@ -124,13 +124,13 @@ peer_unstreamed told =
 abbrev both : Turn
 both = record { request = request.Par [] ((joining ∷ []) ∷ (joining ∷ []) ∷ []); reply = replies.Par [] ((joined ∷ []) ∷ (joined ∷ []) ∷ []) }
 
-abbrev one_worker : ℕ → TurnPlace
+abbrev one_worker : ℕ → TurnPosition
 one_worker client = record { lines = []; line = both; client = client; earlier = []; beside = record { act = joining; answer = joined } ∷ []; turn = record { act = joining; answer = joined } }
 
-first_in : IsTurnPlace both_join (one_worker 1)
+first_in : IsTurnPosition both_join (one_worker 1)
 first_in = record { after = []; in_run = refl; stands = record { front = []; later = []; back = (record { act = joining; answer = joined } ∷ []) ∷ []; in_line = refl; others = refl; client_is = refl } }
 
-second_in : IsTurnPlace both_join (one_worker 2)
+second_in : IsTurnPosition both_join (one_worker 2)
 second_in = record { after = []; in_run = refl; stands = record { front = (record { act = joining; answer = joined } ∷ []) ∷ []; later = []; back = []; in_line = refl; others = refl; client_is = refl } }
 
 prints_it : (client : ℕ) → IsBootstrapOf (one_worker client) ((0, 0 ∷ []) ∷ [])
@@ -143,7 +143,7 @@ printed_twice events once told =
     let f = (told.tells).placements.ends_printed (one_worker 2) second_in ((0, 0 ∷ []) ∷ []) (prints_it 2) (0, 0 ∷ []) (inl refl) in
     let same : e.place_at ≡ f.place_at = once e.place_at f.place_at e.place f.place e.done f.done e.node f.node e.there f.there e.ended f.ended in
     let one : one_worker 1 ≡ one_worker 2 = sym e.own ∙ ap told.makers same ∙ f.own in
-    omega (arith, ap (λ (p : TurnPlace). p.client) one)
+    omega (arith, ap (λ (p : TurnPosition). p.client) one)
 
 -- ---- a placement that isn't printed
 

@@ -3,7 +3,7 @@ use Rattle.std.proofs.Common.{take}
 use Rattle.told_by.proofs.HearLemmas.{makes_by}
 use Rattle.std.proofs.Common.{◌≡◌, ℕ, ◌<◌, ◌≤◌, List, [], ◌∷◌, ◌++◌, length, refl, sym, ap, subst, inl, inr, arith, length-append}
 use Rattle.std.specs.Prelude.{◌⊎◌, Option}
-use Rattle.transcripts.specs.Record.{TurnPlace}
+use Rattle.transcripts.specs.Record.{TurnPosition}
 use Rattle.m3_model.specs.declared.rules.MetaState.{MetaState}
 use Rattle.m3_model.specs.declared.turn.Turn.{Turn}
 use Rattle.cluster_core.specs.Lists.{At}
@@ -11,7 +11,7 @@ use Rattle.cluster_core.specs.declared.event.Event.{Event}
 use Rattle.cluster_core.specs.declared.event.Event.TheVariants as event
 use Rattle.cluster_core.specs.declared.event.StepCall.TheVariants as call
 use Rattle.cluster_core.proofs.ListLemmas.{at_within}
-use Rattle.told_by.specs.Lists.{IsCallPlace, IsListPlace, MadeBy, MadeByCall, TellsCalls, call_makers, call_spans}
+use Rattle.told_by.specs.Lists.{IsCallPosition, IsListPosition, MadeBy, MadeByCall, TellsCalls, call_makers, call_spans}
 use Rattle.told_by.specs.Openings.{IsInitOf}
 use Rattle.told_by.specs.Spans.{IsEarlier, IsOfTurn, Spans}
 use Rattle.told_by.specs.Told.{Tells}
@@ -27,16 +27,16 @@ module _ (start : Option MetaState) (turns : List Turn) (events : List Event) (l
   abbrev spans : Spans
   spans = call_spans calls.spans
 
-  abbrev makers : ℕ → TurnPlace
+  abbrev makers : ℕ → TurnPosition
   makers = call_makers calls.number_of calls.makers
 
-  call_at : (p : TurnPlace) → IsListPlace turns line list p → IsCallPlace turns line list (length p.earlier) p
-  call_at p h = record { place = h; number_is = refl }
+  call_at : (p : TurnPosition) → IsListPosition turns line list p → IsCallPosition turns line list (length p.earlier) p
+  call_at p h = record { position = h; number_is = refl }
 
   abbrev OfCall : ℕ → Type 0
-  OfCall number = Tells start long (IsCallPlace turns line list number) (length events) (MadeByCall events list_of calls.number_of list number) all (calls.spans number) (calls.makers number)
+  OfCall number = Tells start long (IsCallPosition turns line list number) (length events) (MadeByCall events list_of calls.number_of list number) all (calls.spans number) (calls.makers number)
 
-  told_of : (p : TurnPlace) → (h : IsListPlace turns line list p) → OfCall (length p.earlier)
+  told_of : (p : TurnPosition) → (h : IsListPosition turns line list p) → OfCall (length p.earlier)
   told_of p h = calls.each (length p.earlier) (calls.whole p h)
 
   tells_at : (i : ℕ) (e : Event) → MadeBy events list_of list i → At all i e → IsOfTurn e → OfCall (calls.number_of i)
@@ -50,11 +50,11 @@ module _ (start : Option MetaState) (turns : List Turn) (events : List Event) (l
   not_first (inl some) mine e there = omega (arith, mine.0)
   not_first (inr no_more) mine e there = omega (arith, mine.0, at_within all 0 e there, length-append events more, ap length no_more)
 
-  same_line : (p q : TurnPlace) → IsListPlace turns line list p → IsListPlace turns line list q → IsEarlier p q → length p.earlier < length q.earlier
-  same_line p q hp hq (inl lt) = absurd (omega (arith, lt, ap length (hp.place).lines_are, ap length (hq.place).lines_are))
+  same_line : (p q : TurnPosition) → IsListPosition turns line list p → IsListPosition turns line list q → IsEarlier p q → length p.earlier < length q.earlier
+  same_line p q hp hq (inl lt) = absurd (omega (arith, lt, ap length (hp.position).lines_are, ap length (hq.position).lines_are))
   same_line p q hp hq (inr same) = same.2
 
-  pub calls_told : Tells start long (IsListPlace turns line list) (length events) (MadeBy events list_of list) all spans makers
+  pub calls_told : Tells start long (IsListPosition turns line list) (length events) (MadeBy events list_of list) all spans makers
   calls_told = record {
     order = record {
       not_below = λ p h. (told_of p h).order.not_below p (call_at p h);
@@ -63,7 +63,7 @@ module _ (start : Option MetaState) (turns : List Turn) (events : List Event) (l
       order = λ p q hp hq earlier. calls.in_order p q (length p.earlier) (length q.earlier) (call_at p hp) (call_at q hq) (same_line p q hp hq earlier);
       made = λ i e mine past there kind.
           let m = (tells_at i e mine there kind).order.made i e (mine, refl) past there kind in
-          ((m.0).place, subst (λ n. ((calls.spans n).from (makers i) ≤ i) × (i < (calls.spans n).to (makers i))) (sym (m.0).number_is) m.1);
+          ((m.0).position, subst (λ n. ((calls.spans n).from (makers i) ≤ i) × (i < (calls.spans n).to (makers i))) (sym (m.0).number_is) m.1);
     };
     init = record {
       begun = λ mine e there. absurd (not_first calls.opened mine e there);
@@ -95,5 +95,5 @@ module _ (start : Option MetaState) (turns : List Turn) (events : List Event) (l
     hears = λ p h. (told_of p h).hears p (call_at p h);
   }
     where
-      init_of : (p : TurnPlace) → IsInitOf start long all (calls.spans (length p.earlier)) p → IsInitOf start long all spans p
+      init_of : (p : TurnPosition) → IsInitOf start long all (calls.spans (length p.earlier)) p → IsInitOf start long all spans p
       init_of p h = lift_init start p (λ alone. alone) (λ i e there. there) refl refl h

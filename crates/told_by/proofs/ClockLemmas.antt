@@ -4,7 +4,7 @@ use Rattle.std.specs.Prelude.{◌⊎◌, Option, Some, None, slice_get}
 use Rattle.std.proofs.lemmas.Bool.{cases_lt, cases_eq}
 use Rattle.m3_model.specs.Members.{IsIn}
 use Rattle.m3_model.specs.Rules.{HasExpired}
-use Rattle.transcripts.specs.Record.{InnerTurn, TurnPlace, IsTurnPlace, lists_of, joined, inner_turns}
+use Rattle.transcripts.specs.Record.{InnerTurn, TurnPosition, IsTurnPosition, lists_of, joined, inner_turns}
 use Rattle.transcripts.specs.Rules.{rules_after, rules_at, rules_by, start_rules}
 use Rattle.m3_model.specs.declared.point.Point.{Point}
 use Rattle.m3_model.specs.declared.rules.MetaState.{MetaState}
@@ -22,11 +22,11 @@ use Rattle.told_by.specs.Openings.{opening_length}
 use Rattle.told_by.specs.Spans.{IsAlone, IsWithin}
 use Rattle.told_by.specs.Told.{ToldBy}
 use Rattle.told_by.proofs.RuleLemmas.{after_lines, by_same}
-use Rattle.told_by.proofs.TurnLemmas.{Stands, stands, before_line, before_there, in_other_list, is_it, comes_later, alone_is, place_in, at_cut}
+use Rattle.told_by.proofs.TurnLemmas.{Stands, stands, before_line, before_there, in_other_list, is_it, comes_later, alone_is, position_in, at_cut}
 
 -- ---- rules that aren't above others
 
--- the moment isn't higher, and each namespace stands in its place
+-- the moment isn't higher, and each namespace stands at its position
 pub record NotAbove (r s : Rules) : Type 0 where
   pub moment : r.now ≤ s.now
   pub there : (k : ℕ) (space : Space) → slice_get r.spaces k ≡ Some space → slice_get s.spaces k ≡ Some space
@@ -126,11 +126,11 @@ alone_leaves : (r : Rules) (line : Turn) (t : InnerTurn) → lists_of line ≡ (
 alone_leaves r line t e = one_line r line ∙ ap (λ ls. rules_after r (joined ls)) e
 
 -- the line of a turn that is alone has this turn
-alone_line : (turns : List Turn) (q : TurnPlace) → IsAlone turns q → (done : List Turn) (line : Turn) → q.lines ≡ done → At turns (length done) line → lists_of line ≡ (q.turn ∷ []) ∷ []
+alone_line : (turns : List Turn) (q : TurnPosition) → IsAlone turns q → (done : List Turn) (line : Turn) → q.lines ≡ done → At turns (length done) line → lists_of line ≡ (q.turn ∷ []) ∷ []
 alone_line turns q alone done line e there = let same : line ≡ alone.0 = at_same turns (length q.lines) line alone.0 (subst (λ n. At turns n line) (sym (ap length e)) there) alone.1 in ap lists_of same ∙ alone.2
 
--- the same, at the turn's place
-left_here : (start : Option MetaState) (q : TurnPlace) (done : List Turn) (line : Turn) → q.lines ≡ done → lists_of line ≡ (q.turn ∷ []) ∷ [] → rules_after (rules_after (start_rules start) (inner_turns done)) (inner_turns (line ∷ [])) ≡ rules_left start q
+-- the same, at the turn's position
+left_here : (start : Option MetaState) (q : TurnPosition) (done : List Turn) (line : Turn) → q.lines ≡ done → lists_of line ≡ (q.turn ∷ []) ∷ [] → rules_after (rules_after (start_rules start) (inner_turns done)) (inner_turns (line ∷ [])) ≡ rules_left start q
 left_here start q done line e alone = alone_leaves (rules_after (start_rules start) (inner_turns done)) line q.turn alone ∙ ap (λ xs. rules_by q.turn.act q.turn.answer (rules_after (start_rules start) (inner_turns xs))) (sym e)
 
 module _ (start : Option MetaState) (turns : List Turn) (events : List Event) (legal : Legal true events) (told : ToldBy start turns events) where
@@ -139,7 +139,7 @@ module _ (start : Option MetaState) (turns : List Turn) (events : List Event) (l
   line_at done line after e = subst (λ ts. At ts (length done) line) (sym e) (at_cut done line after)
 
   -- lines past a Clock's own leave rules that aren't below it
-  lines_leave : (q : TurnPlace) (i : ℕ) (r : Rules) → IsTurnPlace turns q → i < (told.spans).to q → At events i (event.Clock r)
+  lines_leave : (q : TurnPosition) (i : ℕ) (r : Rules) → IsTurnPosition turns q → i < (told.spans).to q → At events i (event.Clock r)
       → (lines done after : List Turn) → turns ≡ done ++ (lines ++ after) → length q.lines < length done → NotAbove r (rules_after (start_rules start) (inner_turns done))
       → NotAbove r (rules_after (start_rules start) (inner_turns (done ++ lines)))
   lines_leave q i r in_run low there [] done after e less h = subst (λ xs. NotAbove r (rules_after (start_rules start) (inner_turns xs))) (sym (append-nil done)) h
@@ -151,7 +151,7 @@ module _ (start : Option MetaState) (turns : List Turn) (events : List Event) (l
       (elim (some_sets (joined (lists_of l))) as (λ _. NotAbove r (rules_after now (inner_turns (l ∷ [])))) [
         | inr none ↦ subst (NotAbove r) (sym (one_line now l ∙ none_set now (joined (lists_of l)) none)) h
         | inl set ↦
-            let p = place_in turns done l (lines ++ after) e set.0 set.1 in
+            let p = position_in turns done l (lines ++ after) e set.0 set.1 in
             let sets : sets_rules (p.0).turn.act (p.0).turn.answer ≡ true = subst (λ (t : InnerTurn). sets_rules t.act t.answer ≡ true) (sym p.2) set.2 in
             let clock = (told.tells).clocks.set p.0 p.1 sets in
             let made = (told.tells).order.made clock.clock (event.Clock (rules_left start p.0)) clock.mine clock.past_opening clock.there tt in
@@ -164,13 +164,13 @@ module _ (start : Option MetaState) (turns : List Turn) (events : List Event) (l
       ])))
 
   -- the rules that a turn alone in its line leaves are those before the next line
-  left_by_line : (q : TurnPlace) → (alone : IsAlone turns q) → (line : Turn) → At turns (length q.lines) line → rules_after (start_rules start) (inner_turns (q.lines ++ line ∷ [])) ≡ rules_left start q
+  left_by_line : (q : TurnPosition) → (alone : IsAlone turns q) → (line : Turn) → At turns (length q.lines) line → rules_after (start_rules start) (inner_turns (q.lines ++ line ∷ [])) ≡ rules_left start q
   left_by_line q alone line there =
       let same : line ≡ alone.0 = at_same turns (length q.lines) line alone.0 there alone.1 in
       after_lines (start_rules start) q.lines (line ∷ []) ∙ alone_leaves (rules_after (start_rules start) (inner_turns q.lines)) line q.turn (ap lists_of same ∙ alone.2)
 
   -- no Clock before the end of a turn, which sets none itself, is above the turn's rules, where these are some Clock's
-  pub clocks_below : (b : TurnPlace) → IsTurnPlace turns b → sets_rules b.turn.act b.turn.answer ≡ false → (c : ℕ) → At events c (event.Clock (rules_at start b))
+  pub clocks_below : (b : TurnPosition) → IsTurnPosition turns b → sets_rules b.turn.act b.turn.answer ≡ false → (c : ℕ) → At events c (event.Clock (rules_at start b))
       → (i : ℕ) (r : Rules) → i < (told.spans).to b → At events i (event.Clock r) → NotAbove r (rules_at start b)
   clocks_below b at quiet c clock i r low there =
       elim (cases_lt c i) as (λ _. NotAbove r (rules_at start b)) [
@@ -188,20 +188,20 @@ module _ (start : Option MetaState) (turns : List Turn) (events : List Event) (l
       opening_low None = omega arith
       opening_low (Some state) = omega arith
 
-      clash : (q : TurnPlace) → sets_rules q.turn.act q.turn.answer ≡ true → q.turn ≡ b.turn → ⊥
+      clash : (q : TurnPosition) → sets_rules q.turn.act q.turn.answer ≡ true → q.turn ≡ b.turn → ⊥
       clash q sets same = let bad : true ≡ false = sym sets ∙ ap (λ (t : InnerTurn). sets_rules t.act t.answer) same ∙ quiet in cc
 
-      by_place : (q : TurnPlace) → IsAlone turns q → sets_rules q.turn.act q.turn.answer ≡ true → r ≡ rules_left start q → IsTurnPlace turns q → (told.spans).from q ≤ i → i < (told.spans).to q → Stands q b → NotAbove r (rules_at start b)
-      by_place q alone sets left in_run from to (before_line rest line e h) =
+      by_position : (q : TurnPosition) → IsAlone turns q → sets_rules q.turn.act q.turn.answer ≡ true → r ≡ rules_left start q → IsTurnPosition turns q → (told.spans).from q ≤ i → i < (told.spans).to q → Stands q b → NotAbove r (rules_at start b)
+      by_position q alone sets left in_run from to (before_line rest line e h) =
           let whole : turns ≡ q.lines ++ line ∷ (rest ++ b.line ∷ at.after) = at.in_run ∙ ap (λ xs. xs ++ b.line ∷ at.after) e ∙ append_assoc q.lines (line ∷ rest) (b.line ∷ at.after) in
           let there_line : At turns (length q.lines) line = line_at q.lines line (rest ++ b.line ∷ at.after) whole in
           let base : NotAbove r (rules_after (start_rules start) (inner_turns (q.lines ++ line ∷ []))) = not_above_same r (rules_after (start_rules start) (inner_turns (q.lines ++ line ∷ []))) (left ∙ sym (left_by_line q alone line there_line)) in
           subst (λ xs. NotAbove r (rules_after (start_rules start) (inner_turns xs))) (append_assoc q.lines (line ∷ []) rest ∙ sym e)
           (lines_leave q i r in_run to there rest (q.lines ++ line ∷ []) (b.line ∷ at.after) (whole ∙ sym (append_assoc q.lines (line ∷ []) (rest ++ b.line ∷ at.after))) (omega (arith, length-append q.lines (line ∷ []))) base)
-      by_place q alone sets left in_run from to (before_there e h) = absurd (clash q sets (alone_is turns q b alone at (ap length (sym e))))
-      by_place q alone sets left in_run from to (in_other_list e h) = absurd (clash q sets (alone_is turns q b alone at (ap length (sym e))))
-      by_place q alone sets left in_run from to (is_it e) = absurd (clash q sets (ap (λ (x : TurnPlace). x.turn) e))
-      by_place q alone sets left in_run from to (comes_later e) = let before : (told.spans).to b ≤ (told.spans).from q = (told.tells).order.order b q at in_run e in absurd (omega arith)
+      by_position q alone sets left in_run from to (before_there e h) = absurd (clash q sets (alone_is turns q b alone at (ap length (sym e))))
+      by_position q alone sets left in_run from to (in_other_list e h) = absurd (clash q sets (alone_is turns q b alone at (ap length (sym e))))
+      by_position q alone sets left in_run from to (is_it e) = absurd (clash q sets (ap (λ (x : TurnPosition). x.turn) e))
+      by_position q alone sets left in_run from to (comes_later e) = let before : (told.spans).to b ≤ (told.spans).from q = (told.tells).order.order b q at in_run e in absurd (omega arith)
 
-      by_maker : (q : TurnPlace) → IsAlone turns q → sets_rules q.turn.act q.turn.answer ≡ true → r ≡ rules_left start q → IsTurnPlace turns q × IsWithin told.spans q i → NotAbove r (rules_at start b)
-      by_maker q alone sets left made = by_place q alone sets left made.0 (made.1).0 (made.1).1 (stands turns q b made.0 at)
+      by_maker : (q : TurnPosition) → IsAlone turns q → sets_rules q.turn.act q.turn.answer ≡ true → r ≡ rules_left start q → IsTurnPosition turns q × IsWithin told.spans q i → NotAbove r (rules_at start b)
+      by_maker q alone sets left made = by_position q alone sets left made.0 (made.1).0 (made.1).1 (stands turns q b made.0 at)

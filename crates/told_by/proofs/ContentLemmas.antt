@@ -20,7 +20,7 @@ use Rattle.m3_model.proofs.JoinLemmas.{joined_holds, joined_source}
 use Rattle.m3_model.proofs.Keyed.{key_cmp-IsAntisymmetric}
 use Rattle.m3_model.proofs.MemberLemmas.{IsIn-map, map-IsIn}
 use Rattle.placement_core.proofs.ListLemmas.{Any-from_IsIn, IsIn-from_Any}
-use Rattle.cluster_core.specs.Answers.{IsBelow}
+use Rattle.cluster_core.specs.Answers.{IsKeyBelow}
 use Rattle.cluster_core.specs.Replicas.{IsGone}
 use Rattle.cluster_core.specs.declared.replica_state.ReplicaState.{ReplicaState}
 
@@ -86,7 +86,7 @@ find P test (y ∷ ys) =
       ]
     ]
 
-pub below_not_same : (a b : Key) → IsBelow a b → a ≡ b → ⊥
+pub below_not_same : (a b : Key) → IsKeyBelow a b → a ≡ b → ⊥
 below_not_same a b below same = let tied : key_cmp a a ≡ Equal = tied_itself key_cmp_total a in let bad : Less ≡ Equal = sym below ∙ ap (key_cmp a) (sym same) ∙ tied in cc
 
 same_key : (a b : Key) → (a ≡ b) ⊎ (a ≡ b → ⊥)
@@ -120,7 +120,7 @@ gone r p =
       | inr none ↦ inr (λ g. let h = IsIn-from_Any (λ rules. HasExpired rules p) r.ticks g in none h.0 h.1 h.2)
     ]
 
-pub below_or_not : (a b : Key) → IsBelow a b ⊎ (IsBelow a b → ⊥)
+pub below_or_not : (a b : Key) → IsKeyBelow a b ⊎ (IsKeyBelow a b → ⊥)
 below_or_not a b = by (key_cmp a b)
   where
     by : (o : Ordering) → (o ≡ Less) ⊎ (o ≡ Less → ⊥)
@@ -131,7 +131,7 @@ below_or_not a b = by (key_cmp a b)
 -- ---- what an answer leaves of a replica's points
 
 abbrev pub by_key : Point → Point → Type 0
-by_key a b = IsBelow (key_of a) (key_of b)
+by_key a b = IsKeyBelow (key_of a) (key_of b)
 
 module _ (r : ReplicaState) (answered : List Point) where
   -- a point that isn't gone, and whose key the answer hasn't

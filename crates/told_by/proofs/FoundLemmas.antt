@@ -18,7 +18,7 @@ use Rattle.m3_model.specs.declared.point.Series.{Series}
 use Rattle.m3_model.specs.declared.rules.Rules.{Rules}
 use Rattle.m3_model.proofs.MemberLemmas.{IsIn-append_cases, IsIn-append_left, IsIn-append_right, IsIn-map}
 use Rattle.placement_core.proofs.ListLemmas.{each-from_All}
-use Rattle.cluster_core.specs.Answers.{IsFound, IsWanted}
+use Rattle.cluster_core.specs.Answers.{IsFoundBy, IsWantedUnexpired}
 use Rattle.cluster_core.specs.Replicas.{IsGone, Shows}
 use Rattle.cluster_core.specs.Shown.{IsFoundIn}
 use Rattle.cluster_core.specs.declared.replica_state.ReplicaState.{ReplicaState}
@@ -75,7 +75,7 @@ one_point ns (s ∷ series) ids times p q hp hq same =
 
 -- ---- reads
 
-module _ (r : ReplicaState) (rules : Rules) (pick : Pick) (from to : ℕ) (series : List Series) (found : IsFound r rules pick from to series) where
+module _ (r : ReplicaState) (rules : Rules) (pick : Pick) (from to : ℕ) (series : List Series) (found : IsFoundBy r rules pick from to series) where
   abbrev answered : List Point
   answered = points_in (space_picked pick) series
 
@@ -86,11 +86,11 @@ module _ (r : ReplicaState) (rules : Rules) (pick : Pick) (from to : ℕ) (serie
   abbrev shown : List Point
   shown = answered ++ rest.kept
 
-  wanted_at : (p : Point) → IsIn answered p → IsIn r.sure p × IsWanted rules pick from to p
-  wanted_at p m = each-from_All (λ q. IsIn r.sure q × IsWanted rules pick from to q) answered found.nothing_else p m
+  wanted_at : (p : Point) → IsIn answered p → IsIn r.sure p × IsWantedUnexpired rules pick from to p
+  wanted_at p m = each-from_All (λ q. IsIn r.sure q × IsWantedUnexpired rules pick from to q) answered found.nothing_else p m
 
-  covered : (p : Point) → IsIn r.sure p → ¬ IsGone r p → IsWanted rules pick from to p → Covers answered p
-  covered p m stays wanted = each-from_All (λ q. ¬ IsGone r q → IsWanted rules pick from to q → Covers answered q) r.sure found.all_there p m stays wanted
+  covered : (p : Point) → IsIn r.sure p → ¬ IsGone r p → IsWantedUnexpired rules pick from to p → Covers answered p
+  covered p m stays wanted = each-from_All (λ q. ¬ IsGone r q → IsWantedUnexpired rules pick from to q → Covers answered q) r.sure found.all_there p m stays wanted
 
   covered_holds : (p : Point) → Covers answered p → Holds (content_by shown) p
   covered_holds p c =
@@ -111,7 +111,7 @@ module _ (r : ReplicaState) (rules : Rules) (pick : Pick) (from to : ℕ) (serie
         | inl g ↦ absurd (stays g)
         | inr q ↦
             let same : record q.0 { v = p.v } ≡ p = ap (λ (k : Key). point_at k p.v) q.2 in
-            covered_holds p (covered p m stays (subst (IsWanted rules pick from to) same (wanted_value rules pick from to q.0 p.v (wanted_at q.0 q.1).1)))
+            covered_holds p (covered p m stays (subst (IsWantedUnexpired rules pick from to) same (wanted_value rules pick from to q.0 p.v (wanted_at q.0 q.1).1)))
       ]
     ];
   }

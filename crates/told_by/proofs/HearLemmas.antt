@@ -20,20 +20,20 @@ use Rattle.cluster_core.specs.declared.event.StepReply.TheVariants as reply
 use Rattle.m3_model.specs.Levels.{majority}
 use Rattle.transcripts.specs.Calls.{Call}
 use Rattle.transcripts.specs.Deliveries.{LateMessage}
-use Rattle.transcripts.specs.Record.{TurnPlace}
+use Rattle.transcripts.specs.Record.{TurnPosition}
 use Rattle.told_by.specs.Hears.{AnySlot, Happens, IsMember, IsOwnCall, IsLatePut, IsSweepCall, IsStreamCall, IsRepairCall, IsRestartCall, IsJoinCall, IsBeginOf, HasEnough, HasServed, HasStep, HearsAcks, HearsBy, HearsFound, HearsLate, HearsOutcomes, HearsReason, HearsRefused, HearsShard, HearsShort, HearsStatus, HearsTooFew, IsHeard}
 use Rattle.told_by.specs.Makes.{MayMake}
 use Rattle.told_by.specs.Spans.{IsOfTurn}
 
 -- a turn may make what no turn makes
-pub makes_by : (start : Option MetaState) (past : List Event) (p : TurnPlace) (e : Event) → (IsOfTurn e → MayMake start past p e) → MayMake start past p e
+pub makes_by : (start : Option MetaState) (past : List Event) (p : TurnPosition) (e : Event) → (IsOfTurn e → MayMake start past p e) → MayMake start past p e
 makes_by start past p (event.Step n s call.Stop a) h = h tt
 makes_by start past p (event.Step n s call.Restart a) h = h tt
 makes_by start past p (event.Step n s (call.Begin tenure) a) h = h tt
 makes_by start past p (event.Step n s _ a) h = tt
 makes_by start past p _ h = h tt
 
-module _ (start : Option MetaState) (past : List Event) (Old New : ℕ → Event → Type 0) (on : (i : ℕ) (e : Event) → Old i e → New i e) (p : TurnPlace) where
+module _ (start : Option MetaState) (past : List Event) (Old New : ℕ → Event → Type 0) (on : (i : ℕ) (e : Event) → Old i e → New i e) (p : TurnPosition) where
   happens_on : (e : Event) → Happens Old e → Happens New e
   happens_on e h = (h.0, on h.0 e h.1)
 

@@ -6,7 +6,7 @@ use Rattle.std.specs.List.{filter_map}
 use Rattle.m3_model.proofs.MemberLemmas.{IsIn-filter_map}
 use Rattle.m3_model.specs.Members.{IsIn}
 use Rattle.transcripts.specs.Placements.{placements, printed}
-use Rattle.transcripts.specs.Record.{InnerTurn, Life, TurnPlace, IsTurnPlace, inner_turns, joined, lists_of}
+use Rattle.transcripts.specs.Record.{InnerTurn, Life, TurnPosition, IsTurnPosition, inner_turns, joined, lists_of}
 use Rattle.m3_model.specs.declared.placement.Assignment.{Assignment}
 use Rattle.m3_model.specs.declared.placement.Placement.{Placement}
 use Rattle.m3_model.specs.declared.placement.ShardState.TheVariants.{Initializing, Available}
@@ -30,14 +30,14 @@ use Rattle.told_by.specs.Openings.{opening_length}
 use Rattle.told_by.specs.Placements.{PrintsPeers}
 use Rattle.told_by.specs.Told.{ToldBy}
 use Rattle.told_by.proofs.OpeningLemmas.{first_event, place_fine}
-use Rattle.told_by.proofs.TurnLemmas.{IsIn-flat_map, place_in, split_in}
+use Rattle.told_by.proofs.TurnLemmas.{IsIn-flat_map, position_in, split_in}
 
--- a turn of the run has a place
-pub turn_in : (turns : List Turn) (t : InnerTurn) → IsIn (inner_turns turns) t → (q : TurnPlace) × IsTurnPlace turns q × (q.turn ≡ t)
+-- a turn of the run has a position
+pub turn_in : (turns : List Turn) (t : InnerTurn) → IsIn (inner_turns turns) t → (q : TurnPosition) × IsTurnPosition turns q × (q.turn ≡ t)
 turn_in turns t h =
     let l = IsIn-flat_map (λ (turn : Turn). joined (lists_of turn)) turns t h in
     let cut = split_in turns l.0 l.1 in
-    let p = place_in turns cut.0 l.0 cut.1 cut.2 t l.2 in
+    let p = position_in turns cut.0 l.0 cut.1 cut.2 t l.2 in
     (p.0, p.1, p.2)
 
 -- a node that a done list names
@@ -145,14 +145,14 @@ module _ (start : Option MetaState) (turns : List Turn) (events : List Event) (t
 
   -- the turn that made the Place prints whom the node merged
   by_step : (was next : Placement) (s y : ℕ) (t : TurnsAvailable was next s y) (i : ℕ) (done : List (ℕ × ℕ)) → At events i (event.Place next done) → (first : Placement) → StepFound events first was s t.shard t.after i done
-      → (p : TurnPlace) × IsTurnPlace turns p × PrintsMajority p was.rf s t.shard
+      → (p : TurnPosition) × IsTurnPosition turns p × PrintsMajority p was.rf s t.shard
   by_step was next s y t i done there first f = by_done (done_at s done) refl
     where
       low : (o : Option MetaState) (i : ℕ) → 2 ≤ i → opening_length o ≤ i
       low None i h = omega arith
       low (Some state) i h = h
 
-      by_done : (o : Option ℕ) → done_at s done ≡ o → (p : TurnPlace) × IsTurnPlace turns p × PrintsMajority p was.rf s t.shard
+      by_done : (o : Option ℕ) → done_at s done ≡ o → (p : TurnPosition) × IsTurnPosition turns p × PrintsMajority p was.rf s t.shard
       by_done (Some to) e =
           let above = low start i f.past in
           let p = (told.tells).placements.each_end i next done above f.past there (s, to) (named_in s to done e) in (
@@ -171,7 +171,7 @@ module _ (start : Option MetaState) (turns : List Turn) (events : List Event) (t
       by_done None e =
           absurd (no_turn first.rf was.version f.old t.after t.joining t.joined f.sound (subst (IsShardStep (suc was.version) f.old t.after) e f.step) (subst (λ (x : Shard). IsIn x t.joining) (sym f.same) t.joins) t.is_joining t.stands (t.to_node ∙ sym t.of_node) t.is_available)
 
-  pub turned : {tells : Bool} → Legal tells events → (was next : Placement) → IsIn (placements start (inner_turns turns)) was → IsIn (placements start (inner_turns turns)) next → (s y : ℕ) → (t : TurnsAvailable was next s y) → (p : TurnPlace) × IsTurnPlace turns p × PrintsMajority p was.rf s t.shard
+  pub turned : {tells : Bool} → Legal tells events → (was next : Placement) → IsIn (placements start (inner_turns turns)) was → IsIn (placements start (inner_turns turns)) next → (s y : ℕ) → (t : TurnsAvailable was next s y) → (p : TurnPosition) × IsTurnPosition turns p × PrintsMajority p was.rf s t.shard
   turned legal was next among_was among_next s y t =
       let k = placed was among_was in
       let i = placed next among_next in

@@ -11,7 +11,7 @@ use Rattle.m3_model.specs.Reads.{Found, read_of, found_of, points_in, space_pick
 use Rattle.m3_model.specs.Rules.{HasExpired, IsLive}
 use Rattle.transcripts.specs.Kept.{Kept, KeepsPoints}
 use Rattle.transcripts.specs.Points.{acked_at, acked_point, point_of, rf_at, sent_at, sent_point, was_sent}
-use Rattle.transcripts.specs.Record.{InnerTurn, Record, Life, TurnPlace, IsTurnPlace, acts_of, inner_turns, joined, lists_of, turns_before}
+use Rattle.transcripts.specs.Record.{InnerTurn, Record, Life, TurnPosition, IsTurnPosition, acts_of, inner_turns, joined, lists_of, turns_before}
 use Rattle.transcripts.specs.Rules.{rules_at, start_rules}
 use Rattle.m3_model.specs.declared.answer.Answer.TheVariants as answer
 use Rattle.m3_model.specs.declared.placement.Placement.{Placement}
@@ -21,7 +21,7 @@ use Rattle.m3_model.specs.declared.rules.MetaState.{MetaState}
 use Rattle.m3_model.specs.declared.rules.Rules.{Rules}
 use Rattle.m3_model.specs.declared.rules.Space.{Space}
 use Rattle.m3_model.specs.declared.turn.Turn.{Turn}
-use Rattle.cluster_core.specs.Core.{Opening, AgreesWith, KeptByOpening, IsAcked, IsSecured, IsLiveUpTo, IsRead}
+use Rattle.cluster_core.specs.Core.{Opening, AgreesWith, KeptByOpening, IsAckedBefore, IsSecured, IsLiveUpTo, IsReadBetween}
 use Rattle.cluster_core.specs.Legal.{Legal}
 use Rattle.cluster_core.specs.Lists.{At}
 use Rattle.cluster_core.specs.declared.event.Event.{Event}
@@ -75,7 +75,7 @@ opening_low None i h = omega arith
 opening_low (Some state) i h = h
 
 -- an earlier turn stands in a line that isn't later
-line_not_later : (q b : TurnPlace) → IsEarlier q b → length q.lines ≤ length b.lines
+line_not_later : (q b : TurnPosition) → IsEarlier q b → length q.lines ≤ length b.lines
 line_not_later q b (inl lt) = omega arith
 line_not_later q b (inr same) = omega (arith, same.0)
 
@@ -89,18 +89,18 @@ module _ (past : List Record) (start : Option MetaState) (turns : List Turn) (ev
   shard_in id = shard_of id one.seed (length (first.place).shards)
 
   -- an event of a turn stands in its stretch
-  within : (i : ℕ) (e : Event) (p : TurnPlace) → 2 ≤ i → At events i e → IsOfTurn e → told.makers i ≡ p → IsWithin told.spans p i
+  within : (i : ℕ) (e : Event) (p : TurnPosition) → 2 ≤ i → At events i e → IsOfTurn e → told.makers i ≡ p → IsWithin told.spans p i
   within i e p low there own is = subst (λ x. IsWithin told.spans x i) is ((told.tells).order.made i e (opening_low start i low) low there own).1
 
   -- ---- writes
 
   -- a Send is of a write that was sent, to the shard of its identifier
-  pub record SentBy (s : ℕ) (p : Point) (q : TurnPlace) : Type 0 where
+  pub record SentBy (s : ℕ) (p : Point) (q : TurnPosition) : Type 0 where
     pub of_point : point_of (rules_at start q).spaces q.turn.act ≡ Some p
     pub was : was_sent q.turn.answer ≡ true
     pub shard_is : s ≡ shard_in p.id
 
-  pub sent_by_turn : (i version s : ℕ) (p : Point) (q : TurnPlace) → At events i (event.Send version s p) → told.makers i ≡ q → IsTurnPlace turns q → SentBy s p q
+  pub sent_by_turn : (i version s : ℕ) (p : Point) (q : TurnPosition) → At events i (event.Send version s p) → told.makers i ≡ q → IsTurnPosition turns q → SentBy s p q
   sent_by_turn i version s p q there is in_run =
       let late = late_send events legal i version s p there in
       let own = subst (λ x. IsSendOf start events x version s p) is ((told.tells).writes.each_send i version s p (opening_low start i late) there) in
@@ -115,8 +115,8 @@ module _ (past : List Record) (start : Option MetaState) (turns : List Turn) (ev
       }
 
   -- what a turn before another acknowledged
-  pub acked_by_turn : (b : TurnPlace) → IsTurnPlace turns b → (q : TurnPlace) → IsTurnPlace turns q → IsEarlier q b → (nodes : List ℕ) → q.turn.answer ≡ answer.Acks nodes → majority (first.place).rf ≤ length nodes
-      → (p : Point) → point_of (rules_at start b).spaces q.turn.act ≡ Some p → (before : ℕ) → (told.spans).from b ≤ before → IsAcked (first.place).rf events before (shard_in p.id) p
+  pub acked_by_turn : (b : TurnPosition) → IsTurnPosition turns b → (q : TurnPosition) → IsTurnPosition turns q → IsEarlier q b → (nodes : List ℕ) → q.turn.answer ≡ answer.Acks nodes → majority (first.place).rf ≤ length nodes
+      → (p : Point) → point_of (rules_at start b).spaces q.turn.act ≡ Some p → (before : ℕ) → (told.spans).from b ≤ before → IsAckedBefore (first.place).rf events before (shard_in p.id) p
   acked_by_turn b at q in_run earlier nodes answered enough p of_point before low =
       let ack = (told.tells).writes.acked q in_run nodes answered in
       let send = ack.sent in
@@ -128,7 +128,7 @@ module _ (past : List Record) (start : Option MetaState) (turns : List Turn) (ev
       let same : send.point ≡ p = some_same send.point p (sym grown ∙ of_point) in
       let shard : send.s ≡ shard_in p.id = sent.shard_is ∙ ap (λ (x : Point). shard_in x.id) same in
       record {
-        place = ack.ack;
+        position = ack.ack;
         send = ack.send;
         version = send.version;
         nodes = nodes;
@@ -140,7 +140,7 @@ module _ (past : List Record) (start : Option MetaState) (turns : List Turn) (ev
 
   -- ---- one read
 
-  module _ (b : TurnPlace) (at : IsTurnPlace turns b) (found : Found) (answered : found_of b.turn.answer ≡ Some found) (it : IsTold start (From (opening_length start)) events told.makers b found) where
+  module _ (b : TurnPosition) (at : IsTurnPosition turns b) (found : Found) (answered : found_of b.turn.answer ≡ Some found) (it : IsTold start (From (opening_length start)) events told.makers b found) where
     quiet : sets_rules b.turn.act b.turn.answer ≡ false
     quiet = found_sets_no_rules b.turn.act b.turn.answer found answered
 
@@ -177,7 +177,7 @@ module _ (past : List Record) (start : Option MetaState) (turns : List Turn) (ev
         let span = stretch s asked in
         live_stays (rules_at start b) p live (expired_later r (rules_at start b) p (clocks s asked j r (omega (arith, span.high)) there) expired)
 
-    is_read : (s : ℕ) → (asked : IsAskedBy start b it.asking s) → IsRead events (it.fetches s).began (it.fetches s).ended (it.fetches s).nodes (it.fetches s).series s ((it.asking).read).pick ((it.asking).read).from ((it.asking).read).to
+    is_read : (s : ℕ) → (asked : IsAskedBy start b it.asking s) → IsReadBetween events (it.fetches s).began (it.fetches s).ended (it.fetches s).nodes (it.fetches s).series s ((it.asking).read).pick ((it.asking).read).from ((it.asking).read).to
     is_read s asked = let f = it.each s asked in record { version = ((it.asking).place).version; rules = rules_at start b; is_done = f.done_there; started = f.start_there }
 
     asking_fine : ((it.asking).place).rf ≡ (first.place).rf
@@ -249,7 +249,7 @@ module _ (past : List Record) (start : Option MetaState) (turns : List Turn) (ev
         let span = stretch (shard_in p.id) asked in
         let rf = rf_is start turns events legal told first b at seedless (it.fetches (shard_in p.id)).ended span.high in
         let enough : majority (first.place).rf ≤ length acked.0 = subst (λ n. majority n ≤ length acked.0) rf acked.2 in
-        let of_turn : (q : TurnPlace) → IsTurnPlace turns q → IsEarlier q b → q.turn ≡ t → Covers (points_in (space_picked ((it.asking).read).pick) found.series) p =
+        let of_turn : (q : TurnPosition) → IsTurnPosition turns q → IsEarlier q b → q.turn ≡ t → Covers (points_in (space_picked ((it.asking).read).pick) found.series) p =
         λ q in_run earlier is.
         covered strong p sought [] (λ x none. absurd none)
         (inr (acked_by_turn b at q in_run earlier acked.0 (ap (λ (u : InnerTurn). u.answer) is ∙ acked.1) enough p (ap (λ (u : InnerTurn). point_of (rules_at start b).spaces u.act) is ∙ acked.3) (it.fetches (shard_in p.id)).began span.low)) in
@@ -260,8 +260,8 @@ module _ (past : List Record) (start : Option MetaState) (turns : List Turn) (ev
               (λ x m. elim m as (λ _. IsLeft opening first.place x.1 x.0) [ inl e ↦ subst (λ (y : Point × ℕ). IsLeft opening first.place y.1 y.0) e left | inr none ↦ absurd none ])
               (inl (inl refl))
           | inr in_run ↦ elim (IsIn-append_cases (inner_turns b.lines) b.earlier t in_run) as (λ _. Covers (points_in (space_picked ((it.asking).read).pick) found.series) p) [
-            | inl line ↦ let q = earlier_line turns b at t line in of_turn q.place q.in_run (inl q.earlier) q.turn_is
-            | inr list ↦ let q = own_list turns b at t list in of_turn q.place q.in_run (inr (ap length q.lines_are, q.client_is, q.earlier)) q.turn_is
+            | inl line ↦ let q = earlier_line turns b at t line in of_turn q.position q.in_run (inl q.earlier) q.turn_is
+            | inr list ↦ let q = own_list turns b at t list in of_turn q.position q.in_run (inr (ap length q.lines_are, q.client_is, q.earlier)) q.turn_is
           ]
         ]
 
@@ -283,26 +283,26 @@ module _ (past : List Record) (start : Option MetaState) (turns : List Turn) (ev
         let late = late_send events legal i version shard p there in
         let made = (told.tells).order.made i (event.Send version shard p) (opening_low start i late) late there tt in
         let span = stretch s asked in
-        by_place (told.makers i) made.0 (made.1).0 (omega (arith, span.high)) (sent_by_turn i version shard p (told.makers i) there refl made.0) (stands turns (told.makers i) b made.0 at)
+        by_position (told.makers i) made.0 (made.1).0 (omega (arith, span.high)) (sent_by_turn i version shard p (told.makers i) there refl made.0) (stands turns (told.makers i) b made.0 at)
       where
         before_it : (t : InnerTurn) → IsIn (inner_turns b.lines ++ b.earlier) t → IsIn (turns_before past b ++ b.beside) t
         before_it t h = IsIn-append_left (turns_before past b) b.beside t (IsIn-append_right (earlier_turns past) (inner_turns b.lines ++ b.earlier) t h)
 
-        by_place : (q : TurnPlace) → IsTurnPlace turns q → (told.spans).from q ≤ i → i < (told.spans).to b → SentBy shard p q → Stands q b → IsIn (sent_at past start b) p
-        by_place q in_run from low sent (before_line rest line e h) =
+        by_position : (q : TurnPosition) → IsTurnPosition turns q → (told.spans).from q ≤ i → i < (told.spans).to b → SentBy shard p q → Stands q b → IsIn (sent_at past start b) p
+        by_position q in_run from low sent (before_line rest line e h) =
             among_sent q.turn p
             (before_it q.turn (IsIn-append_left (inner_turns b.lines) b.earlier q.turn (subst (λ xs. IsIn (inner_turns xs) q.turn) (sym e)
             (subst (λ ts. IsIn ts q.turn) (sym (inner-append q.lines (line ∷ rest))) (IsIn-append_right (inner_turns q.lines) (inner_turns (line ∷ rest)) q.turn (IsIn-append_left (joined (lists_of line)) (inner_turns rest) q.turn h))))))
             (sent_by (rules_at start b).spaces q.turn p sent.was (point_grows (rules_at start q).spaces (rules_at start b).spaces (lines_grow start q b (line ∷ rest) e) q.turn.act p sent.of_point))
-        by_place q in_run from low sent (before_there e h) =
+        by_position q in_run from low sent (before_there e h) =
             among_sent q.turn p (before_it q.turn (IsIn-append_right (inner_turns b.lines) b.earlier q.turn h))
             (sent_by (rules_at start b).spaces q.turn p sent.was (point_grows (rules_at start q).spaces (rules_at start b).spaces (same_lines_grow start q b e) q.turn.act p sent.of_point))
-        by_place q in_run from low sent (in_other_list e h) =
+        by_position q in_run from low sent (in_other_list e h) =
             among_sent q.turn p (IsIn-append_right (turns_before past b) b.beside q.turn h)
             (sent_by (rules_at start b).spaces q.turn p sent.was (point_grows (rules_at start q).spaces (rules_at start b).spaces (same_lines_grow start q b e) q.turn.act p sent.of_point))
-        by_place q in_run from low sent (is_it e) =
-            absurd (write_reads_not (rules_at start q).spaces (rules_at start b).spaces q.turn.act p (it.asking).read sent.of_point (ap (λ (x : TurnPlace). read_of (rules_at start b).spaces x.turn.act) e ∙ (it.of_turn).of_act))
-        by_place q in_run from low sent (comes_later e) =
+        by_position q in_run from low sent (is_it e) =
+            absurd (write_reads_not (rules_at start q).spaces (rules_at start b).spaces q.turn.act p (it.asking).read sent.of_point (ap (λ (x : TurnPosition). read_of (rules_at start b).spaces x.turn.act) e ∙ (it.of_turn).of_act))
+        by_position q in_run from low sent (comes_later e) =
             let before : (told.spans).to b ≤ (told.spans).from q = (told.tells).order.order b q at in_run e in absurd (omega arith)
 
     -- a point of the opening was sent by an earlier run
@@ -345,7 +345,7 @@ module _ (past : List Record) (start : Option MetaState) (turns : List Turn) (ev
     points_kept = record { acknowledged = acknowledged; nothing_else = nothing_else; ordered = (it.together).ordered }
 
 -- an answered read asks some shard, so the list has a first event
-has_first : (past : List Record) (start : Option MetaState) (turns : List Turn) (events : List Event) (legal : Legal true events) (told : ToldBy start turns events) (b : TurnPlace) (at : IsTurnPlace turns b) (found : Found) (answered : found_of b.turn.answer ≡ Some found) → FirstEvent events
+has_first : (past : List Record) (start : Option MetaState) (turns : List Turn) (events : List Event) (legal : Legal true events) (told : ToldBy start turns events) (b : TurnPosition) (at : IsTurnPosition turns b) (found : Found) (answered : found_of b.turn.answer ≡ Some found) → FirstEvent events
 has_first past start turns events legal told b at found answered =
     let it = (told.tells).reads.found b at found answered in
     let u = (it.of_turn).uses in

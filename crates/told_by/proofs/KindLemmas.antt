@@ -1,5 +1,5 @@
 -- Each kind of line tells of its turn.
-use Rattle.transcripts.specs.Record.{TurnPlace, line_of}
+use Rattle.transcripts.specs.Record.{TurnPosition, line_of}
 use Rattle.std.proofs.Common.{◌≡◌, ℕ, suc, ◌<◌, ◌≤◌, ◌+◌, List, [], ◌∷◌, ◌++◌, take, length, refl, sym, ap, ◌∙◌, subst, inl, inr, arith, length-append, append_assoc, true, false}
 use Rattle.std.specs.Prelude.{◌⊎◌, Option, Some, None}
 use Rattle.std.proofs.lemmas.Bool.{cases_lt}
@@ -23,7 +23,7 @@ use Rattle.cluster_core.specs.declared.event.Event.{Event}
 use Rattle.cluster_core.specs.declared.event.Event.TheVariants as event
 use Rattle.cluster_core.proofs.ListLemmas.{at_append, at_in, at_within}
 use Rattle.told_by.specs.Clocks.{IsClockOf, rules_left, sets_rules}
-use Rattle.told_by.specs.Lines.{AreFetched, ClockLine, InitLine, IsAskOrStep, MayChange, PlainLine, ReadLine, WriteLine, ack_by, place_after, start_of}
+use Rattle.told_by.specs.Lines.{AreFetched, ClockLine, InitLine, IsAskOrStep, MayChange, PlainLine, ReadLine, WriteLine, ack_by, position_after, start_of}
 use Rattle.told_by.specs.Openings.{IsInitOf, sets_seed}
 use Rattle.told_by.specs.Placements.{EndsPrinted, PrintsPeers}
 use Rattle.told_by.specs.Reads.{Asking, IsAskedBy, Fetched, IsAskingOf, IsFetchOf, IsStartAt, IsStartOf}
@@ -65,7 +65,7 @@ in_ack n (answer.Acks nodes) e (inr none) = absurd none
 in_ack n _ e h = absurd h
 
 -- an answer of another kind prints no shard as turned available
-not_boot : {Mine : ℕ → Type 0} {events : List Event} {makers : ℕ → TurnPlace} → (turns : List Turn) (a : Act) (b : Answer) → ((available : List (ℕ × List ℕ)) (place : Placement) (version : ℕ) → b ≡ answer.Available available place version → ⊥) → EndsPrinted Mine events makers (place_after turns a b)
+not_boot : {Mine : ℕ → Type 0} {events : List Event} {makers : ℕ → TurnPosition} → (turns : List Turn) (a : Act) (b : Answer) → ((available : List (ℕ × List ℕ)) (place : Placement) (version : ℕ) → b ≡ answer.Available available place version → ⊥) → EndsPrinted Mine events makers (position_after turns a b)
 not_boot turns a b other available boot x m = absurd (other available boot.place boot.version boot.answered)
 
 -- ---- lines of no event of a turn but Places
@@ -88,10 +88,10 @@ module _ (start : Option MetaState) (turns : List Turn) (events : List Event) (a
 
   pub plain_told : PlainLine start turns events a b more → TellsLine start turns events (line_of a b) more
   plain_told h =
-      let among : (i : ℕ) (e : Event) → length events ≤ i → At (events ++ more) i e → MayChange (place_after turns a b) (take i (events ++ more)) e =
+      let among : (i : ℕ) (e : Event) → length events ≤ i → At (events ++ more) i e → MayChange (position_after turns a b) (take i (events ++ more)) e =
       λ i e le there.
       let r = at_back events more i e there le in
-      subst (λ es. MayChange (place_after turns a b) es e) (sym (ap (λ n. take n (events ++ more)) r.1 ∙ taken r.0)) (h.adds r.0 e r.2) in
+      subst (λ es. MayChange (position_after turns a b) es e) (sym (ap (λ n. take n (events ++ more)) r.1 ∙ taken r.0)) (h.adds r.0 e r.2) in
       one_told start turns events a b more (record {
         begun = λ none e there. absurd (not_first h.opened none e there);
         inits = λ sets. absurd (let bad : true ≡ false = sym sets ∙ (h.plain).no_seed in cc);
@@ -112,11 +112,11 @@ module _ (start : Option MetaState) (turns : List Turn) (events : List Event) (a
         each_clock = λ i rules le past there. absurd (among i (event.Clock rules) le there);
       })
 
-  pub plain_told_from : (h : PlainLine start turns events a b more) → ((plain_told h).spans).from (place_after turns a b) ≡ length events
+  pub plain_told_from : (h : PlainLine start turns events a b more) → ((plain_told h).spans).from (position_after turns a b) ≡ length events
   unfolding plain_told
   plain_told_from h = one_told_from start turns events a b more (_)
 
-  pub plain_told_to : (h : PlainLine start turns events a b more) → ((plain_told h).spans).to (place_after turns a b) ≡ length (events ++ more)
+  pub plain_told_to : (h : PlainLine start turns events a b more) → ((plain_told h).spans).to (position_after turns a b) ≡ length (events ++ more)
   unfolding plain_told
   plain_told_to h = one_told_to start turns events a b more (_)
 
@@ -125,7 +125,7 @@ module _ (start : Option MetaState) (turns : List Turn) (events : List Event) (a
   pub clock_told : ClockLine start turns events a b more → TellsLine start turns events (line_of a b) more
   clock_told h =
       let done = sets_done a b h.sets in
-      let left = rules_left start (place_after turns a b) in
+      let left = rules_left start (position_after turns a b) in
       let kinds : (e : Event) → IsIn more e → IsAskOrStep e ⊎ (event.Clock left ≡ e) =
       λ e m. elim (IsIn-append_cases h.asks (event.Clock left ∷ []) e (subst (λ es. IsIn es e) h.adds m)) as (λ _. IsAskOrStep e ⊎ (event.Clock left ≡ e)) [
         | inl ask ↦ inl (h.steps e ask)
@@ -138,29 +138,29 @@ module _ (start : Option MetaState) (turns : List Turn) (events : List Event) (a
         inits = λ sets. absurd (let bad : true ≡ false = sym sets ∙ ap (sets_seed a) done ∙ done_seeds_not a in cc);
         acked = λ nodes is. absurd (let bad : answer.Done ≡ answer.Acks nodes = sym done ∙ is in cc);
         sent = λ unmet. absurd (done_not_unmet a (subst (IsUnmetWrite a) done unmet));
-        each_send = λ i version s point le there. elim (among i (event.Send version s point) le there) as (λ _. IsSendOf start (events ++ more) (place_after turns a b) version s point) [ inl none ↦ absurd none | inr is ↦ cc ];
-        each_ack = λ i send nodes le there. elim (among i (event.Ack send nodes) le there) as (λ _. IsSendAt (From (length events)) (events ++ more) (makers start turns events a b more) (place_after turns a b) send) [ inl none ↦ absurd none | inr is ↦ cc ];
+        each_send = λ i version s point le there. elim (among i (event.Send version s point) le there) as (λ _. IsSendOf start (events ++ more) (position_after turns a b) version s point) [ inl none ↦ absurd none | inr is ↦ cc ];
+        each_ack = λ i send nodes le there. elim (among i (event.Ack send nodes) le there) as (λ _. IsSendAt (From (length events)) (events ++ more) (makers start turns events a b more) (position_after turns a b) send) [ inl none ↦ absurd none | inr is ↦ cc ];
         finds = λ found is. absurd (let bad : None ≡ Some found = sym (ap found_of done) ∙ is in cc);
-        each_start = λ i version s rules chosen from to le there. elim (among i (event.FetchStart version s rules chosen from to) le there) as (λ _. IsStartOf start (events ++ more) (place_after turns a b) version s rules chosen from to) [ inl none ↦ absurd none | inr is ↦ cc ];
-        each_done = λ i began nodes series le there. elim (among i (event.FetchDone began nodes series) le there) as (λ _. IsStartAt (From (length events)) (events ++ more) (makers start turns events a b more) (place_after turns a b) began) [ inl none ↦ absurd none | inr is ↦ cc ];
+        each_start = λ i version s rules chosen from to le there. elim (among i (event.FetchStart version s rules chosen from to) le there) as (λ _. IsStartOf start (events ++ more) (position_after turns a b) version s rules chosen from to) [ inl none ↦ absurd none | inr is ↦ cc ];
+        each_done = λ i began nodes series le there. elim (among i (event.FetchDone began nodes series) le there) as (λ _. IsStartAt (From (length events)) (events ++ more) (makers start turns events a b more) (position_after turns a b) began) [ inl none ↦ absurd none | inr is ↦ cc ];
         prints = record { is_place = λ place is. absurd (let bad : None ≡ Some place = sym (ap printed done) ∙ is in cc); not_earlier = λ p k was is of_was of_is. absurd (let bad : None ≡ Some is = sym (ap printed done) ∙ of_is in cc) };
-        each_end = λ i place done le past there d m. elim (among i (event.Place place done) le there) as (λ _. PrintsPeers (take i (events ++ more)) (place_after turns a b) d.0 d.1) [ inl none ↦ absurd none | inr is ↦ cc ];
+        each_end = λ i place done le past there d m. elim (among i (event.Place place done) le there) as (λ _. PrintsPeers (take i (events ++ more)) (position_after turns a b) d.0 d.1) [ inl none ↦ absurd none | inr is ↦ cc ];
         ends = not_boot turns a b (λ available place version is. let bad : answer.Done ≡ answer.Available available place version = sym done ∙ is in cc);
         set = λ sets. record { clock = length events + length h.asks; there = clock_there; mine = omega arith; past_opening = omega (arith, h.opened); own = refl };
         makes = (h.makes).makes;
         restarts = (h.makes).restarts;
         hears = (h.makes).hears;
-        each_clock = λ i rules le past there. elim (among i (event.Clock rules) le there) as (λ _. IsClockOf start (turns ++ line_of a b ∷ []) (place_after turns a b) rules) [
+        each_clock = λ i rules le past there. elim (among i (event.Clock rules) le there) as (λ _. IsClockOf start (turns ++ line_of a b ∷ []) (position_after turns a b) rules) [
           | inl none ↦ absurd none
           | inr is ↦ record { alone = is_alone start turns events a b more; sets = h.sets; rules_are = cc }
         ];
       })
 
-  pub clock_told_from : (h : ClockLine start turns events a b more) → ((clock_told h).spans).from (place_after turns a b) ≡ length events
+  pub clock_told_from : (h : ClockLine start turns events a b more) → ((clock_told h).spans).from (position_after turns a b) ≡ length events
   unfolding clock_told
   clock_told_from h = one_told_from start turns events a b more (_)
 
-  pub clock_told_to : (h : ClockLine start turns events a b more) → ((clock_told h).spans).to (place_after turns a b) ≡ length (events ++ more)
+  pub clock_told_to : (h : ClockLine start turns events a b more) → ((clock_told h).spans).to (position_after turns a b) ≡ length (events ++ more)
   unfolding clock_told
   clock_told_to h = one_told_to start turns events a b more (_)
 
@@ -178,7 +178,7 @@ module _ (start : Option MetaState) (turns : List Turn) (events : List Event) (a
         | inl is ↦ inr (inl is)
         | inr rest ↦ elim rest as (λ _. IsAskOrStep e ⊎ ((placing ≡ e) ⊎ (clock ≡ e))) [ inl is ↦ inr (inr is) | inr step ↦ inl (h.steps e step) ]
       ] in
-      let is_init : IsInitOf start (turns ++ line_of a b ∷ []) (events ++ more) (spans start turns events a b more) (place_after turns a b) = record {
+      let is_init : IsInitOf start (turns ++ line_of a b ∷ []) (events ++ more) (spans start turns events a b more) (position_after turns a b) = record {
         found_nothing = h.found_nothing;
         alone = is_alone start turns events a b more;
         sets = h.sets;
@@ -195,11 +195,11 @@ module _ (start : Option MetaState) (turns : List Turn) (events : List Event) (a
         inits = λ sets. is_init;
         acked = λ nodes is. absurd (let bad : answer.Placed h.place h.version ≡ answer.Acks nodes = sym h.answered ∙ is in cc);
         sent = λ unmet. absurd (placed_not_unmet a h.place h.version (subst (IsUnmetWrite a) h.answered unmet));
-        each_send = λ i version s point le there. elim (kinds i (event.Send version s point) there) as (λ _. IsSendOf start (events ++ more) (place_after turns a b) version s point) [ inl none ↦ absurd none | inr is ↦ elim is as (λ _. IsSendOf start (events ++ more) (place_after turns a b) version s point) [ inl e ↦ cc | inr e ↦ cc ] ];
-        each_ack = λ i send nodes le there. elim (kinds i (event.Ack send nodes) there) as (λ _. IsSendAt (From (length events)) (events ++ more) (makers start turns events a b more) (place_after turns a b) send) [ inl none ↦ absurd none | inr is ↦ elim is as (λ _. IsSendAt (From (length events)) (events ++ more) (makers start turns events a b more) (place_after turns a b) send) [ inl e ↦ cc | inr e ↦ cc ] ];
+        each_send = λ i version s point le there. elim (kinds i (event.Send version s point) there) as (λ _. IsSendOf start (events ++ more) (position_after turns a b) version s point) [ inl none ↦ absurd none | inr is ↦ elim is as (λ _. IsSendOf start (events ++ more) (position_after turns a b) version s point) [ inl e ↦ cc | inr e ↦ cc ] ];
+        each_ack = λ i send nodes le there. elim (kinds i (event.Ack send nodes) there) as (λ _. IsSendAt (From (length events)) (events ++ more) (makers start turns events a b more) (position_after turns a b) send) [ inl none ↦ absurd none | inr is ↦ elim is as (λ _. IsSendAt (From (length events)) (events ++ more) (makers start turns events a b more) (position_after turns a b) send) [ inl e ↦ cc | inr e ↦ cc ] ];
         finds = λ found is. absurd (let bad : None ≡ Some found = sym (ap found_of h.answered) ∙ is in cc);
-        each_start = λ i version s rules chosen from to le there. elim (kinds i (event.FetchStart version s rules chosen from to) there) as (λ _. IsStartOf start (events ++ more) (place_after turns a b) version s rules chosen from to) [ inl none ↦ absurd none | inr is ↦ elim is as (λ _. IsStartOf start (events ++ more) (place_after turns a b) version s rules chosen from to) [ inl e ↦ cc | inr e ↦ cc ] ];
-        each_done = λ i began nodes series le there. elim (kinds i (event.FetchDone began nodes series) there) as (λ _. IsStartAt (From (length events)) (events ++ more) (makers start turns events a b more) (place_after turns a b) began) [ inl none ↦ absurd none | inr is ↦ elim is as (λ _. IsStartAt (From (length events)) (events ++ more) (makers start turns events a b more) (place_after turns a b) began) [ inl e ↦ cc | inr e ↦ cc ] ];
+        each_start = λ i version s rules chosen from to le there. elim (kinds i (event.FetchStart version s rules chosen from to) there) as (λ _. IsStartOf start (events ++ more) (position_after turns a b) version s rules chosen from to) [ inl none ↦ absurd none | inr is ↦ elim is as (λ _. IsStartOf start (events ++ more) (position_after turns a b) version s rules chosen from to) [ inl e ↦ cc | inr e ↦ cc ] ];
+        each_done = λ i began nodes series le there. elim (kinds i (event.FetchDone began nodes series) there) as (λ _. IsStartAt (From (length events)) (events ++ more) (makers start turns events a b more) (position_after turns a b) began) [ inl none ↦ absurd none | inr is ↦ elim is as (λ _. IsStartAt (From (length events)) (events ++ more) (makers start turns events a b more) (position_after turns a b) began) [ inl e ↦ cc | inr e ↦ cc ] ];
         prints = record {
           is_place = λ place is.
               let same : h.place ≡ place = let both : Some h.place ≡ Some place = sym (ap printed h.answered) ∙ is in cc in
@@ -215,11 +215,11 @@ module _ (start : Option MetaState) (turns : List Turn) (events : List Event) (a
         each_clock = λ i rules le past there. absurd (h.steps (event.Clock rules) (among_back (placing ∷ clock ∷ []) h.begins i (event.Clock rules) (subst (λ es. At es i (event.Clock rules)) whole there) past));
       })
 
-  pub init_told_from : (h : InitLine start turns events a b more) → ((init_told h).spans).from (place_after turns a b) ≡ length events
+  pub init_told_from : (h : InitLine start turns events a b more) → ((init_told h).spans).from (position_after turns a b) ≡ length events
   unfolding init_told
   init_told_from h = one_told_from start turns events a b more (_)
 
-  pub init_told_to : (h : InitLine start turns events a b more) → ((init_told h).spans).to (place_after turns a b) ≡ length (events ++ more)
+  pub init_told_to : (h : InitLine start turns events a b more) → ((init_told h).spans).to (position_after turns a b) ≡ length (events ++ more)
   unfolding init_told
   init_told_to h = one_told_to start turns events a b more (_)
 
@@ -236,9 +236,9 @@ module _ (start : Option MetaState) (turns : List Turn) (events : List Event) (a
       let among : (i : ℕ) (e : Event) → length events ≤ i → At (events ++ more) i e → (send ≡ e) ⊎ (IsAskOrStep e ⊎ IsIn (ack_by (length events) b) e) = λ i e le there. kinds e (among_back events more i e there le) in
       let here : length events + 0 ≡ length events = omega arith in
       let send_there : At (events ++ more) (length events) send = subst (λ n. At (events ++ more) n send) here (back_at events more 0 send (subst (λ es. At es 0 send) (sym h.adds) refl)) in
-      let send_at : IsSendAt (From (length events)) (events ++ more) (makers start turns events a b more) (place_after turns a b) (length events) = record { version = h.version; s = h.s; point = h.point; there = send_there; mine = omega arith; own = refl } in
-      let sends = lift_send_of stays start (place_after turns a b) h.version h.s h.point h.sends in
-      let no_seed = write_sets_no_seed (rules_at start (place_after turns a b)).spaces a b h.point (h.sends).of_point in
+      let send_at : IsSendAt (From (length events)) (events ++ more) (makers start turns events a b more) (position_after turns a b) (length events) = record { version = h.version; s = h.s; point = h.point; there = send_there; mine = omega arith; own = refl } in
+      let sends = lift_send_of stays start (position_after turns a b) h.version h.s h.point h.sends in
+      let no_seed = write_sets_no_seed (rules_at start (position_after turns a b)).spaces a b h.point (h.sends).of_point in
       one_told start turns events a b more (record {
         begun = λ none e there. absurd (omega (arith, h.opened));
         inits = λ sets. absurd (let bad : true ≡ false = sym sets ∙ no_seed in cc);
@@ -254,55 +254,55 @@ module _ (start : Option MetaState) (turns : List Turn) (events : List Event) (a
               own = refl;
             };
         sent = λ unmet. record { send = length events; sent = send_at };
-        each_send = λ i version s point le there. elim (among i (event.Send version s point) le there) as (λ _. IsSendOf start (events ++ more) (place_after turns a b) version s point) [
+        each_send = λ i version s point le there. elim (among i (event.Send version s point) le there) as (λ _. IsSendOf start (events ++ more) (position_after turns a b) version s point) [
           | inl is ↦
               let v : h.version ≡ version = cc in
               let k : h.s ≡ s = cc in
               let p : h.point ≡ point = cc in
-              subst (λ x. IsSendOf start (events ++ more) (place_after turns a b) version s x) p (subst (λ n. IsSendOf start (events ++ more) (place_after turns a b) version n h.point) k (subst (λ n. IsSendOf start (events ++ more) (place_after turns a b) n h.s h.point) v sends))
-          | inr rest ↦ elim rest as (λ _. IsSendOf start (events ++ more) (place_after turns a b) version s point) [ inl none ↦ absurd none | inr last ↦ let k = in_ack (length events) b (event.Send version s point) last in let bad = k.2 in cc ]
+              subst (λ x. IsSendOf start (events ++ more) (position_after turns a b) version s x) p (subst (λ n. IsSendOf start (events ++ more) (position_after turns a b) version n h.point) k (subst (λ n. IsSendOf start (events ++ more) (position_after turns a b) n h.s h.point) v sends))
+          | inr rest ↦ elim rest as (λ _. IsSendOf start (events ++ more) (position_after turns a b) version s point) [ inl none ↦ absurd none | inr last ↦ let k = in_ack (length events) b (event.Send version s point) last in let bad = k.2 in cc ]
         ];
-        each_ack = λ i sent nodes le there. elim (among i (event.Ack sent nodes) le there) as (λ _. IsSendAt (From (length events)) (events ++ more) (makers start turns events a b more) (place_after turns a b) sent) [
+        each_ack = λ i sent nodes le there. elim (among i (event.Ack sent nodes) le there) as (λ _. IsSendAt (From (length events)) (events ++ more) (makers start turns events a b more) (position_after turns a b) sent) [
           | inl is ↦ cc
-          | inr rest ↦ elim rest as (λ _. IsSendAt (From (length events)) (events ++ more) (makers start turns events a b more) (place_after turns a b) sent) [
+          | inr rest ↦ elim rest as (λ _. IsSendAt (From (length events)) (events ++ more) (makers start turns events a b more) (position_after turns a b) sent) [
             | inl none ↦ absurd none
             | inr last ↦
                 let k = in_ack (length events) b (event.Ack sent nodes) last in
                 let same_ack : event.Ack (length events) k.0 ≡ event.Ack sent nodes = k.2 in
                 let place : length events ≡ sent = cc in
-                subst (λ n. IsSendAt (From (length events)) (events ++ more) (makers start turns events a b more) (place_after turns a b) n) place send_at
+                subst (λ n. IsSendAt (From (length events)) (events ++ more) (makers start turns events a b more) (position_after turns a b) n) place send_at
           ]
         ];
         finds = λ found is. absurd (let bad : None ≡ Some found = sym h.no_found ∙ is in cc);
-        each_start = λ i version s rules chosen from to le there. elim (among i (event.FetchStart version s rules chosen from to) le there) as (λ _. IsStartOf start (events ++ more) (place_after turns a b) version s rules chosen from to) [
+        each_start = λ i version s rules chosen from to le there. elim (among i (event.FetchStart version s rules chosen from to) le there) as (λ _. IsStartOf start (events ++ more) (position_after turns a b) version s rules chosen from to) [
           | inl is ↦ cc
-          | inr rest ↦ elim rest as (λ _. IsStartOf start (events ++ more) (place_after turns a b) version s rules chosen from to) [ inl none ↦ absurd none | inr last ↦ let k = in_ack (length events) b (event.FetchStart version s rules chosen from to) last in let bad = k.2 in cc ]
+          | inr rest ↦ elim rest as (λ _. IsStartOf start (events ++ more) (position_after turns a b) version s rules chosen from to) [ inl none ↦ absurd none | inr last ↦ let k = in_ack (length events) b (event.FetchStart version s rules chosen from to) last in let bad = k.2 in cc ]
         ];
-        each_done = λ i began nodes series le there. elim (among i (event.FetchDone began nodes series) le there) as (λ _. IsStartAt (From (length events)) (events ++ more) (makers start turns events a b more) (place_after turns a b) began) [
+        each_done = λ i began nodes series le there. elim (among i (event.FetchDone began nodes series) le there) as (λ _. IsStartAt (From (length events)) (events ++ more) (makers start turns events a b more) (position_after turns a b) began) [
           | inl is ↦ cc
-          | inr rest ↦ elim rest as (λ _. IsStartAt (From (length events)) (events ++ more) (makers start turns events a b more) (place_after turns a b) began) [ inl none ↦ absurd none | inr last ↦ let k = in_ack (length events) b (event.FetchDone began nodes series) last in let bad = k.2 in cc ]
+          | inr rest ↦ elim rest as (λ _. IsStartAt (From (length events)) (events ++ more) (makers start turns events a b more) (position_after turns a b) began) [ inl none ↦ absurd none | inr last ↦ let k = in_ack (length events) b (event.FetchDone began nodes series) last in let bad = k.2 in cc ]
         ];
         prints = record { is_place = λ place is. absurd (let bad : None ≡ Some place = sym h.no_place ∙ is in cc); not_earlier = λ p k was is of_was of_is. absurd (let bad : None ≡ Some is = sym h.no_place ∙ of_is in cc) };
-        each_end = λ i place done le past there d m. elim (among i (event.Place place done) le there) as (λ _. PrintsPeers (take i (events ++ more)) (place_after turns a b) d.0 d.1) [
+        each_end = λ i place done le past there d m. elim (among i (event.Place place done) le there) as (λ _. PrintsPeers (take i (events ++ more)) (position_after turns a b) d.0 d.1) [
           | inl is ↦ cc
-          | inr rest ↦ elim rest as (λ _. PrintsPeers (take i (events ++ more)) (place_after turns a b) d.0 d.1) [ inl none ↦ absurd none | inr last ↦ let k = in_ack (length events) b (event.Place place done) last in let bad = k.2 in cc ]
+          | inr rest ↦ elim rest as (λ _. PrintsPeers (take i (events ++ more)) (position_after turns a b) d.0 d.1) [ inl none ↦ absurd none | inr last ↦ let k = in_ack (length events) b (event.Place place done) last in let bad = k.2 in cc ]
         ];
         ends = not_boot turns a b (λ available place version is. let bad : None ≡ Some place = sym h.no_place ∙ ap printed is in cc);
         set = λ sets. absurd (let bad : true ≡ false = sym sets ∙ h.no_rules in cc);
         makes = (h.makes).makes;
         restarts = (h.makes).restarts;
         hears = (h.makes).hears;
-        each_clock = λ i rules le past there. elim (among i (event.Clock rules) le there) as (λ _. IsClockOf start (turns ++ line_of a b ∷ []) (place_after turns a b) rules) [
+        each_clock = λ i rules le past there. elim (among i (event.Clock rules) le there) as (λ _. IsClockOf start (turns ++ line_of a b ∷ []) (position_after turns a b) rules) [
           | inl is ↦ cc
-          | inr rest ↦ elim rest as (λ _. IsClockOf start (turns ++ line_of a b ∷ []) (place_after turns a b) rules) [ inl none ↦ absurd none | inr last ↦ let k = in_ack (length events) b (event.Clock rules) last in let bad = k.2 in cc ]
+          | inr rest ↦ elim rest as (λ _. IsClockOf start (turns ++ line_of a b ∷ []) (position_after turns a b) rules) [ inl none ↦ absurd none | inr last ↦ let k = in_ack (length events) b (event.Clock rules) last in let bad = k.2 in cc ]
         ];
       })
 
-  pub write_told_from : (h : WriteLine start turns events a b more) → ((write_told h).spans).from (place_after turns a b) ≡ length events
+  pub write_told_from : (h : WriteLine start turns events a b more) → ((write_told h).spans).from (position_after turns a b) ≡ length events
   unfolding write_told
   write_told_from h = one_told_from start turns events a b more (_)
 
-  pub write_told_to : (h : WriteLine start turns events a b more) → ((write_told h).spans).to (place_after turns a b) ≡ length (events ++ more)
+  pub write_told_to : (h : WriteLine start turns events a b more) → ((write_told h).spans).to (position_after turns a b) ≡ length (events ++ more)
   unfolding write_told
   write_told_to h = one_told_to start turns events a b more (_)
 
@@ -324,19 +324,19 @@ module _ (start : Option MetaState) (turns : List Turn) (events : List Event) (a
 
   -- what is known of the events behind a front of the list
   record Reading (asking : Asking) (fetches : ℕ → Fetched) (low : ℕ) (shards : List ℕ) : Type 0 where
-    starts : (i version s : ℕ) (rules : Rules) (chosen : Pick) (from to : ℕ) → low ≤ i → At (events ++ more) i (event.FetchStart version s rules chosen from to) → IsStartOf start (events ++ more) (place_after turns a b) version s rules chosen from to
-    dones : (i began : ℕ) (nodes : List ℕ) (series : List Series) → low ≤ i → At (events ++ more) i (event.FetchDone began nodes series) → IsStartAt (From (length events)) (events ++ more) (makers start turns events a b more) (place_after turns a b) began
+    starts : (i version s : ℕ) (rules : Rules) (chosen : Pick) (from to : ℕ) → low ≤ i → At (events ++ more) i (event.FetchStart version s rules chosen from to) → IsStartOf start (events ++ more) (position_after turns a b) version s rules chosen from to
+    dones : (i began : ℕ) (nodes : List ℕ) (series : List Series) → low ≤ i → At (events ++ more) i (event.FetchDone began nodes series) → IsStartAt (From (length events)) (events ++ more) (makers start turns events a b more) (position_after turns a b) began
     kinds : (i : ℕ) (e : Event) → low ≤ i → At (events ++ more) i e → IsReading e
-    each : (s : ℕ) → IsIn shards s → IsFetchOf start (From (length events)) (events ++ more) (makers start turns events a b more) (place_after turns a b) asking s (fetches s)
+    each : (s : ℕ) → IsIn shards s → IsFetchOf start (From (length events)) (events ++ more) (makers start turns events a b more) (position_after turns a b) asking s (fetches s)
 
-  start_is : (asking : Asking) → IsAskingOf start events (place_after turns a b) asking → (s : ℕ) → IsAskedBy start (place_after turns a b) asking s → (version t : ℕ) (rules : Rules) (chosen : Pick) (from to : ℕ)
-      → start_of start (place_after turns a b) asking s ≡ event.FetchStart version t rules chosen from to → IsStartOf start (events ++ more) (place_after turns a b) version t rules chosen from to
+  start_is : (asking : Asking) → IsAskingOf start events (position_after turns a b) asking → (s : ℕ) → IsAskedBy start (position_after turns a b) asking s → (version t : ℕ) (rules : Rules) (chosen : Pick) (from to : ℕ)
+      → start_of start (position_after turns a b) asking s ≡ event.FetchStart version t rules chosen from to → IsStartOf start (events ++ more) (position_after turns a b) version t rules chosen from to
   start_is asking of_turn s asked version t rules chosen from to e =
       let shard : s ≡ t = cc in
       record {
         asking = asking;
-        of_turn = lift_asking stays start (place_after turns a b) asking of_turn;
-        asked = subst (IsAskedBy start (place_after turns a b) asking) shard asked;
+        of_turn = lift_asking stays start (position_after turns a b) asking of_turn;
+        asked = subst (IsAskedBy start (position_after turns a b) asking) shard asked;
         version_is = cc;
         rules_are = cc;
         pick_is = cc;
@@ -344,8 +344,8 @@ module _ (start : Option MetaState) (turns : List Turn) (events : List Event) (a
         to_is = cc;
       }
 
-  reading : (asking : Asking) → IsAskingOf start events (place_after turns a b) asking → (fetches : ℕ → Fetched) → (shards : List ℕ) (pre rest : List Event) → events ++ more ≡ pre ++ rest → length events ≤ length pre
-      → AreFetched start (place_after turns a b) asking fetches (length pre) shards rest → Reading asking fetches (length pre) shards
+  reading : (asking : Asking) → IsAskingOf start events (position_after turns a b) asking → (fetches : ℕ → Fetched) → (shards : List ℕ) (pre rest : List Event) → events ++ more ≡ pre ++ rest → length events ≤ length pre
+      → AreFetched start (position_after turns a b) asking fetches (length pre) shards rest → Reading asking fetches (length pre) shards
   reading asking of_turn fetches [] pre rest whole low (inl steps) =
       let among : (i : ℕ) (e : Event) → length pre ≤ i → At (events ++ more) i e → IsAskOrStep e = λ i e le there. steps e (among_back pre rest i e (subst (λ es. At es i e) whole there) le) in
       record {
@@ -355,27 +355,27 @@ module _ (start : Option MetaState) (turns : List Turn) (events : List Event) (a
         each = λ s m. absurd m;
       }
   reading asking of_turn fetches [] pre rest whole low (inr cut) =
-      let began = start_of start (place_after turns a b) asking cut.s in
+      let began = start_of start (position_after turns a b) asking cut.s in
       let among : (i : ℕ) (e : Event) → length pre ≤ i → At (events ++ more) i e → (began ≡ e) ⊎ IsAskOrStep e =
       λ i e le there. elim (subst (λ es. IsIn es e) cut.adds (among_back pre rest i e (subst (λ es. At es i e) whole there) le)) as (λ _. (began ≡ e) ⊎ IsAskOrStep e) [ inl is ↦ inl is | inr step ↦ inr (cut.steps e step) ] in
       record {
-        starts = λ i version s rules chosen from to le there. elim (among i (event.FetchStart version s rules chosen from to) le there) as (λ _. IsStartOf start (events ++ more) (place_after turns a b) version s rules chosen from to) [
+        starts = λ i version s rules chosen from to le there. elim (among i (event.FetchStart version s rules chosen from to) le there) as (λ _. IsStartOf start (events ++ more) (position_after turns a b) version s rules chosen from to) [
           | inl is ↦ start_is asking of_turn cut.s cut.asked version s rules chosen from to is
           | inr none ↦ absurd none
         ];
-        dones = λ i done nodes series le there. elim (among i (event.FetchDone done nodes series) le there) as (λ _. IsStartAt (From (length events)) (events ++ more) (makers start turns events a b more) (place_after turns a b) done) [ inl is ↦ cc | inr none ↦ absurd none ];
+        dones = λ i done nodes series le there. elim (among i (event.FetchDone done nodes series) le there) as (λ _. IsStartAt (From (length events)) (events ++ more) (makers start turns events a b more) (position_after turns a b) done) [ inl is ↦ cc | inr none ↦ absurd none ];
         kinds = λ i e le there. elim (among i e le there) as (λ _. IsReading e) [ inl is ↦ reading_is began e is tt | inr step ↦ reading_step e step ];
         each = λ s m. absurd m;
       }
   reading asking of_turn fetches (s ∷ shards) pre rest whole low h =
       let f = h.1 in
-      let began = start_of start (place_after turns a b) asking s in
+      let began = start_of start (position_after turns a b) asking s in
       let ended = event.FetchDone (length pre) (fetches s).nodes (fetches s).series in
       let chunk : List Event = began ∷ (f.reads ++ ended ∷ []) in
       let split : rest ≡ chunk ++ h.0 = f.adds ∙ ap (λ es. began ∷ es) (sym (append_assoc f.reads (ended ∷ []) h.0)) in
       let further : events ++ more ≡ (pre ++ chunk) ++ h.0 = whole ∙ ap (λ es. pre ++ es) split ∙ sym (append_assoc pre chunk h.0) in
       let size : length (pre ++ chunk) ≡ suc (fetches s).ended = length-append pre chunk ∙ omega (arith, f.ended_is, length-append f.reads (ended ∷ [])) in
-      let later = reading asking of_turn fetches shards (pre ++ chunk) h.0 further (omega (arith, length-append pre chunk)) (subst (λ n. AreFetched start (place_after turns a b) asking fetches n shards h.0) (sym size) h.2) in
+      let later = reading asking of_turn fetches shards (pre ++ chunk) h.0 further (omega (arith, length-append pre chunk)) (subst (λ n. AreFetched start (position_after turns a b) asking fetches n shards h.0) (sym size) h.2) in
       let here : length pre + 0 ≡ length pre = omega arith in
       let began_there : At (events ++ more) (length pre) began = subst (λ n. At (events ++ more) n began) here (subst (λ es. At es (length pre + 0) began) (sym whole) (back_at pre rest 0 began (subst (λ es. At es 0 began) (sym f.adds) refl))) in
       let chunk_ended : At chunk (length (began ∷ f.reads)) ended = at_cut (began ∷ f.reads) ended [] in
@@ -391,10 +391,10 @@ module _ (start : Option MetaState) (turns : List Turn) (events : List Event) (a
           | inr last ↦ elim last as (λ _. (began ≡ e) ⊎ (IsAskOrStep e ⊎ (ended ≡ e))) [ inl is ↦ inr (inr is) | inr none ↦ absurd none ]
         ]
       ] in
-      let begun_at : IsStartAt (From (length events)) (events ++ more) (makers start turns events a b more) (place_after turns a b) (length pre) = record {
+      let begun_at : IsStartAt (From (length events)) (events ++ more) (makers start turns events a b more) (position_after turns a b) (length pre) = record {
         version = (asking.place).version;
         s = s;
-        rules = rules_at start (place_after turns a b);
+        rules = rules_at start (position_after turns a b);
         pick = (asking.read).pick;
         from = (asking.read).from;
         to = (asking.read).to;
@@ -403,20 +403,20 @@ module _ (start : Option MetaState) (turns : List Turn) (events : List Event) (a
         own = refl;
       } in
       record {
-        starts = λ i version t rules chosen from to le there. elim (cases_lt i (length (pre ++ chunk))) as (λ _. IsStartOf start (events ++ more) (place_after turns a b) version t rules chosen from to) [
+        starts = λ i version t rules chosen from to le there. elim (cases_lt i (length (pre ++ chunk))) as (λ _. IsStartOf start (events ++ more) (position_after turns a b) version t rules chosen from to) [
           | inr ge ↦ later.starts i version t rules chosen from to ge there
-          | inl lt ↦ elim (among i (event.FetchStart version t rules chosen from to) lt le there) as (λ _. IsStartOf start (events ++ more) (place_after turns a b) version t rules chosen from to) [
+          | inl lt ↦ elim (among i (event.FetchStart version t rules chosen from to) lt le there) as (λ _. IsStartOf start (events ++ more) (position_after turns a b) version t rules chosen from to) [
             | inl is ↦ start_is asking of_turn s f.asked version t rules chosen from to is
-            | inr rest_of ↦ elim rest_of as (λ _. IsStartOf start (events ++ more) (place_after turns a b) version t rules chosen from to) [ inl none ↦ absurd none | inr is ↦ cc ]
+            | inr rest_of ↦ elim rest_of as (λ _. IsStartOf start (events ++ more) (position_after turns a b) version t rules chosen from to) [ inl none ↦ absurd none | inr is ↦ cc ]
           ]
         ];
-        dones = λ i done nodes series le there. elim (cases_lt i (length (pre ++ chunk))) as (λ _. IsStartAt (From (length events)) (events ++ more) (makers start turns events a b more) (place_after turns a b) done) [
+        dones = λ i done nodes series le there. elim (cases_lt i (length (pre ++ chunk))) as (λ _. IsStartAt (From (length events)) (events ++ more) (makers start turns events a b more) (position_after turns a b) done) [
           | inr ge ↦ later.dones i done nodes series ge there
-          | inl lt ↦ elim (among i (event.FetchDone done nodes series) lt le there) as (λ _. IsStartAt (From (length events)) (events ++ more) (makers start turns events a b more) (place_after turns a b) done) [
+          | inl lt ↦ elim (among i (event.FetchDone done nodes series) lt le there) as (λ _. IsStartAt (From (length events)) (events ++ more) (makers start turns events a b more) (position_after turns a b) done) [
             | inl is ↦ cc
-            | inr rest_of ↦ elim rest_of as (λ _. IsStartAt (From (length events)) (events ++ more) (makers start turns events a b more) (place_after turns a b) done) [
+            | inr rest_of ↦ elim rest_of as (λ _. IsStartAt (From (length events)) (events ++ more) (makers start turns events a b more) (position_after turns a b) done) [
               | inl none ↦ absurd none
-              | inr is ↦ let place : length pre ≡ done = cc in subst (λ n. IsStartAt (From (length events)) (events ++ more) (makers start turns events a b more) (place_after turns a b) n) place begun_at
+              | inr is ↦ let position : length pre ≡ done = cc in subst (λ n. IsStartAt (From (length events)) (events ++ more) (makers start turns events a b more) (position_after turns a b) n) position begun_at
             ]
           ]
         ];
@@ -427,10 +427,10 @@ module _ (start : Option MetaState) (turns : List Turn) (events : List Event) (a
             | inr rest_of ↦ elim rest_of as (λ _. IsReading e) [ inl step ↦ reading_step e step | inr is ↦ reading_is ended e is tt ]
           ]
         ];
-        each = λ t m. elim m as (λ _. IsFetchOf start (From (length events)) (events ++ more) (makers start turns events a b more) (place_after turns a b) asking t (fetches t)) [
+        each = λ t m. elim m as (λ _. IsFetchOf start (From (length events)) (events ++ more) (makers start turns events a b more) (position_after turns a b) asking t (fetches t)) [
           | inr r ↦ later.each t r
           | inl same ↦
-              subst (λ n. IsFetchOf start (From (length events)) (events ++ more) (makers start turns events a b more) (place_after turns a b) asking n (fetches n)) same
+              subst (λ n. IsFetchOf start (From (length events)) (events ++ more) (makers start turns events a b more) (position_after turns a b) asking n (fetches n)) same
               (record {
                 start_there = subst (λ n. At (events ++ more) n began) (sym f.began_is) began_there;
                 start_mine = omega (arith, f.began_is, low);
@@ -456,7 +456,7 @@ module _ (start : Option MetaState) (turns : List Turn) (events : List Event) (a
             let f = h.finds found is in
             record {
               asking = h.asking;
-              of_turn = lift_asking stays start (place_after turns a b) h.asking h.of_turn;
+              of_turn = lift_asking stays start (position_after turns a b) h.asking h.of_turn;
               fetches = h.fetches;
               each = λ s asked. r.each s (f.all s asked);
               enough = f.enough;
@@ -476,10 +476,10 @@ module _ (start : Option MetaState) (turns : List Turn) (events : List Event) (a
         each_clock = λ i rules le past there. absurd (r.kinds i (event.Clock rules) le there);
       })
 
-  pub read_told_from : (h : ReadLine start turns events a b more) → ((read_told h).spans).from (place_after turns a b) ≡ length events
+  pub read_told_from : (h : ReadLine start turns events a b more) → ((read_told h).spans).from (position_after turns a b) ≡ length events
   unfolding read_told
   read_told_from h = one_told_from start turns events a b more (_)
 
-  pub read_told_to : (h : ReadLine start turns events a b more) → ((read_told h).spans).to (place_after turns a b) ≡ length (events ++ more)
+  pub read_told_to : (h : ReadLine start turns events a b more) → ((read_told h).spans).to (position_after turns a b) ≡ length (events ++ more)
   unfolding read_told
   read_told_to h = one_told_to start turns events a b more (_)

@@ -10,9 +10,9 @@ use Rattle.m3_model.specs.Levels.{majority}
 use Rattle.m3_model.specs.Members.{IsIn}
 use Rattle.m3_model.specs.Reads.{Covers}
 use Rattle.m3_model.specs.Rules.{HasExpired}
-use Rattle.transcripts.proofs.PlaceLemmas.{at_push}
+use Rattle.transcripts.proofs.PositionLemmas.{at_push}
 use Rattle.transcripts.specs.Points.{point_of, sent_point}
-use Rattle.transcripts.specs.Record.{InnerTurn, Record, TurnPlace, IsTurnPlace, acts_of, inner_turns, joined, lists_of, IsLastTurnPlace}
+use Rattle.transcripts.specs.Record.{InnerTurn, Record, TurnPosition, IsTurnPosition, acts_of, inner_turns, joined, lists_of, IsLastTurnPosition}
 use Rattle.transcripts.specs.Rules.{rules_at, start_rules}
 use Rattle.m3_model.specs.declared.act.Act.{Act}
 use Rattle.m3_model.specs.declared.act.Act.TheVariants as act
@@ -26,7 +26,7 @@ use Rattle.m3_model.specs.declared.rules.Space.{Space}
 use Rattle.m3_model.specs.declared.turn.Request.{Request}
 use Rattle.m3_model.specs.declared.turn.Turn.{Turn}
 use Rattle.placement_core.specs.Shards.{holders}
-use Rattle.cluster_core.specs.Core.{Opening, AgreesWith, KeptByOpening, IsAcked, IsSecured, IsLiveUpTo, held}
+use Rattle.cluster_core.specs.Core.{Opening, AgreesWith, KeptByOpening, IsAckedBefore, IsSecured, IsLiveUpTo, held}
 use Rattle.cluster_core.specs.Earlier.{clock_after, last_clock, last_place, place_after}
 use Rattle.cluster_core.specs.Legal.{Legal, LawfulAt}
 use Rattle.cluster_core.specs.Lists.{At, IsMajority}
@@ -42,14 +42,14 @@ use Rattle.cluster_core.proofs.OriginLemmas.{origin}
 use Rattle.cluster_core.proofs.PlaceLemmas.{place_cases}
 use Rattle.cluster_core.proofs.Theorem.{keeps_points}
 use Rattle.told_by.specs.Leaves.{HoldsAgain, IsLeftState, MayBeOpen}
-use Rattle.told_by.specs.Lines.{PlainLine, place_after as after_lines}
+use Rattle.told_by.specs.Lines.{PlainLine, position_after as after_lines}
 use Rattle.told_by.specs.Openings.{IsCarried, IsLeft, OpeningStands, WasSentEarlier, earlier_turns, sent_earlier}
 use Rattle.told_by.specs.Told.{ToldBy}
 use Rattle.told_by.proofs.AnswerLemmas.{sent_by}
 use Rattle.told_by.proofs.ClockLemmas.{NotAbove, clock_cases, clocks_below, expired_later}
 use Rattle.told_by.proofs.KeptLemmas.{acked_by_turn, late_send, opening_low, same_place, sent_by_turn, sent_grows}
 use Rattle.told_by.proofs.KindLemmas.{plain_told, plain_told_from, plain_told_to}
-use Rattle.told_by.proofs.LineLemmas.{at_front, line_told, line_told_from, line_told_to, place_last, place_stays, take_all, take_front}
+use Rattle.told_by.proofs.LineLemmas.{at_front, line_told, line_told_from, line_told_to, position_last, position_stays, take_all, take_front}
 use Rattle.told_by.proofs.OneLemmas.{among_back, is_last, is_own}
 use Rattle.told_by.proofs.OpeningLemmas.{FirstEvent, OneSeed, first_event, one_seed, place_fine}
 use Rattle.told_by.proofs.RuleLemmas.{Grows, after_grows, lines_grow, point_grows}
@@ -181,14 +181,14 @@ module _ (past : List Record) (start : Option MetaState) (turns : List Turn) (un
   first_there : At all 0 (event.Place first.place [])
   first_there = at_append events more 0 (event.Place first.place []) first.there
 
-  abbrev end : TurnPlace
+  abbrev end : TurnPosition
   end = after_lines turns idle unheard
 
   abbrev long : List Turn
   long = turns ++ line_of idle unheard ∷ []
 
-  at_end : IsTurnPlace long end
-  at_end = place_last turns (line_of idle unheard) end (is_last start turns events idle unheard [])
+  at_end : IsTurnPosition long end
+  at_end = position_last turns (line_of idle unheard) end (is_last start turns events idle unheard [])
 
   some_events : 0 < length events
   some_events = at_within events 0 (event.Place first.place []) first.there
@@ -240,14 +240,14 @@ module _ (past : List Record) (start : Option MetaState) (turns : List Turn) (un
       )
 
   -- what was acknowledged in the front was so in the whole
-  acked_on : (s : ℕ) (p : Point) → IsAcked (first.place).rf events (length events) s p → IsAcked (first.place).rf all (length all) s p
+  acked_on : (s : ℕ) (p : Point) → IsAckedBefore (first.place).rf events (length events) s p → IsAckedBefore (first.place).rf all (length all) s p
   acked_on s p h = record {
-    place = h.place;
+    position = h.position;
     send = h.send;
     version = h.version;
     nodes = h.nodes;
     early = omega (arith, h.early, length-append events more);
-    acked = at_append events more h.place (event.Ack h.send h.nodes) h.acked;
+    acked = at_append events more h.position (event.Ack h.send h.nodes) h.acked;
     sent = at_append events more h.send (event.Send h.version s p) h.sent;
     enough = h.enough;
   }
@@ -256,7 +256,7 @@ module _ (past : List Record) (start : Option MetaState) (turns : List Turn) (un
   of_turn : (t : InnerTurn) → IsIn (inner_turns turns) t → (nodes : List ℕ) → t.answer ≡ answer.Acks nodes → IsCarried (Some left) next t nodes
   of_turn t h nodes is =
       let q = turn_in turns t h in
-      let in_run = place_stays turns (line_of idle unheard) q.0 q.1 in
+      let in_run = position_stays turns (line_of idle unheard) q.0 q.1 in
       let answered : (q.0).turn.answer ≡ answer.Acks nodes = ap (λ (u : InnerTurn). u.answer) q.2 ∙ is in
       let ack = (told.tells).writes.acked q.0 in_run nodes answered in
       let send = ack.sent in
@@ -300,11 +300,11 @@ module _ (past : List Record) (start : Option MetaState) (turns : List Turn) (un
   longer = past ++ record { start = start; turns = turns; unanswered = unanswered } ∷ []
 
   -- a turn of the run, and none of its last line
-  of_run : (q : TurnPlace) → IsTurnPlace long q → (p : Point) → point_of (rules_at start q).spaces q.turn.act ≡ Some p → IsTurnPlace turns q
+  of_run : (q : TurnPosition) → IsTurnPosition long q → (p : Point) → point_of (rules_at start q).spaces q.turn.act ≡ Some p → IsTurnPosition turns q
   of_run q at p e =
-      elim (at_push (λ x. IsTurnPlace turns x ⊎ IsLastTurnPlace turns (line_of idle unheard) x) turns (line_of idle unheard) (λ x k. inl k) (λ x k. inr k) q at) as (λ _. IsTurnPlace turns q) [
+      elim (at_push (λ x. IsTurnPosition turns x ⊎ IsLastTurnPosition turns (line_of idle unheard) x) turns (line_of idle unheard) (λ x k. inl k) (λ x k. inr k) q at) as (λ _. IsTurnPosition turns q) [
         | inl old ↦ old
-        | inr last ↦ absurd (let same = is_own start turns events idle unheard [] q last in let bad : None ≡ Some p = sym (ap (λ (x : TurnPlace). point_of (rules_at start q).spaces x.turn.act) same) ∙ e in cc)
+        | inr last ↦ absurd (let same = is_own start turns events idle unheard [] q last in let bad : None ≡ Some p = sym (ap (λ (x : TurnPosition). point_of (rules_at start q).spaces x.turn.act) same) ∙ e in cc)
       ]
 
   by_told : (i version s : ℕ) (p : Point) → At events i (event.Send version s p) → WasSentEarlier longer (Some left) p

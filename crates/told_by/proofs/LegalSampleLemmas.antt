@@ -12,7 +12,7 @@ use Rattle.m3_model.specs.declared.point.Pick.TheVariants as pick
 use Rattle.m3_model.specs.declared.point.Series.{Series}
 use Rattle.placement_core.specs.Lawful.{IsLawful, IsShard, IsSpread, IsServing as IsServingShard}
 use Rattle.placement_core.proofs.ListLemmas.{All-from_each, Any-from_IsIn}
-use Rattle.cluster_core.specs.Answers.{IsWanted}
+use Rattle.cluster_core.specs.Answers.{IsWantedUnexpired}
 use Rattle.cluster_core.specs.Asks.{IsAskFor, IsLike, WasAsked}
 use Rattle.cluster_core.specs.Earlier.{CountsNodes, GaveAnswer, GivesTenure, HasClock, HasPut, HasShard, IsClock, IsSend, PlacesShard, TookPoint}
 use Rattle.cluster_core.specs.Legal.{Lawful, LawfulAt}
@@ -130,7 +130,7 @@ lawful_ack = (
   ),
 )
 
-wanted : IsWanted rules (pick.One 0 name) 0 10 point
+wanted : IsWantedUnexpired rules (pick.One 0 name) 0 10 point
 wanted = record { matches = (refl, refl); in_range = (omega arith, omega arith); unexpired = λ h. omega (arith, h.ended) }
 
 lawful_read : Lawful true (take 12 events) (event.Step 0 0 read (reply.Found series))
@@ -141,8 +141,8 @@ lawful_read = (
     record { owner = record { open_ = refl; tenure = 1; owned = refl; tenure_low = omega arith }; fence_low = omega arith },
     has_clock (take 12 events) refl,
     record {
-      nothing_else = All-from_each (λ p. IsIn (point ∷ []) p × IsWanted rules (pick.One 0 name) 0 10 p) (point ∷ []) (only (λ p. IsIn (point ∷ []) p × IsWanted rules (pick.One 0 name) 0 10 p) point (inl refl, wanted));
-      all_there = All-from_each (λ p. ¬ IsGone (replica 0 0 (take 12 events)) p → IsWanted rules (pick.One 0 name) 0 10 p → Covers (point ∷ []) p) (point ∷ []) (λ p m stays asks. covers_here p (point ∷ []) m);
+      nothing_else = All-from_each (λ p. IsIn (point ∷ []) p × IsWantedUnexpired rules (pick.One 0 name) 0 10 p) (point ∷ []) (only (λ p. IsIn (point ∷ []) p × IsWantedUnexpired rules (pick.One 0 name) 0 10 p) point (inl refl, wanted));
+      all_there = All-from_each (λ p. ¬ IsGone (replica 0 0 (take 12 events)) p → IsWantedUnexpired rules (pick.One 0 name) 0 10 p → Covers (point ∷ []) p) (point ∷ []) (λ p m stays asks. covers_here p (point ∷ []) m);
       ordered = series_ordered;
     },
   ),

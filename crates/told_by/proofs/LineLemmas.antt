@@ -8,9 +8,9 @@ use Rattle.std.proofs.Math.Dec.{ltb}
 use Rattle.std.proofs.lemmas.Bool.{cases_lt, lt-ltb, le-ltb}
 use Rattle.m3_model.proofs.SplitLemmas.{not_empty}
 use Rattle.m3_model.specs.Reads.{Found}
-use Rattle.transcripts.proofs.PlaceLemmas.{at_push}
+use Rattle.transcripts.proofs.PositionLemmas.{at_push}
 use Rattle.transcripts.specs.Record.{line_of}
-use Rattle.transcripts.specs.Record.{TurnPlace, IsTurnPlace, IsLastTurnPlace}
+use Rattle.transcripts.specs.Record.{TurnPosition, IsTurnPosition, IsLastTurnPosition}
 use Rattle.transcripts.specs.Rules.{rules_at, start_rules}
 use Rattle.m3_model.specs.declared.act.Act.TheVariants as act
 use Rattle.m3_model.specs.declared.answer.Answer.TheVariants as answer
@@ -37,12 +37,12 @@ use Rattle.told_by.specs.Writes.{HasAck, HasSend, IsSendAt, IsSendOf, TellsWrite
 -- ---- what is so of some events is so of more
 
 -- the events stand in the longer list, of which at least those that are told of here are told of, with the same makers
-pub record Lifts (Mine Others : ℕ → Type 0) (events longer : List Event) (makers others : ℕ → TurnPlace) : Type 0 where
+pub record Lifts (Mine Others : ℕ → Type 0) (events longer : List Event) (makers others : ℕ → TurnPosition) : Type 0 where
   pub stays : (i : ℕ) (e : Event) → At events i e → At longer i e
   pub below : (i : ℕ) → Mine i → Others i
   pub same : (i : ℕ) (e : Event) → At events i e → Mine i → others i ≡ makers i
 
-pub lift_sent : {Mine Others : ℕ → Type 0} {events longer : List Event} {makers others : ℕ → TurnPlace} → Lifts Mine Others events longer makers others → (p : TurnPlace) (send : ℕ) → IsSendAt Mine events makers p send → IsSendAt Others longer others p send
+pub lift_sent : {Mine Others : ℕ → Type 0} {events longer : List Event} {makers others : ℕ → TurnPosition} → Lifts Mine Others events longer makers others → (p : TurnPosition) (send : ℕ) → IsSendAt Mine events makers p send → IsSendAt Others longer others p send
 lift_sent l p send h = record {
   version = h.version;
   s = h.s;
@@ -52,10 +52,10 @@ lift_sent l p send h = record {
   own = l.same send (event.Send h.version h.s h.point) h.there h.mine ∙ h.own;
 }
 
-pub lift_send : {Mine Others : ℕ → Type 0} {events longer : List Event} {makers others : ℕ → TurnPlace} → Lifts Mine Others events longer makers others → (p : TurnPlace) → HasSend Mine events makers p → HasSend Others longer others p
+pub lift_send : {Mine Others : ℕ → Type 0} {events longer : List Event} {makers others : ℕ → TurnPosition} → Lifts Mine Others events longer makers others → (p : TurnPosition) → HasSend Mine events makers p → HasSend Others longer others p
 lift_send l p h = record { send = h.send; sent = lift_sent l p h.send h.sent }
 
-pub lift_ack : {Mine Others : ℕ → Type 0} {events longer : List Event} {makers others : ℕ → TurnPlace} → Lifts Mine Others events longer makers others → (p : TurnPlace) (nodes : List ℕ) → HasAck Mine events makers p nodes → HasAck Others longer others p nodes
+pub lift_ack : {Mine Others : ℕ → Type 0} {events longer : List Event} {makers others : ℕ → TurnPosition} → Lifts Mine Others events longer makers others → (p : TurnPosition) (nodes : List ℕ) → HasAck Mine events makers p nodes → HasAck Others longer others p nodes
 lift_ack l p nodes h = record {
   send = h.send;
   sent = lift_sent l p h.send h.sent;
@@ -65,10 +65,10 @@ lift_ack l p nodes h = record {
   own = l.same h.ack (event.Ack h.send nodes) h.acked h.mine ∙ h.own;
 }
 
-pub lift_uses : {events longer : List Event} → ((i : ℕ) (e : Event) → At events i e → At longer i e) → (start : Option MetaState) (p : TurnPlace) (version : Option ℕ) (place : Placement) → Uses start events p version place → Uses start longer p version place
+pub lift_uses : {events longer : List Event} → ((i : ℕ) (e : Event) → At events i e → At longer i e) → (start : Option MetaState) (p : TurnPosition) (version : Option ℕ) (place : Placement) → Uses start events p version place → Uses start longer p version place
 lift_uses stays start p version place h = record { may_use = h.may_use; place_at = h.place_at; done = h.done; there = stays h.place_at (event.Place place h.done) h.there }
 
-pub lift_send_of : {events longer : List Event} → ((i : ℕ) (e : Event) → At events i e → At longer i e) → (start : Option MetaState) (p : TurnPlace) (version s : ℕ) (point : Point) → IsSendOf start events p version s point → IsSendOf start longer p version s point
+pub lift_send_of : {events longer : List Event} → ((i : ℕ) (e : Event) → At events i e → At longer i e) → (start : Option MetaState) (p : TurnPosition) (version s : ℕ) (point : Point) → IsSendOf start events p version s point → IsSendOf start longer p version s point
 lift_send_of stays start p version s point h = record {
   call = h.call;
   of_act = h.of_act;
@@ -80,10 +80,10 @@ lift_send_of stays start p version s point h = record {
   shard_is = h.shard_is;
 }
 
-pub lift_asking : {events longer : List Event} → ((i : ℕ) (e : Event) → At events i e → At longer i e) → (start : Option MetaState) (p : TurnPlace) (a : Asking) → IsAskingOf start events p a → IsAskingOf start longer p a
+pub lift_asking : {events longer : List Event} → ((i : ℕ) (e : Event) → At events i e → At longer i e) → (start : Option MetaState) (p : TurnPosition) (a : Asking) → IsAskingOf start events p a → IsAskingOf start longer p a
 lift_asking stays start p a h = record { of_act = h.of_act; of_call = h.of_call; uses = lift_uses stays start p (a.call).version a.place h.uses }
 
-lift_fetch : {Mine Others : ℕ → Type 0} {events longer : List Event} {makers others : ℕ → TurnPlace} → Lifts Mine Others events longer makers others → (start : Option MetaState) (p : TurnPlace) (a : Asking) (s : ℕ) (f : Fetched)
+lift_fetch : {Mine Others : ℕ → Type 0} {events longer : List Event} {makers others : ℕ → TurnPosition} → Lifts Mine Others events longer makers others → (start : Option MetaState) (p : TurnPosition) (a : Asking) (s : ℕ) (f : Fetched)
     → IsFetchOf start Mine events makers p a s f → IsFetchOf start Others longer others p a s f
 lift_fetch l start p a s f h =
     let began = event.FetchStart (a.place).version s (rules_at start p) (a.read).pick (a.read).from (a.read).to in
@@ -97,7 +97,7 @@ lift_fetch l start p a s f h =
       own_done = l.same f.ended ended h.done_there h.done_mine ∙ h.own_done;
     }
 
-pub lift_told : {Mine Others : ℕ → Type 0} {events longer : List Event} {makers others : ℕ → TurnPlace} → Lifts Mine Others events longer makers others → (start : Option MetaState) (p : TurnPlace) (found : Found)
+pub lift_told : {Mine Others : ℕ → Type 0} {events longer : List Event} {makers others : ℕ → TurnPosition} → Lifts Mine Others events longer makers others → (start : Option MetaState) (p : TurnPosition) (found : Found)
     → IsTold start Mine events makers p found → IsTold start Others longer others p found
 lift_told l start p found h = record {
   asking = h.asking;
@@ -110,7 +110,7 @@ lift_told l start p found h = record {
   not_short = h.not_short;
 }
 
-lift_start : {events longer : List Event} → ((i : ℕ) (e : Event) → At events i e → At longer i e) → (start : Option MetaState) (p : TurnPlace) (version s : ℕ) (rules : Rules) (chosen : Pick) (from to : ℕ)
+lift_start : {events longer : List Event} → ((i : ℕ) (e : Event) → At events i e → At longer i e) → (start : Option MetaState) (p : TurnPosition) (version s : ℕ) (rules : Rules) (chosen : Pick) (from to : ℕ)
     → IsStartOf start events p version s rules chosen from to → IsStartOf start longer p version s rules chosen from to
 lift_start stays start p version s rules chosen from to h = record {
   asking = h.asking;
@@ -123,7 +123,7 @@ lift_start stays start p version s rules chosen from to h = record {
   to_is = h.to_is;
 }
 
-pub lift_begun : {Mine Others : ℕ → Type 0} {events longer : List Event} {makers others : ℕ → TurnPlace} → Lifts Mine Others events longer makers others → (p : TurnPlace) (began : ℕ) → IsStartAt Mine events makers p began → IsStartAt Others longer others p began
+pub lift_begun : {Mine Others : ℕ → Type 0} {events longer : List Event} {makers others : ℕ → TurnPosition} → Lifts Mine Others events longer makers others → (p : TurnPosition) (began : ℕ) → IsStartAt Mine events makers p began → IsStartAt Others longer others p began
 lift_begun l p began h = record {
   version = h.version;
   s = h.s;
@@ -136,7 +136,7 @@ lift_begun l p began h = record {
   own = l.same began (event.FetchStart h.version h.s h.rules h.pick h.from h.to) h.there h.mine ∙ h.own;
 }
 
-pub lift_clock : {Mine Others : ℕ → Type 0} {events longer : List Event} {makers others : ℕ → TurnPlace} → Lifts Mine Others events longer makers others → (start : Option MetaState) (p : TurnPlace) → HasClock start Mine events makers p → HasClock start Others longer others p
+pub lift_clock : {Mine Others : ℕ → Type 0} {events longer : List Event} {makers others : ℕ → TurnPosition} → Lifts Mine Others events longer makers others → (start : Option MetaState) (p : TurnPosition) → HasClock start Mine events makers p → HasClock start Others longer others p
 lift_clock l start p h = record {
   clock = h.clock;
   there = l.stays h.clock (event.Clock (rules_left start p)) h.there;
@@ -145,7 +145,7 @@ lift_clock l start p h = record {
   own = l.same h.clock (event.Clock (rules_left start p)) h.there h.mine ∙ h.own;
 }
 
-pub lift_ended : {Mine Others : ℕ → Type 0} {events longer : List Event} {makers others : ℕ → TurnPlace} → Lifts Mine Others events longer makers others → (p : TurnPlace) → EndsPrinted Mine events makers p → EndsPrinted Others longer others p
+pub lift_ended : {Mine Others : ℕ → Type 0} {events longer : List Event} {makers others : ℕ → TurnPosition} → Lifts Mine Others events longer makers others → (p : TurnPosition) → EndsPrinted Mine events makers p → EndsPrinted Others longer others p
 lift_ended l p h available boot x m =
     let e = h available boot x m in
     record {
@@ -160,7 +160,7 @@ lift_ended l p h available boot x m =
       ended = e.ended;
     }
 
-pub lift_restart : {Mine Others : ℕ → Type 0} {events longer : List Event} {makers others : ℕ → TurnPlace} → Lifts Mine Others events longer makers others → (p : TurnPlace) (i n s : ℕ) → EndsRestart Mine events makers p i n s → EndsRestart Others longer others p i n s
+pub lift_restart : {Mine Others : ℕ → Type 0} {events longer : List Event} {makers others : ℕ → TurnPosition} → Lifts Mine Others events longer makers others → (p : TurnPosition) (i n s : ℕ) → EndsRestart Mine events makers p i n s → EndsRestart Others longer others p i n s
 lift_restart l p i n s (inl done) = inl done
 lift_restart l p i n s (inr h) =
     let step = event.Step n s call.Stop reply.Done in
@@ -188,26 +188,26 @@ by_left i n a b lt = ap (λ t. cond t a b) (lt-ltb i n lt)
 by_right : {X : Type 0} (i n : ℕ) (a b : X) → n ≤ i → cond (ltb i n) a b ≡ b
 by_right i n a b le = ap (λ t. cond t a b) (le-ltb i n le)
 
--- a place of a run is one of the run that goes on by a line
-pub place_stays : (turns : List Turn) (line : Turn) (p : TurnPlace) → IsTurnPlace turns p → IsTurnPlace (turns ++ line ∷ []) p
-place_stays turns line p h = record {
+-- a position of a run is one of the run that goes on by a line
+pub position_stays : (turns : List Turn) (line : Turn) (p : TurnPosition) → IsTurnPosition turns p → IsTurnPosition (turns ++ line ∷ []) p
+position_stays turns line p h = record {
   after = h.after ++ line ∷ [];
   in_run = ap (λ xs. xs ++ line ∷ []) h.in_run ∙ append_assoc p.lines (p.line ∷ h.after) (line ∷ []);
   stands = h.stands;
 }
 
 -- and so is one of that line
-pub place_last : (turns : List Turn) (line : Turn) (p : TurnPlace) → IsLastTurnPlace turns line p → IsTurnPlace (turns ++ line ∷ []) p
-place_last turns line p h = record { after = []; in_run = λ i. sym h.lines_are i ++ sym h.line_is i ∷ []; stands = h.stands }
+pub position_last : (turns : List Turn) (line : Turn) (p : TurnPosition) → IsLastTurnPosition turns line p → IsTurnPosition (turns ++ line ∷ []) p
+position_last turns line p h = record { after = []; in_run = λ i. sym h.lines_are i ++ sym h.line_is i ∷ []; stands = h.stands }
 
-pub line_below : (turns : List Turn) (p : TurnPlace) → IsTurnPlace turns p → length p.lines < length turns
+pub line_below : (turns : List Turn) (p : TurnPosition) → IsTurnPosition turns p → length p.lines < length turns
 line_below turns p h = omega (arith, ap length h.in_run, length-append p.lines (p.line ∷ h.after))
 
-pub alone_stays : (turns : List Turn) (line : Turn) (p : TurnPlace) → IsAlone turns p → IsAlone (turns ++ line ∷ []) p
+pub alone_stays : (turns : List Turn) (line : Turn) (p : TurnPosition) → IsAlone turns p → IsAlone (turns ++ line ∷ []) p
 alone_stays turns line p h = (h.0, at_append turns (line ∷ []) (length p.lines) h.0 h.1, h.2)
 
 -- the `init` of a list is that of a longer one, in which its line and its stretch are the same
-pub lift_init : (start : Option MetaState) {turns long : List Turn} {events longer : List Event} {spans others : Spans} (p : TurnPlace) → (IsAlone turns p → IsAlone long p)
+pub lift_init : (start : Option MetaState) {turns long : List Turn} {events longer : List Event} {spans others : Spans} (p : TurnPosition) → (IsAlone turns p → IsAlone long p)
     → ((i : ℕ) (e : Event) → At events i e → At longer i e) → others.from p ≡ spans.from p → others.to p ≡ spans.to p → IsInitOf start turns events spans p → IsInitOf start long longer others p
 lift_init start p alone stays from to h = record {
   found_nothing = h.found_nothing;
@@ -238,23 +238,23 @@ module _ (start : Option MetaState) (turns : List Turn) (events : List Event) (l
     to = λ p. cond (ltb (length p.lines) (length turns)) ((told.spans).to p) ((next.spans).to p);
   }
 
-  abbrev makers : ℕ → TurnPlace
+  abbrev makers : ℕ → TurnPosition
   makers i = cond (ltb i (length events)) (told.makers i) (next.makers i)
 
-  -- a place of the old lines, or of the new one
-  which : (p : TurnPlace) → IsTurnPlace long p → IsTurnPlace turns p ⊎ IsLastTurnPlace turns line p
-  which p h = at_push (λ q. IsTurnPlace turns q ⊎ IsLastTurnPlace turns line q) turns line (λ q k. inl k) (λ q k. inr k) p h
+  -- a position of the old lines, or of the new one
+  which : (p : TurnPosition) → IsTurnPosition long p → IsTurnPosition turns p ⊎ IsLastTurnPosition turns line p
+  which p h = at_push (λ q. IsTurnPosition turns q ⊎ IsLastTurnPosition turns line q) turns line (λ q k. inl k) (λ q k. inr k) p h
 
-  old_from : (p : TurnPlace) → IsTurnPlace turns p → spans.from p ≡ (told.spans).from p
+  old_from : (p : TurnPosition) → IsTurnPosition turns p → spans.from p ≡ (told.spans).from p
   old_from p h = by_left (length p.lines) (length turns) ((told.spans).from p) ((next.spans).from p) (line_below turns p h)
 
-  old_to : (p : TurnPlace) → IsTurnPlace turns p → spans.to p ≡ (told.spans).to p
+  old_to : (p : TurnPosition) → IsTurnPosition turns p → spans.to p ≡ (told.spans).to p
   old_to p h = by_left (length p.lines) (length turns) ((told.spans).to p) ((next.spans).to p) (line_below turns p h)
 
-  new_from : (p : TurnPlace) → IsLastTurnPlace turns line p → spans.from p ≡ (next.spans).from p
+  new_from : (p : TurnPosition) → IsLastTurnPosition turns line p → spans.from p ≡ (next.spans).from p
   new_from p h = by_right (length p.lines) (length turns) ((told.spans).from p) ((next.spans).from p) (omega (arith, ap length h.lines_are))
 
-  new_to : (p : TurnPlace) → IsLastTurnPlace turns line p → spans.to p ≡ (next.spans).to p
+  new_to : (p : TurnPosition) → IsLastTurnPosition turns line p → spans.to p ≡ (next.spans).to p
   new_to p h = by_right (length p.lines) (length turns) ((told.spans).to p) ((next.spans).to p) (omega (arith, ap length h.lines_are))
 
   low_is : low ≤ length events
@@ -282,11 +282,11 @@ module _ (start : Option MetaState) (turns : List Turn) (events : List Event) (l
   }
 
   -- the order of a turn of the old lines and one of the new line
-  not_before : (p q : TurnPlace) → IsLastTurnPlace turns line p → IsTurnPlace turns q → IsEarlier p q → ⊥
+  not_before : (p q : TurnPosition) → IsLastTurnPosition turns line p → IsTurnPosition turns q → IsEarlier p q → ⊥
   not_before p q hp hq (inl lt) = omega (arith, lt, ap length hp.lines_are, line_below turns q hq)
   not_before p q hp hq (inr same) = omega (arith, same.0, ap length hp.lines_are, line_below turns q hq)
 
-  order_told : AreOrdered (IsTurnPlace long) low (From low) all spans makers
+  order_told : AreOrdered (IsTurnPosition long) low (From low) all spans makers
   order_told = record {
     not_below = λ p h. elim (which p h) as (λ _. low ≤ spans.from p) [
       | inl k ↦ omega (arith, old_from p k, (told.tells).order.not_below p k)
@@ -310,29 +310,29 @@ module _ (start : Option MetaState) (turns : List Turn) (events : List Event) (l
         | inr nq ↦ omega (arith, new_to p np, new_from q nq, (next.tells).order.order p q np nq earlier)
       ]
     ];
-    made = λ i e above past there kind. elim (cases_lt i (length events)) as (λ _. IsTurnPlace long (makers i) × IsWithin spans (makers i) i) [
+    made = λ i e above past there kind. elim (cases_lt i (length events)) as (λ _. IsTurnPosition long (makers i) × IsWithin spans (makers i) i) [
       | inl lt ↦
           let m = (told.tells).order.made i e above past (at_front events more i e there lt) kind in
-          subst (λ x. IsTurnPlace long x × IsWithin spans x i) (sym (by_left i (length events) (told.makers i) (next.makers i) lt))
-          (place_stays turns line (told.makers i) m.0, (omega (arith, (m.1).0, old_from (told.makers i) m.0), omega (arith, (m.1).1, old_to (told.makers i) m.0)))
+          subst (λ x. IsTurnPosition long x × IsWithin spans x i) (sym (by_left i (length events) (told.makers i) (next.makers i) lt))
+          (position_stays turns line (told.makers i) m.0, (omega (arith, (m.1).0, old_from (told.makers i) m.0), omega (arith, (m.1).1, old_to (told.makers i) m.0)))
       | inr ge ↦
           let m = (next.tells).order.made i e ge past there kind in
-          subst (λ x. IsTurnPlace long x × IsWithin spans x i) (sym (by_right i (length events) (told.makers i) (next.makers i) ge))
-          (place_last turns line (next.makers i) m.0, (omega (arith, (m.1).0, new_from (next.makers i) m.0), omega (arith, (m.1).1, new_to (next.makers i) m.0)))
+          subst (λ x. IsTurnPosition long x × IsWithin spans x i) (sym (by_right i (length events) (told.makers i) (next.makers i) ge))
+          (position_last turns line (next.makers i) m.0, (omega (arith, (m.1).0, new_from (next.makers i) m.0), omega (arith, (m.1).1, new_to (next.makers i) m.0)))
     ];
   }
 
-  init_stays : (p : TurnPlace) → IsTurnPlace turns p → IsInitOf start turns events told.spans p → IsInitOf start long all spans p
+  init_stays : (p : TurnPosition) → IsTurnPosition turns p → IsInitOf start turns events told.spans p → IsInitOf start long all spans p
   init_stays p k h = lift_init start p (alone_stays turns line p) (λ i e there. at_append events more i e there) (old_from p k) (old_to p k) h
 
-  init_new : (p : TurnPlace) → IsLastTurnPlace turns line p → IsInitOf start long all next.spans p → IsInitOf start long all spans p
+  init_new : (p : TurnPosition) → IsLastTurnPosition turns line p → IsInitOf start long all next.spans p → IsInitOf start long all spans p
   init_new p k h = lift_init start p (λ alone. alone) (λ i e there. there) (new_from p k) (new_to p k) h
 
-  init_told : TellsInit start long (IsTurnPlace long) (From low) all spans
+  init_told : TellsInit start long (IsTurnPosition long) (From low) all spans
   init_told = record {
-    begun = λ none e there. elim (cases_lt 0 (length events)) as (λ _. (p : TurnPlace) × IsTurnPlace long p × IsInitOf start long all spans p) [
-      | inl some ↦ let b = (told.tells).init.begun none e (at_front events more 0 e there some) in (b.0, place_stays turns line b.0 b.1, init_stays b.0 b.1 b.2)
-      | inr empty ↦ let b = (next.tells).init.begun (omega arith) e there in (b.0, place_last turns line b.0 b.1, init_new b.0 b.1 b.2)
+    begun = λ none e there. elim (cases_lt 0 (length events)) as (λ _. (p : TurnPosition) × IsTurnPosition long p × IsInitOf start long all spans p) [
+      | inl some ↦ let b = (told.tells).init.begun none e (at_front events more 0 e there some) in (b.0, position_stays turns line b.0 b.1, init_stays b.0 b.1 b.2)
+      | inr empty ↦ let b = (next.tells).init.begun (omega arith) e there in (b.0, position_last turns line b.0 b.1, init_new b.0 b.1 b.2)
     ];
     inits = λ p h sets. elim (which p h) as (λ _. IsInitOf start long all spans p) [
       | inl k ↦ init_stays p k ((told.tells).init.inits p k sets)
@@ -340,7 +340,7 @@ module _ (start : Option MetaState) (turns : List Turn) (events : List Event) (l
     ];
   }
 
-  writes_told : TellsWrites start (IsTurnPlace long) (From low) all makers
+  writes_told : TellsWrites start (IsTurnPosition long) (From low) all makers
   writes_told = record {
     acked = λ p h nodes is. elim (which p h) as (λ _. HasAck (From low) all makers p nodes) [
       | inl k ↦ lift_ack olds p nodes ((told.tells).writes.acked p k nodes is)
@@ -366,7 +366,7 @@ module _ (start : Option MetaState) (turns : List Turn) (events : List Event) (l
     ];
   }
 
-  reads_told : TellsReads start (IsTurnPlace long) (From low) all makers
+  reads_told : TellsReads start (IsTurnPosition long) (From low) all makers
   reads_told = record {
     found = λ p h found is. elim (which p h) as (λ _. IsTold start (From low) all makers p found) [
       | inl k ↦ lift_told olds start p found ((told.tells).reads.found p k found is)
@@ -390,7 +390,7 @@ module _ (start : Option MetaState) (turns : List Turn) (events : List Event) (l
     ];
   }
 
-  placements_told : TellsPlacements (IsTurnPlace long) (From low) all spans makers
+  placements_told : TellsPlacements (IsTurnPosition long) (From low) all spans makers
   placements_told = record {
     is_place = λ p h place is. elim (which p h) as (λ _. HasPlace all (spans.to p) place) [
       | inl k ↦
@@ -423,10 +423,10 @@ module _ (start : Option MetaState) (turns : List Turn) (events : List Event) (l
     ];
   }
 
-  clock_stays : (p : TurnPlace) (rules : Rules) → IsClockOf start turns p rules → IsClockOf start long p rules
+  clock_stays : (p : TurnPosition) (rules : Rules) → IsClockOf start turns p rules → IsClockOf start long p rules
   clock_stays p rules h = record { alone = alone_stays turns line p h.alone; sets = h.sets; rules_are = h.rules_are }
 
-  clocks_told : TellsClocks start long (IsTurnPlace long) (From low) all makers
+  clocks_told : TellsClocks start long (IsTurnPosition long) (From low) all makers
   clocks_told = record {
     set = λ p h sets. elim (which p h) as (λ _. HasClock start (From low) all makers p) [
       | inl k ↦ lift_clock olds start p ((told.tells).clocks.set p k sets)
@@ -456,7 +456,7 @@ module _ (start : Option MetaState) (turns : List Turn) (events : List Event) (l
     | inr ge ↦ subst (λ x. MayMake start (take i all) x e) (sym (by_right i (length events) (told.makers i) (next.makers i) ge)) ((next.tells).makes i e ge past there)
   ]
 
-  hears_told : TellsHears start (IsTurnPlace long) all spans
+  hears_told : TellsHears start (IsTurnPosition long) all spans
   hears_told p h = elim (which p h) as (λ _. HearsAt p (spans.from p) (spans.to p)) [
     | inl k ↦
         let below : (told.spans).from p ≤ length events = omega (arith, (told.tells).order.not_back p k, (told.tells).order.not_above p k) in
@@ -467,10 +467,10 @@ module _ (start : Option MetaState) (turns : List Turn) (events : List Event) (l
     | inr k ↦ moved p (sym (new_from p k)) (sym (new_to p k)) ((next.tells).hears p k)
   ]
     where
-      HearsAt : TurnPlace → ℕ → ℕ → Type 0
+      HearsAt : TurnPosition → ℕ → ℕ → Type 0
       HearsAt p from to = HearsBy start (take from all) (InStretch all from to) p p.turn.act p.turn.answer
 
-      moved : (p : TurnPlace) {from to from_now to_now : ℕ} → from ≡ from_now → to ≡ to_now → HearsAt p from to → HearsAt p from_now to_now
+      moved : (p : TurnPosition) {from to from_now to_now : ℕ} → from ≡ from_now → to ≡ to_now → HearsAt p from to → HearsAt p from_now to_now
       moved p {from} {to} {from_now} {to_now} e f h = subst (λ n. HearsAt p from_now n) f (subst (λ n. HearsAt p n to) e h)
 
   -- how many events stand before each line
@@ -513,19 +513,19 @@ module _ (start : Option MetaState) (turns : List Turn) (events : List Event) (l
     tells = record { order = order_told; init = init_told; writes = writes_told; reads = reads_told; placements = placements_told; clocks = clocks_told; makes = makes_told; restarts = restarts_told; hears = hears_told };
   }
 
-  pub line_told_from : (p : TurnPlace) → IsLastTurnPlace turns line p → (line_told.spans).from p ≡ (next.spans).from p
+  pub line_told_from : (p : TurnPosition) → IsLastTurnPosition turns line p → (line_told.spans).from p ≡ (next.spans).from p
   unfolding line_told
   line_told_from p h = new_from p h
 
-  pub line_told_to : (p : TurnPlace) → IsLastTurnPlace turns line p → (line_told.spans).to p ≡ (next.spans).to p
+  pub line_told_to : (p : TurnPosition) → IsLastTurnPosition turns line p → (line_told.spans).to p ≡ (next.spans).to p
   unfolding line_told
   line_told_to p h = new_to p h
 
-  pub line_told_was_from : (p : TurnPlace) → IsTurnPlace turns p → (line_told.spans).from p ≡ (told.spans).from p
+  pub line_told_was_from : (p : TurnPosition) → IsTurnPosition turns p → (line_told.spans).from p ≡ (told.spans).from p
   unfolding line_told
   line_told_was_from p h = old_from p h
 
-  pub line_told_was_to : (p : TurnPlace) → IsTurnPlace turns p → (line_told.spans).to p ≡ (told.spans).to p
+  pub line_told_was_to : (p : TurnPosition) → IsTurnPosition turns p → (line_told.spans).to p ≡ (told.spans).to p
   unfolding line_told
   line_told_was_to p h = old_to p h
 
@@ -539,13 +539,13 @@ module _ (start : Option MetaState) (turns : List Turn) (events : List Event) (l
 
 -- ---- before the first line
 
-pub no_place : (p : TurnPlace) → IsTurnPlace [] p → ⊥
+pub no_place : (p : TurnPosition) → IsTurnPosition [] p → ⊥
 no_place p h = not_empty p.lines p.line h.after h.in_run
 
 pub nothing_at : {X : Type 0} (i : ℕ) (x : X) → At [] i x → ⊥
 nothing_at i x h = cc
 
-nobody : TurnPlace
+nobody : TurnPosition
 nobody = record { lines = []; line = line_of act.Deliver answer.Memory; client = 0; earlier = []; beside = []; turn = record { act = act.Deliver; answer = answer.Memory } }
 
 -- nothing is told by no event

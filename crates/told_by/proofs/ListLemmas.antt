@@ -6,7 +6,7 @@ use Rattle.std.proofs.Common.{◌≡◌, ℕ, ◌<◌, ◌≤◌, ◌-◌, List,
 use Rattle.std.specs.Prelude.{◌⊎◌, Option, Some}
 use Rattle.m3_model.proofs.SplitLemmas.{not_empty}
 use Rattle.transcripts.specs.Placements.{printed}
-use Rattle.transcripts.specs.Record.{InnerTurn, TurnPlace, client_at, lists_by, lists_of, IsLastTurnPlace}
+use Rattle.transcripts.specs.Record.{InnerTurn, TurnPosition, client_at, lists_by, lists_of, IsLastTurnPosition}
 use Rattle.m3_model.specs.declared.placement.Placement.{Placement}
 use Rattle.m3_model.specs.declared.rules.MetaState.{MetaState}
 use Rattle.m3_model.specs.declared.turn.Reply.{Reply}
@@ -19,7 +19,7 @@ use Rattle.cluster_core.specs.declared.event.Event.{Event}
 use Rattle.cluster_core.specs.declared.event.Event.TheVariants as event
 use Rattle.cluster_core.specs.declared.event.StepCall.TheVariants as call
 use Rattle.cluster_core.proofs.ListLemmas.{at_within}
-use Rattle.told_by.specs.Lists.{IsListPlace, MadeBy, TellsLists}
+use Rattle.told_by.specs.Lists.{IsListPosition, MadeBy, TellsLists}
 use Rattle.told_by.specs.Openings.{IsInitOf}
 use Rattle.told_by.specs.Spans.{From, IsEarlier, IsOfTurn, Spans}
 use Rattle.told_by.specs.Told.{Tells, TellsLine}
@@ -46,28 +46,28 @@ module _ (start : Option MetaState) (turns : List Turn) (events : List Event) (l
   abbrev spans : Spans
   spans = record { from = λ p. (lists.spans (p.client - 1)).from p; to = λ p. (lists.spans (p.client - 1)).to p }
 
-  abbrev makers : ℕ → TurnPlace
+  abbrev makers : ℕ → TurnPosition
   makers i = lists.makers (lists.list_of i) i
 
   -- the list of a turn
-  record InList (p : TurnPlace) : Type 0 where
+  record InList (p : TurnPosition) : Type 0 where
     list : ℕ
     low : list < length (lists_of line)
-    here : IsListPlace turns line list p
+    here : IsListPosition turns line list p
     number : p.client - 1 ≡ list
 
-  number_of : (list : ℕ) (p : TurnPlace) → IsListPlace turns line list p → p.client - 1 ≡ list
-  number_of list p h = let at = (h.place).stands in ap (λ n. n - 1) (at.client_is ∙ ap (λ (l : Turn). client_at l.request (length at.front)) (h.place).line_is) ∙ list_by line.request line.reply at.front (p.earlier ++ p.turn ∷ at.later) at.back (ap lists_of (sym (h.place).line_is) ∙ at.in_line) ∙ h.list_is
+  number_of : (list : ℕ) (p : TurnPosition) → IsListPosition turns line list p → p.client - 1 ≡ list
+  number_of list p h = let at = (h.position).stands in ap (λ n. n - 1) (at.client_is ∙ ap (λ (l : Turn). client_at l.request (length at.front)) (h.position).line_is) ∙ list_by line.request line.reply at.front (p.earlier ++ p.turn ∷ at.later) at.back (ap lists_of (sym (h.position).line_is) ∙ at.in_line) ∙ h.list_is
 
-  in_list : (p : TurnPlace) → IsLastTurnPlace turns line p → InList p
+  in_list : (p : TurnPosition) → IsLastTurnPosition turns line p → InList p
   in_list p h = record {
     list = length (h.stands).front;
     low = omega (arith, ap (λ (l : Turn). length (lists_of l)) h.line_is, ap length (h.stands).in_line, length-append (h.stands).front ((p.earlier ++ p.turn ∷ (h.stands).later) ∷ (h.stands).back));
-    here = record { place = h; list_is = refl };
-    number = number_of (length (h.stands).front) p (record { place = h; list_is = refl });
+    here = record { position = h; list_is = refl };
+    number = number_of (length (h.stands).front) p (record { position = h; list_is = refl });
   }
 
-  told_of : (p : TurnPlace) → (l : InList p) → Tells start long (IsListPlace turns line l.list) (length events) (MadeBy events lists.list_of l.list) all (lists.spans l.list) (lists.makers l.list)
+  told_of : (p : TurnPosition) → (l : InList p) → Tells start long (IsListPosition turns line l.list) (length events) (MadeBy events lists.list_of l.list) all (lists.spans l.list) (lists.makers l.list)
   told_of p l = lists.each l.list l.low
 
   -- what is told of a list is told of the line
@@ -78,20 +78,20 @@ module _ (start : Option MetaState) (turns : List Turn) (events : List Event) (l
   own i le = (le, refl)
 
   tells_at : (i : ℕ) (e : Event) → length events ≤ i → At all i e → IsOfTurn e
-      → Tells start long (IsListPlace turns line (lists.list_of i)) (length events) (MadeBy events lists.list_of (lists.list_of i)) all (lists.spans (lists.list_of i)) (lists.makers (lists.list_of i))
+      → Tells start long (IsListPosition turns line (lists.list_of i)) (length events) (MadeBy events lists.list_of (lists.list_of i)) all (lists.spans (lists.list_of i)) (lists.makers (lists.list_of i))
   tells_at i e le there kind = lists.each (lists.list_of i) (lists.of_some i e le there kind)
 
-  ordered : (p q : TurnPlace) → IsLastTurnPlace turns line p → IsLastTurnPlace turns line q → IsEarlier p q → spans.to p ≤ spans.from q
+  ordered : (p q : TurnPosition) → IsLastTurnPosition turns line p → IsLastTurnPosition turns line q → IsEarlier p q → spans.to p ≤ spans.from q
   ordered p q hp hq (inl lt) = absurd (omega (arith, lt, ap length hp.lines_are, ap length hq.lines_are))
   ordered p q hp hq (inr same) =
       let lp = in_list p hp in
       let lq = in_list q hq in
       let one : lq.list ≡ lp.list = sym lq.number ∙ ap (λ n. n - 1) (sym same.1) ∙ lp.number in
-      let here : IsListPlace turns line lp.list q = subst (λ n. IsListPlace turns line n q) one lq.here in
+      let here : IsListPosition turns line lp.list q = subst (λ n. IsListPosition turns line n q) one lq.here in
       subst (λ n. (lists.spans (p.client - 1)).to p ≤ (lists.spans n).from q) (sym (lq.number ∙ one))
       (subst (λ n. (lists.spans n).to p ≤ (lists.spans lp.list).from q) (sym lp.number) ((told_of p lp).order.order p q lp.here here (inr same)))
 
-  init_of : (p : TurnPlace) → (l : InList p) → IsInitOf start long all (lists.spans l.list) p → IsInitOf start long all spans p
+  init_of : (p : TurnPosition) → (l : InList p) → IsInitOf start long all (lists.spans l.list) p → IsInitOf start long all spans p
   init_of p l h = lift_init start p (λ alone. alone) (λ i e there. there) (ap (λ n. (lists.spans n).from p) l.number) (ap (λ n. (lists.spans n).to p) l.number) h
 
   not_first : (0 < length events) ⊎ (more ≡ []) → From (length events) 0 → (e : Event) → At all 0 e → ⊥
@@ -111,7 +111,7 @@ module _ (start : Option MetaState) (turns : List Turn) (events : List Event) (l
         made = λ i e le past there kind.
             let m = (tells_at i e le there kind).order.made i e (own i le) past there kind in
             let number = number_of (lists.list_of i) (makers i) m.0 in
-            ((m.0).place, subst (λ n. ((lists.spans n).from (makers i) ≤ i) × (i < (lists.spans n).to (makers i))) (sym number) m.1);
+            ((m.0).position, subst (λ n. ((lists.spans n).from (makers i) ≤ i) × (i < (lists.spans n).to (makers i))) (sym number) m.1);
       };
       init = record {
         begun = λ none e there. absurd (not_first lists.opened none e there);
@@ -148,10 +148,10 @@ module _ (start : Option MetaState) (turns : List Turn) (events : List Event) (l
     not_earlier = lists.not_earlier;
   }
     where
-      by_order : (p q : TurnPlace) → IsLastTurnPlace turns line p → IsLastTurnPlace turns line q → IsEarlier p q → (was is : Placement) → printed p.turn.answer ≡ Some was → printed q.turn.answer ≡ Some is → was.version ≤ is.version
+      by_order : (p q : TurnPosition) → IsLastTurnPosition turns line p → IsLastTurnPosition turns line q → IsEarlier p q → (was is : Placement) → printed p.turn.answer ≡ Some was → printed q.turn.answer ≡ Some is → was.version ≤ is.version
       by_order p q hp hq (inl lt) was is of_was of_is = absurd (omega (arith, lt, ap length hp.lines_are, ap length hq.lines_are))
       by_order p q hp hq (inr same) was is of_was of_is =
           let lp = in_list p hp in
           let lq = in_list q hq in
           let one : lq.list ≡ lp.list = sym lq.number ∙ ap (λ n. n - 1) (sym same.1) ∙ lp.number in
-          (told_of p lp).placements.not_earlier p q lp.here (subst (λ n. IsListPlace turns line n q) one lq.here) (inr same) was is of_was of_is
+          (told_of p lp).placements.not_earlier p q lp.here (subst (λ n. IsListPosition turns line n q) one lq.here) (inr same) was is of_was of_is

@@ -7,9 +7,9 @@ use Rattle.std.proofs.Common.{◌≡◌, ℕ, zero, suc, ◌≤◌, ◌+◌, Lis
 use Rattle.std.specs.Prelude.{Option, Some}
 use Rattle.m3_model.specs.Members.{IsIn}
 use Rattle.m3_model.specs.Reads.{Found, found_of}
-use Rattle.transcripts.proofs.PlaceLemmas.{only_place}
+use Rattle.transcripts.proofs.PositionLemmas.{only_position}
 use Rattle.transcripts.specs.Placements.{printed}
-use Rattle.transcripts.specs.Record.{TurnPlace, IsLastTurnPlace}
+use Rattle.transcripts.specs.Record.{TurnPosition, IsLastTurnPosition}
 use Rattle.m3_model.specs.declared.act.Act.{Act}
 use Rattle.m3_model.specs.declared.answer.Answer.{Answer}
 use Rattle.m3_model.specs.declared.answer.Answer.TheVariants as answer
@@ -27,7 +27,7 @@ use Rattle.cluster_core.specs.declared.event.StepCall.TheVariants as call
 use Rattle.cluster_core.specs.declared.event.StepReply.{StepReply}
 use Rattle.cluster_core.proofs.ListLemmas.{at_in, at_within}
 use Rattle.told_by.specs.Clocks.{HasClock, IsClockOf, sets_rules}
-use Rattle.told_by.specs.Lines.{PrintsPlace, place_after}
+use Rattle.told_by.specs.Lines.{PrintsPlace, position_after}
 use Rattle.told_by.specs.Openings.{IsInitOf, sets_seed}
 use Rattle.told_by.specs.Placements.{EndsPrinted, HasPlace, PrintsPeers}
 use Rattle.told_by.specs.Reads.{IsStartAt, IsStartOf, IsTold}
@@ -50,8 +50,8 @@ pub among_back : {X : Type 0} (xs ys : List X) (i : ℕ) (x : X) → At (xs ++ y
 among_back xs ys i x h le = let r = at_back xs ys i x h le in at_in ys r.0 x r.2
 
 module _ (start : Option MetaState) (turns : List Turn) (events : List Event) (a : Act) (b : Answer) (more : List Event) where
-  abbrev pub own : TurnPlace
-  own = place_after turns a b
+  abbrev pub own : TurnPosition
+  own = position_after turns a b
 
   abbrev pub long : List Turn
   long = turns ++ line_of a b ∷ []
@@ -62,7 +62,7 @@ module _ (start : Option MetaState) (turns : List Turn) (events : List Event) (a
   abbrev pub spans : Spans
   spans = record { from = λ p. length events; to = λ p. length all }
 
-  abbrev pub makers : ℕ → TurnPlace
+  abbrev pub makers : ℕ → TurnPosition
   makers i = own
 
   -- the line's events tell of its turn
@@ -85,22 +85,22 @@ module _ (start : Option MetaState) (turns : List Turn) (events : List Event) (a
     pub restarts : (i n s : ℕ) (r : StepReply) → length events ≤ i → 2 ≤ i → At all i (event.Step n s call.Restart r) → EndsRestart (From (length events)) all makers own i n s
     pub hears : HearsBy start events (InStretch all (length events) (length all)) own a b
 
-  pub is_last : IsLastTurnPlace turns (line_of a b) own
+  pub is_last : IsLastTurnPosition turns (line_of a b) own
   is_last = record { lines_are = refl; line_is = refl; stands = record { front = []; later = []; back = []; in_line = refl; others = refl; client_is = refl } }
 
-  pub is_own : (q : TurnPlace) → IsLastTurnPlace turns (line_of a b) q → q ≡ own
-  is_own q h = let o = only_place turns a b q h in λ i. record { lines = o.lines_are i; line = h.line_is i; client = o.client_is i; earlier = o.earlier_is i; beside = o.beside_is i; turn = o.turn_is i }
+  pub is_own : (q : TurnPosition) → IsLastTurnPosition turns (line_of a b) q → q ≡ own
+  is_own q h = let o = only_position turns a b q h in λ i. record { lines = o.lines_are i; line = h.line_is i; client = o.client_is i; earlier = o.earlier_is i; beside = o.beside_is i; turn = o.turn_is i }
 
   pub is_alone : IsAlone long own
   is_alone = (line_of a b, at_cut turns (line_of a b) [], refl)
 
   -- a fact of the line's turn is one of each of its turns
-  pub each : (P : TurnPlace → Type 0) → P own → (q : TurnPlace) → IsLastTurnPlace turns (line_of a b) q → P q
+  pub each : (P : TurnPosition → Type 0) → P own → (q : TurnPosition) → IsLastTurnPosition turns (line_of a b) q → P q
   each P h q last = subst P (sym (is_own q last)) h
 
-  not_earlier : (p q : TurnPlace) → p ≡ own → q ≡ own → IsEarlier p q → ⊥
-  not_earlier p q ep eq (inl lt) = omega (arith, lt, ap (λ (x : TurnPlace). length x.lines) ep, ap (λ (x : TurnPlace). length x.lines) eq)
-  not_earlier p q ep eq (inr same) = omega (arith, same.2, ap (λ (x : TurnPlace). length x.earlier) ep, ap (λ (x : TurnPlace). length x.earlier) eq)
+  not_earlier : (p q : TurnPosition) → p ≡ own → q ≡ own → IsEarlier p q → ⊥
+  not_earlier p q ep eq (inl lt) = omega (arith, lt, ap (λ (x : TurnPosition). length x.lines) ep, ap (λ (x : TurnPosition). length x.lines) eq)
+  not_earlier p q ep eq (inr same) = omega (arith, same.2, ap (λ (x : TurnPosition). length x.earlier) ep, ap (λ (x : TurnPosition). length x.earlier) eq)
 
   pub one_told : OneTold → TellsLine start turns events (line_of a b) more
   one_told t = record {
@@ -143,7 +143,7 @@ module _ (start : Option MetaState) (turns : List Turn) (events : List Event) (a
       restarts = t.restarts;
       hears = λ p h. subst (λ es. HearsBy start es (InStretch all (length events) (length all)) p p.turn.act p.turn.answer) (sym (take_front events more (length events) (omega arith) ∙ take_all events)) (each (λ q. HearsBy start events (InStretch all (length events) (length all)) q q.turn.act q.turn.answer) t.hears p h);
     };
-    not_earlier = λ p q hp hq was is of_was of_is. (t.prints).not_earlier p hp was is of_was (ap (λ (x : TurnPlace). printed x.turn.answer) (sym (is_own q hq)) ∙ of_is);
+    not_earlier = λ p q hp hq was is of_was of_is. (t.prints).not_earlier p hp was is of_was (ap (λ (x : TurnPosition). printed x.turn.answer) (sym (is_own q hq)) ∙ of_is);
   }
 
   pub one_told_from : (t : OneTold) → ((one_told t).spans).from own ≡ length events

@@ -7,7 +7,7 @@ use Rattle.m3_model.proofs.MemberLemmas.{IsIn-append_left, IsIn-append_right}
 use Rattle.m3_model.specs.Members.{IsIn}
 use Rattle.transcripts.specs.Placements.{seed_at, seed_by, printed, placement_after, later_placement, newer, start_placement, replicas_of}
 use Rattle.transcripts.specs.Points.{rf_at}
-use Rattle.transcripts.specs.Record.{InnerTurn, TurnPlace, IsTurnPlace, lists_of, joined, inner_turns}
+use Rattle.transcripts.specs.Record.{InnerTurn, TurnPosition, IsTurnPosition, lists_of, joined, inner_turns}
 use Rattle.m3_model.specs.declared.act.Act.{Act}
 use Rattle.m3_model.specs.declared.act.Act.TheVariants as act
 use Rattle.m3_model.specs.declared.answer.Answer.{Answer}
@@ -17,7 +17,7 @@ use Rattle.m3_model.specs.declared.rules.MetaState.{MetaState}
 use Rattle.m3_model.specs.declared.turn.Turn.{Turn}
 use Rattle.placement_core.specs.Lawful.{IsLawful}
 use Rattle.cluster_core.specs.Earlier.{place_after}
-use Rattle.cluster_core.specs.Legal.{Legal, IsFirst}
+use Rattle.cluster_core.specs.Legal.{Legal, IsOpeningPlace}
 use Rattle.cluster_core.specs.Lists.{At}
 use Rattle.cluster_core.specs.declared.event.Event.{Event}
 use Rattle.cluster_core.specs.declared.event.Event.TheVariants as event
@@ -25,7 +25,7 @@ use Rattle.cluster_core.proofs.ListLemmas.{some_same, at_within, at_some, at_sam
 use Rattle.cluster_core.proofs.PlaceLemmas.{Fine, placed_at}
 use Rattle.told_by.specs.Openings.{opening_length, sets_seed, IsInitOf}
 use Rattle.told_by.specs.Told.{ToldBy}
-use Rattle.told_by.proofs.TurnLemmas.{IsIn-flat_map, split_in, Stands, stands, before_line, before_there, in_other_list, is_it, comes_later, alone_is, place_in, at_cut, inner-append, earlier_line}
+use Rattle.told_by.proofs.TurnLemmas.{IsIn-flat_map, split_in, Stands, stands, before_line, before_there, in_other_list, is_it, comes_later, alone_is, position_in, at_cut, inner-append, earlier_line}
 
 -- ---- the first event
 
@@ -34,7 +34,7 @@ pub record FirstEvent (events : List Event) : Type 0 where
   pub lawful : IsLawful place
   pub there : At events 0 (event.Place place [])
 
-first_by : (events : List Event) (e : Event) → At events 0 e → IsFirst e → FirstEvent events
+first_by : (events : List Event) (e : Event) → At events 0 e → IsOpeningPlace e → FirstEvent events
 first_by events (event.Place place done) there h = record { place = place; lawful = h.0; there = there ∙ ap (λ ds. Some (event.Place place ds)) h.1 }
 first_by events _ there h = absurd h
 
@@ -119,31 +119,31 @@ prints_has rf (u ∷ ts) o t place may each m is =
 
 module _ {tells : Bool} (start : Option MetaState) (turns : List Turn) (events : List Event) (legal : Legal tells events) (told : ToldBy start turns events) where
   -- no turn past the `init` that begins the list is one
-  none_before : ((p : TurnPlace) → IsTurnPlace turns p → sets_seed p.turn.act p.turn.answer ≡ true → ⊥) → (p : TurnPlace) → IsTurnPlace turns p → (t : InnerTurn) → IsIn (inner_turns p.lines) t → sets_seed t.act t.answer ≡ false
+  none_before : ((p : TurnPosition) → IsTurnPosition turns p → sets_seed p.turn.act p.turn.answer ≡ true → ⊥) → (p : TurnPosition) → IsTurnPosition turns p → (t : InnerTurn) → IsIn (inner_turns p.lines) t → sets_seed t.act t.answer ≡ false
   none_before none p at t h =
       elim (by_bool (sets_seed t.act t.answer)) as (λ _. sets_seed t.act t.answer ≡ false) [
         | inr e ↦ e
-        | inl e ↦ let q = earlier_line turns p at t h in absurd (none q.place q.in_run (subst (λ (u : InnerTurn). sets_seed u.act u.answer ≡ true) (sym q.turn_is) e))
+        | inl e ↦ let q = earlier_line turns p at t h in absurd (none q.position q.in_run (subst (λ (u : InnerTurn). sets_seed u.act u.answer ≡ true) (sym q.turn_is) e))
       ]
 
   -- Of all turns in whose stretch an event stands the seed is one.
   pub record OneSeed : Type 0 where
     pub seed : ℕ
     pub found : (state : MetaState) → start ≡ Some state → seed ≡ state.seed
-    pub everywhere : (p : TurnPlace) → IsTurnPlace turns p → sets_seed p.turn.act p.turn.answer ≡ false → (i : ℕ) → i < (told.spans).to p → seed_at start p ≡ seed
+    pub everywhere : (p : TurnPosition) → IsTurnPosition turns p → sets_seed p.turn.act p.turn.answer ≡ false → (i : ℕ) → i < (told.spans).to p → seed_at start p ≡ seed
 
-  by_init : (p : TurnPlace) → IsTurnPlace turns p → IsInitOf start turns events told.spans p → OneSeed
+  by_init : (p : TurnPosition) → IsTurnPosition turns p → IsInitOf start turns events told.spans p → OneSeed
   by_init p in_run init = record {
     seed = seed_by p.turn.act p.turn.answer 0;
     found = λ state is. let bad : None ≡ Some state = sym init.found_nothing ∙ is in cc;
-    everywhere = λ b at other i low. by_place b at other i low (stands turns p b in_run at);
+    everywhere = λ b at other i low. by_position b at other i low (stands turns p b in_run at);
   }
     where
-      clash : (b : TurnPlace) → sets_seed b.turn.act b.turn.answer ≡ false → p.turn ≡ b.turn → ⊥
+      clash : (b : TurnPosition) → sets_seed b.turn.act b.turn.answer ≡ false → p.turn ≡ b.turn → ⊥
       clash b other same = let bad : true ≡ false = sym init.sets ∙ ap (λ (t : InnerTurn). sets_seed t.act t.answer) same ∙ other in cc
 
       -- the turns behind its line
-      behind : (b : TurnPlace) → IsTurnPlace turns b → (rest : List Turn) (line : Turn) → b.lines ≡ p.lines ++ line ∷ rest → (t : InnerTurn) → IsIn (inner_turns rest) t → sets_seed t.act t.answer ≡ false
+      behind : (b : TurnPosition) → IsTurnPosition turns b → (rest : List Turn) (line : Turn) → b.lines ≡ p.lines ++ line ∷ rest → (t : InnerTurn) → IsIn (inner_turns rest) t → sets_seed t.act t.answer ≡ false
       behind b at rest line e t h =
           elim (by_bool (sets_seed t.act t.answer)) as (λ _. sets_seed t.act t.answer ≡ false) [
             | inr otherwise ↦ otherwise
@@ -151,7 +151,7 @@ module _ {tells : Bool} (start : Option MetaState) (turns : List Turn) (events :
                 let r = in_rest rest t h in
                 let whole : turns ≡ (p.lines ++ line ∷ r.0) ++ r.1 ∷ (r.2 ++ b.line ∷ at.after) =
                 at.in_run ∙ ap (λ xs. xs ++ b.line ∷ at.after) (e ∙ ap (λ xs. p.lines ++ line ∷ xs) r.3 ∙ sym (append_assoc p.lines (line ∷ r.0) (r.1 ∷ r.2))) ∙ append_assoc (p.lines ++ line ∷ r.0) (r.1 ∷ r.2) (b.line ∷ at.after) in
-                let q = place_in turns (p.lines ++ line ∷ r.0) r.1 (r.2 ++ b.line ∷ at.after) whole t r.4 in
+                let q = position_in turns (p.lines ++ line ∷ r.0) r.1 (r.2 ++ b.line ∷ at.after) whole t r.4 in
                 let other = (told.tells).init.inits q.0 q.1 (subst (λ (u : InnerTurn). sets_seed u.act u.answer ≡ true) (sym q.2) seeds) in
                 let before : (told.spans).to p ≤ (told.spans).from q.0 = (told.tells).order.order p q.0 in_run q.1 (inl (omega (arith, ap length q.3, length-append p.lines (line ∷ r.0)))) in
                 absurd (omega (arith, init.to_above, other.from_is))
@@ -160,8 +160,8 @@ module _ {tells : Bool} (start : Option MetaState) (turns : List Turn) (events :
           in_rest : (lines : List Turn) (t : InnerTurn) → IsIn (inner_turns lines) t → (front : List Turn) × (l : Turn) × (back : List Turn) × (lines ≡ front ++ l ∷ back) × IsIn (joined (lists_of l)) t
           in_rest lines t h = let l = IsIn-flat_map (λ (turn : Turn). joined (lists_of turn)) lines t h in let cut = split_in lines l.0 l.1 in (cut.0, l.0, cut.1, cut.2, l.2)
 
-      by_place : (b : TurnPlace) → IsTurnPlace turns b → sets_seed b.turn.act b.turn.answer ≡ false → (i : ℕ) → i < (told.spans).to b → Stands p b → seed_at start b ≡ seed_by p.turn.act p.turn.answer 0
-      by_place b at other i low (before_line rest line e h) =
+      by_position : (b : TurnPosition) → IsTurnPosition turns b → sets_seed b.turn.act b.turn.answer ≡ false → (i : ℕ) → i < (told.spans).to b → Stands p b → seed_at start b ≡ seed_by p.turn.act p.turn.answer 0
+      by_position b at other i low (before_line rest line e h) =
           let first = option_map_or (λ (state : MetaState). state.seed) start 0 in
           let there : At turns (length p.lines) line = subst (λ ts. At ts (length p.lines) line) (sym (at.in_run ∙ ap (λ xs. xs ++ b.line ∷ at.after) e ∙ append_assoc p.lines (line ∷ rest) (b.line ∷ at.after))) (at_cut p.lines line (rest ++ b.line ∷ at.after)) in
           let own : line ≡ (init.alone).0 = at_same turns (length p.lines) line (init.alone).0 there (init.alone).1 in
@@ -171,10 +171,10 @@ module _ {tells : Bool} (start : Option MetaState) (turns : List Turn) (events :
           ∙ seeds_append first (inner_turns p.lines) (p.turn ∷ inner_turns rest)
           ∙ none_seeds (seed_by p.turn.act p.turn.answer (seed_from first (inner_turns p.lines))) (inner_turns rest) (behind b at rest line e)
           ∙ seed_set p.turn.act p.turn.answer (seed_from first (inner_turns p.lines)) 0 init.sets
-      by_place b at other i low (before_there e h) = absurd (clash b other (alone_is turns p b init.alone at (ap length (sym e))))
-      by_place b at other i low (in_other_list e h) = absurd (clash b other (alone_is turns p b init.alone at (ap length (sym e))))
-      by_place b at other i low (is_it e) = absurd (clash b other (ap (λ (x : TurnPlace). x.turn) e))
-      by_place b at other i low (comes_later e) =
+      by_position b at other i low (before_there e h) = absurd (clash b other (alone_is turns p b init.alone at (ap length (sym e))))
+      by_position b at other i low (in_other_list e h) = absurd (clash b other (alone_is turns p b init.alone at (ap length (sym e))))
+      by_position b at other i low (is_it e) = absurd (clash b other (ap (λ (x : TurnPosition). x.turn) e))
+      by_position b at other i low (comes_later e) =
           let before : (told.spans).to b ≤ (told.spans).from p = (told.tells).order.order b p at in_run e in absurd (omega (arith, init.from_is))
 
   pub one_seed : FirstEvent events → OneSeed
@@ -193,21 +193,21 @@ module _ {tells : Bool} (start : Option MetaState) (turns : List Turn) (events :
 
   -- ---- replicas
 
-  prints_fine : (first : FirstEvent events) → (b : TurnPlace) → IsTurnPlace turns b → EachPrints (first.place).rf (inner_turns b.lines)
+  prints_fine : (first : FirstEvent events) → (b : TurnPosition) → IsTurnPosition turns b → EachPrints (first.place).rf (inner_turns b.lines)
   prints_fine first b at t h place is =
       let q = earlier_line turns b at t h in
-      let placed = (told.tells).placements.is_place q.place q.in_run place (ap (λ (u : InnerTurn). printed u.answer) q.turn_is ∙ is) in
+      let placed = (told.tells).placements.is_place q.position q.in_run place (ap (λ (u : InnerTurn). printed u.answer) q.turn_is ∙ is) in
       (place_fine events legal first.place first.there placed.place_at place placed.done placed.there).rf
 
   -- at a turn in whose stretch an event stands there are as many replicas as in the first placement
-  pub rf_is : (first : FirstEvent events) → (b : TurnPlace) → IsTurnPlace turns b → sets_seed b.turn.act b.turn.answer ≡ false → (i : ℕ) → i < (told.spans).to b → rf_at start b ≡ (first.place).rf
+  pub rf_is : (first : FirstEvent events) → (b : TurnPosition) → IsTurnPosition turns b → sets_seed b.turn.act b.turn.answer ≡ false → (i : ℕ) → i < (told.spans).to b → rf_at start b ≡ (first.place).rf
   rf_is first b at other i low = let h = by_start start refl in ap replicas_of h.1 ∙ h.2
     where
-      by_turn : (p : TurnPlace) → IsTurnPlace turns p → IsInitOf start turns events told.spans p → Stands p b → IsIn (inner_turns b.lines) p.turn
+      by_turn : (p : TurnPosition) → IsTurnPosition turns p → IsInitOf start turns events told.spans p → Stands p b → IsIn (inner_turns b.lines) p.turn
       by_turn p in_run init (before_line rest line e h) = subst (λ xs. IsIn (inner_turns xs) p.turn) (sym e) (subst (λ ts. IsIn ts p.turn) (sym (inner-append p.lines (line ∷ rest))) (IsIn-append_right (inner_turns p.lines) (inner_turns (line ∷ rest)) p.turn (IsIn-append_left (joined (lists_of line)) (inner_turns rest) p.turn h)))
       by_turn p in_run init (before_there e h) = absurd (let bad : true ≡ false = sym init.sets ∙ ap (λ (t : InnerTurn). sets_seed t.act t.answer) (alone_is turns p b init.alone at (ap length (sym e))) ∙ other in cc)
       by_turn p in_run init (in_other_list e h) = absurd (let bad : true ≡ false = sym init.sets ∙ ap (λ (t : InnerTurn). sets_seed t.act t.answer) (alone_is turns p b init.alone at (ap length (sym e))) ∙ other in cc)
-      by_turn p in_run init (is_it e) = absurd (let bad : true ≡ false = sym init.sets ∙ ap (λ (x : TurnPlace). sets_seed x.turn.act x.turn.answer) e ∙ other in cc)
+      by_turn p in_run init (is_it e) = absurd (let bad : true ≡ false = sym init.sets ∙ ap (λ (x : TurnPosition). sets_seed x.turn.act x.turn.answer) e ∙ other in cc)
       by_turn p in_run init (comes_later e) = let before : (told.spans).to b ≤ (told.spans).from p = (told.tells).order.order b p at in_run e in absurd (omega (arith, init.from_is))
 
       by_start : (o : Option MetaState) → start ≡ o → HasReplicas (first.place).rf (placement_after (start_placement start) (inner_turns b.lines))

@@ -18,7 +18,7 @@ use Rattle.m3_model.proofs.FindLemmas.{IsIn-get, entries_ascend, get-IsIn}
 use Rattle.m3_model.proofs.Keyed.{key_cmp-IsAntisymmetric}
 use Rattle.m3_model.proofs.MemberLemmas.{IsIn-append_cases, IsIn-append_left, IsIn-append_right, IsIn-map, map-IsIn}
 use Rattle.placement_core.proofs.ListLemmas.{IsIn-from_Any, each-from_All}
-use Rattle.cluster_core.specs.Answers.{AsksFor, GoesOn, IsBelow, IsInBlock, IsPage, IsPast, IsUpTo}
+use Rattle.cluster_core.specs.Answers.{AsksFor, GoesOn, IsKeyBelow, IsInBlock, IsPage, IsPastKey, IsUpTo}
 use Rattle.cluster_core.specs.Lists.{At}
 use Rattle.cluster_core.specs.Replicas.{IsGone, Shows}
 use Rattle.cluster_core.specs.Shown.{IsPageOf, Says}
@@ -31,7 +31,7 @@ use Rattle.told_by.proofs.ContentLemmas.{Goes, Parted, Stays, by_key, below_not_
 
 -- ---- tests of what a page asks for
 
-past_or_not : (from : Option Key) (k : Key) → IsPast from k ⊎ (IsPast from k → ⊥)
+past_or_not : (from : Option Key) (k : Key) → IsPastKey from k ⊎ (IsPastKey from k → ⊥)
 past_or_not None k = inl tt
 past_or_not (Some a) k = below_or_not a k
 
@@ -91,7 +91,7 @@ point_by e = point_at e.0 e.1
 
 points_ascend : (es : List (Key × ℤ)) → Ascends (λ a b. key_cmp a.0 b.0 ≡ Less) es → Ascends by_key (map point_by es)
 points_ascend [] a = tt
-points_ascend (e ∷ es) a = ((λ q m. let o = IsIn-map point_by es q m in subst (λ z. IsBelow e.0 (key_of z)) o.2 (a.0 o.0 o.1)), points_ascend es a.1)
+points_ascend (e ∷ es) a = ((λ q m. let o = IsIn-map point_by es q m in subst (λ z. IsKeyBelow e.0 (key_of z)) o.2 (a.0 o.0 o.1)), points_ascend es a.1)
 
 module _ (r : ReplicaState) (c : StepCall) (page : Page) (is : IsPage r c page) where
   abbrev rest : Parted (Stays r page.points) (Goes r page.points) by_key r.sure
@@ -228,21 +228,21 @@ module _ (r : ReplicaState) (c : StepCall) (page : Page) (is : IsPage r c page) 
   -- where it goes on, some point that is asked for follows
   by_some : (next : Key) → page.next ≡ Some next → GoesOn r c page next → (shown : Contents) × Shows r shown × IsPageOf shown c page
   by_some next e g =
-      let m = IsIn-from_Any (λ p. AsksFor c p × IsBelow next (key_of p)) r.sure g.more in
+      let m = IsIn-from_Any (λ p. AsksFor c p × IsKeyBelow next (key_of p)) r.sure g.more in
       let more = m.0 in
-      let below : (x : Point) → IsIn page.points x → (k : Key) → IsBelow next k → IsBelow (key_of x) k =
-      λ x mx k past. elim (last_top by_key page.points 63 g.last is.ascending g.at_end g.full x mx) as (λ _. IsBelow (key_of x) k) [
-        | inl same ↦ subst (λ z. IsBelow z k) (sym (ap key_of same ∙ g.next_is)) past
-        | inr before ↦ key_cmp_total.trans (key_of x) next k (subst (IsBelow (key_of x)) g.next_is before) past
+      let below : (x : Point) → IsIn page.points x → (k : Key) → IsKeyBelow next k → IsKeyBelow (key_of x) k =
+      λ x mx k past. elim (last_top by_key page.points 63 g.last is.ascending g.at_end g.full x mx) as (λ _. IsKeyBelow (key_of x) k) [
+        | inl same ↦ subst (λ z. IsKeyBelow z k) (sym (ap key_of same ∙ g.next_is)) past
+        | inr before ↦ key_cmp_total.trans (key_of x) next k (subst (IsKeyBelow (key_of x)) g.next_is before) past
       ] in
       let sure : (y : Point) → IsIn (more ∷ []) y → IsIn r.sure y = λ y k. elim k as (λ _. IsIn r.sure y) [ inl same ↦ subst (IsIn r.sure) same m.1 | inr none ↦ absurd none ] in
       let apart : (y : Point) → IsIn (more ∷ []) y → (x : Point) → IsIn page.points x → key_of x ≡ key_of y → ⊥ =
-      λ y k x mx same. elim k as (λ _. ⊥) [ inl is_more ↦ below_not_same (key_of x) (key_of y) (below x mx (key_of y) (subst (λ z. IsBelow next (key_of z)) is_more (m.2).1)) same | inr none ↦ none ] in
+      λ y k x mx same. elim k as (λ _. ⊥) [ inl is_more ↦ below_not_same (key_of x) (key_of y) (below x mx (key_of y) (subst (λ z. IsKeyBelow next (key_of z)) is_more (m.2).1)) same | inr none ↦ none ] in
       let up : (x : Point) → IsIn page.points x → IsUpTo page.next (key_of x) = λ x mx. subst (λ n. IsUpTo n (key_of x)) (sym e) (λ past. below_not_same (key_of x) (key_of x) (below x mx (key_of x) past) refl) in
-      let past_next : (y : Point) → IsIn (rest.kept ++ more ∷ []) y → AsksFor c y → IsBelow next (key_of y) =
-      λ y k asks. elim (IsIn-append_cases rest.kept (more ∷ []) y k) as (λ _. IsBelow next (key_of y)) [
-        | inl kept ↦ elim (below_or_not next (key_of y)) as (λ _. IsBelow next (key_of y)) [ inl past ↦ past | inr not ↦ absurd (not_up y kept asks (subst (λ n. IsUpTo n (key_of y)) (sym e) not)) ]
-        | inr last ↦ elim last as (λ _. IsBelow next (key_of y)) [ inl is_more ↦ subst (λ z. IsBelow next (key_of z)) is_more (m.2).1 | inr none ↦ absurd none ]
+      let past_next : (y : Point) → IsIn (rest.kept ++ more ∷ []) y → AsksFor c y → IsKeyBelow next (key_of y) =
+      λ y k asks. elim (IsIn-append_cases rest.kept (more ∷ []) y k) as (λ _. IsKeyBelow next (key_of y)) [
+        | inl kept ↦ elim (below_or_not next (key_of y)) as (λ _. IsKeyBelow next (key_of y)) [ inl past ↦ past | inr not ↦ absurd (not_up y kept asks (subst (λ n. IsUpTo n (key_of y)) (sym e) not)) ]
+        | inr last ↦ elim last as (λ _. IsKeyBelow next (key_of y)) [ inl is_more ↦ subst (λ z. IsKeyBelow next (key_of z)) is_more (m.2).1 | inr none ↦ absurd none ]
       ] in
       let above : (y : Point) → IsIn (rest.kept ++ more ∷ []) y → AsksFor c y → (x : Point) → IsIn page.points x → by_key x y = λ y k asks x mx. below x mx (key_of y) (past_next y k asks) in
       by_more next e g more (more ∷ []) (inl refl) (m.2).0 sure apart up above

@@ -8,7 +8,7 @@ use Rattle.m3_model.specs.declared.rules.MetaState.{MetaState}
 use Rattle.m3_model.specs.declared.turn.Turn.{Turn}
 use Rattle.transcripts.proofs.PlacementLemmas.{after_from}
 use Rattle.transcripts.specs.Placements.{later_placement, newer, placement_after, printed, start_placement}
-use Rattle.transcripts.specs.Record.{InnerTurn, TurnPlace, IsTurnPlace, inner_turns, joined, lists_of}
+use Rattle.transcripts.specs.Record.{InnerTurn, TurnPosition, IsTurnPosition, inner_turns, joined, lists_of}
 use Rattle.cluster_core.specs.Earlier.{last_place}
 use Rattle.cluster_core.specs.Legal.{Legal}
 use Rattle.cluster_core.specs.Lists.{At}
@@ -23,7 +23,7 @@ use Rattle.told_by.specs.Told.{ToldBy}
 use Rattle.told_by.proofs.KeptLemmas.{opening_low}
 use Rattle.told_by.proofs.LeaveLemmas.{place_there}
 use Rattle.told_by.proofs.OpeningLemmas.{first_event, place_fine}
-use Rattle.told_by.proofs.TurnLemmas.{IsIn-flat_map, at_cut, cut_at, flat_map-IsIn, in_its_line, place_in}
+use Rattle.told_by.proofs.TurnLemmas.{IsIn-flat_map, at_cut, cut_at, flat_map-IsIn, in_its_line, position_in}
 
 -- ---- versions of Places
 
@@ -122,12 +122,12 @@ module _ (start : Option MetaState) (turns : List Turn) (events : List Event) (t
   ends_within k high = omega (arith, ends_grow k (length turns) high (omega arith), (told.lines).last)
 
 module _ {tells : Bool} (start : Option MetaState) (turns : List Turn) (events : List Event) (legal : Legal tells events) (told : ToldBy start turns events) where
-  -- a turn of the first lines, at its place
+  -- a turn of the first lines, at its position
   record InFront (k : ℕ) (t : InnerTurn) : Type 0 where
-    place : TurnPlace
-    in_run : IsTurnPlace turns place
-    turn_is : place.turn ≡ t
-    early : length place.lines < k
+    position : TurnPosition
+    in_run : IsTurnPosition turns position
+    turn_is : position.turn ≡ t
+    early : length position.lines < k
 
   in_front : (k : ℕ) (t : InnerTurn) → IsIn (inner_turns (take k turns)) t → InFront k t
   in_front k t m =
@@ -135,16 +135,16 @@ module _ {tells : Bool} (start : Option MetaState) (turns : List Turn) (events :
       let i = in_at (take k turns) l.0 l.1 in
       let at = at_take turns i.0 k l.0 i.1 in
       let cut = cut_at turns i.0 l.0 at.0 in
-      let q = place_in turns cut.0 l.0 cut.1 cut.2 t l.2 in
-      record { place = q.0; in_run = q.1; turn_is = q.2; early = omega (arith, ap length {x = (q.0).lines} q.3, cut.3, at.1) }
+      let q = position_in turns cut.0 l.0 cut.1 cut.2 t l.2 in
+      record { position = q.0; in_run = q.1; turn_is = q.2; early = omega (arith, ap length {x = (q.0).lines} q.3, cut.3, at.1) }
 
-  among_front : (k : ℕ) (q : TurnPlace) → IsTurnPlace turns q → length q.lines < k → IsIn (inner_turns (take k turns)) q.turn
+  among_front : (k : ℕ) (q : TurnPosition) → IsTurnPosition turns q → length q.lines < k → IsIn (inner_turns (take k turns)) q.turn
   among_front k q at early =
       flat_map-IsIn (λ (line : Turn). joined (lists_of line)) (take k turns) q.line q.turn
       (at_in (take k turns) (length q.lines) q.line (take_at turns (length q.lines) k q.line (subst (λ ts. At ts (length q.lines) q.line) (sym at.in_run) (at_cut q.lines q.line at.after)) early)) (in_its_line q at.stands)
 
-  -- a turn in whose stretch a place before the line stands is of an earlier line
-  is_early : (k i : ℕ) (q : TurnPlace) → IsTurnPlace turns q → (told.spans).from q ≤ i → i < told.ends k → length q.lines < k
+  -- a turn in whose stretch a position before the line stands is of an earlier line
+  is_early : (k i : ℕ) (q : TurnPosition) → IsTurnPosition turns q → (told.spans).from q ≤ i → i < told.ends k → length q.lines < k
   is_early k i q at from before =
       elim (cases_lt (length q.lines) k) as (λ _. length q.lines < k) [
         | inl lt ↦ lt
@@ -163,10 +163,10 @@ module _ {tells : Bool} (start : Option MetaState) (turns : List Turn) (events :
         | inl base ↦ by_start start refl base
         | inr t ↦
             let q = in_front k t.0 t.1 in
-            let h = (told.tells).placements.is_place q.place q.in_run p (ap (λ (u : InnerTurn). printed u.answer) q.turn_is ∙ t.2) in
+            let h = (told.tells).placements.is_place q.position q.in_run p (ap (λ (u : InnerTurn). printed u.answer) q.turn_is ∙ t.2) in
             let early = q.early in
-            let less : length (q.place).lines < length turns = omega (arith, early, high) in
-            (h.place_at, h.done, h.there, omega (arith, h.in_time, (told.lines).high q.place q.in_run, ends_grow start turns events told (suc (length (q.place).lines)) k early high))
+            let less : length (q.position).lines < length turns = omega (arith, early, high) in
+            (h.place_at, h.done, h.there, omega (arith, h.in_time, (told.lines).high q.position q.in_run, ends_grow start turns events told (suc (length (q.position).lines)) k early high))
       ]
     where
       by_start : (o : Option MetaState) → start ≡ o → start_placement o ≡ Some p → (i : ℕ) × (done : List (ℕ × ℕ)) × At events i (event.Place p done) × (i < told.ends k)

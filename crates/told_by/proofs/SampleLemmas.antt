@@ -16,7 +16,7 @@ use Rattle.m3_model.specs.declared.point.Series.{Series}
 use Rattle.m3_model.specs.declared.rules.MetaState.{MetaState}
 use Rattle.m3_model.specs.declared.turn.Turn.{Turn}
 use Rattle.transcripts.specs.Record.{line_of}
-use Rattle.transcripts.specs.Record.{TurnPlace, inner_turns}
+use Rattle.transcripts.specs.Record.{TurnPosition, inner_turns}
 use Rattle.cluster_core.proofs.HeldLemmas.{covers_here}
 use Rattle.cluster_core.specs.Lists.{At}
 use Rattle.cluster_core.specs.declared.event.Event.{Event}
@@ -30,7 +30,7 @@ use Rattle.cluster_core.specs.declared.event.StepCall.TheVariants as call
 use Rattle.transcripts.specs.Placements.{IsCounted, counted_nodes}
 use Rattle.told_by.specs.Hears.{HasServed, HasStep, HearsOpened, InStretch, IsBeginOf, IsFirstBegun}
 use Rattle.placement_core.proofs.ListLemmas.{IsIn-from_Any}
-use Rattle.told_by.specs.Lines.{IsAskOrStep, AreSteps, Finds, place_after}
+use Rattle.told_by.specs.Lines.{IsAskOrStep, AreSteps, Finds, position_after}
 use Rattle.told_by.specs.Makes.{CountsOwnPuts, CountsOwnReads, EndsRestart, MayMake}
 use Rattle.told_by.specs.Spans.{From}
 use Rattle.told_by.specs.Reads.{Asking}
@@ -42,7 +42,7 @@ use Rattle.told_by.proofs.LineLemmas.{line_told, no_place, told_at_first}
 use Rattle.told_by.proofs.OneLemmas.{at_back}
 use Rattle.cluster_core.proofs.ListLemmas.{some_same, at_any, at_same, in_at}
 
--- of each element of a list, by its place
+-- of each element of a list, by its position
 abbrev pub Each : {X : Type 0} → (ℕ → X → Type 0) → ℕ → List X → Type 0
 Each P k [] = ⊤
 Each P k (x ∷ xs) = P k x × Each P (suc k) xs
@@ -54,13 +54,13 @@ each_at P k (y ∷ xs) h (suc j) x there = let here : suc k + j ≡ k + suc j = 
 
 -- what a line makes, event by event
 pub makes_each : (start : Option MetaState) (turns : List Turn) (events : List Event) (a : Act) (b : Answer) (more : List Event)
-    → Each (λ j e. 2 ≤ length events + j → MayMake start (take (length events + j) (events ++ more)) (place_after turns a b) e) 0 more
-    → (i : ℕ) (e : Event) → length events ≤ i → 2 ≤ i → At (events ++ more) i e → MayMake start (take i (events ++ more)) (place_after turns a b) e
+    → Each (λ j e. 2 ≤ length events + j → MayMake start (take (length events + j) (events ++ more)) (position_after turns a b) e) 0 more
+    → (i : ℕ) (e : Event) → length events ≤ i → 2 ≤ i → At (events ++ more) i e → MayMake start (take i (events ++ more)) (position_after turns a b) e
 makes_each start turns events a b more each i e le past there =
     let r = at_back events more i e there le in
     let place : length events + (0 + r.0) ≡ i = omega (arith, r.1) in
-    subst (λ n. 2 ≤ n → MayMake start (take n (events ++ more)) (place_after turns a b) e) place
-    (each_at (λ j x. 2 ≤ length events + j → MayMake start (take (length events + j) (events ++ more)) (place_after turns a b) x) 0 more each r.0 e r.2) past
+    subst (λ n. 2 ≤ n → MayMake start (take n (events ++ more)) (position_after turns a b) e) place
+    (each_at (λ j x. 2 ≤ length events + j → MayMake start (take (length events + j) (events ++ more)) (position_after turns a b) x) 0 more each r.0 e r.2) past
 
 -- a Restart
 abbrev pub IsRestart : Event → Type 0
@@ -69,7 +69,7 @@ IsRestart _ = ⊥
 
 -- a line without Restarts
 pub restarts_none : (events : List Event) (a : Act) (b : Answer) (turns : List Turn) (more : List Event) → Each (λ j e. IsRestart e → ⊥) 0 more → (i n s : ℕ) (r : StepReply) → length events ≤ i → 2 ≤ i → At (events ++ more) i (event.Step n s call.Restart r)
-    → EndsRestart (From (length events)) (events ++ more) (λ _. place_after turns a b) (place_after turns a b) i n s
+    → EndsRestart (From (length events)) (events ++ more) (λ _. position_after turns a b) (position_after turns a b) i n s
 restarts_none events a b turns more none i n s r le past there = let m = at_back events more i (event.Step n s call.Restart r) there le in absurd (each_at (λ j e. IsRestart e → ⊥) 0 more none m.0 (event.Step n s call.Restart r) m.2 tt)
 
 none : ⊥ → ⊥
@@ -156,15 +156,15 @@ told_space = line_told None first of_init (line_of spaced answer.Done) of_space 
 abbrev before_write : List Event
 before_write = of_init ++ of_space
 
-abbrev writing : TurnPlace
-writing = place_after second written acked
+abbrev writing : TurnPosition
+writing = position_after second written acked
 
 -- the replica took the point of the write's Send
 took : (past : List Event) → At past 6 (event.Send 1 0 point) → At past 8 (event.Step 0 0 put reply.Done) → CountsOwnPuts None past writing 6 (0 ∷ [])
 took past sent step version s p there node (inl is) =
     let same : event.Send 1 0 point ≡ event.Send version s p = at_same past 6 (event.Send 1 0 point) (event.Send version s p) sent there in
     let moved : event.Step 0 0 put reply.Done ≡ event.Step node s (call.Put 0 0 rules version p) reply.Done = cc in
-    record { place = 8; later = omega arith; took = step ∙ ap Some moved }
+    record { position = 8; later = omega arith; took = step ∙ ap Some moved }
 took past sent step version s p there node (inr none) = absurd none
 
 told_write : ToldBy None third (before_write ++ of_write)
@@ -235,8 +235,8 @@ told_write =
 abbrev before_read : List Event
 before_read = before_write ++ of_write
 
-abbrev pub reading : TurnPlace
-reading = place_after third fetched found
+abbrev pub reading : TurnPosition
+reading = position_after third fetched found
 
 abbrev asking : Asking
 asking = record { read = record { pick = pick.One 0 name; from = 0; to = 10; level = level.Majority }; call = record { id = Some name; version = None; needed = needed_read level.Majority }; place = place }
@@ -246,7 +246,7 @@ answered : (past : List Event) → At past 10 (event.FetchStart 1 0 rules (pick.
 answered past started step version s by chosen from to there node (inl is) =
     let same : event.FetchStart 1 0 rules (pick.One 0 name) 0 10 ≡ event.FetchStart version s by chosen from to = at_same past 10 (event.FetchStart 1 0 rules (pick.One 0 name) 0 10) (event.FetchStart version s by chosen from to) started there in
     let moved : event.Step 0 0 read (reply.Found series) ≡ event.Step node s (call.Read 0 1 rules version chosen from to) (reply.Found series) = cc in
-    record { place = 12; later = omega arith; series = series; answered = step ∙ ap Some moved }
+    record { position = 12; later = omega arith; series = series; answered = step ∙ ap Some moved }
 answered past started step version s by chosen from to there node (inr none) = absurd none
 
 served_read : (s : ℕ) → s ≡ shard_of name 0 1 → (node : ℕ) → IsIn (0 ∷ []) node → HasServed None (InStretch (before_read ++ of_read) 10 14) reading place s node

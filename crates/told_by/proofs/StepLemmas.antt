@@ -22,10 +22,10 @@ use Rattle.cluster_core.specs.declared.event.StepCall.TheVariants as call
 use Rattle.cluster_core.specs.declared.event.StepReply.{StepReply}
 use Rattle.cluster_core.proofs.ListLemmas.{some_same}
 use Rattle.transcripts.specs.Placements.{printed}
-use Rattle.transcripts.specs.Record.{TurnPlace}
+use Rattle.transcripts.specs.Record.{TurnPosition}
 use Rattle.told_by.specs.Clocks.{sets_rules}
 use Rattle.told_by.specs.Hears.{HearsBy, InStretch}
-use Rattle.told_by.specs.Lines.{IsPlain, MayChange, PlainLine, place_after}
+use Rattle.told_by.specs.Lines.{IsPlain, MayChange, PlainLine, position_after}
 use Rattle.told_by.specs.Makes.{MayAsk, MayChangePlace, MayMake}
 use Rattle.told_by.specs.Openings.{sets_seed}
 use Rattle.told_by.specs.Steps.{EndsGone, IsUnmoved, StepsTell, UnmovedTell}
@@ -38,10 +38,10 @@ use Rattle.told_by.proofs.OneLemmas.{at_back}
 
 -- ---- what each of the acts may ask, hears and sets
 
-step_asks : (start : Option MetaState) (past : List Event) (p : TurnPlace) (what : Asked) (a : Act) → is_step_act a ≡ true → MayChangePlace past what → MayAsk start past p a what
+step_asks : (start : Option MetaState) (past : List Event) (p : TurnPosition) (what : Asked) (a : Act) → is_step_act a ≡ true → MayChangePlace past what → MayAsk start past p a what
 step_asks start past p what = by_step (λ a. MayChangePlace past what → MayAsk start past p a what) (λ node group h. h) (λ node h. h) (λ node h. h) (λ node h. h) (λ node by group h. h)
 
-placed_hears : (start : Option MetaState) (past : List Event) (Here : ℕ → Event → Type 0) (p : TurnPlace) (next : Placement) (version : ℕ) (a : Act) → is_step_act a ≡ true → HearsBy start past Here p a (answer.Placed next version)
+placed_hears : (start : Option MetaState) (past : List Event) (Here : ℕ → Event → Type 0) (p : TurnPosition) (next : Placement) (version : ℕ) (a : Act) → is_step_act a ≡ true → HearsBy start past Here p a (answer.Placed next version)
 placed_hears start past Here p next version = by_step (λ a. HearsBy start past Here p a (answer.Placed next version)) (λ node group. tt) (λ node. tt) (λ node. tt) (λ node. tt) (λ node by group. tt)
 
 placed_plain : (next : Placement) (version : ℕ) (a : Act) → is_step_act a ≡ true → IsPlain a (answer.Placed next version)
@@ -77,8 +77,8 @@ module _ (next : Placement) where
     abbrev added : List Event
     added = event.Ask (asked.Place next []) ∷ event.Place next [] ∷ ends
 
-    abbrev own : TurnPlace
-    own = place_after turns a (answer.Placed next next.version)
+    abbrev own : TurnPosition
+    own = position_after turns a (answer.Placed next next.version)
 
     -- behind its Place the placement stands
     pub last_behind : (k : ℕ) → last_place (events ++ take (suc (suc k)) added) ≡ Some next
@@ -146,7 +146,7 @@ unmoved_quiet answer.Memory h = (refl, refl)
 unmoved_quiet answer.Full h = (refl, refl)
 unmoved_quiet _ h = absurd h
 
-unmoved_hears : (start : Option MetaState) (past : List Event) (Here : ℕ → Event → Type 0) (p : TurnPlace) (a : Act) → is_step_act a ≡ true → (b : Answer) → IsUnmoved b → HearsBy start past Here p a b
+unmoved_hears : (start : Option MetaState) (past : List Event) (Here : ℕ → Event → Type 0) (p : TurnPosition) (a : Act) → is_step_act a ≡ true → (b : Answer) → IsUnmoved b → HearsBy start past Here p a b
 unmoved_hears start past Here p a step answer.Order h = by_step (λ x. HearsBy start past Here p x answer.Order) (λ node group. tt) (λ node. tt) (λ node. tt) (λ node. tt) (λ node by group. tt) a step
 unmoved_hears start past Here p a step (answer.Unknown name) h = by_step (λ x. HearsBy start past Here p x (answer.Unknown name)) (λ node group. tt) (λ node. tt) (λ node. tt) (λ node. tt) (λ node by group. tt) a step
 unmoved_hears start past Here p a step (answer.Limit limit) h = by_step (λ x. HearsBy start past Here p x (answer.Limit limit)) (λ node group. tt) (λ node. tt) (λ node. tt) (λ node. tt) (λ node by group. tt) a step
@@ -173,7 +173,7 @@ unmoved_tell start turns events a b step unmoved =
       makes = record {
         makes = λ i e le two there. let r = at_back events [] i e there le in absurd (nothing_at r.0 e r.2);
         restarts = λ i n s r le two there. let x = at_back events [] i (event.Step n s call.Restart r) there le in absurd (nothing_at x.0 (event.Step n s call.Restart r) x.2);
-        hears = unmoved_hears start events (InStretch (events ++ []) (length events) (length (events ++ []))) (place_after turns a b) a step b unmoved;
+        hears = unmoved_hears start events (InStretch (events ++ []) (length events) (length (events ++ []))) (position_after turns a b) a step b unmoved;
       };
       plain = unmoved_plain a b step unmoved;
       opened = inr refl;

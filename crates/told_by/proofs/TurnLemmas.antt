@@ -5,7 +5,7 @@ use Rattle.std.proofs.lemmas.Bool.{cases_lt, cases_eq}
 use Rattle.std.proofs.lemmas.Grind.{flat_map-append}
 use Rattle.m3_model.proofs.MemberLemmas.{IsIn-append_left, IsIn-append_right, IsIn-append_cases}
 use Rattle.m3_model.specs.Members.{IsIn}
-use Rattle.transcripts.specs.Record.{InnerTurn, TurnPlace, IsTurnPlace, IsInLine, client_at, lists_of, joined, inner_turns}
+use Rattle.transcripts.specs.Record.{InnerTurn, TurnPosition, IsTurnPosition, IsInLine, client_at, lists_of, joined, inner_turns}
 use Rattle.m3_model.specs.declared.turn.Turn.{Turn}
 use Rattle.cluster_core.specs.Lists.{At}
 use Rattle.cluster_core.proofs.ListLemmas.{some_same, at_same}
@@ -78,48 +78,48 @@ cut_at (y ∷ ys) (suc i) x e = let r = cut_at ys i x e in (y ∷ r.0, r.1, ap (
 pub inner-append : (xs ys : List Turn) → inner_turns (xs ++ ys) ≡ inner_turns xs ++ inner_turns ys
 inner-append xs ys = flat_map-append (λ (turn : Turn). joined (lists_of turn)) xs ys
 
--- ---- the places of turns
+-- ---- the positions of turns
 
--- a turn of the run stands somewhere, in a line before this place
-pub record InEarlierLine (turns : List Turn) (b : TurnPlace) (t : InnerTurn) : Type 0 where
-  pub place : TurnPlace
-  pub in_run : IsTurnPlace turns place
-  pub turn_is : place.turn ≡ t
-  pub earlier : length place.lines < length b.lines
+-- a turn of the run stands somewhere, in a line before this position
+pub record InEarlierLine (turns : List Turn) (b : TurnPosition) (t : InnerTurn) : Type 0 where
+  pub position : TurnPosition
+  pub in_run : IsTurnPosition turns position
+  pub turn_is : position.turn ≡ t
+  pub earlier : length position.lines < length b.lines
 
-pub place_in : (turns lines : List Turn) (line : Turn) (after : List Turn) → turns ≡ lines ++ line ∷ after → (t : InnerTurn) → IsIn (joined (lists_of line)) t
-    → (q : TurnPlace) × IsTurnPlace turns q × (q.turn ≡ t) × (q.lines ≡ lines)
-place_in turns lines line after e t h =
+pub position_in : (turns lines : List Turn) (line : Turn) (after : List Turn) → turns ≡ lines ++ line ∷ after → (t : InnerTurn) → IsIn (joined (lists_of line)) t
+    → (q : TurnPosition) × IsTurnPosition turns q × (q.turn ≡ t) × (q.lines ≡ lines)
+position_in turns lines line after e t h =
     let list = IsIn-flat_map (λ (xs : List InnerTurn). xs) (lists_of line) t h in
     let around = split_in (lists_of line) list.0 list.1 in
     let within = split_in list.0 t list.2 in
-    let q : TurnPlace = record { lines = lines; line = line; client = client_at line.request (length around.0); earlier = within.0; beside = joined around.0 ++ joined around.1; turn = t } in
+    let q : TurnPosition = record { lines = lines; line = line; client = client_at line.request (length around.0); earlier = within.0; beside = joined around.0 ++ joined around.1; turn = t } in
     (q, record { after = after; in_run = e; stands = record { front = around.0; later = within.1; back = around.1; in_line = around.2 ∙ ap (λ (xs : List InnerTurn). around.0 ++ xs ∷ around.1) within.2; others = refl; client_is = refl } }, refl, refl)
 
-pub earlier_line : (turns : List Turn) (b : TurnPlace) → IsTurnPlace turns b → (t : InnerTurn) → IsIn (inner_turns b.lines) t → InEarlierLine turns b t
+pub earlier_line : (turns : List Turn) (b : TurnPosition) → IsTurnPosition turns b → (t : InnerTurn) → IsIn (inner_turns b.lines) t → InEarlierLine turns b t
 earlier_line turns b at t h =
     let line = IsIn-flat_map (λ (turn : Turn). joined (lists_of turn)) b.lines t h in
     let cut = split_in b.lines line.0 line.1 in
     let whole : turns ≡ cut.0 ++ line.0 ∷ (cut.1 ++ b.line ∷ at.after) = at.in_run ∙ ap (λ xs. xs ++ b.line ∷ at.after) cut.2 ∙ append_assoc cut.0 (line.0 ∷ cut.1) (b.line ∷ at.after) in
-    let q = place_in turns cut.0 line.0 (cut.1 ++ b.line ∷ at.after) whole t line.2 in
-    record { place = q.0; in_run = q.1; turn_is = q.2; earlier = omega (arith, ap length q.3, ap length cut.2, length-append cut.0 (line.0 ∷ cut.1)) }
+    let q = position_in turns cut.0 line.0 (cut.1 ++ b.line ∷ at.after) whole t line.2 in
+    record { position = q.0; in_run = q.1; turn_is = q.2; earlier = omega (arith, ap length q.3, ap length cut.2, length-append cut.0 (line.0 ∷ cut.1)) }
 
--- a turn of the run stands earlier in the list of this place
-pub record InOwnList (turns : List Turn) (b : TurnPlace) (t : InnerTurn) : Type 0 where
-  pub place : TurnPlace
-  pub in_run : IsTurnPlace turns place
-  pub turn_is : place.turn ≡ t
-  pub lines_are : place.lines ≡ b.lines
-  pub client_is : place.client ≡ b.client
-  pub earlier : length place.earlier < length b.earlier
+-- a turn of the run stands earlier in the list of this position
+pub record InOwnList (turns : List Turn) (b : TurnPosition) (t : InnerTurn) : Type 0 where
+  pub position : TurnPosition
+  pub in_run : IsTurnPosition turns position
+  pub turn_is : position.turn ≡ t
+  pub lines_are : position.lines ≡ b.lines
+  pub client_is : position.client ≡ b.client
+  pub earlier : length position.earlier < length b.earlier
 
-pub own_list : (turns : List Turn) (b : TurnPlace) → IsTurnPlace turns b → (t : InnerTurn) → IsIn b.earlier t → InOwnList turns b t
+pub own_list : (turns : List Turn) (b : TurnPosition) → IsTurnPosition turns b → (t : InnerTurn) → IsIn b.earlier t → InOwnList turns b t
 own_list turns b at t h =
     let here = at.stands in
     let cut = split_in b.earlier t h in
-    let q : TurnPlace = record { lines = b.lines; line = b.line; client = b.client; earlier = cut.0; beside = b.beside; turn = t } in
+    let q : TurnPosition = record { lines = b.lines; line = b.line; client = b.client; earlier = cut.0; beside = b.beside; turn = t } in
     record {
-      place = q;
+      position = q;
       in_run = record {
         after = at.after;
         in_run = at.in_run;
@@ -138,10 +138,10 @@ own_list turns b at t h =
       earlier = omega (arith, ap length cut.2, length-append cut.0 (t ∷ cut.1));
     }
 
--- ---- two places of one run
+-- ---- two positions of one run
 
 -- what one turn of the run is to another
-pub data Stands (q b : TurnPlace) : Type 0 where
+pub data Stands (q b : TurnPosition) : Type 0 where
   before_line : (rest : List Turn) (line : Turn) → b.lines ≡ q.lines ++ line ∷ rest → IsIn (joined (lists_of line)) q.turn → Stands q b
   before_there : q.lines ≡ b.lines → IsIn b.earlier q.turn → Stands q b
   in_other_list : q.lines ≡ b.lines → IsIn b.beside q.turn → Stands q b
@@ -151,7 +151,7 @@ pub data Stands (q b : TurnPlace) : Type 0 where
 in_list : {X : Type 0} (front : List (List X)) (earlier : List X) (x : X) (later : List X) (back : List (List X)) → IsIn (joined (front ++ (earlier ++ x ∷ later) ∷ back)) x
 in_list front earlier x later back = flat_map-IsIn (λ list. list) (front ++ (earlier ++ x ∷ later) ∷ back) (earlier ++ x ∷ later) x (in_cut front (earlier ++ x ∷ later) back) (in_cut earlier x later)
 
-pub in_its_line : (q : TurnPlace) → IsInLine q → IsIn (joined (lists_of q.line)) q.turn
+pub in_its_line : (q : TurnPosition) → IsInLine q → IsIn (joined (lists_of q.line)) q.turn
 in_its_line q at = subst (λ ls. IsIn (joined ls) q.turn) (sym at.in_line) (in_list at.front q.earlier q.turn at.later at.back)
 
 in_other : {X : Type 0} (fq : List (List X)) (lq : List X) (bq fb : List (List X)) (lb : List X) (bb : List (List X)) (x : X) → fq ++ lq ∷ bq ≡ fb ++ lb ∷ bb → length fq < length fb → IsIn lq x → IsIn (joined fb) x
@@ -170,7 +170,7 @@ in_other_back (f ∷ fq) lq bq (g ∷ fb) lb bb x e lt h =
     in_other_back fq lq bq fb lb bb x tails (omega arith) h
 
 -- in one line
-stands_in_line : (q b : TurnPlace) (line : Turn) → q.line ≡ b.line → (fq fb : List (List InnerTurn)) (lq lb : List InnerTurn) (bq bb : List (List InnerTurn)) → q.lines ≡ b.lines
+stands_in_line : (q b : TurnPosition) (line : Turn) → q.line ≡ b.line → (fq fb : List (List InnerTurn)) (lq lb : List InnerTurn) (bq bb : List (List InnerTurn)) → q.lines ≡ b.lines
     → lists_of line ≡ fq ++ (q.earlier ++ q.turn ∷ lq) ∷ bq → lists_of line ≡ fb ++ (b.earlier ++ b.turn ∷ lb) ∷ bb → q.beside ≡ joined fq ++ joined bq → b.beside ≡ joined fb ++ joined bb
     → q.client ≡ client_at line.request (length fq) → b.client ≡ client_at line.request (length fb) → Stands q b
 stands_in_line q b line same_line_is fq fb lq lb bq bb lines ql bl own_others others qc bc =
@@ -200,7 +200,7 @@ stands_in_line q b line same_line_is fq fb lq lb bq bb lines ql bl own_others ot
       ]
     ]
 
-pub stands : (turns : List Turn) (q b : TurnPlace) → IsTurnPlace turns q → IsTurnPlace turns b → Stands q b
+pub stands : (turns : List Turn) (q b : TurnPosition) → IsTurnPosition turns q → IsTurnPosition turns b → Stands q b
 stands turns q b qa ba =
     let both = sym qa.in_run ∙ ba.in_run in
     elim (cases_lt (length q.lines) (length b.lines)) as (λ _. Stands q b) [
@@ -215,7 +215,7 @@ stands turns q b qa ba =
     ]
 
 -- the lines before an earlier turn, or one of the same line, are a front of those before the other
-pub lines_upto : (turns : List Turn) (q b : TurnPlace) → IsTurnPlace turns q → IsTurnPlace turns b → length q.lines ≤ length b.lines → (rest : List Turn) × (b.lines ≡ q.lines ++ rest)
+pub lines_upto : (turns : List Turn) (q b : TurnPosition) → IsTurnPosition turns q → IsTurnPosition turns b → length q.lines ≤ length b.lines → (rest : List Turn) × (b.lines ≡ q.lines ++ rest)
 lines_upto turns q b qa ba le =
     let both = sym qa.in_run ∙ ba.in_run in
     elim (cases_lt (length q.lines) (length b.lines)) as (λ _. (rest : List Turn) × (b.lines ≡ q.lines ++ rest)) [
@@ -239,7 +239,7 @@ only_one x (l ∷ front) earlier y later back e = let rest : [] ≡ front ++ (ea
     no_cut (x ∷ xs) y ys e = cc
 
 -- whatever stands in the line of a turn that is alone is this turn
-pub alone_is : (turns : List Turn) (q b : TurnPlace) → IsAlone turns q → IsTurnPlace turns b → length b.lines ≡ length q.lines → q.turn ≡ b.turn
+pub alone_is : (turns : List Turn) (q b : TurnPosition) → IsAlone turns q → IsTurnPosition turns b → length b.lines ≡ length q.lines → q.turn ≡ b.turn
 alone_is turns q b alone at same =
     let there : At turns (length b.lines) b.line = subst (λ ts. At ts (length b.lines) b.line) (sym at.in_run) (at_cut b.lines b.line at.after) in
     let line : b.line ≡ alone.0 = at_same turns (length q.lines) b.line alone.0 (subst (λ n. At turns n b.line) same there) alone.1 in

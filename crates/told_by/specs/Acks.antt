@@ -6,7 +6,7 @@ use Rattle.m3_model.specs.Members.{IsIn}
 use Rattle.transcripts.specs.Calls.{Call, call_of}
 use Rattle.transcripts.specs.Placements.{MayUse, IsCounted}
 use Rattle.transcripts.specs.Points.{point_of}
-use Rattle.transcripts.specs.Record.{TurnPlace}
+use Rattle.transcripts.specs.Record.{TurnPosition}
 use Rattle.transcripts.specs.Rules.{rules_at}
 use Rattle.m3_model.specs.declared.placement.Placement.{Placement}
 use Rattle.m3_model.specs.declared.point.Point.{Point}
@@ -14,7 +14,7 @@ use Rattle.m3_model.specs.declared.rules.MetaState.{MetaState}
 use Rattle.cluster_core.specs.Lists.{IsDistinct}
 
 -- different nodes that count for the shard of the write's identifier, in a placement that it may use
-pub record AreCounted (start : Option MetaState) (p : TurnPlace) (nodes : List ℕ) : Type 0 where
+pub record AreAckersCounted (start : Option MetaState) (p : TurnPosition) (nodes : List ℕ) : Type 0 where
   pub call : Call
   pub of_act : call_of p.turn.act ≡ Some call
   pub point : Point

@@ -34,7 +34,7 @@ use Rattle.transcripts.specs.Levels.{AreAnswers}
 use Rattle.transcripts.specs.Placements.{IsCounted, MayUse, has_replica}
 use Rattle.transcripts.specs.Points.{point_of}
 use Rattle.transcripts.specs.Reasons.{IsShown}
-use Rattle.transcripts.specs.Record.{TurnPlace}
+use Rattle.transcripts.specs.Record.{TurnPosition}
 use Rattle.transcripts.specs.Rules.{rules_at}
 use Rattle.transcripts.specs.Waiting.{is_covering}
 use Rattle.told_by.specs.Makes.{IsDeliveredTo, IsAssigned, IsCoveredSlot, IsNamedLast}
@@ -42,7 +42,7 @@ use Rattle.told_by.specs.Spans.{Spans}
 
 -- ---- what happens within a stretch
 
--- the event stands at this place, from one place on and before another
+-- the event stands at this position, from one position on and before another
 abbrev pub InStretch : List Event → ℕ → ℕ → ℕ → Event → Type 0
 InStretch events low high i e = (low ≤ i) × (i < high) × At events i e
 
@@ -57,31 +57,31 @@ HasStep Here Kind node shard a = (c : StepCall) × Kind c × Happens Here (event
 -- ---- calls of clients
 
 -- a put or a read of this very call, at this version
-abbrev pub IsOwnCall : Option MetaState → TurnPlace → ℕ → StepCall → Type 0
+abbrev pub IsOwnCall : Option MetaState → TurnPosition → ℕ → StepCall → Type 0
 IsOwnCall start p version (call.Put client number rules at_version point) =
     (client ≡ p.client) × (number ≡ call_number p) × (rules ≡ rules_at start p) × (at_version ≡ version) × (point_of rules.spaces p.turn.act ≡ Some point)
 IsOwnCall start p version (call.Read client number rules at_version pick from to) = (client ≡ p.client) × (number ≡ call_number p) × (rules ≡ rules_at start p) × (at_version ≡ version) × (is_write p.turn.act ≡ false)
 IsOwnCall start p version _ = ⊥
 
 -- a replica did as a call asks
-abbrev pub IsServed : StepReply → Type 0
-IsServed reply.Done = ⊤
-IsServed (reply.Found series) = ⊤
-IsServed _ = ⊥
+abbrev pub DidAsAsked : StepReply → Type 0
+DidAsAsked reply.Done = ⊤
+DidAsAsked (reply.Found series) = ⊤
+DidAsAsked _ = ⊥
 
 -- why a replica isn't among those that a call counts: its message wasn't delivered, memory was wanted, or it refused this very call so
-abbrev pub IsHeard : Option MetaState → (ℕ → Event → Type 0) → TurnPlace → Placement → ℕ → ℕ → Reason → Type 0
+abbrev pub IsHeard : Option MetaState → (ℕ → Event → Type 0) → TurnPosition → Placement → ℕ → ℕ → Reason → Type 0
 IsHeard start Here p place shard node reason.Cut = IsCutAt p place node
 IsHeard start Here p place shard node reason.Memory = ⊤
 IsHeard start Here p place shard node (reason.Corrupt damage) = IsShown damage × HasStep Here (IsOwnCall start p place.version) node shard (reply.Refused (reason.Corrupt damage))
 IsHeard start Here p place shard node why = HasStep Here (IsOwnCall start p place.version) node shard (reply.Refused why)
 
 -- the call's message to the replica is delivered, and it did as this very call asks
-abbrev pub HasServed : Option MetaState → (ℕ → Event → Type 0) → TurnPlace → Placement → ℕ → ℕ → Type 0
-HasServed start Here p place shard node = (a : StepReply) × IsServed a × HasStep Here (IsOwnCall start p place.version) node shard a × IsDeliveredTo p place node
+abbrev pub HasServed : Option MetaState → (ℕ → Event → Type 0) → TurnPosition → Placement → ℕ → ℕ → Type 0
+HasServed start Here p place shard node = (a : StepReply) × DidAsAsked a × HasStep Here (IsOwnCall start p place.version) node shard a × IsDeliveredTo p place node
 
 -- of the nodes that count for a shard so many did as the call asks, and each other has its reason, by name
-pub record HearsShard (start : Option MetaState) (Here : ℕ → Event → Type 0) (p : TurnPlace) (place : Placement) (shard got : ℕ) (reasons : List (ℕ × Reason)) : Type 0 where
+pub record HearsShard (start : Option MetaState) (Here : ℕ → Event → Type 0) (p : TurnPosition) (place : Placement) (shard got : ℕ) (reasons : List (ℕ × Reason)) : Type 0 where
   pub others : AreAnswers place shard got reasons
   pub counted : (r : ℕ × Reason) → IsIn reasons r → IsCounted place shard r.0
   pub by_name : Ascends (λ a b. IsNamedBelow place a.0 b.0) reasons
@@ -90,7 +90,7 @@ pub record HearsShard (start : Option MetaState) (Here : ℕ → Event → Type 
   pub served : (node : ℕ) → IsCounted place shard node → ¬ IsIn (map (λ r. r.0) reasons) node → HasServed start Here p place shard node
 
 -- different nodes that count for the shard did as the call asks, at least so many
-pub record HasEnough (start : Option MetaState) (Here : ℕ → Event → Type 0) (p : TurnPlace) (place : Placement) (shard needed : ℕ) : Type 0 where
+pub record HasEnough (start : Option MetaState) (Here : ℕ → Event → Type 0) (p : TurnPosition) (place : Placement) (shard needed : ℕ) : Type 0 where
   pub nodes : List ℕ
   pub distinct : IsDistinct nodes
   pub counted : (node : ℕ) → IsIn nodes node → IsCounted place shard node
@@ -98,7 +98,7 @@ pub record HasEnough (start : Option MetaState) (Here : ℕ → Event → Type 0
   pub enough : needed ≤ length nodes
 
 -- a write that was acknowledged: as many counted nodes as the level needs took it, by name
-pub record HearsAcks (start : Option MetaState) (Here : ℕ → Event → Type 0) (p : TurnPlace) (nodes : List ℕ) : Type 0 where
+pub record HearsAcks (start : Option MetaState) (Here : ℕ → Event → Type 0) (p : TurnPosition) (nodes : List ℕ) : Type 0 where
   pub call : Call
   pub of_call : call_of p.turn.act ≡ Some call
   pub place : Placement
@@ -110,7 +110,7 @@ pub record HearsAcks (start : Option MetaState) (Here : ℕ → Event → Type 0
   pub served : (shard : ℕ) → AsksShard start p place call.id shard → (node : ℕ) → IsIn nodes node → HasServed start Here p place shard node
 
 -- a call that too few answered: fewer of this shard than the level needs, and as many as it needs of each lower one that is asked
-pub record HearsTooFew (start : Option MetaState) (Here : ℕ → Event → Type 0) (p : TurnPlace) (got needed : ℕ) (reasons : List (ℕ × Reason)) (shard : ℕ) : Type 0 where
+pub record HearsTooFew (start : Option MetaState) (Here : ℕ → Event → Type 0) (p : TurnPosition) (got needed : ℕ) (reasons : List (ℕ × Reason)) (shard : ℕ) : Type 0 where
   pub call : Call
   pub of_call : call_of p.turn.act ≡ Some call
   pub place : Placement
@@ -122,7 +122,7 @@ pub record HearsTooFew (start : Option MetaState) (Here : ℕ → Event → Type
   pub first : (lower : ℕ) → lower < shard → AsksShard start p place call.id lower → HasEnough start Here p place lower needed
 
 -- some nodes of a shard answered, but fewer than a majority, and the others have their reasons
-pub record HearsShort (start : Option MetaState) (Here : ℕ → Event → Type 0) (p : TurnPlace) (call : Call) (place : Placement) : Type 0 where
+pub record HearsShort (start : Option MetaState) (Here : ℕ → Event → Type 0) (p : TurnPosition) (call : Call) (place : Placement) : Type 0 where
   pub shard : ℕ
   pub asked : AsksShard start p place call.id shard
   pub got : ℕ
@@ -138,7 +138,7 @@ is_unstrict (act.Match ns wanted from to read.Unstrict version) = true
 is_unstrict _ = false
 
 -- a read that was answered: as many nodes of each shard as the level needs, and where it is short fewer than a majority of one
-pub record HearsFound (start : Option MetaState) (Here : ℕ → Event → Type 0) (p : TurnPlace) (short : Bool) : Type 0 where
+pub record HearsFound (start : Option MetaState) (Here : ℕ → Event → Type 0) (p : TurnPosition) (short : Bool) : Type 0 where
   pub call : Call
   pub of_call : call_of p.turn.act ≡ Some call
   pub place : Placement
@@ -150,32 +150,32 @@ pub record HearsFound (start : Option MetaState) (Here : ℕ → Event → Type 
 -- ---- late messages
 
 -- a put of the late message: as its call made it, by the rules of the delivery
-abbrev pub IsLatePut : Option MetaState → TurnPlace → LateMessage → StepCall → Type 0
-IsLatePut start p m (call.Put client number rules version point) = (client ≡ m.place.client) × (number ≡ call_number m.place) × (rules ≡ rules_at start p) × (version ≡ m.used.version) × (point ≡ m.point)
+abbrev pub IsLatePut : Option MetaState → TurnPosition → LateMessage → StepCall → Type 0
+IsLatePut start p m (call.Put client number rules version point) = (client ≡ m.position.client) × (number ≡ call_number m.position) × (rules ≡ rules_at start p) × (version ≡ m.used.version) × (point ≡ m.point)
 IsLatePut start p m _ = ⊥
 
 -- what came of a late message is the answer of its replica to such a put, or memory was wanted
-abbrev pub HearsLate : Option MetaState → (ℕ → Event → Type 0) → TurnPlace → LateMessage → ℕ → Option Reason → Type 0
+abbrev pub HearsLate : Option MetaState → (ℕ → Event → Type 0) → TurnPosition → LateMessage → ℕ → Option Reason → Type 0
 HearsLate start Here p m shard None = HasStep Here (IsLatePut start p m) m.node shard reply.Done
 HearsLate start Here p m shard (Some reason.Memory) = ⊤
 HearsLate start Here p m shard (Some (reason.Corrupt damage)) = IsShown damage × HasStep Here (IsLatePut start p m) m.node shard (reply.Refused (reason.Corrupt damage))
 HearsLate start Here p m shard (Some why) = HasStep Here (IsLatePut start p m) m.node shard (reply.Refused why)
 
 -- an outcome is of this late message, and was heard so
-pub record HearsOutcome (start : Option MetaState) (Here : ℕ → Event → Type 0) (p : TurnPlace) (m : LateMessage) (outcome : ℕ × ℕ × Option Reason) : Type 0 where
+pub record HearsOutcome (start : Option MetaState) (Here : ℕ → Event → Type 0) (p : TurnPosition) (m : LateMessage) (outcome : ℕ × ℕ × Option Reason) : Type 0 where
   pub message : IsLateMessage start p m
   pub node_is : outcome.0 ≡ m.node
   pub shard_is : outcome.1 ≡ shard_of_message start m
   pub heard : HearsLate start Here p m outcome.1 outcome.2
 
 -- one outcome of each of these messages
-abbrev pub HearsOutcomes : Option MetaState → (ℕ → Event → Type 0) → TurnPlace → List LateMessage → List (ℕ × ℕ × Option Reason) → Type 0
+abbrev pub HearsOutcomes : Option MetaState → (ℕ → Event → Type 0) → TurnPosition → List LateMessage → List (ℕ × ℕ × Option Reason) → Type 0
 HearsOutcomes start Here p [] [] = ⊤
 HearsOutcomes start Here p (m ∷ messages) (outcome ∷ outcomes) = HearsOutcome start Here p m outcome × HearsOutcomes start Here p messages outcomes
 HearsOutcomes start Here p _ _ = ⊥
 
 -- a `deliver` hears one outcome of each late message that it delivers, in the order in which they were made late
-pub record HearsDelivered (start : Option MetaState) (Here : ℕ → Event → Type 0) (p : TurnPlace) (outcomes : List (ℕ × ℕ × Option Reason)) : Type 0 where
+pub record HearsDelivered (start : Option MetaState) (Here : ℕ → Event → Type 0) (p : TurnPosition) (outcomes : List (ℕ × ℕ × Option Reason)) : Type 0 where
   pub messages : List LateMessage
   pub in_order : Ascends IsLateBefore messages
   pub each : HearsOutcomes start Here p messages outcomes
@@ -299,7 +299,7 @@ pub record HearsStatus (past : List Event) (Here : ℕ → Event → Type 0) (no
 -- ---- turns
 
 -- what a turn hears, by its act and its answer; `past` has the events before its stretch
-abbrev pub HearsBy : Option MetaState → List Event → (ℕ → Event → Type 0) → TurnPlace → Act → Answer → Type 0
+abbrev pub HearsBy : Option MetaState → List Event → (ℕ → Event → Type 0) → TurnPosition → Act → Answer → Type 0
 HearsBy start past Here p a (answer.Acks nodes) = HearsAcks start Here p nodes
 HearsBy start past Here p a (answer.Found series short) = HearsFound start Here p short
 HearsBy start past Here p a (answer.Consistency got needed reasons shard) = HearsTooFew start Here p got needed reasons shard
@@ -318,5 +318,5 @@ HearsBy start past Here p (act.Bootstrap node only) (answer.Available available 
 HearsBy start past Here p _ _ = ⊤
 
 -- what each turn hears stands within its stretch
-abbrev pub TellsHears : Option MetaState → (TurnPlace → Type 0) → List Event → Spans → Type 0
-TellsHears start Here events spans = (p : TurnPlace) → Here p → HearsBy start (take (spans.from p) events) (InStretch events (spans.from p) (spans.to p)) p p.turn.act p.turn.answer
+abbrev pub TellsHears : Option MetaState → (TurnPosition → Type 0) → List Event → Spans → Type 0
+TellsHears start Here events spans = (p : TurnPosition) → Here p → HearsBy start (take (spans.from p) events) (InStretch events (spans.from p) (spans.to p)) p p.turn.act p.turn.answer

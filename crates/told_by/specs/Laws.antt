@@ -4,7 +4,7 @@ use Rattle.std.specs.Prelude.{List, [], ◌∷◌, ◌++◌, ◌≡◌, ◌⊎�
 use Rattle.m3_model.specs.Members.{IsIn}
 use Rattle.transcripts.specs.Kept.{Kept}
 use Rattle.transcripts.specs.Placements.{placement_after, printed, start_placement}
-use Rattle.transcripts.specs.Record.{Life, Record, TurnPlace, IsTurnPlace, inner_turns}
+use Rattle.transcripts.specs.Record.{Life, Record, TurnPosition, IsTurnPosition, inner_turns}
 use Rattle.m3_model.specs.declared.placement.Placement.{Placement}
 use Rattle.cluster_core.specs.Earlier.{last_place}
 use Rattle.m3_model.specs.declared.act.Act.{Act}
@@ -17,12 +17,12 @@ use Rattle.cluster_core.specs.Core.{Opening, AgreesWith}
 use Rattle.cluster_core.specs.Legal.{Legal}
 use Rattle.cluster_core.specs.declared.event.Event.{Event}
 use Rattle.cluster_core.specs.declared.event.Event.TheVariants as event
-use Rattle.told_by.specs.Acks.{AreCounted}
+use Rattle.told_by.specs.Acks.{AreAckersCounted}
 use Rattle.transcripts.specs.Joined.{Joined}
 use Rattle.told_by.specs.Leaves.{HoldsAgain, IsLeftState, MayBeOpen}
-use Rattle.told_by.specs.Lines.{AreFetched, AreSteps, AreWhole, IsCutShort, IsFetched, PrintsPlace}
+use Rattle.told_by.specs.Lines.{AreFetched, AreSteps, AreWhole, IsCutShort, IsShardFetched, PrintsPlace}
 use Rattle.told_by.specs.Reads.{Asking, Fetched}
-use Rattle.told_by.specs.Lists.{IsListPlace, MadeBy, TellsCalls, TellsLists, call_makers, call_spans}
+use Rattle.told_by.specs.Lists.{IsListPosition, MadeBy, TellsCalls, TellsLists, call_makers, call_spans}
 use Rattle.told_by.specs.Openings.{OpeningStands}
 use Rattle.told_by.specs.Told.{Tells, ToldBy, TellsLine}
 
@@ -62,7 +62,7 @@ IsJoinedWhereTold tells = (life : Life) (events : List Event) → Legal tells ev
 abbrev pub AcksCountWhereTold : Bool → Type 0
 AcksCountWhereTold tells =
     (start : Option MetaState) (turns : List Turn) (events : List Event) → Legal tells events → ToldBy start turns events
-    → (p : TurnPlace) → IsTurnPlace turns p → (nodes : List ℕ) → p.turn.answer ≡ answer.Acks nodes → AreCounted start p nodes
+    → (p : TurnPosition) → IsTurnPosition turns p → (nodes : List ℕ) → p.turn.answer ≡ answer.Acks nodes → AreAckersCounted start p nodes
 
 -- In such a run the last Place before a line is the placement that stands there by what was printed.
 abbrev pub PlacementsStand : Bool → Type 0
@@ -86,20 +86,20 @@ ListsTell =
 -- One more shard's fetch behind those so far.
 abbrev pub FetchesAdd : Type 0
 FetchesAdd =
-    (start : Option MetaState) (p : TurnPlace) (a : Asking) (fetches : ℕ → Fetched) (place : ℕ) (shards : List ℕ) (so_far : List Event) (s : ℕ) (own : List Event)
-    → AreWhole start p a fetches place shards so_far → IsFetched start p a (place + length so_far) s (fetches s) own [] → AreWhole start p a fetches place (shards ++ s ∷ []) (so_far ++ own)
+    (start : Option MetaState) (p : TurnPosition) (a : Asking) (fetches : ℕ → Fetched) (position : ℕ) (shards : List ℕ) (so_far : List Event) (s : ℕ) (own : List Event)
+    → AreWhole start p a fetches position shards so_far → IsShardFetched start p a (position + length so_far) s (fetches s) own [] → AreWhole start p a fetches position (shards ++ s ∷ []) (so_far ++ own)
 
 -- And then nothing more, or one that is cut short.
 abbrev pub FetchesEnd : Type 0
 FetchesEnd =
-    (start : Option MetaState) (p : TurnPlace) (a : Asking) (fetches : ℕ → Fetched) (place : ℕ) (shards : List ℕ) (so_far own : List Event)
-    → AreWhole start p a fetches place shards so_far → AreSteps own ⊎ IsCutShort start p a own → AreFetched start p a fetches place shards (so_far ++ own)
+    (start : Option MetaState) (p : TurnPosition) (a : Asking) (fetches : ℕ → Fetched) (position : ℕ) (shards : List ℕ) (so_far own : List Event)
+    → AreWhole start p a fetches position shards so_far → AreSteps own ⊎ IsCutShort start p a own → AreFetched start p a fetches position shards (so_far ++ own)
 
 -- Only the fetches of these shards matter.
 abbrev pub FetchesStay : Type 0
 FetchesStay =
-    (start : Option MetaState) (p : TurnPlace) (a : Asking) (fetches others : ℕ → Fetched) (place : ℕ) (shards : List ℕ) (so_far : List Event)
-    → ((s : ℕ) → IsIn shards s → fetches s ≡ others s) → AreWhole start p a fetches place shards so_far → AreWhole start p a others place shards so_far
+    (start : Option MetaState) (p : TurnPosition) (a : Asking) (fetches others : ℕ → Fetched) (position : ℕ) (shards : List ℕ) (so_far : List Event)
+    → ((s : ℕ) → IsIn shards s → fetches s ≡ others s) → AreWhole start p a fetches position shards so_far → AreWhole start p a others position shards so_far
 
 -- A line that prints the last Place of a legal list prints none before one that was printed.
 abbrev pub LastPlacePrints : Bool → Type 0
@@ -111,4 +111,4 @@ LastPlacePrints tells =
 abbrev pub CallsTell : Type 0
 CallsTell =
     (start : Option MetaState) (turns : List Turn) (events : List Event) (line : Turn) (more : List Event) (list_of : ℕ → ℕ) (list : ℕ) → (calls : TellsCalls start turns events line more list_of list)
-    → Tells start (turns ++ line ∷ []) (IsListPlace turns line list) (length events) (MadeBy events list_of list) (events ++ more) (call_spans calls.spans) (call_makers calls.number_of calls.makers)
+    → Tells start (turns ++ line ∷ []) (IsListPosition turns line list) (length events) (MadeBy events list_of list) (events ++ more) (call_spans calls.spans) (call_makers calls.number_of calls.makers)

@@ -7,7 +7,7 @@ use Rattle.m3_model.specs.Members.{IsIn}
 use Rattle.m3_model.specs.Reads.{Covers}
 use Rattle.m3_model.specs.Rules.{HasExpired}
 use Rattle.transcripts.specs.Points.{point_of, sent_point}
-use Rattle.transcripts.specs.Record.{InnerTurn, Record, TurnPlace, acts_of, inner_turns}
+use Rattle.transcripts.specs.Record.{InnerTurn, Record, TurnPosition, acts_of, inner_turns}
 use Rattle.transcripts.specs.Rules.{start_rules}
 use Rattle.m3_model.specs.declared.act.Act.{Act}
 use Rattle.m3_model.specs.declared.act.Act.TheVariants as act
@@ -43,7 +43,7 @@ sets_seed (act.Init rf shards seed nodes) (answer.Placed placement version) = tr
 sets_seed _ _ = false
 
 -- the `init` with whose placement the list begins, at moment 0 without namespaces, in a run that found nothing
-pub record IsInitOf (start : Option MetaState) (turns : List Turn) (events : List Event) (spans : Spans) (p : TurnPlace) : Type 0 where
+pub record IsInitOf (start : Option MetaState) (turns : List Turn) (events : List Event) (spans : Spans) (p : TurnPosition) : Type 0 where
   pub found_nothing : start ≡ None
   pub alone : IsAlone turns p
   pub sets : sets_seed p.turn.act p.turn.answer ≡ true
@@ -55,11 +55,11 @@ pub record IsInitOf (start : Option MetaState) (turns : List Turn) (events : Lis
   pub from_is : spans.from p ≡ 0
   pub to_above : 2 ≤ spans.to p
 
-pub record TellsInit (start : Option MetaState) (turns : List Turn) (Here : TurnPlace → Type 0) (Mine : ℕ → Type 0) (events : List Event) (spans : Spans) : Type 0 where
+pub record TellsInit (start : Option MetaState) (turns : List Turn) (Here : TurnPosition → Type 0) (Mine : ℕ → Type 0) (events : List Event) (spans : Spans) : Type 0 where
   -- where the first event is theirs, an `init` among them made the first
-  pub begun : Mine 0 → (e : Event) → At events 0 e → (p : TurnPlace) × Here p × IsInitOf start turns events spans p
+  pub begun : Mine 0 → (e : Event) → At events 0 e → (p : TurnPosition) × Here p × IsInitOf start turns events spans p
   -- and no other is answered ok
-  pub inits : (p : TurnPlace) → Here p → sets_seed p.turn.act p.turn.answer ≡ true → IsInitOf start turns events spans p
+  pub inits : (p : TurnPosition) → Here p → sets_seed p.turn.act p.turn.answer ≡ true → IsInitOf start turns events spans p
 
 -- ---- what earlier runs left
 

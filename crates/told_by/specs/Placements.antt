@@ -5,7 +5,7 @@ use Rattle.m3_model.specs.Members.{IsIn}
 use Rattle.transcripts.specs.Fates.{OfNode}
 use Rattle.transcripts.specs.Joined.{IsBootstrapOf}
 use Rattle.transcripts.specs.Placements.{printed}
-use Rattle.transcripts.specs.Record.{TurnPlace}
+use Rattle.transcripts.specs.Record.{TurnPosition}
 use Rattle.m3_model.specs.declared.placement.Assignment.{Assignment}
 use Rattle.m3_model.specs.declared.placement.Placement.{Placement}
 use Rattle.m3_model.specs.declared.placement.ShardState.TheVariants.{Initializing}
@@ -26,7 +26,7 @@ pub record HasPlace (events : List Event) (before : ℕ) (place : Placement) : T
 
 -- where these events end with a move of the shard to the node still under way: the turn is a bootstrap, and prints with the shard a majority
 -- of the former replicas, each of which the node has streamed
-pub record PrintsPeers (past : List Event) (p : TurnPlace) (s y : ℕ) : Type 0 where
+pub record PrintsPeers (past : List Event) (p : TurnPosition) (s y : ℕ) : Type 0 where
   pub available : List (ℕ × List ℕ)
   pub bootstrap : IsBootstrapOf p available
   pub names : List ℕ
@@ -43,7 +43,7 @@ pub record PrintsPeers (past : List Event) (p : TurnPlace) (s y : ℕ) : Type 0 
   pub streamed : (q : ℕ) → IsIn names q → HasStreamed s y joining.tenure q past
 
 -- a Place that the turn makes ends a move of the shard to the node that the placement calls so
-pub record EndsOwn (Mine : ℕ → Type 0) (events : List Event) (makers : ℕ → TurnPlace) (p : TurnPlace) (name : List ℕ) (s : ℕ) : Type 0 where
+pub record EndsOwn (Mine : ℕ → Type 0) (events : List Event) (makers : ℕ → TurnPosition) (p : TurnPosition) (name : List ℕ) (s : ℕ) : Type 0 where
   pub place_at : ℕ
   pub place : Placement
   pub done : List (ℕ × ℕ)
@@ -55,15 +55,15 @@ pub record EndsOwn (Mine : ℕ → Type 0) (events : List Event) (makers : ℕ �
   pub ended : IsIn done (s, node)
 
 -- the turn ends a move to its node of each shard that it prints
-abbrev pub EndsPrinted : (ℕ → Type 0) → List Event → (ℕ → TurnPlace) → TurnPlace → Type 0
+abbrev pub EndsPrinted : (ℕ → Type 0) → List Event → (ℕ → TurnPosition) → TurnPosition → Type 0
 EndsPrinted Mine events makers p = (available : List (ℕ × List ℕ)) (boot : IsBootstrapOf p available) (x : ℕ × List ℕ) → IsIn available x → EndsOwn Mine events makers p boot.node x.0
 
-pub record TellsPlacements (Here : TurnPlace → Type 0) (Mine : ℕ → Type 0) (events : List Event) (spans : Spans) (makers : ℕ → TurnPlace) : Type 0 where
+pub record TellsPlacements (Here : TurnPosition → Type 0) (Mine : ℕ → Type 0) (events : List Event) (spans : Spans) (makers : ℕ → TurnPosition) : Type 0 where
   -- each printed placement
-  pub is_place : (p : TurnPlace) → Here p → (place : Placement) → printed p.turn.answer ≡ Some place → HasPlace events (spans.to p) place
+  pub is_place : (p : TurnPosition) → Here p → (place : Placement) → printed p.turn.answer ≡ Some place → HasPlace events (spans.to p) place
   -- none is earlier than one that a turn before printed: the versions of Places ascend
-  pub not_earlier : (p q : TurnPlace) → Here p → Here q → IsEarlier p q → (was is : Placement) → printed p.turn.answer ≡ Some was → printed q.turn.answer ≡ Some is → was.version ≤ is.version
+  pub not_earlier : (p q : TurnPosition) → Here p → Here q → IsEarlier p q → (was is : Placement) → printed p.turn.answer ≡ Some was → printed q.turn.answer ≡ Some is → was.version ≤ is.version
   -- each move that a Place ends
   pub each_end : (i : ℕ) (place : Placement) (done : List (ℕ × ℕ)) → Mine i → 2 ≤ i → At events i (event.Place place done) → (d : ℕ × ℕ) → IsIn done d → PrintsPeers (take i events) (makers i) d.0 d.1
   -- and each shard that a turn prints as turned available, by a Place of its own
-  pub ends_printed : (p : TurnPlace) → Here p → EndsPrinted Mine events makers p
+  pub ends_printed : (p : TurnPosition) → Here p → EndsPrinted Mine events makers p

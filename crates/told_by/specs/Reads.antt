@@ -5,7 +5,7 @@ use Rattle.m3_model.specs.Levels.{majority}
 use Rattle.m3_model.specs.Members.{IsIn}
 use Rattle.m3_model.specs.Reads.{Read, Found, Covers, IsOrdered, points_in, read_of, found_of, space_picked}
 use Rattle.transcripts.specs.Calls.{Call, call_of}
-use Rattle.transcripts.specs.Record.{TurnPlace}
+use Rattle.transcripts.specs.Record.{TurnPosition}
 use Rattle.transcripts.specs.Rules.{rules_at}
 use Rattle.m3_model.specs.declared.act.ReadLevel.TheVariants.{Unstrict}
 use Rattle.m3_model.specs.declared.placement.Placement.{Placement}
@@ -33,17 +33,17 @@ pub record Asking : Type 0 where
   pub place : Placement
 
 -- the turn asks so
-pub record IsAskingOf (start : Option MetaState) (events : List Event) (p : TurnPlace) (a : Asking) : Type 0 where
+pub record IsAskingOf (start : Option MetaState) (events : List Event) (p : TurnPosition) (a : Asking) : Type 0 where
   pub of_act : read_of (rules_at start p).spaces p.turn.act ≡ Some a.read
   pub of_call : call_of p.turn.act ≡ Some a.call
   pub uses : Uses start events p a.call.version a.place
 
 -- it asks this shard
-abbrev pub IsAskedBy : Option MetaState → TurnPlace → Asking → ℕ → Type 0
+abbrev pub IsAskedBy : Option MetaState → TurnPosition → Asking → ℕ → Type 0
 IsAskedBy start p a s = AsksShard start p a.place a.call.id s
 
 -- the turn's read of the shard, by the turn's rules
-pub record IsFetchOf (start : Option MetaState) (Mine : ℕ → Type 0) (events : List Event) (makers : ℕ → TurnPlace) (p : TurnPlace) (a : Asking) (s : ℕ) (f : Fetched) : Type 0 where
+pub record IsFetchOf (start : Option MetaState) (Mine : ℕ → Type 0) (events : List Event) (makers : ℕ → TurnPosition) (p : TurnPosition) (a : Asking) (s : ℕ) (f : Fetched) : Type 0 where
   pub start_there : At events f.began (event.FetchStart a.place.version s (rules_at start p) a.read.pick a.read.from a.read.to)
   pub start_mine : Mine f.began
   pub own_start : makers f.began ≡ p
@@ -59,7 +59,7 @@ pub record AreTogether (ns : ℕ) (Asked : ℕ → Type 0) (fetches : ℕ → Fe
 
 -- the read has a fetch of each shard that it asks, which as many nodes answered as the level needs; and it is short exactly where it is
 -- unstrict and fewer than a majority answered one of them
-pub record IsTold (start : Option MetaState) (Mine : ℕ → Type 0) (events : List Event) (makers : ℕ → TurnPlace) (p : TurnPlace) (found : Found) : Type 0 where
+pub record IsTold (start : Option MetaState) (Mine : ℕ → Type 0) (events : List Event) (makers : ℕ → TurnPosition) (p : TurnPosition) (found : Found) : Type 0 where
   pub asking : Asking
   pub of_turn : IsAskingOf start events p asking
   pub fetches : ℕ → Fetched
@@ -70,7 +70,7 @@ pub record IsTold (start : Option MetaState) (Mine : ℕ → Type 0) (events : L
   pub not_short : found.short ≡ false → asking.read.level ≡ Unstrict → (s : ℕ) → IsAskedBy start p asking s → majority asking.place.rf ≤ length (fetches s).nodes
 
 -- the FetchStart is the turn's
-pub record IsStartOf (start : Option MetaState) (events : List Event) (p : TurnPlace) (version s : ℕ) (rules : Rules) (pick : Pick) (from to : ℕ) : Type 0 where
+pub record IsStartOf (start : Option MetaState) (events : List Event) (p : TurnPosition) (version s : ℕ) (rules : Rules) (pick : Pick) (from to : ℕ) : Type 0 where
   pub asking : Asking
   pub of_turn : IsAskingOf start events p asking
   pub asked : IsAskedBy start p asking s
@@ -80,8 +80,8 @@ pub record IsStartOf (start : Option MetaState) (events : List Event) (p : TurnP
   pub from_is : from ≡ asking.read.from
   pub to_is : to ≡ asking.read.to
 
--- the turn's own FetchStart stands at this place
-pub record IsStartAt (Mine : ℕ → Type 0) (events : List Event) (makers : ℕ → TurnPlace) (p : TurnPlace) (began : ℕ) : Type 0 where
+-- the turn's own FetchStart stands at this position
+pub record IsStartAt (Mine : ℕ → Type 0) (events : List Event) (makers : ℕ → TurnPosition) (p : TurnPosition) (began : ℕ) : Type 0 where
   pub version : ℕ
   pub s : ℕ
   pub rules : Rules
@@ -92,9 +92,9 @@ pub record IsStartAt (Mine : ℕ → Type 0) (events : List Event) (makers : ℕ
   pub mine : Mine began
   pub own : makers began ≡ p
 
-pub record TellsReads (start : Option MetaState) (Here : TurnPlace → Type 0) (Mine : ℕ → Type 0) (events : List Event) (makers : ℕ → TurnPlace) : Type 0 where
+pub record TellsReads (start : Option MetaState) (Here : TurnPosition → Type 0) (Mine : ℕ → Type 0) (events : List Event) (makers : ℕ → TurnPosition) : Type 0 where
   -- each answered read
-  pub found : (p : TurnPlace) → Here p → (found : Found) → found_of p.turn.answer ≡ Some found → IsTold start Mine events makers p found
+  pub found : (p : TurnPosition) → Here p → (found : Found) → found_of p.turn.answer ≡ Some found → IsTold start Mine events makers p found
   -- each FetchStart is that of its maker, and each FetchDone is of its maker's FetchStart
   pub each_start : (i version s : ℕ) (rules : Rules) (pick : Pick) (from to : ℕ) → Mine i → At events i (event.FetchStart version s rules pick from to) → IsStartOf start events (makers i) version s rules pick from to
   pub each_done : (i began : ℕ) (nodes : List ℕ) (series : List Series) → Mine i → At events i (event.FetchDone began nodes series) → IsStartAt Mine events makers (makers i) began

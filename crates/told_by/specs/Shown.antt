@@ -5,7 +5,7 @@ use Rattle.m3_model.specs.declared.point.Page.{Page}
 use Rattle.m3_model.specs.declared.point.Pick.{Pick}
 use Rattle.m3_model.specs.declared.point.Series.{Series}
 use Rattle.m3_model.specs.declared.rules.Rules.{Rules}
-use Rattle.cluster_core.specs.Answers.{IsFound, IsPage}
+use Rattle.cluster_core.specs.Answers.{IsFoundBy, IsPage}
 use Rattle.cluster_core.specs.Replicas.{Shows}
 use Rattle.cluster_core.specs.Shown.{IsFoundIn, IsPageOf}
 use Rattle.cluster_core.specs.declared.event.StepCall.{StepCall}
@@ -13,7 +13,7 @@ use Rattle.cluster_core.specs.declared.replica_state.ReplicaState.{ReplicaState}
 
 -- What a replica may answer to a read, some content that shows the replica answers.
 abbrev pub FoundIsShown : Type 0
-FoundIsShown = (r : ReplicaState) (rules : Rules) (pick : Pick) (from to : ℕ) (series : List Series) → IsFound r rules pick from to series → (content : Contents) × Shows r content × IsFoundIn content rules pick from to series
+FoundIsShown = (r : ReplicaState) (rules : Rules) (pick : Pick) (from to : ℕ) (series : List Series) → IsFoundBy r rules pick from to series → (content : Contents) × Shows r content × IsFoundIn content rules pick from to series
 
 -- And so with pages.
 abbrev pub PageIsShown : Type 0

@@ -1,7 +1,7 @@
 -- A record's turns are told by a list of events.
 use Rattle.std.specs.Prelude.{◌≡◌, ◌≤◌, ◌<◌, ℕ, suc, List, ◌∷◌, [], ◌++◌, length, Option, Some}
 use Rattle.transcripts.specs.Placements.{printed}
-use Rattle.transcripts.specs.Record.{TurnPlace, IsTurnPlace, IsLastTurnPlace}
+use Rattle.transcripts.specs.Record.{TurnPosition, IsTurnPosition, IsLastTurnPosition}
 use Rattle.m3_model.specs.declared.placement.Placement.{Placement}
 use Rattle.m3_model.specs.declared.rules.MetaState.{MetaState}
 use Rattle.m3_model.specs.declared.turn.Turn.{Turn}
@@ -15,8 +15,8 @@ use Rattle.told_by.specs.Reads.{TellsReads}
 use Rattle.told_by.specs.Spans.{Spans, From, AreOrdered}
 use Rattle.told_by.specs.Writes.{TellsWrites}
 
--- These events, whose places are named, tell of these turns of a run, whose stretches begin at one place or further on.
-pub record Tells (start : Option MetaState) (turns : List Turn) (Here : TurnPlace → Type 0) (low : ℕ) (Mine : ℕ → Type 0) (events : List Event) (spans : Spans) (makers : ℕ → TurnPlace) : Type 0 where
+-- These events, whose positions are named, tell of these turns of a run, whose stretches begin at one position or further on.
+pub record Tells (start : Option MetaState) (turns : List Turn) (Here : TurnPosition → Type 0) (low : ℕ) (Mine : ℕ → Type 0) (events : List Event) (spans : Spans) (makers : ℕ → TurnPosition) : Type 0 where
   pub order : AreOrdered Here low Mine events spans makers
   pub init : TellsInit start turns Here Mine events spans
   pub writes : TellsWrites start Here Mine events makers
@@ -32,21 +32,21 @@ pub record AreLines (start : Option MetaState) (turns : List Turn) (events : Lis
   pub first : ends 0 ≡ opening_length start
   pub last : ends (length turns) ≡ length events
   pub ascends : (k : ℕ) → k < length turns → ends k ≤ ends (suc k)
-  pub low : (p : TurnPlace) → IsTurnPlace turns p → ends (length p.lines) ≤ spans.from p
-  pub high : (p : TurnPlace) → IsTurnPlace turns p → spans.to p ≤ ends (suc (length p.lines))
+  pub low : (p : TurnPosition) → IsTurnPosition turns p → ends (length p.lines) ≤ spans.from p
+  pub high : (p : TurnPosition) → IsTurnPosition turns p → spans.to p ≤ ends (suc (length p.lines))
 
 -- a run's turns are told by the list
 pub record ToldBy (start : Option MetaState) (turns : List Turn) (events : List Event) : Type 0 where
   pub spans : Spans
-  pub makers : ℕ → TurnPlace
+  pub makers : ℕ → TurnPosition
   pub ends : ℕ → ℕ  -- how many events stand before each line
   pub lines : AreLines start turns events spans ends
   pub opened : (state : MetaState) → start ≡ Some state → IsOpenedBy state events
-  pub tells : Tells start turns (IsTurnPlace turns) (opening_length start) (From (opening_length start)) events spans makers
+  pub tells : Tells start turns (IsTurnPosition turns) (opening_length start) (From (opening_length start)) events spans makers
 
 -- the events that a line adds tell of its turns, and it prints no placement before one that was printed
 pub record TellsLine (start : Option MetaState) (turns : List Turn) (events : List Event) (line : Turn) (more : List Event) : Type 0 where
   pub spans : Spans
-  pub makers : ℕ → TurnPlace
-  pub tells : Tells start (turns ++ line ∷ []) (IsLastTurnPlace turns line) (length events) (From (length events)) (events ++ more) spans makers
-  pub not_earlier : (p q : TurnPlace) → IsTurnPlace turns p → IsLastTurnPlace turns line q → (was is : Placement) → printed p.turn.answer ≡ Some was → printed q.turn.answer ≡ Some is → was.version ≤ is.version
+  pub makers : ℕ → TurnPosition
+  pub tells : Tells start (turns ++ line ∷ []) (IsLastTurnPosition turns line) (length events) (From (length events)) (events ++ more) spans makers
+  pub not_earlier : (p q : TurnPosition) → IsTurnPosition turns p → IsLastTurnPosition turns line q → (was is : Placement) → printed p.turn.answer ≡ Some was → printed q.turn.answer ≡ Some is → was.version ≤ is.version

@@ -13,7 +13,7 @@ use Rattle.cluster_core.specs.declared.event.Event.TheVariants as event
 use Rattle.cluster_core.proofs.ListLemmas.{along, at_some, fold_suc, some_same}
 use Rattle.cluster_core.proofs.PlaceLemmas.{place_cases}
 use Rattle.transcripts.specs.Placements.{printed}
-use Rattle.transcripts.specs.Record.{InnerTurn, IsInLine, TurnPlace, IsTurnPlace, client_at, inner_turns, joined, lists_of}
+use Rattle.transcripts.specs.Record.{InnerTurn, IsInLine, TurnPosition, IsTurnPosition, client_at, inner_turns, joined, lists_of}
 use Rattle.told_by.specs.Spans.{IsAlone}
 use Rattle.told_by.specs.Told.{ToldBy}
 use Rattle.told_by.proofs.LineLemmas.{line_below, take_all, take_front}
@@ -30,14 +30,14 @@ only_cut t [] [] u later back e = let head : t ∷ [] ≡ u ∷ later = cc in le
 only_cut t [] (z ∷ earlier) u later back e = let head : t ∷ [] ≡ z ∷ (earlier ++ u ∷ later) = cc in let rest : [] ≡ earlier ++ u ∷ later = cc in absurd (not_empty earlier u later rest)
 only_cut t (l ∷ front) earlier u later back e = let rest : [] ≡ front ++ (earlier ++ u ∷ later) ∷ back = cc in absurd (not_empty front (earlier ++ u ∷ later) back rest)
 
--- the only turn of a line has one place
-record OnlyAt (line : Turn) (t : InnerTurn) (q : TurnPlace) : Type 0 where
+-- the only turn of a line has one position
+record OnlyAt (line : Turn) (t : InnerTurn) (q : TurnPosition) : Type 0 where
   client : q.client ≡ client_at line.request 0
   earlier : q.earlier ≡ []
   beside : q.beside ≡ []
   turn : q.turn ≡ t
 
-only_at : (line : Turn) (t : InnerTurn) → lists_of line ≡ (t ∷ []) ∷ [] → (q : TurnPlace) → q.line ≡ line → IsInLine q → OnlyAt line t q
+only_at : (line : Turn) (t : InnerTurn) → lists_of line ≡ (t ∷ []) ∷ [] → (q : TurnPosition) → q.line ≡ line → IsInLine q → OnlyAt line t q
 only_at line t alone q same h =
     let cut = only_cut t h.front q.earlier q.turn h.later h.back (sym alone ∙ ap lists_of (sym same) ∙ h.in_line) in
     record {
@@ -47,8 +47,8 @@ only_at line t alone q same h =
       turn = cut.3;
     }
 
-pub alone_place : (turns : List Turn) (q b : TurnPlace) → IsAlone turns q → IsTurnPlace turns q → IsTurnPlace turns b → length b.lines ≡ length q.lines → b ≡ q
-alone_place turns q b alone qa ba same =
+pub alone_position : (turns : List Turn) (q b : TurnPosition) → IsAlone turns q → IsTurnPosition turns q → IsTurnPosition turns b → length b.lines ≡ length q.lines → b ≡ q
+alone_position turns q b alone qa ba same =
     let cut = cut_same b.lines b.line ba.after q.lines q.line qa.after (sym ba.in_run ∙ qa.in_run) same in
     let there : At turns (length q.lines) q.line = subst (λ ts. At ts (length q.lines) q.line) (sym qa.in_run) (at_cut q.lines q.line qa.after) in
     let line : q.line ≡ alone.0 = some_same q.line alone.0 (sym there ∙ alone.1) in
@@ -56,7 +56,7 @@ alone_place turns q b alone qa ba same =
     let other = only_at alone.0 q.turn alone.2 b (cut.heres ∙ line) ba.stands in
     by b q cut.fronts cut.heres (other.client ∙ sym here.client) (other.earlier ∙ sym here.earlier) (other.beside ∙ sym here.beside) (other.turn ∙ sym here.turn)
   where
-    by : (b q : TurnPlace) → b.lines ≡ q.lines → b.line ≡ q.line → b.client ≡ q.client → b.earlier ≡ q.earlier → b.beside ≡ q.beside → b.turn ≡ q.turn → b ≡ q
+    by : (b q : TurnPosition) → b.lines ≡ q.lines → b.line ≡ q.line → b.client ≡ q.client → b.earlier ≡ q.earlier → b.beside ≡ q.beside → b.turn ≡ q.turn → b ≡ q
     by b q e f g h k l = λ i. record { lines = e i; line = f i; client = g i; earlier = h i; beside = k i; turn = l i }
 
 -- the turns of its line
@@ -82,7 +82,7 @@ take_none [] = refl
 take_none (x ∷ xs) = refl
 
 -- a turn of a line of one turn is alone in it
-pub one_alone : (turns : List Turn) (q : TurnPlace) → IsTurnPlace turns q → HasOneTurn turns (length q.lines) → IsAlone turns q
+pub one_alone : (turns : List Turn) (q : TurnPosition) → IsTurnPosition turns q → HasOneTurn turns (length q.lines) → IsAlone turns q
 one_alone turns q at one =
     let there : At turns (length q.lines) q.line = subst (λ ts. At ts (length q.lines) q.line) (sym at.in_run) (at_cut q.lines q.line at.after) in
     let here = only_at one.0 one.1 one.3 q (some_same q.line one.0 (sym there ∙ one.2)) at.stands in
@@ -90,11 +90,11 @@ one_alone turns q at one =
 
 module _ {tells : Bool} (start : Option MetaState) (turns : List Turn) (events : List Event) (legal : Legal tells events) (told : ToldBy start turns events) where
   -- the lines before a turn are the first of the run
-  pub lines_before : (q : TurnPlace) → IsTurnPlace turns q → take (length q.lines) turns ≡ q.lines
+  pub lines_before : (q : TurnPosition) → IsTurnPosition turns q → take (length q.lines) turns ≡ q.lines
   lines_before q at = ap (take (length q.lines)) at.in_run ∙ take_front q.lines (q.line ∷ at.after) (length q.lines) (omega arith) ∙ take_all q.lines
 
   -- where a turn is alone in its line, it made the Places there
-  pub own_place : (q : TurnPlace) → IsTurnPlace turns q → HasOneTurn turns (length q.lines) → (i : ℕ) (place : Placement) (done : List (ℕ × ℕ)) → told.ends (length q.lines) ≤ i → i < told.ends (suc (length q.lines)) → At events i (event.Place place done)
+  pub own_place : (q : TurnPosition) → IsTurnPosition turns q → HasOneTurn turns (length q.lines) → (i : ℕ) (place : Placement) (done : List (ℕ × ℕ)) → told.ends (length q.lines) ≤ i → i < told.ends (suc (length q.lines)) → At events i (event.Place place done)
       → ((told.spans).from q ≤ i) × ((stood : Placement) × (printed q.turn.answer ≡ Some stood))
   own_place q at one i place done low high there = by i low high there
     where
@@ -104,15 +104,15 @@ module _ {tells : Bool} (start : Option MetaState) (turns : List Turn) (events :
       only : IsAlone turns q
       only = one_alone turns q at one
 
-      is_it : (i : ℕ) (b : TurnPlace) → b ≡ q → (told.spans).from b ≤ i → (stood : Placement) → printed b.turn.answer ≡ Some stood → ((told.spans).from q ≤ i) × ((stood : Placement) × (printed q.turn.answer ≡ Some stood))
-      is_it i b same from stood prints = (subst (λ (z : TurnPlace). (told.spans).from z ≤ i) same from, (stood, ap (λ (z : TurnPlace). printed z.turn.answer) (sym same) ∙ prints))
+      is_it : (i : ℕ) (b : TurnPosition) → b ≡ q → (told.spans).from b ≤ i → (stood : Placement) → printed b.turn.answer ≡ Some stood → ((told.spans).from q ≤ i) × ((stood : Placement) × (printed q.turn.answer ≡ Some stood))
+      is_it i b same from stood prints = (subst (λ (z : TurnPosition). (told.spans).from z ≤ i) same from, (stood, ap (λ (z : TurnPosition). printed z.turn.answer) (sym same) ∙ prints))
 
       by : (i : ℕ) → told.ends (length q.lines) ≤ i → i < told.ends (suc (length q.lines)) → At events i (event.Place place done) → ((told.spans).from q ≤ i) × ((stood : Placement) × (printed q.turn.answer ≡ Some stood))
       by zero low high there =
           let b = (told.tells).init.begun (omega (arith, (told.lines).first, ends_grow start turns events told 0 (length q.lines) (omega arith) (omega (arith, less)), low)) (event.Place place done) there in
           let init = b.2 in
           let same = one_line start turns events legal told 0 (length (b.0).lines) (length q.lines) (line_below turns b.0 b.1) less (omega (arith, (told.lines).low b.0 b.1, init.from_is)) (omega (arith, (told.lines).high b.0 b.1, init.to_above)) low high in
-          is_it 0 b.0 (alone_place turns q b.0 only at b.1 same) (omega (arith, init.from_is)) init.place (ap printed init.answered)
+          is_it 0 b.0 (alone_position turns q b.0 only at b.1 same) (omega (arith, init.from_is)) init.place (ap printed init.answered)
       by (suc zero) low high there = absurd (legal 1 (event.Place place done) there)
       by (suc (suc i)) low high there =
           let late : 2 ≤ suc (suc i) = omega arith in
@@ -121,12 +121,12 @@ module _ {tells : Bool} (start : Option MetaState) (turns : List Turn) (events :
           let b = told.makers (suc (suc i)) in
           let prints = (told.tells).makes (suc (suc i)) (event.Place place done) above late there in
           let same = one_line start turns events legal told (suc (suc i)) (length b.lines) (length q.lines) (line_below turns b made.0) less (omega (arith, (told.lines).low b made.0, (made.1).0)) (omega (arith, (told.lines).high b made.0, (made.1).1)) low high in
-          is_it (suc (suc i)) b (alone_place turns q b only at made.0 same) (made.1).0 prints.stood prints.prints
+          is_it (suc (suc i)) b (alone_position turns q b only at made.0 same) (made.1).0 prints.stood prints.prints
 
 -- ---- where placements come from
 
 module _ {tells : Bool} (events : List Event) (legal : Legal tells events) where
-  -- the placement stood at the first place, or it is a Place from there on and before the other
+  -- the placement stood at the first position, or it is a Place from there on and before the other
   abbrev pub StandsFrom : ℕ → ℕ → Placement → Type 0
   StandsFrom j k place = (last_place (take j events) ≡ Some place) ⊎ ((z : ℕ) × (done : List (ℕ × ℕ)) × (j ≤ z) × (z < k) × At events z (event.Place place done))
 

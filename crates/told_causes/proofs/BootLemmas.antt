@@ -33,7 +33,7 @@ use Rattle.cluster_core.proofs.PlaceLemmas.{placed_at}
 use Rattle.cluster_core.proofs.TraceLemmas.{lawful_step, replica_own, replica_suc, step_cases}
 use Rattle.transcripts.specs.Fates.{OfNode}
 use Rattle.transcripts.specs.Placements.{has_replica, later_placement, placement_after, printed, start_placement}
-use Rattle.transcripts.specs.Record.{InnerTurn, TurnPlace, IsTurnPlace, inner_turns, joined, lists_of}
+use Rattle.transcripts.specs.Record.{InnerTurn, TurnPosition, IsTurnPosition, inner_turns, joined, lists_of}
 use Rattle.transcripts.specs.Waiting.{Replica, is_assigned, is_covering, is_member, waiting_after, waits_after, waits_at}
 use Rattle.told_by.specs.Hears.{HearsBegun, HearsBy, HearsOpened, InStretch, IsBeginOf, IsBegun, IsFirstBegun}
 use Rattle.told_by.specs.Makes.{EndsRestart, IsAssigned, IsCoveredSlot, MayAsk}
@@ -44,7 +44,7 @@ use Rattle.told_by.proofs.LeaveLemmas.{place_there}
 use Rattle.told_by.proofs.LineLemmas.{line_below, take_front}
 use Rattle.told_by.proofs.OpeningLemmas.{first_event}
 use Rattle.told_by.proofs.PrintedLemmas.{after_up, ends_within, placements_stand}
-use Rattle.told_by.proofs.TurnLemmas.{alone_is, at_cut, cut_at, own_list, place_in}
+use Rattle.told_by.proofs.TurnLemmas.{alone_is, at_cut, cut_at, own_list, position_in}
 use Rattle.told_causes.proofs.AloneLemmas.{alone_turns, lines_before, take_none}
 use Rattle.told_causes.proofs.StoodLemmas.{member_before, member_met}
 use Rattle.told_causes.specs.Boot.{BootHasCause, BootIsSaid, IsBootAct, ArePlacesInOrder, IsKnownSlot, WasMember}
@@ -116,13 +116,13 @@ pub record HasBegun (events : List Event) (from to n s : ℕ) (stood : Placement
   pub given : IsAssigned stood n s tenure
   pub answer : StepReply
   pub begun : IsBegun answer
-  pub place : ℕ
-  pub low : from ≤ place
-  pub high : place < to
-  pub there : At events place (event.Step n s (call.Begin tenure) answer)
+  pub position : ℕ
+  pub low : from ≤ position
+  pub high : position < to
+  pub there : At events position (event.Step n s (call.Begin tenure) answer)
 
 -- so a bootstrap that was answered ok begins each slot that it covers and that is a member when it begins
-pub covered_begun : {tells : Bool} → (start : Option MetaState) (turns : List Turn) (events : List Event) → Legal tells events → (told : ToldBy start turns events) → (q : TurnPlace) → IsTurnPlace turns q
+pub covered_begun : {tells : Bool} → (start : Option MetaState) (turns : List Turn) (events : List Event) → Legal tells events → (told : ToldBy start turns events) → (q : TurnPosition) → IsTurnPosition turns q
     → (n s : ℕ) (name : List ℕ) (stood : Placement) → last_place (take ((told.spans).from q) events) ≡ Some stood → has_replica (Some stood) s n ≡ true
     → ((i : ℕ) (done : List (ℕ × ℕ)) → At events i (event.Place stood done) → OfNode stood n (λ own. own ≡ name))
     → (node : List ℕ) (asked : Option ℕ) (available : List (ℕ × List ℕ)) (place : Placement) (version : ℕ) → q.turn.act ≡ act.Bootstrap node asked → q.turn.answer ≡ answer.Available available place version → name ≡ node → is_covering s asked ≡ true
@@ -142,7 +142,7 @@ covered_begun start turns events legal told q at n s name stood last_there membe
     let step = hears n s tenure slot given in
     let made = step.2 in
     let here = (made.2).1 in
-    record { last = last_there; tenure = tenure; given = given; answer = step.0; begun = step.1; place = (made.2).0; low = here.0; high = here.1; there = begin_is events n s tenure (made.2).0 made.0 step.0 made.1 here.2 }
+    record { last = last_there; tenure = tenure; given = given; answer = step.0; begun = step.1; position = (made.2).0; low = here.0; high = here.1; there = begin_is events n s tenure (made.2).0 made.0 step.0 made.1 here.2 }
 
 -- ---- the slot
 
@@ -222,7 +222,7 @@ module _ {tells : Bool} (start : Option MetaState) (turns : List Turn) (events :
   -- ---- restarts
 
   record Restarted (i k : ℕ) : Type 0 where
-    in_run : IsTurnPlace turns (told.makers i)
+    in_run : IsTurnPosition turns (told.makers i)
     line_is : length (told.makers i).lines ≡ k
     own_line : lists_of (told.makers i).line ≡ ((told.makers i).turn ∷ []) ∷ []
     pick : ℕ
@@ -253,7 +253,7 @@ module _ {tells : Bool} (start : Option MetaState) (turns : List Turn) (events :
   line_at : (k : ℕ) → k < length turns → (line : Turn) × At turns k line
   line_at k less = at_some turns k less
 
-  there_line : (q : TurnPlace) → IsTurnPlace turns q → At turns (length q.lines) q.line
+  there_line : (q : TurnPosition) → IsTurnPosition turns q → At turns (length q.lines) q.line
   there_line q at = subst (λ ts. At ts (length q.lines) q.line) (sym at.in_run) (at_cut q.lines q.line at.after)
 
   place_is : (k : ℕ) → k ≤ length turns → (waiting x start turns k).place ≡ placed x start turns k
@@ -288,7 +288,7 @@ module _ {tells : Bool} (start : Option MetaState) (turns : List Turn) (events :
   -- ---- begins
 
   -- a bootstrap of the slot, a member where it begins, leaves it not at boot
-  boot_clash : (k j : ℕ) → ((i : ℕ) → told.ends k ≤ i → i ≤ j → BootAt i) → (q : TurnPlace) → IsTurnPlace turns q → length q.lines ≡ k → (told.spans).to q ≤ j → is_member x (placed x start turns k) ≡ true → ((place : Placement) → last_place (take ((told.spans).from q) events) ≡ Some place → has_replica (Some place) s n ≡ true)
+  boot_clash : (k j : ℕ) → ((i : ℕ) → told.ends k ≤ i → i ≤ j → BootAt i) → (q : TurnPosition) → IsTurnPosition turns q → length q.lines ≡ k → (told.spans).to q ≤ j → is_member x (placed x start turns k) ≡ true → ((place : Placement) → last_place (take ((told.spans).from q) events) ≡ Some place → has_replica (Some place) s n ≡ true)
       → (node : List ℕ) (asked : Option ℕ) (available : List (ℕ × List ℕ)) (place : Placement) (version : ℕ) → q.turn.act ≡ act.Bootstrap node asked → q.turn.answer ≡ answer.Available available place version → name ≡ node → is_covering s asked ≡ true → ⊥
   boot_clash k j boots q at line_is finishes member members node asked available place version acts answers same covers =
       let begins : told.ends k ≤ (told.spans).from q = omega (arith, (told.lines).low q at, ap told.ends line_is) in
@@ -305,7 +305,7 @@ module _ {tells : Bool} (start : Option MetaState) (turns : List Turn) (events :
       by_begun : (stood : Placement) → HasBegun events ((told.spans).from q) ((told.spans).to q) n s stood → ⊥
       by_begun stood b =
           let begins : told.ends k ≤ (told.spans).from q = omega (arith, (told.lines).low q at, ap told.ends line_is) in
-          let i = b.place in
+          let i = b.position in
           let low = b.low in
           let high = b.high in
           by_reply i b.tenure b.answer (inl b.begun) (λ is. known.owned q at stood (inl (subst IsBootAct (sym acts) tt, b.last)) b.tenure b.given i (low, high, subst (λ a. At events i (event.Step n s (call.Begin b.tenure) a)) is b.there)) b.there
@@ -340,7 +340,7 @@ module _ {tells : Bool} (start : Option MetaState) (turns : List Turn) (events :
         | inr none_before ↦ omega arith
       ]
 
-      by_init : (q : TurnPlace) → IsTurnPlace turns q → IsInitOf start turns events told.spans q → ⊥
+      by_init : (q : TurnPosition) → IsTurnPosition turns q → IsInitOf start turns events told.spans q → ⊥
       by_init q at init =
           let above = high.1 in
           let early : length q.lines < length turns = line_below turns q at in
@@ -396,14 +396,14 @@ module _ {tells : Bool} (start : Option MetaState) (turns : List Turn) (events :
       )
     where
       -- a member before the line and behind it is one where a turn of it begins
-      by_met : (q : TurnPlace) → IsTurnPlace turns q → length q.lines ≡ k → is_member x (placed x start turns k) ≡ true → is_member x (placed x start turns (suc k)) ≡ true → (place : Placement) → last_place (take ((told.spans).from q) events) ≡ Some place → has_replica (Some place) s n ≡ true
+      by_met : (q : TurnPosition) → IsTurnPosition turns q → length q.lines ≡ k → is_member x (placed x start turns k) ≡ true → is_member x (placed x start turns (suc k)) ≡ true → (place : Placement) → last_place (take ((told.spans).from q) events) ≡ Some place → has_replica (Some place) s n ≡ true
       by_met q at line_is before behind place last =
           member_met start turns events legal told places k less ((told.spans).from q) (omega (arith, (told.lines).low q at, ap told.ends line_is)) (omega (arith, (told.tells).order.not_back q at, (told.lines).high q at, ap (λ m. told.ends (suc m)) line_is)) place last n s before behind
 
       none : (line : Turn) → At turns k line → (t : InnerTurn) → IsIn (joined (lists_of line)) t → EndsWait x (is_member x (placed x start turns k) && is_member x (placed x start turns (suc k))) t → ⊥
       none line there t m h =
           let cut = cut_at turns k line there in
-          let q = place_in turns cut.0 line cut.1 cut.2 t m in
+          let q = position_in turns cut.0 line cut.1 cut.2 t m in
           let line_is : length (q.0).lines ≡ k = ap length q.3 ∙ cut.3 in
           let ends = and_both _ _ h.ends in
           let named = and_both (pointwise nat_eq name h.node) (is_covering s h.asked) ends.1 in
@@ -452,7 +452,7 @@ module _ {tells : Bool} (start : Option MetaState) (turns : List Turn) (events :
 
   -- ---- the turn
 
-  cause_at : (p : TurnPlace) → IsTurnPlace turns p → ¬ IsHaltAct p.turn.act → WasMember start p s n → (i : ℕ) → (told.spans).from p ≤ i → i < (told.spans).to p → BootAt i → waits_at x start p ≡ true
+  cause_at : (p : TurnPosition) → IsTurnPosition turns p → ¬ IsHaltAct p.turn.act → WasMember start p s n → (i : ℕ) → (told.spans).from p ≤ i → i < (told.spans).to p → BootAt i → waits_at x start p ≡ true
   cause_at p at quiet was i low high now =
       let k = length p.lines in
       let less : k < length turns = line_below turns p at in
@@ -470,14 +470,14 @@ module _ {tells : Bool} (start : Option MetaState) (turns : List Turn) (events :
       none_earlier boots after after_is t m h =
           let q = own_list turns p at t m in
           let k = length p.lines in
-          let before_p = (told.tells).order.order q.place p q.in_run at (inr (ap length q.lines_are, q.client_is, q.earlier)) in
-          let finishes : (told.spans).to q.place ≤ i = omega (arith, before_p, low) in
+          let before_p = (told.tells).order.order q.position p q.in_run at (inr (ap length q.lines_are, q.client_is, q.earlier)) in
+          let finishes : (told.spans).to q.position ≤ i = omega (arith, before_p, low) in
           let ends = and_both _ _ h.ends in
           let named = and_both (pointwise nat_eq name h.node) (is_covering s h.asked) ends.1 in
           let both = and_both (is_member x (waiting_after x start p.lines).place) (is_member x after) ends.0 in
           let member : is_member x (placed x start turns k) ≡ true = ap (is_member x) (sym stood_before) ∙ both.0 in
-          boot_clash k i boots q.place q.in_run (ap length q.lines_are) finishes member
-          (λ place last. member_before start turns events legal told places p at ((told.spans).from q.place) (omega (arith, (told.lines).low q.place q.in_run, ap (λ ls. told.ends (length ls)) q.lines_are)) (omega (arith, (told.tells).order.not_back q.place q.in_run, before_p)) place last n s member (ap (is_member x) (sym after_is) ∙ both.1))
+          boot_clash k i boots q.position q.in_run (ap length q.lines_are) finishes member
+          (λ place last. member_before start turns events legal told places p at ((told.spans).from q.position) (omega (arith, (told.lines).low q.position q.in_run, ap (λ ls. told.ends (length ls)) q.lines_are)) (omega (arith, (told.tells).order.not_back q.position q.in_run, before_p)) place last n s member (ap (is_member x) (sym after_is) ∙ both.1))
           h.node h.asked h.available h.place h.version (ap (λ (u : InnerTurn). u.act) q.turn_is ∙ h.act_is)
           (ap (λ (u : InnerTurn). u.answer) q.turn_is ∙ h.answered) (name_is name h.node named.0) named.1
 

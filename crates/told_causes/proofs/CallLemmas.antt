@@ -46,9 +46,9 @@ use Rattle.transcripts.specs.Faults.{Fault, Failing, Damaged}
 use Rattle.transcripts.specs.Placements.{MayUse, seed_at}
 use Rattle.transcripts.specs.Points.{point_of}
 use Rattle.transcripts.specs.Reasons.{IsOutside, MayRefuse, MayServe, TakesPoint}
-use Rattle.transcripts.specs.Record.{TurnPlace, IsTurnPlace}
+use Rattle.transcripts.specs.Record.{TurnPosition, IsTurnPosition}
 use Rattle.transcripts.specs.Rules.{rules_at}
-use Rattle.told_by.specs.Hears.{HasServed, HearsAcks, HearsBy, IsHeard, IsOwnCall, IsServed}
+use Rattle.told_by.specs.Hears.{HasServed, HearsAcks, HearsBy, IsHeard, IsOwnCall, DidAsAsked}
 use Rattle.told_by.specs.Told.{ToldBy}
 use Rattle.told_causes.specs.Calls.{IsExplainedAt, AcksAreSaid, IsSteadyNode, ReasonsAreSaid, ServedIsTaken, Within}
 use Rattle.told_causes.specs.Faults.{fault_of, faults_told}
@@ -126,7 +126,7 @@ outside_future rules p (Some space) is e = by (nat_le (p.t + space.past) rules.n
     by false true high h = record { space = space; stands = is; too_new = leb-true (rules.now + space.future) p.t high }
     by false false high h = cc
 
-module _ {tells : Bool} (start : Option MetaState) (turns : List Turn) (events : List Event) (legal : Legal tells events) (told : ToldBy start turns events) (p : TurnPlace) (in_run : IsTurnPlace turns p) where
+module _ {tells : Bool} (start : Option MetaState) (turns : List Turn) (events : List Event) (legal : Legal tells events) (told : ToldBy start turns events) (p : TurnPosition) (in_run : IsTurnPosition turns p) where
   abbrev faults : List Fault
   faults = faults_told told.ends events (length turns)
 
@@ -163,7 +163,7 @@ module _ {tells : Bool} (start : Option MetaState) (turns : List Turn) (events :
       let finishes = (told.lines).high p in_run in
       steps_faults told.ends events (length turns) fault (record {
         early = omega (arith, line, less);
-        place = i;
+        position = i;
         low = subst (λ m. told.ends m ≤ i) (sym line) (omega (arith, begins, low));
         high = subst (λ m. i < told.ends (suc m)) (sym line) (omega (arith, finishes, high));
         e = e;
@@ -210,7 +210,7 @@ module _ {tells : Bool} (start : Option MetaState) (turns : List Turn) (events :
       by_act point of_act window (act.Write ns id t v level version) is = record { point = point; of_act = ap (point_of (rules_at start p).spaces) (sym is) ∙ of_act; in_window = window }
       by_act point of_act window _ is = tt
 
-      by_call : (c : StepCall) (a : StepReply) → IsServed a → IsOwnCall start p place.version c → LawfulStep tells (take (h.2.2).0 events) node shard (replica node shard (take (h.2.2).0 events)) c a → (x : Act) → p.turn.act ≡ x → MayServe (rules_at start p) x
+      by_call : (c : StepCall) (a : StepReply) → DidAsAsked a → IsOwnCall start p place.version c → LawfulStep tells (take (h.2.2).0 events) node shard (replica node shard (take (h.2.2).0 events)) c a → (x : Act) → p.turn.act ≡ x → MayServe (rules_at start p) x
       by_call (call.Put client number rules version point) reply.Done served own law x is = by_act point (subst (λ (r : Rules). point_of r.spaces p.turn.act ≡ Some point) own.2 own.4) (subst (λ (r : Rules). InWindow r point) own.2 law.in_window) x is
       by_call (call.Put client number rules version point) (reply.Found series) served own law x is = absurd law
       by_call (call.Put client number rules version point) _ served own law x is = absurd served
@@ -224,7 +224,7 @@ pub taken_said : {tells : Bool} → ServedIsTaken tells
 taken_said start turns events legal told p in_run place shard node h = served_taken start turns events legal told p in_run place shard node h
 
 -- the messages of a call reach a replica that did as it asks, where its node runs
-pub served_reached : (start : Option MetaState) (events : List Event) (spans : Spans) (p : TurnPlace) (place : Placement) (shard node : ℕ) → HasServed start (Within events spans p) p place shard node → OfNode place node (λ name. is_stopped (inner_turns p.lines) name ≡ false) → reaches p place node ≡ true
+pub served_reached : (start : Option MetaState) (events : List Event) (spans : Spans) (p : TurnPosition) (place : Placement) (shard node : ℕ) → HasServed start (Within events spans p) p place shard node → OfNode place node (λ name. is_stopped (inner_turns p.lines) name ≡ false) → reaches p place node ≡ true
 served_reached start events spans p place shard node h up =
     let sent = h.3 in
     let same : (up.instance_).name ≡ (sent.instance_).name = ap (λ (i : Instance). i.name) (some_same up.instance_ sent.instance_ (sym up.stands ∙ sent.stands)) in

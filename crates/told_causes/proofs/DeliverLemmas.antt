@@ -1,6 +1,6 @@
 -- Deliveries: each outcome is of its message and has its cause.
 use Rattle.std.specs.Prelude.{[], ◌∷◌}
-use Rattle.cluster_core.specs.Rows.{LawfulStep, MayRefuse}
+use Rattle.cluster_core.specs.Rows.{LawfulStep, ReplicaMayRefuse}
 use Rattle.transcripts.specs.Deliveries.{shard_of_message, AreOutcomes, IsLateMessage, LateMessage, MayComeOf}
 use Rattle.m3_model.specs.Rules.{InWindow, IsPast, IsFuture}
 use Rattle.told_by.specs.Hears.{HearsLate, HearsOutcomes, IsLatePut}
@@ -17,7 +17,7 @@ use Rattle.m3_model.specs.declared.turn.Turn.{Turn}
 use Rattle.cluster_core.specs.Lists.{At}
 use Rattle.cluster_core.specs.Refusals.{first_refusal}
 use Rattle.cluster_core.specs.Replicas.{replica}
-use Rattle.cluster_core.specs.Rows.{LawfulStep, MayRefuse}
+use Rattle.cluster_core.specs.Rows.{LawfulStep, ReplicaMayRefuse}
 use Rattle.cluster_core.specs.declared.event.Event.{Event}
 use Rattle.cluster_core.specs.declared.event.Event.TheVariants as event
 use Rattle.cluster_core.specs.declared.event.StepCall.{StepCall}
@@ -26,7 +26,7 @@ use Rattle.cluster_core.specs.declared.event.StepReply.TheVariants as reply
 use Rattle.cluster_core.specs.declared.replica_state.ReplicaState.{ReplicaState}
 use Rattle.cluster_core.proofs.TraceLemmas.{lawful_step}
 use Rattle.transcripts.specs.Faults.{Fault, Failing, Damaged}
-use Rattle.transcripts.specs.Record.{TurnPlace, inner_turns}
+use Rattle.transcripts.specs.Record.{TurnPosition, inner_turns}
 use Rattle.transcripts.specs.Rules.{rules_at}
 use Rattle.told_by.specs.Told.{ToldBy}
 use Rattle.told_causes.specs.Calls.{Within}
@@ -39,7 +39,7 @@ use Rattle.told_causes.proofs.RunLemmas.{who_serves}
 use Rattle.told_causes.specs.Running.{Serves}
 use Rattle.transcripts.specs.Fates.{OfNode, is_stopped}
 
-module _ {tells : Bool} (start : Option MetaState) (turns : List Turn) (events : List Event) (told : ToldBy start turns events) (p : TurnPlace) (known : IsKnownDelivery tells start turns events told p) where
+module _ {tells : Bool} (start : Option MetaState) (turns : List Turn) (events : List Event) (told : ToldBy start turns events) (p : TurnPosition) (known : IsKnownDelivery tells start turns events told p) where
   abbrev faults : List Fault
   faults = faults_told told.ends events (length turns)
 
@@ -47,7 +47,7 @@ module _ {tells : Bool} (start : Option MetaState) (turns : List Turn) (events :
   state node shard i = replica node shard (take i events)
 
   -- what the refusal of a late put is
-  refused : (m : LateMessage) (shard i : ℕ) (c : StepCall) (why : Reason) → At events i (event.Step m.node shard c (reply.Refused why)) → MayRefuse tells (take i events) shard (state m.node shard i) c why
+  refused : (m : LateMessage) (shard i : ℕ) (c : StepCall) (why : Reason) → At events i (event.Step m.node shard c (reply.Refused why)) → ReplicaMayRefuse tells (take i events) shard (state m.node shard i) c why
   refused m shard i c why there = refused_law tells (take i events) m.node shard (state m.node shard i) c why (lawful_step events known.legal i m.node shard c (reply.Refused why) there)
 
   late_past : (m : LateMessage) (shard i : ℕ) (c : StepCall) → IsLatePut start p m c → first_refusal (state m.node shard i) c ≡ Some reason.Past → IsPast (rules_at start p) m.point

@@ -26,7 +26,7 @@ use Rattle.cluster_core.proofs.ListLemmas.{along, at_some}
 use Rattle.cluster_core.proofs.TraceLemmas.{lawful_step, replica_own, replica_suc, step_cases}
 use Rattle.transcripts.specs.Fates.{is_stopped}
 use Rattle.transcripts.specs.Faults.{Fault, closes, is_restart, Failing, Damaged}
-use Rattle.transcripts.specs.Record.{InnerTurn, TurnPlace, IsTurnPlace, inner_turns, lists_of}
+use Rattle.transcripts.specs.Record.{InnerTurn, TurnPosition, IsTurnPosition, inner_turns, lists_of}
 use Rattle.told_by.specs.Hears.{IsNamedBy}
 use Rattle.told_by.specs.Makes.{MayAsk}
 use Rattle.told_by.specs.Told.{ToldBy}
@@ -85,7 +85,7 @@ module _ {tells : Bool} (start : Option MetaState) (turns : List Turn) (events :
   abbrev faults : List Fault
   faults = faults_told told.ends events (length turns)
 
-  -- the slot was called before this place
+  -- the slot was called before this position
   abbrev Called : ℕ → Type 0
   Called m = (i : ℕ) × (c : StepCall) × (a : StepReply) × (i < m) × At events i (event.Step n s c a)
 
@@ -125,7 +125,7 @@ module _ {tells : Bool} (start : Option MetaState) (turns : List Turn) (events :
   abbrev HasCause : ℕ → Type 0
   HasCause k = (is_stopped (inner_turns (take k turns)) name ≡ true) ⊎ IsClosed k
 
-  -- no Restart of the slot stands from one place up to another
+  -- no Restart of the slot stands from one position up to another
   abbrev NoRestart : ℕ → ℕ → Type 0
   NoRestart low high = (i : ℕ) → low ≤ i → i < high → At events i (event.Step n s call.Restart reply.Done) → ⊥
 
@@ -155,7 +155,7 @@ module _ {tells : Bool} (start : Option MetaState) (turns : List Turn) (events :
         fault = f.0;
         among = steps_faults told.ends events (length turns) f.0 (record {
           early = omega (arith, f.2, less);
-          place = j;
+          position = j;
           low = subst (λ m. told.ends m ≤ j) (sym f.2) low;
           high = subst (λ m. j < told.ends (suc m)) (sym f.2) high;
           e = event.Step n s c (reply.Refused why);
@@ -242,24 +242,24 @@ module _ {tells : Bool} (start : Option MetaState) (turns : List Turn) (events :
       ]
 
   -- no turn that stops nothing has a stop in its line
-  none_stopped : (p : TurnPlace) → IsTurnPlace turns p → ¬ IsHaltAct p.turn.act → (i : ℕ) (a : StepReply) → At events i (event.Step n s call.Stop a) → told.ends (length p.lines) ≤ i → i < told.ends (suc (length p.lines)) → ⊥
+  none_stopped : (p : TurnPosition) → IsTurnPosition turns p → ¬ IsHaltAct p.turn.act → (i : ℕ) (a : StepReply) → At events i (event.Step n s call.Stop a) → told.ends (length p.lines) ≤ i → i < told.ends (suc (length p.lines)) → ⊥
   none_stopped p in_run quiet i a there low high =
       let less : length p.lines < length turns = omega (arith, ap length in_run.in_run, length-append p.lines (p.line ∷ in_run.after)) in
       let h = stop_halts start turns events legal told i (length p.lines) n s a there less low high in
       by_act h.q h.in_run h.line_is (h.q).turn.act refl h.asks
     where
-      clash : (q : TurnPlace) → IsTurnPlace turns q → length q.lines ≡ length p.lines → lists_of q.line ≡ (q.turn ∷ []) ∷ [] → IsHaltAct q.turn.act → ⊥
+      clash : (q : TurnPosition) → IsTurnPosition turns q → length q.lines ≡ length p.lines → lists_of q.line ≡ (q.turn ∷ []) ∷ [] → IsHaltAct q.turn.act → ⊥
       clash q q_in same alone halts =
           let there : At turns (length q.lines) q.line = subst (λ ts. At ts (length q.lines) q.line) (sym q_in.in_run) (at_cut q.lines q.line q_in.after) in
           let is = alone_is turns q p (q.line, there, alone) in_run (sym same) in
           quiet (subst (λ (t : InnerTurn). IsHaltAct t.act) is halts)
 
-      by_act : (q : TurnPlace) → IsTurnPlace turns q → length q.lines ≡ length p.lines → (x : Act) → q.turn.act ≡ x → MayAsk start (take i events) q x (asked.Step n s call.Stop) → ⊥
+      by_act : (q : TurnPosition) → IsTurnPosition turns q → length q.lines ≡ length p.lines → (x : Act) → q.turn.act ≡ x → MayAsk start (take i events) q x (asked.Step n s call.Stop) → ⊥
       by_act q q_in same (act.Stop node) is h = clash q q_in same (h.0).alone (subst IsHaltAct (sym is) tt)
       by_act q q_in same (act.Restart node pick) is h = clash q q_in same (h.0).alone (subst IsHaltAct (sym is) tt)
       by_act q q_in same _ is h = h
 
-  cause_at : (p : TurnPlace) → IsTurnPlace turns p → ¬ IsHaltAct p.turn.act → (i : ℕ) → (told.spans).from p ≤ i → i < (told.spans).to p → IsDownAt i → (is_stopped (inner_turns p.lines) name ≡ true) ⊎ IsClosedSince faults p n s name
+  cause_at : (p : TurnPosition) → IsTurnPosition turns p → ¬ IsHaltAct p.turn.act → (i : ℕ) → (told.spans).from p ≤ i → i < (told.spans).to p → IsDownAt i → (is_stopped (inner_turns p.lines) name ≡ true) ⊎ IsClosedSince faults p n s name
   cause_at p in_run quiet i low high down =
       let k = length p.lines in
       let less : k < length turns = omega (arith, ap length in_run.in_run, length-append p.lines (p.line ∷ in_run.after)) in

@@ -166,17 +166,17 @@ pub faults_steps : FaultsAreSteps
 faults_steps ends events zero fault h = absurd h
 faults_steps ends events (suc k) fault h =
     elim (line_source k (line_events ends events k) (faults_told ends events k) fault h) as (λ _. IsToldOf ends events (suc k) fault) [
-      | inl before ↦ let old = faults_steps ends events k fault before in record { early = omega (arith, old.early); place = old.place; low = old.low; high = old.high; e = old.e; there = old.there; tells = old.tells }
+      | inl before ↦ let old = faults_steps ends events k fault before in record { early = omega (arith, old.early); position = old.position; low = old.low; high = old.high; e = old.e; there = old.there; tells = old.tells }
       | inr new ↦
-          let place = line_at ends events k new.0 new.1 in
+          let position = line_at ends events k new.0 new.1 in
           let line = fault_line k new.0 fault new.2 in
           record {
             early = omega (arith, line);
-            place = place.0;
-            low = subst (λ n. ends n ≤ place.0) (sym line) place.1;
-            high = subst (λ n. place.0 < ends (suc n)) (sym line) place.2;
+            position = position.0;
+            low = subst (λ n. ends n ≤ position.0) (sym line) position.1;
+            high = subst (λ n. position.0 < ends (suc n)) (sym line) position.2;
             e = new.0;
-            there = place.3;
+            there = position.3;
             tells = subst (λ n. fault_of n new.0 ≡ Some fault) (sym line) new.2;
           }
     ]
@@ -187,11 +187,11 @@ steps_faults ends events (suc k) fault h =
     elim (cases_eq fault.line k) as (λ _. IsIn (faults_told ends events (suc k)) fault) [
       | inl now ↦
           line_own k (line_events ends events k) (faults_told ends events k) fault h.e
-          (at_line ends events k h.place h.e (subst (λ n. ends n ≤ h.place) now h.low) (subst (λ n. h.place < ends (suc n)) now h.high) h.there)
+          (at_line ends events k h.position h.e (subst (λ n. ends n ≤ h.position) now h.low) (subst (λ n. h.position < ends (suc n)) now h.high) h.there)
           (subst (λ n. fault_of n h.e ≡ Some fault) now h.tells)
       | inr other ↦
           line_stays k (line_events ends events k) (faults_told ends events k) fault
-          (steps_faults ends events k fault (record { early = omega (arith, other, h.early); place = h.place; low = h.low; high = h.high; e = h.e; there = h.there; tells = h.tells }))
+          (steps_faults ends events k fault (record { early = omega (arith, other, h.early); position = h.position; low = h.low; high = h.high; e = h.e; there = h.there; tells = h.tells }))
     ]
 
 -- ---- how many

@@ -22,7 +22,7 @@ use Rattle.cluster_core.specs.declared.event.StepReply.TheVariants as reply
 use Rattle.cluster_core.proofs.ListLemmas.{at_take, take_at}
 use Rattle.transcripts.specs.Fates.{is_stopped, stopped_by}
 use Rattle.transcripts.specs.Faults.{is_restart}
-use Rattle.transcripts.specs.Record.{InnerTurn, TurnPlace, IsTurnPlace, inner_turns, joined, lists_of}
+use Rattle.transcripts.specs.Record.{InnerTurn, TurnPosition, IsTurnPosition, inner_turns, joined, lists_of}
 use Rattle.told_by.specs.Hears.{HearsBy, HearsEachSlot, InStretch, IsNamedBy}
 use Rattle.told_by.specs.Makes.{IsNamedLast, MayAsk}
 use Rattle.told_by.specs.Openings.{opening_length}
@@ -30,7 +30,7 @@ use Rattle.told_by.specs.Spans.{IsWithin}
 use Rattle.told_by.specs.Told.{ToldBy}
 use Rattle.told_by.proofs.LeaveLemmas.{place_there}
 use Rattle.told_by.proofs.PrintedLemmas.{ends_grow}
-use Rattle.told_by.proofs.TurnLemmas.{cut_at, place_in}
+use Rattle.told_by.proofs.TurnLemmas.{cut_at, position_in}
 use Rattle.told_causes.proofs.NameLemmas.{any_found, name_self, refused_stays, restart_is, stopped_after}
 
 pub take_cut : {X : Type 0} (xs : List X) (y : X) (zs : List X) → take (suc (length xs)) (xs ++ y ∷ zs) ≡ xs ++ y ∷ []
@@ -62,7 +62,7 @@ module _ {tells : Bool} (start : Option MetaState) (turns : List Turn) (events :
   not_before : (i j k : ℕ) → j < k → k < length turns → i < told.ends (suc j) → told.ends k ≤ i → ⊥
   not_before i j k lt high end begin = omega (arith, ends_grow start turns events told (suc j) k lt (omega (arith, high)), end, begin)
 
-  -- a place stands in one line
+  -- a position stands in one line
   pub one_line : (i j k : ℕ) → j < length turns → k < length turns → told.ends j ≤ i → i < told.ends (suc j) → told.ends k ≤ i → i < told.ends (suc k) → j ≡ k
   one_line i j k hj hk low_j high_j low_k high_k =
       elim (cases_lt j k) as (λ _. j ≡ k) [
@@ -72,12 +72,12 @@ module _ {tells : Bool} (start : Option MetaState) (turns : List Turn) (events :
 
   -- the maker of a stop or a restart: a turn of its line, alone there
   pub record Halts (i k n s : ℕ) (c : StepCall) : Type 0 where
-    pub q : TurnPlace
-    pub in_run : IsTurnPlace turns q
+    pub q : TurnPosition
+    pub in_run : IsTurnPosition turns q
     pub line_is : length q.lines ≡ k
     pub asks : MayAsk start (take i events) q q.turn.act (asked.Step n s c)
 
-  halted_by : (q : TurnPlace) (i k n s : ℕ) (c : StepCall) → k < length turns → told.ends k ≤ i → i < told.ends (suc k) → IsTurnPlace turns q × IsWithin told.spans q i → MayAsk start (take i events) q q.turn.act (asked.Step n s c) → Halts i k n s c
+  halted_by : (q : TurnPosition) (i k n s : ℕ) (c : StepCall) → k < length turns → told.ends k ≤ i → i < told.ends (suc k) → IsTurnPosition turns q × IsWithin told.spans q i → MayAsk start (take i events) q q.turn.act (asked.Step n s c) → Halts i k n s c
   halted_by q i k n s c less low high made asks =
       let early : length q.lines < length turns = omega (arith, ap length (made.0).in_run, length-append q.lines (q.line ∷ (made.0).after)) in
       record {
@@ -101,7 +101,7 @@ module _ {tells : Bool} (start : Option MetaState) (turns : List Turn) (events :
       let lines : take (suc k) turns ≡ (h.q).lines ++ (h.q).line ∷ [] = ap (λ m. take (suc m) turns) (sym h.line_is) ∙ ap (take (suc (length (h.q).lines))) (h.in_run).in_run ∙ take_cut (h.q).lines (h.q).line (h.in_run).after in
       ap (λ ls. is_stopped (inner_turns ls) name) lines ∙ by_act h.q (h.q).turn.act refl h.asks
     where
-      by_act : (q : TurnPlace) (x : Act) → q.turn.act ≡ x → MayAsk start (take i events) q x (asked.Step n s call.Stop) → is_stopped (inner_turns (q.lines ++ q.line ∷ [])) name ≡ true
+      by_act : (q : TurnPosition) (x : Act) → q.turn.act ≡ x → MayAsk start (take i events) q x (asked.Step n s call.Stop) → is_stopped (inner_turns (q.lines ++ q.line ∷ [])) name ≡ true
       by_act q (act.Stop node) is h =
           let same = last_name events i n name node named (h.0).of_node in
           stopped_after name q.lines q.line q.turn (h.0).alone
@@ -124,7 +124,7 @@ module _ {tells : Bool} (start : Option MetaState) (turns : List Turn) (events :
       let is = restart_is name t.0 t.2 in
       let cut = cut_at turns k line at in
       let here : IsIn (joined (lists_of line)) t.0 = subst (λ ts. IsIn ts t.0) (append-nil (joined (lists_of line))) t.1 in
-      let q = place_in turns cut.0 line cut.1 cut.2 t.0 here in
+      let q = position_in turns cut.0 line cut.1 cut.2 t.0 here in
       let line_is : length (q.0).lines ≡ k = ap length q.3 ∙ cut.3 in
       let low = (told.lines).low q.0 q.1 in
       let high = (told.lines).high q.0 q.1 in

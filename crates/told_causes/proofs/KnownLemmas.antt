@@ -12,7 +12,7 @@ use Rattle.m3_model.specs.declared.reason.Reason.TheVariants as reason
 use Rattle.transcripts.specs.Calls.{Call}
 use Rattle.transcripts.specs.Faults.{Fault}
 use Rattle.transcripts.specs.Placements.{IsCounted, MayUse, placement_after}
-use Rattle.transcripts.specs.Record.{AreSomeOf, InnerTurn, TurnPlace, IsTurnPlace, inner_turns, line_of}
+use Rattle.transcripts.specs.Record.{AreSomeOf, InnerTurn, TurnPosition, IsTurnPosition, inner_turns, line_of}
 use Rattle.cluster_core.specs.Lists.{At}
 use Rattle.cluster_core.specs.declared.event.Event.{Event}
 use Rattle.cluster_core.specs.declared.event.Event.TheVariants as event
@@ -20,11 +20,11 @@ use Rattle.cluster_core.specs.declared.event.StepCall.{StepCall}
 use Rattle.cluster_core.specs.declared.event.StepReply.TheVariants as reply
 use Rattle.cluster_core.proofs.ListLemmas.{some_same}
 use Rattle.told_by.specs.Hears.{IsHeard, IsNamedBy}
-use Rattle.told_by.specs.Lines.{place_after}
+use Rattle.told_by.specs.Lines.{position_after}
 use Rattle.told_by.specs.Sample.{events, fetched, name, place, series, turns}
 use Rattle.told_by.proofs.BrokenLemmas.{turn_among}
 use Rattle.told_by.proofs.LegalSampleLemmas.{sample_legal}
-use Rattle.told_by.proofs.LineLemmas.{place_last}
+use Rattle.told_by.proofs.LineLemmas.{position_last}
 use Rattle.told_by.proofs.OneLemmas.{is_last}
 use Rattle.told_by.proofs.SampleLemmas.{each_at, sample_told}
 use Rattle.told_causes.specs.Calls.{IsExplainedAt, AllAreExplained, IsNamedOnce, IsSteadyNode, IsUsedBy, ServedAreNamed, Within}
@@ -33,11 +33,11 @@ use Rattle.told_causes.specs.Sample.{ReadIsKnown, lines_before}
 use Rattle.told_causes.specs.Standing.{HaltsAlone, IsHaltAct}
 use Rattle.told_causes.proofs.FaultLemmas.{faults_steps}
 
-abbrev reading : TurnPlace
-reading = place_after lines_before fetched (answer.Found series false)
+abbrev reading : TurnPosition
+reading = position_after lines_before fetched (answer.Found series false)
 
-reading_in : IsTurnPlace turns reading
-reading_in = place_last lines_before (line_of fetched (answer.Found series false)) reading (is_last None lines_before [] fetched (answer.Found series false) [])
+reading_in : IsTurnPosition turns reading
+reading_in = position_last lines_before (line_of fetched (answer.Found series false)) reading (is_last None lines_before [] fetched (answer.Found series false) [])
 
 abbrev node : Instance
 node = record { name = name; group = name; listed = true; drained = false }
@@ -111,7 +111,7 @@ steady shard = record {
   name = name;
   named = record { instance_ = node; stands = refl; holds = refl };
   everywhere = named_by;
-  there = λ fault among of_node of_shard early. let told_of = faults_steps sample_told.ends events (length turns) fault among in absurd (no_fault told_of.place fault.line told_of.e fault told_of.there told_of.tells);
+  there = λ fault among of_node of_shard early. let told_of = faults_steps sample_told.ends events (length turns) fault among in absurd (no_fault told_of.position fault.line told_of.e fault told_of.there told_of.tells);
 }
 
 explained_by : (shard : ℕ) (why : Reason) → IsHeard None (Within events sample_told.spans reading) reading place shard 0 why → IsExplainedAt true None turns events sample_told reading place shard 0 name why

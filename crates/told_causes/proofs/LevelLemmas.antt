@@ -27,14 +27,14 @@ use Rattle.cluster_core.specs.declared.event.Event.{Event}
 use Rattle.cluster_core.proofs.ListLemmas.{some_same}
 use Rattle.transcripts.specs.Calls.{AsksShard, Call, call_of}
 use Rattle.transcripts.specs.Placements.{MayUse}
-use Rattle.transcripts.specs.Record.{TurnPlace}
+use Rattle.transcripts.specs.Record.{TurnPosition}
 use Rattle.told_by.specs.Hears.{HearsBy}
 use Rattle.told_by.specs.Told.{ToldBy}
 use Rattle.told_causes.specs.Calls.{SilentIsSaid, Within}
 use Rattle.told_causes.specs.Faults.{faults_told}
 
 -- the messages of a known call reach a replica that did as it asks
-known_reached : {tells : Bool} → (start : Option MetaState) (turns : List Turn) (events : List Event) (told : ToldBy start turns events) (p : TurnPlace) → IsKnownCall tells start turns events told p → (place : Placement) → IsUsedBy start p place → (shard node : ℕ) → HasServed start (Within events told.spans p) p place shard node → reaches p place node ≡ true
+known_reached : {tells : Bool} → (start : Option MetaState) (turns : List Turn) (events : List Event) (told : ToldBy start turns events) (p : TurnPosition) → IsKnownCall tells start turns events told p → (place : Placement) → IsUsedBy start p place → (shard node : ℕ) → HasServed start (Within events told.spans p) p place shard node → reaches p place node ≡ true
 known_reached start turns events told p known place used shard node h =
     served_reached start events told.spans p place shard node h (who_served start turns events known.legal told known.halts p known.in_run known.named place used shard node h)
 
@@ -50,7 +50,7 @@ silent_said start turns events told p known place used shard got reasons h = rec
 }
 
 -- as many counted nodes as did what the call asks are reached
-enough_reached : {tells : Bool} → (start : Option MetaState) (turns : List Turn) (events : List Event) (told : ToldBy start turns events) (p : TurnPlace) → IsKnownCall tells start turns events told p → (place : Placement) → IsUsedBy start p place → (shard needed : ℕ) → HasEnough start (Within events told.spans p) p place shard needed → needed ≤ reached_of p place shard
+enough_reached : {tells : Bool} → (start : Option MetaState) (turns : List Turn) (events : List Event) (told : ToldBy start turns events) (p : TurnPosition) → IsKnownCall tells start turns events told p → (place : Placement) → IsUsedBy start p place → (shard needed : ℕ) → HasEnough start (Within events told.spans p) p place shard needed → needed ≤ reached_of p place shard
 enough_reached start turns events told p known place used shard needed h =
     let some = distinct_within h.nodes (filter (reaches p place) (counted_nodes place shard)) h.distinct (λ n m. filter-IsIn (reaches p place) (counted_nodes place shard) n (h.counted n m) (known_reached start turns events told p known place used shard n (h.served n m))) in
     omega (arith, h.enough, some, length-filter (reaches p place) (counted_nodes place shard))
@@ -75,7 +75,7 @@ too_few_said start turns events told p known got needed reasons shard answers =
     }
 
 -- the same for reads, whatever they read
-found_said : {tells : Bool} → (start : Option MetaState) (turns : List Turn) (events : List Event) (told : ToldBy start turns events) (p : TurnPlace) → IsKnownCall tells start turns events told p
+found_said : {tells : Bool} → (start : Option MetaState) (turns : List Turn) (events : List Event) (told : ToldBy start turns events) (p : TurnPosition) → IsKnownCall tells start turns events told p
     → (id : Option (List ℕ)) (level : ReadLevel) (version : Option ℕ) (series : List Series) (short : Bool) → call_of p.turn.act ≡ Some (record { id = id; version = version; needed = needed_read level }) → (is_unstrict p.turn.act ≡ true → level ≡ read.Unstrict) → (level ≡ read.Unstrict → is_unstrict p.turn.act ≡ true)
     → p.turn.answer ≡ answer.Found series short → IsFoundFor tells (faults_told told.ends events (length turns)) start p id level version short
 found_said start turns events told p known id level version series short calls strict unstrict answers =

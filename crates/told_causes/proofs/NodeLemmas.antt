@@ -19,7 +19,7 @@ use Rattle.transcripts.specs.Caused.{HadBefore, InFiles, IsCalled, IsMemberBefor
 use Rattle.transcripts.specs.Deliveries.{LateMessage}
 use Rattle.transcripts.specs.Faults.{Damaged, Failing, Fault}
 use Rattle.transcripts.specs.Placements.{has_replica, placement_after, printed, start_placement}
-use Rattle.transcripts.specs.Record.{TurnPlace, IsTurnPlace, inner_turns}
+use Rattle.transcripts.specs.Record.{TurnPosition, IsTurnPosition, inner_turns}
 use Rattle.told_by.specs.Hears.{AnySlot, HasStep, HearsBy, HearsRefused, IsJoinCall, IsMember, IsRestartCall}
 use Rattle.told_by.specs.Makes.{IsNamedLast}
 use Rattle.told_by.specs.Told.{ToldBy}
@@ -32,7 +32,7 @@ use Rattle.told_causes.proofs.StoodLemmas.{had_before, may_stand}
 use Rattle.told_causes.proofs.WaitLemmas.{is_member_of, member_given}
 use Rattle.told_causes.proofs.CallLemmas.{fault_here}
 
-module _ {tells : Bool} (start : Option MetaState) (turns : List Turn) (events : List Event) (legal : Legal tells events) (told : ToldBy start turns events) (places : ArePlacesInOrder start turns events told) (p : TurnPlace) (at : IsTurnPlace turns p) (quiet : printed p.turn.answer ≡ None) where
+module _ {tells : Bool} (start : Option MetaState) (turns : List Turn) (events : List Event) (legal : Legal tells events) (told : ToldBy start turns events) (places : ArePlacesInOrder start turns events told) (p : TurnPosition) (at : IsTurnPosition turns p) (quiet : printed p.turn.answer ≡ None) where
   abbrev faults : List Fault
   faults = faults_told told.ends events (length turns)
 

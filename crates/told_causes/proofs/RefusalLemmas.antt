@@ -10,7 +10,7 @@ use Rattle.m3_model.specs.declared.replica.Standing.TheVariants as standing
 use Rattle.m3_model.specs.declared.rules.Rules.{Rules}
 use Rattle.m3_model.specs.declared.rules.Space.{Space}
 use Rattle.cluster_core.proofs.ListLemmas.{some_same}
-use Rattle.cluster_core.specs.Rows.{LawfulStep, MayRefuse}
+use Rattle.cluster_core.specs.Rows.{LawfulStep, ReplicaMayRefuse}
 use Rattle.cluster_core.specs.declared.event.Event.{Event}
 use Rattle.cluster_core.specs.declared.event.StepReply.TheVariants as reply
 use Rattle.cluster_core.specs.Refusals.{closed, first_refusal, outdated, outside, outside_of, reason_if, shut, unowned, untenured}
@@ -136,7 +136,7 @@ pub first_boot : (r : ReplicaState) (c : StepCall) → first_refusal r c ≡ Som
 first_boot r c e = elim (first_shut r c reason.Boot tt e) as (λ _. r.standing ≡ standing.Boot) [ inl is ↦ shut_boot r.standing is | inr is ↦ closed_boot r.standing is ]
 
 -- what a lawful refusal of a step is
-pub refused_law : (tells : Bool) (past : List Event) (n s : ℕ) (r : ReplicaState) (c : StepCall) (why : Reason) → LawfulStep tells past n s r c (reply.Refused why) → MayRefuse tells past s r c why
+pub refused_law : (tells : Bool) (past : List Event) (n s : ℕ) (r : ReplicaState) (c : StepCall) (why : Reason) → LawfulStep tells past n s r c (reply.Refused why) → ReplicaMayRefuse tells past s r c why
 refused_law tells past n s r (call.Begin tenure) why h = h
 refused_law tells past n s r (call.Put client number rules version point) why h = h
 refused_law tells past n s r _ why h = h

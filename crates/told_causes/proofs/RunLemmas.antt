@@ -29,14 +29,14 @@ use Rattle.cluster_core.specs.declared.replica_state.ReplicaState.{ReplicaState}
 use Rattle.cluster_core.proofs.ListLemmas.{at_some, at_take, take_at}
 use Rattle.cluster_core.proofs.TraceLemmas.{lawful_step, replica_own, replica_suc, step_cases}
 use Rattle.transcripts.specs.Fates.{is_stopped, stopped_by}
-use Rattle.transcripts.specs.Record.{InnerTurn, TurnPlace, IsTurnPlace, inner_turns, joined, lists_of}
-use Rattle.told_by.specs.Hears.{HearsBy, HearsEachSlot, InStretch, IsNamedBy, IsOwnCall, IsServed}
+use Rattle.transcripts.specs.Record.{InnerTurn, TurnPosition, IsTurnPosition, inner_turns, joined, lists_of}
+use Rattle.told_by.specs.Hears.{HearsBy, HearsEachSlot, InStretch, IsNamedBy, IsOwnCall, DidAsAsked}
 use Rattle.told_by.specs.Makes.{OpensReplicas}
 use Rattle.told_by.specs.Told.{ToldBy}
 use Rattle.told_by.proofs.LeaveLemmas.{place_there}
 use Rattle.told_by.proofs.LineLemmas.{line_below}
 use Rattle.told_by.proofs.PrintedLemmas.{ends_within}
-use Rattle.told_by.proofs.TurnLemmas.{alone_is, cut_at, inner-append, place_in}
+use Rattle.told_by.proofs.TurnLemmas.{alone_is, cut_at, inner-append, position_in}
 use Rattle.told_causes.specs.Running.{Serves, WhoServedRuns, WhoServesRuns}
 use Rattle.told_causes.specs.Standing.{HaltsAlone, IsHaltAct}
 use Rattle.told_causes.proofs.AloneLemmas.{lines_before, take_none}
@@ -125,23 +125,23 @@ module _ {tells : Bool} (start : Option MetaState) (turns : List Turn) (events :
   abbrev stopped : ℕ → Bool
   stopped k = is_stopped (inner_turns (take k turns)) name
 
-  -- a step begins the slot from one place up to another
+  -- a step begins the slot from one position up to another
   record Begun (low high : ℕ) : Type 0 where
-    place : ℕ
-    at_least : low ≤ place
-    below : place < high
+    position : ℕ
+    at_least : low ≤ position
+    below : position < high
     tenure : ℕ
     fence : ℕ
     points : List Point
-    there : At events place (event.Step n s (call.Begin tenure) (reply.Began fence points))
+    there : At events position (event.Step n s (call.Begin tenure) (reply.Began fence points))
 
-  -- since a place the slot is open, or a step began it since
+  -- since a position the slot is open, or a step began it since
   abbrev OpenSince : ℕ → ℕ → Type 0
   OpenSince low j = ((i : ℕ) → low ≤ i → i ≤ j → OpenAt i) ⊎ Begun low j
 
   extend : (low j : ℕ) → OpenSince low j → OpenAt (suc j) → OpenSince low (suc j)
   extend low j (inl all) next = inl (λ i above below. elim (cases_eq i (suc j)) as (λ _. OpenAt i) [ inl now ↦ subst OpenAt (sym now) next | inr other ↦ all i above (omega (arith, below, other)) ])
-  extend low j (inr b) next = let below = b.below in inr (record { place = b.place; at_least = b.at_least; below = omega (arith, below); tenure = b.tenure; fence = b.fence; points = b.points; there = b.there })
+  extend low j (inr b) next = let below = b.below in inr (record { position = b.position; at_least = b.at_least; below = omega (arith, below); tenure = b.tenure; fence = b.fence; points = b.points; there = b.there })
 
   one_event : (low j : ℕ) (e : Event) → low ≤ j → At events j e → (OpenAt j → OpenSince low j) → OpenAt (suc j) → OpenSince low (suc j)
   one_event low j e le there was next =
@@ -152,7 +152,7 @@ module _ {tells : Bool} (start : Option MetaState) (turns : List Turn) (events :
             elim (open_by (replica n s (take j events)) own.0 own.1 (ap (λ (r : ReplicaState). r.standing) (sym (replica_suc events legal n s j e there ∙ own.3)) ∙ next)) as (λ _. OpenSince low (suc j)) [
               | inl before ↦ extend low j (was before) next
               | inr b ↦ inr (record {
-                place = j;
+                position = j;
                 at_least = le;
                 below = omega arith;
                 tenure = b.tenure;
@@ -185,23 +185,23 @@ module _ {tells : Bool} (start : Option MetaState) (turns : List Turn) (events :
 
   -- who began it is a turn of the line that begins replicas, and its node runs there
   record BegunBy (i k : ℕ) : Type 0 where
-    in_run : IsTurnPlace turns (told.makers i)
+    in_run : IsTurnPosition turns (told.makers i)
     line_is : length (told.makers i).lines ≡ k
     opens : OpensReplicas (told.makers i).turn.act
     runs : stopped k ≡ false
 
-  begun_by : (k : ℕ) → k < length turns → (b : Begun (told.ends k) (told.ends (suc k))) → BegunBy b.place k
+  begun_by : (k : ℕ) → k < length turns → (b : Begun (told.ends k) (told.ends (suc k))) → BegunBy b.position k
   begun_by k less b =
       let step = event.Step n s (call.Begin b.tenure) (reply.Began b.fence b.points) in
-      let late = late_step events legal b.place n s (call.Begin b.tenure) (reply.Began b.fence b.points) b.there in
-      let above = opening_low start b.place late in
-      let made = (told.tells).order.made b.place step above late b.there tt in
-      let q = told.makers b.place in
+      let late = late_step events legal b.position n s (call.Begin b.tenure) (reply.Began b.fence b.points) b.there in
+      let above = opening_low start b.position late in
+      let made = (told.tells).order.made b.position step above late b.there tt in
+      let q = told.makers b.position in
       let early : length q.lines < length turns = line_below turns q (made.0) in
-      let h = (told.tells).makes b.place step above late b.there in
-      let line_is = one_line start turns events legal told b.place (length q.lines) k early less (omega (arith, (told.lines).low q made.0, (made.1).0)) (omega (arith, (told.lines).high q made.0, (made.1).1)) b.at_least b.below in
-      let there = place_there (take b.place events) h.place h.last in
-      let at = at_take events there.0 b.place (event.Place h.place there.1) there.2 in
+      let h = (told.tells).makes b.position step above late b.there in
+      let line_is = one_line start turns events legal told b.position (length q.lines) k early less (omega (arith, (told.lines).low q made.0, (made.1).0)) (omega (arith, (told.lines).high q made.0, (made.1).1)) b.at_least b.below in
+      let there = place_there (take b.position events) h.place h.last in
+      let at = at_take events there.0 b.position (event.Place h.place there.1) there.2 in
       let own : ((h.runs).instance_).name ≡ name = named there.0 h.place there.1 (h.runs).instance_ at.0 (h.runs).stands in
       let front : take k turns ≡ q.lines = ap (λ m. take m turns) (sym line_is) ∙ lines_before start turns events legal told q made.0 in
       record { in_run = made.0; line_is = line_is; opens = h.opens; runs = ap (λ ls. is_stopped (inner_turns ls) name) front ∙ ap (is_stopped (inner_turns q.lines)) (sym own) ∙ (h.runs).holds }
@@ -211,20 +211,20 @@ module _ {tells : Bool} (start : Option MetaState) (turns : List Turn) (events :
   runs_in k less was j low high now =
       elim (since (told.ends k) j low (omega (arith, high, ends_within start turns events told (suc k) less)) now) as (λ _. stopped k ≡ false) [
         | inl all ↦ was (all (told.ends k) (omega arith) low)
-        | inr b ↦ let below = b.below in (begun_by k less (record { place = b.place; at_least = b.at_least; below = omega (arith, below, high); tenure = b.tenure; fence = b.fence; points = b.points; there = b.there })).runs
+        | inr b ↦ let below = b.below in (begun_by k less (record { position = b.position; at_least = b.at_least; below = omega (arith, below, high); tenure = b.tenure; fence = b.fence; points = b.points; there = b.there })).runs
       ]
 
   stop_shuts : (i : ℕ) → At events i (event.Step n s call.Stop reply.Done) → OpenAt (suc i) → ⊥
   stop_shuts i there now = let bad : standing.Down ≡ standing.Open = sym (ap (λ (r : ReplicaState). r.standing) (replica_own events legal n s i call.Stop reply.Done there)) ∙ now in cc
 
   -- an ok stop leaves it not open at the end of its line
-  stop_clash : (k : ℕ) → k < length turns → (q : TurnPlace) → IsTurnPlace turns q → length q.lines ≡ k → IsStopOf name q.turn → OpenAt (told.ends (suc k)) → ⊥
+  stop_clash : (k : ℕ) → k < length turns → (q : TurnPosition) → IsTurnPosition turns q → length q.lines ≡ k → IsStopOf name q.turn → OpenAt (told.ends (suc k)) → ⊥
   stop_clash k less q at line_is stop now =
       elim (since (told.ends k) (told.ends (suc k)) ((told.lines).ascends k less) (ends_within start turns events told (suc k) less) now) as (λ _. ⊥) [
         | inl all ↦ by_all all
         | inr b ↦
             let h = begun_by k less b in
-            let is = alone_is turns q (told.makers b.place) (halts q at (subst IsHaltAct (sym stop.act_is) tt)) h.in_run (h.line_is ∙ sym line_is) in
+            let is = alone_is turns q (told.makers b.position) (halts q at (subst IsHaltAct (sym stop.act_is) tt)) h.in_run (h.line_is ∙ sym line_is) in
             subst OpensReplicas (sym (ap (λ (t : InnerTurn). t.act) is) ∙ stop.act_is) h.opens
       ]
     where
@@ -241,7 +241,7 @@ module _ {tells : Bool} (start : Option MetaState) (turns : List Turn) (events :
           let step = event.Step n s (call.Begin b.tenure) (reply.Began b.fence b.points) in
           let h = hears n s (record {
             named = λ i place done own there own_is. named i place done own (at_take events i from (event.Place place done) there).0 own_is;
-            has = inr (b.place, call.Begin b.tenure, reply.Began b.fence b.points, take_at events b.place from step b.there (omega (arith, below, begins)));
+            has = inr (b.position, call.Begin b.tenure, reply.Began b.fence b.points, take_at events b.position from step b.there (omega (arith, below, begins)));
           }) in
           let i = h.1 in
           stop_shuts h.0 i.2 (all (suc h.0) (omega (arith, begins, i.0)) (omega (arith, i.1, finishes)))
@@ -262,11 +262,11 @@ module _ {tells : Bool} (start : Option MetaState) (turns : List Turn) (events :
         | inr stop ↦
             let cut = cut_at turns k line.0 line.1 in
             let here : IsIn (joined (lists_of line.0)) stop.0 = subst (λ ts. IsIn ts stop.0) (append-nil (joined (lists_of line.0))) stop.1 in
-            let q = place_in turns cut.0 line.0 cut.1 cut.2 stop.0 here in
+            let q = position_in turns cut.0 line.0 cut.1 cut.2 stop.0 here in
             absurd (stop_clash k less q.0 q.1 (ap length q.3 ∙ cut.3) (record { act_is = ap (λ (u : InnerTurn). u.act) q.2 ∙ (stop.2).act_is; answered = ap (λ (u : InnerTurn). u.answer) q.2 ∙ (stop.2).answered }) now)
       ]
 
-  runs_there : (p : TurnPlace) → IsTurnPlace turns p → (i : ℕ) → (told.spans).from p ≤ i → i < (told.spans).to p → OpenAt i → is_stopped (inner_turns p.lines) name ≡ false
+  runs_there : (p : TurnPosition) → IsTurnPosition turns p → (i : ℕ) → (told.spans).from p ≤ i → i < (told.spans).to p → OpenAt i → is_stopped (inner_turns p.lines) name ≡ false
   runs_there p at i low high now =
       let k = length p.lines in
       let less : k < length turns = line_below turns p at in
@@ -280,7 +280,7 @@ who_serves {tells} start turns events legal told halts p at n s name named c a s
     runs_there start turns events legal told halts n s name named p at h.0 i.0 i.1 (serves_open tells (take h.0 events) n s (replica n s (take h.0 events)) c a serves (lawful_step events legal h.0 n s c a i.2))
 
 -- what a call counts as served is a put that was done, or a read that was answered
-served_by : (tells : Bool) (start : Option MetaState) (p : TurnPlace) (version : ℕ) (past : List Event) (n s : ℕ) (r : ReplicaState) (c : StepCall) (a : StepReply) → IsServed a → IsOwnCall start p version c → LawfulStep tells past n s r c a → Serves c a
+served_by : (tells : Bool) (start : Option MetaState) (p : TurnPosition) (version : ℕ) (past : List Event) (n s : ℕ) (r : ReplicaState) (c : StepCall) (a : StepReply) → DidAsAsked a → IsOwnCall start p version c → LawfulStep tells past n s r c a → Serves c a
 served_by tells start p version past n s r (call.Put client number rules at_version point) reply.Done served own law = tt
 served_by tells start p version past n s r (call.Put client number rules at_version point) (reply.Found series) served own law = absurd law
 served_by tells start p version past n s r (call.Read client number rules at_version pick from to) (reply.Found series) served own law = tt

@@ -9,7 +9,7 @@ use Rattle.m3_model.specs.declared.placement.Placement.{Placement}
 use Rattle.m3_model.specs.declared.reason.Reason.{Reason}
 use Rattle.m3_model.specs.declared.reason.Reason.TheVariants as reason
 use Rattle.transcripts.specs.Fates.{OfNode}
-use Rattle.transcripts.specs.Record.{IsLastTurnPlace, line_of}
+use Rattle.transcripts.specs.Record.{IsLastTurnPosition, line_of}
 use Rattle.cluster_core.specs.Earlier.{last_place}
 use Rattle.cluster_core.specs.Legal.{Legal, LawfulAt}
 use Rattle.cluster_core.specs.Lists.{At}
@@ -102,7 +102,7 @@ places told = record { alone = alone; beside = λ k i p done less many. absurd (
     one zero less = (line_of act.Tick swept, record { act = act.Tick; answer = swept }, refl, refl)
     one (suc k) less = absurd (omega (arith, less))
 
-last : IsLastTurnPlace [] (line_of act.Tick swept) ticking
+last : IsLastTurnPosition [] (line_of act.Tick swept) ticking
 last = is_last (Some found) [] opening act.Tick swept more
 
 pub boot_is_heard : BootIsHeard

@@ -20,7 +20,7 @@ use Rattle.cluster_core.proofs.ListLemmas.{along, at_some, at_take, at_within, f
 use Rattle.cluster_core.proofs.PlaceLemmas.{place_cases, placed_at}
 use Rattle.cluster_core.proofs.TraceLemmas.{lawful_place}
 use Rattle.transcripts.specs.Placements.{MayStand, has_replica, later_placement, placement_after, placement_at, printed, start_placement}
-use Rattle.transcripts.specs.Record.{AreSomeOf, InnerTurn, TurnPlace, IsTurnPlace, inner_turns, joined, lists_of}
+use Rattle.transcripts.specs.Record.{AreSomeOf, InnerTurn, TurnPosition, IsTurnPosition, inner_turns, joined, lists_of}
 use Rattle.transcripts.proofs.PlacementLemmas.{after_from}
 use Rattle.told_by.specs.Makes.{IsAssigned}
 use Rattle.told_by.specs.Openings.{IsInitOf}
@@ -29,9 +29,9 @@ use Rattle.told_by.proofs.LeaveLemmas.{place_there}
 use Rattle.told_by.proofs.LineLemmas.{line_below}
 use Rattle.told_by.proofs.OpeningLemmas.{first_event}
 use Rattle.told_by.proofs.PrintedLemmas.{after_new, after_up, ends_grow, ends_within, greatest_so_far, one_place, placements_stand}
-use Rattle.told_by.proofs.TurnLemmas.{before_line, before_there, comes_later, flat_map-IsIn, in_cut, in_other_list, is_it, own_list, place_in, stands}
+use Rattle.told_by.proofs.TurnLemmas.{before_line, before_there, comes_later, flat_map-IsIn, in_cut, in_other_list, is_it, own_list, position_in, stands}
 use Rattle.told_causes.specs.Boot.{ArePlacesInOrder, GivesNone, HasOneTurn, IsPrintedIn}
-use Rattle.told_causes.proofs.AloneLemmas.{alone_place, lines_before, own_place, stands_from}
+use Rattle.told_causes.proofs.AloneLemmas.{alone_position, lines_before, own_place, stands_from}
 use Rattle.told_causes.proofs.HaltLemmas.{one_line}
 use Rattle.told_causes.proofs.WaitLemmas.{is_member_of, member_given, member_place}
 
@@ -70,7 +70,7 @@ one_turn turns k less =
     ]
 
 -- a turn earlier in the list, or in another list, is one of its line
-pub in_line : (p : TurnPlace) (turns : List Turn) → IsTurnPlace turns p → (t : InnerTurn) → IsIn (p.earlier ++ p.beside) t → IsIn (joined (lists_of p.line)) t
+pub in_line : (p : TurnPosition) (turns : List Turn) → IsTurnPosition turns p → (t : InnerTurn) → IsIn (p.earlier ++ p.beside) t → IsIn (joined (lists_of p.line)) t
 in_line p turns at t m =
     let s = at.stands in
     let own = p.earlier ++ p.turn ∷ s.later in
@@ -124,7 +124,7 @@ module _ {tells : Bool} (start : Option MetaState) (turns : List Turn) (events :
       ]
 
   -- in the line of a turn that prints none it is so
-  pub gives_none : (p : TurnPlace) → IsTurnPlace turns p → printed p.turn.answer ≡ None → BesideAll (length p.lines)
+  pub gives_none : (p : TurnPosition) → IsTurnPosition turns p → printed p.turn.answer ≡ None → BesideAll (length p.lines)
   gives_none p at quiet z place done low high there =
       elim (alone_or_beside (length p.lines) (line_below turns p at)) as (λ _. GivesNone (take z events) place × IsPrintedIn turns told.spans (length p.lines) z place) [
         | inl one ↦ let own = own_place start turns events legal told p at one z place done low high there in absurd (let bad : None ≡ Some (own.1).0 = sym quiet ∙ (own.1).1 in cc)
@@ -174,14 +174,14 @@ module _ {tells : Bool} (start : Option MetaState) (turns : List Turn) (events :
             absurd (clash b.0 b.1 b.2 (omega (arith, none)) (omega (arith, at_list.1, high)))
       ]
     where
-      clash : (b : TurnPlace) → IsTurnPlace turns b → IsInitOf start turns events told.spans b → told.ends k ≤ 0 → 0 < told.ends (suc k) → ⊥
+      clash : (b : TurnPosition) → IsTurnPosition turns b → IsInitOf start turns events told.spans b → told.ends k ≤ 0 → 0 < told.ends (suc k) → ⊥
       clash b in_run init none above =
           let same = one_line start turns events legal told 0 (length b.lines) k (line_below turns b in_run) less (omega (arith, (told.lines).low b in_run, init.from_is)) (omega (arith, (told.lines).high b in_run, init.to_above)) none above in
           let only = init.alone in
           many (only.0, b.turn, subst (λ m. At turns m only.0) same only.1, only.2)
 
   -- a turn prints a Place that stands by the end of its line
-  printed_by : (q : TurnPlace) → IsTurnPlace turns q → (place : Placement) → printed q.turn.answer ≡ Some place → (z : ℕ) × (done : List (ℕ × ℕ)) × At events z (event.Place place done) × (z < told.ends (suc (length q.lines)))
+  printed_by : (q : TurnPosition) → IsTurnPosition turns q → (place : Placement) → printed q.turn.answer ≡ Some place → (z : ℕ) × (done : List (ℕ × ℕ)) × At events z (event.Place place done) × (z < told.ends (suc (length q.lines)))
   printed_by q at_q place prints = let h = (told.tells).placements.is_place q at_q place prints in let early = h.in_time in (h.place_at, h.done, h.there, omega (arith, early, (told.lines).high q at_q))
 
   -- a member before a line and behind it is one all along it
@@ -198,7 +198,7 @@ module _ {tells : Bool} (start : Option MetaState) (turns : List Turn) (events :
       ]
 
   -- so is a member before the line of a turn, and after those earlier in its list and those beside it, all along the line up to the turn
-  pub member_before : (p : TurnPlace) → IsTurnPlace turns p → (i : ℕ) → told.ends (length p.lines) ≤ i → i ≤ (told.spans).from p → (place : Placement) → last_place (take i events) ≡ Some place
+  pub member_before : (p : TurnPosition) → IsTurnPosition turns p → (i : ℕ) → told.ends (length p.lines) ≤ i → i ≤ (told.spans).from p → (place : Placement) → last_place (take i events) ≡ Some place
       → (n s : ℕ) → has_replica (placed (length p.lines)) s n ≡ true → has_replica (placement_after (placed (length p.lines)) (p.earlier ++ p.beside)) s n ≡ true → has_replica (Some place) s n ≡ true
   member_before p at i low high place last n s before behind =
       elim (met k less i low line_end place last) as (λ _. has_replica (Some place) s n ≡ true) [
@@ -228,7 +228,7 @@ module _ {tells : Bool} (start : Option MetaState) (turns : List Turn) (events :
                 let here = at_take events stood.0 (told.ends k) (event.Place new.0 stood.1) stood.2 in
                 by_place new.0 stood.0 stood.1 here.0 (omega (arith, here.1, (told.lines).ascends k less)) new.2 (ap (λ o. has_replica o s n) (sym new.1) ∙ behind)
             | inr t ↦
-                let q = place_in turns p.lines p.line at.after at.in_run t.0 (in_line p turns at t.0 t.1) in
+                let q = position_in turns p.lines p.line at.after at.in_run t.0 (in_line p turns at t.0 t.1) in
                 let y = printed_by q.0 q.1 new.0 (ap (λ (u : InnerTurn). printed u.answer) q.2 ∙ t.2) in
                 by_place new.0 y.0 y.1 y.2 (omega (arith, y.3, ap (λ ls. told.ends (suc (length ls))) q.3)) new.2 (ap (λ o. has_replica o s n) (sym new.1) ∙ behind)
           ]
@@ -254,7 +254,7 @@ module _ {tells : Bool} (start : Option MetaState) (turns : List Turn) (events :
 
   -- ---- the turn
 
-  module _ (p : TurnPlace) (at : IsTurnPlace turns p) (quiet : printed p.turn.answer ≡ None) where
+  module _ (p : TurnPosition) (at : IsTurnPosition turns p) (quiet : printed p.turn.answer ≡ None) where
     less : length p.lines < length turns
     less = line_below turns p at
 
@@ -265,7 +265,7 @@ module _ {tells : Bool} (start : Option MetaState) (turns : List Turn) (events :
     by_parts ts = fold-append (λ o (turn : InnerTurn). later_placement (printed turn.answer) o) (start_placement start) (inner_turns p.lines) ts
 
     -- a turn in the line prints a Place that stands by the line's end
-    pub printed_in : (q : TurnPlace) → IsTurnPlace turns q → length q.lines ≡ length p.lines → (place : Placement) → printed q.turn.answer ≡ Some place → (z : ℕ) × (done : List (ℕ × ℕ)) × At events z (event.Place place done) × (z < told.ends (suc (length p.lines)))
+    pub printed_in : (q : TurnPosition) → IsTurnPosition turns q → length q.lines ≡ length p.lines → (place : Placement) → printed q.turn.answer ≡ Some place → (z : ℕ) × (done : List (ℕ × ℕ)) × At events z (event.Place place done) × (z < told.ends (suc (length p.lines)))
     printed_in q at_q same place prints = let z = printed_by q at_q place prints in (z.0, z.1, z.2, omega (arith, z.3, ap (λ n. told.ends (suc n)) same))
 
     -- A placement that stands in the turn's stretch may be the one that a request uses: those earlier in its list print nothing newer, and of those beside it
@@ -308,7 +308,7 @@ module _ {tells : Bool} (start : Option MetaState) (turns : List Turn) (events :
             | before_line rest line lines m ↦ absurd (omega (arith, g.of_line, ap length lines, length-append (g.printer).lines (line ∷ rest)))
             | before_there lines m ↦ IsIn-append_left p.earlier others (g.printer).turn m
             | in_other_list lines m ↦ IsIn-append_right p.earlier others (g.printer).turn (filter-IsIn (prints_by place) p.beside (g.printer).turn m (ap (λ o. option_map_or (λ (r : Placement). nat_le r.version place.version) o true) g.prints ∙ le-leb place.version place.version (omega arith)))
-            | is_it same ↦ absurd (let bad : None ≡ Some place = sym quiet ∙ ap (λ (x : TurnPlace). printed x.turn.answer) (sym same) ∙ g.prints in cc)
+            | is_it same ↦ absurd (let bad : None ≡ Some place = sym quiet ∙ ap (λ (x : TurnPosition). printed x.turn.answer) (sym same) ∙ g.prints in cc)
             | comes_later later ↦ absurd (omega (arith, (told.tells).order.order p g.printer at g.in_run later, (g.within).0, below, high))
           ],
           g.prints,
@@ -327,11 +327,11 @@ module _ {tells : Bool} (start : Option MetaState) (turns : List Turn) (events :
             elim (IsIn-append_cases p.earlier others t m) as (λ _. r ≡ place) [
               | inl early ↦
                   let q = own_list turns p at t early in
-                  let h = (told.tells).placements.is_place q.place q.in_run r (ap (λ (u : InnerTurn). printed u.answer) q.turn_is ∙ prints) in
+                  let h = (told.tells).placements.is_place q.position q.in_run r (ap (λ (u : InnerTurn). printed u.answer) q.turn_is ∙ prints) in
                   let in_time = h.in_time in
-                  same_version r h.place_at h.done h.there up (older r h.place_at h.done h.there (omega (arith, in_time, (told.tells).order.order q.place p q.in_run at (inr (ap length q.lines_are, q.client_is, q.earlier)), low)))
+                  same_version r h.place_at h.done h.there up (older r h.place_at h.done h.there (omega (arith, in_time, (told.tells).order.order q.position p q.in_run at (inr (ap length q.lines_are, q.client_is, q.earlier)), low)))
               | inr other ↦
-                  let q = place_in turns p.lines p.line at.after at.in_run t (in_line p turns at t (IsIn-append_right p.earlier p.beside t (IsIn-filter (prints_by place) p.beside t other))) in
+                  let q = position_in turns p.lines p.line at.after at.in_run t (in_line p turns at t (IsIn-append_right p.earlier p.beside t (IsIn-filter (prints_by place) p.beside t other))) in
                   let y = printed_in q.0 q.1 (ap length q.3) r (ap (λ (u : InnerTurn). printed u.answer) q.2 ∙ prints) in
                   same_version r y.0 y.1 y.2 up (leb-true r.version place.version (ap (λ o. option_map_or (λ (x : Placement). nat_le x.version place.version) o true) (sym prints) ∙ chosen (prints_by place) p.beside t other))
             ]
@@ -361,12 +361,12 @@ module _ {tells : Bool} (start : Option MetaState) (turns : List Turn) (events :
               absurd (clash b.0 b.1 b.2 (omega (arith, none)) (omega (arith, at_list.1, high)))
         ]
       where
-        clash : (b : TurnPlace) → IsTurnPlace turns b → IsInitOf start turns events told.spans b → told.ends (length p.lines) ≤ 0 → 0 < told.ends (suc (length p.lines)) → ⊥
+        clash : (b : TurnPosition) → IsTurnPosition turns b → IsInitOf start turns events told.spans b → told.ends (length p.lines) ≤ 0 → 0 < told.ends (suc (length p.lines)) → ⊥
         clash b in_run init none above =
             let same = one_line start turns events legal told 0 (length b.lines) (length p.lines) (line_below turns b in_run) less (omega (arith, (told.lines).low b in_run, init.from_is)) (omega (arith, (told.lines).high b in_run, init.to_above)) none above in
-            let is : p ≡ b = alone_place turns b p init.alone in_run at (sym same) in
+            let is : p ≡ b = alone_position turns b p init.alone in_run at (sym same) in
             let prints : printed b.turn.answer ≡ Some init.place = ap printed init.answered in
-            let bad : None ≡ Some init.place = sym quiet ∙ ap (λ (x : TurnPlace). printed x.turn.answer) is ∙ prints in
+            let bad : None ≡ Some init.place = sym quiet ∙ ap (λ (x : TurnPosition). printed x.turn.answer) is ∙ prints in
             cc
 
     -- whoever has a shard in its line had it before, with the same tenure

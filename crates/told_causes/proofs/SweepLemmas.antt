@@ -15,7 +15,7 @@ use Rattle.placement_core.specs.Shards.{nodes_of, shard_at}
 use Rattle.cluster_core.specs.Lists.{At}
 use Rattle.cluster_core.specs.Refusals.{first_refusal, shut}
 use Rattle.cluster_core.specs.Replicas.{replica}
-use Rattle.cluster_core.specs.Rows.{MayBeUnowned, MayRefuse}
+use Rattle.cluster_core.specs.Rows.{MayBeUnowned, ReplicaMayRefuse}
 use Rattle.cluster_core.specs.declared.event.Event.{Event}
 use Rattle.cluster_core.specs.declared.event.Event.TheVariants as event
 use Rattle.cluster_core.specs.declared.event.StepCall.{StepCall}
@@ -26,7 +26,7 @@ use Rattle.cluster_core.proofs.ListLemmas.{some_same}
 use Rattle.cluster_core.proofs.TraceLemmas.{lawful_step}
 use Rattle.transcripts.specs.Faults.{Fault, Failing, Damaged}
 use Rattle.transcripts.specs.Reasons.{MayFail}
-use Rattle.transcripts.specs.Record.{TurnPlace}
+use Rattle.transcripts.specs.Record.{TurnPosition}
 use Rattle.told_by.specs.Hears.{HearsReason, IsSweepCall}
 use Rattle.told_by.specs.Told.{ToldBy}
 use Rattle.told_causes.specs.Calls.{Within}
@@ -67,7 +67,7 @@ sweep_owned tells _ r _ kind h = absurd kind
 
 -- ---- what it is refused for
 
-module _ {tells : Bool} (start : Option MetaState) (turns : List Turn) (events : List Event) (told : ToldBy start turns events) (p : TurnPlace) (place : Placement) (known : IsKnownSweep tells start turns events told p place) where
+module _ {tells : Bool} (start : Option MetaState) (turns : List Turn) (events : List Event) (told : ToldBy start turns events) (p : TurnPosition) (place : Placement) (known : IsKnownSweep tells start turns events told p place) where
   abbrev faults : List Fault
   faults = faults_told told.ends events (length turns)
 
@@ -80,7 +80,7 @@ module _ {tells : Bool} (start : Option MetaState) (turns : List Turn) (events :
       by _ sweeps halts = halts
 
   -- what the refusal of a step is
-  refused : (node shard i : ℕ) (c : StepCall) (why : Reason) → At events i (event.Step node shard c (reply.Refused why)) → MayRefuse tells (take i events) shard (replica node shard (take i events)) c why
+  refused : (node shard i : ℕ) (c : StepCall) (why : Reason) → At events i (event.Step node shard c (reply.Refused why)) → ReplicaMayRefuse tells (take i events) shard (replica node shard (take i events)) c why
   refused node shard i c why there = refused_law tells (take i events) node shard (replica node shard (take i events)) c why (lawful_step events known.legal i node shard c (reply.Refused why) there)
 
   said : (shard node : ℕ) → IsIn (nodes_of (shard_at place shard)) node → (why : Reason) → HearsReason (Within events told.spans p) (IsSweepCall p.turn.act) node shard why → MayFail tells faults start p place shard node why

@@ -53,11 +53,11 @@ FaultsAreDifferent = (ends : ℕ → ℕ) (events : List Event) (lines : ℕ) �
 -- an event of a line tells of the fault
 pub record IsToldOf (ends : ℕ → ℕ) (events : List Event) (lines : ℕ) (fault : Fault) : Type 0 where
   pub early : fault.line < lines
-  pub place : ℕ
-  pub low : ends fault.line ≤ place
-  pub high : place < ends (suc fault.line)
+  pub position : ℕ
+  pub low : ends fault.line ≤ position
+  pub high : position < ends (suc fault.line)
   pub e : Event
-  pub there : At events place e
+  pub there : At events position e
   pub tells : fault_of fault.line e ≡ Some fault
 
 -- Each fault of a list is told by an event of its line.

@@ -12,7 +12,7 @@ use Rattle.cluster_core.specs.declared.event.Event.{Event}
 use Rattle.cluster_core.specs.declared.event.StepReply.TheVariants as reply
 use Rattle.transcripts.specs.Caused.{HadBefore, IsOwn}
 use Rattle.transcripts.specs.Deliveries.{LateMessage}
-use Rattle.transcripts.specs.Record.{TurnPlace, IsTurnPlace}
+use Rattle.transcripts.specs.Record.{TurnPosition, IsTurnPosition}
 use Rattle.told_by.specs.Hears.{HasStep, IsRestartCall}
 use Rattle.told_by.specs.Told.{ToldBy}
 use Rattle.told_causes.specs.Boot.{ArePlacesInOrder}
@@ -27,13 +27,13 @@ NamesReplica (act.Bootstrap node asked) (answer.Corrupt name shard damage) s = s
 NamesReplica _ _ s = ⊥
 
 -- where the act is a restart, the slots of the shard whose restart fails for their disk within the turn's stretch had a replica before its line
-abbrev pub AreReached : Option MetaState → (ℕ → Event → Type 0) → TurnPlace → Act → ℕ → Type 0
+abbrev pub AreReached : Option MetaState → (ℕ → Event → Type 0) → TurnPosition → Act → ℕ → Type 0
 AreReached start Here p (act.Restart name pick) shard = (node : ℕ) → HasStep Here IsRestartCall node shard (reply.Refused reason.Disk) → HadBefore start p shard node
 AreReached start Here p _ shard = ⊤
 
 -- Where Places are in order, and a turn answers so of a slot that it reaches, a transcript says why.
 abbrev pub NodeAnswersAreSaid : Bool → Type 0
 NodeAnswersAreSaid tells =
-    (start : Option MetaState) (turns : List Turn) (events : List Event) → Legal tells events → (told : ToldBy start turns events) → ArePlacesInOrder start turns events told → (p : TurnPlace) → IsTurnPlace turns p
+    (start : Option MetaState) (turns : List Turn) (events : List Event) → Legal tells events → (told : ToldBy start turns events) → ArePlacesInOrder start turns events told → (p : TurnPosition) → IsTurnPosition turns p
     → (shard : ℕ) → NamesReplica p.turn.act p.turn.answer shard → AreReached start (Within events told.spans p) p p.turn.act shard
     → (messages : List LateMessage) → IsOwn tells (faults_told told.ends events (length turns)) start messages p p.turn.act p.turn.answer

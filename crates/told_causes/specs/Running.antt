@@ -11,7 +11,7 @@ use Rattle.cluster_core.specs.declared.event.StepCall.TheVariants as call
 use Rattle.cluster_core.specs.declared.event.StepReply.{StepReply}
 use Rattle.cluster_core.specs.declared.event.StepReply.TheVariants as reply
 use Rattle.transcripts.specs.Fates.{OfNode, is_stopped}
-use Rattle.transcripts.specs.Record.{TurnPlace, IsTurnPlace, inner_turns}
+use Rattle.transcripts.specs.Record.{TurnPosition, IsTurnPosition, inner_turns}
 use Rattle.told_by.specs.Hears.{Happens, HasServed, InStretch, IsNamedBy}
 use Rattle.told_by.specs.Told.{ToldBy}
 use Rattle.told_causes.specs.Calls.{IsUsedBy, ServedAreNamed, Within}
@@ -26,11 +26,11 @@ Serves _ _ = ⊥
 -- Where a replica serves within a turn's stretch, its node isn't stopped at that turn.
 abbrev pub WhoServesRuns : Bool → Type 0
 WhoServesRuns tells =
-    (start : Option MetaState) (turns : List Turn) (events : List Event) → Legal tells events → (told : ToldBy start turns events) → HaltsAlone turns → (p : TurnPlace) → IsTurnPlace turns p → (node shard : ℕ) (name : List ℕ) → IsNamedBy events node name
+    (start : Option MetaState) (turns : List Turn) (events : List Event) → Legal tells events → (told : ToldBy start turns events) → HaltsAlone turns → (p : TurnPosition) → IsTurnPosition turns p → (node shard : ℕ) (name : List ℕ) → IsNamedBy events node name
     → (c : StepCall) (a : StepReply) → Serves c a → Happens (InStretch events (told.spans.from p) (told.spans.to p)) (event.Step node shard c a) → is_stopped (inner_turns p.lines) name ≡ false
 
 -- So the nodes run whose replicas did as a call asks, where each has one name in all placements.
 abbrev pub WhoServedRuns : Bool → Type 0
 WhoServedRuns tells =
-    (start : Option MetaState) (turns : List Turn) (events : List Event) → Legal tells events → (told : ToldBy start turns events) → HaltsAlone turns → (p : TurnPlace) → IsTurnPlace turns p → ServedAreNamed start events told.spans p
+    (start : Option MetaState) (turns : List Turn) (events : List Event) → Legal tells events → (told : ToldBy start turns events) → HaltsAlone turns → (p : TurnPosition) → IsTurnPosition turns p → ServedAreNamed start events told.spans p
     → (place : Placement) → IsUsedBy start p place → (shard node : ℕ) → HasServed start (Within events told.spans p) p place shard node → OfNode place node (λ name. is_stopped (inner_turns p.lines) name ≡ false)

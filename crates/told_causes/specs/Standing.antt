@@ -16,7 +16,7 @@ use Rattle.cluster_core.specs.declared.event.StepReply.TheVariants as reply
 use Rattle.transcripts.specs.Fates.{IsStoppedAt, OfNode, is_stopped}
 use Rattle.transcripts.specs.Faults.{Fault, IsClosedByFault, closes, is_restart}
 use Rattle.transcripts.specs.Placements.{HadReplica}
-use Rattle.transcripts.specs.Record.{TurnPlace, IsTurnPlace, inner_turns}
+use Rattle.transcripts.specs.Record.{TurnPosition, IsTurnPosition, inner_turns}
 use Rattle.told_by.specs.Hears.{Happens, InStretch, IsNamedBy}
 use Rattle.told_by.specs.Spans.{IsAlone}
 use Rattle.told_by.specs.Told.{ToldBy}
@@ -30,10 +30,10 @@ IsHaltAct _ = ⊥
 
 -- each stop and each restart is the only turn of its line
 abbrev pub HaltsAlone : List Turn → Type 0
-HaltsAlone turns = (q : TurnPlace) → IsTurnPlace turns q → IsHaltAct q.turn.act → IsAlone turns q
+HaltsAlone turns = (q : TurnPosition) → IsTurnPosition turns q → IsHaltAct q.turn.act → IsAlone turns q
 
 -- a fault or damage closed the slot in this line or an earlier one, and no line since restarted the node of this name
-pub record IsClosedSince (faults : List Fault) (p : TurnPlace) (node shard : ℕ) (name : List ℕ) : Type 0 where
+pub record IsClosedSince (faults : List Fault) (p : TurnPosition) (node shard : ℕ) (name : List ℕ) : Type 0 where
   pub fault : Fault
   pub among : IsIn faults fault
   pub of_node : fault.node ≡ node
@@ -45,17 +45,17 @@ pub record IsClosedSince (faults : List Fault) (p : TurnPlace) (node shard : ℕ
 -- Where a step of a turn that stops and restarts nothing is refused as closed, its node is stopped, or a fault closed the slot.
 abbrev pub DownHasCause : Bool → Type 0
 DownHasCause tells =
-    (start : Option MetaState) (turns : List Turn) (events : List Event) → Legal tells events → (told : ToldBy start turns events) → (p : TurnPlace) → IsTurnPlace turns p → ¬ IsHaltAct p.turn.act
+    (start : Option MetaState) (turns : List Turn) (events : List Event) → Legal tells events → (told : ToldBy start turns events) → (p : TurnPosition) → IsTurnPosition turns p → ¬ IsHaltAct p.turn.act
     → (node shard : ℕ) (name : List ℕ) → IsNamedBy events node name → (c : StepCall) → Happens (InStretch events (told.spans.from p) (told.spans.to p)) (event.Step node shard c (reply.Refused reason.Down))
     → (is_stopped (inner_turns p.lines) name ≡ true) ⊎ IsClosedSince (faults_told told.ends events (length turns)) p node shard name
 
 -- the slot had a replica by the end of each earlier line with one of these faults of it
-abbrev pub WasThere : List Fault → Option MetaState → TurnPlace → ℕ → ℕ → Type 0
+abbrev pub WasThere : List Fault → Option MetaState → TurnPosition → ℕ → ℕ → Type 0
 WasThere faults start p node shard =
     (fault : Fault) → IsIn faults fault → fault.node ≡ node → fault.shard ≡ shard → fault.line < length p.lines → HadReplica start (inner_turns (take (suc fault.line) p.lines)) shard node
 
 -- So where the slot had a replica then, a transcript says why it is down.
 abbrev pub DownIsSaid : Type 0
 DownIsSaid =
-    (faults : List Fault) (start : Option MetaState) (p : TurnPlace) (place : Placement) (node shard : ℕ) (name : List ℕ) → OfNode place node (λ own. own ≡ name) → WasThere faults start p node shard
+    (faults : List Fault) (start : Option MetaState) (p : TurnPosition) (place : Placement) (node shard : ℕ) (name : List ℕ) → OfNode place node (λ own. own ≡ name) → WasThere faults start p node shard
     → (is_stopped (inner_turns p.lines) name ≡ true) ⊎ IsClosedSince faults p node shard name → IsStoppedAt p place node ⊎ IsClosedByFault faults start p place shard node

@@ -11,7 +11,7 @@ use Rattle.placement_core.specs.Shards.{nodes_of, shard_at}
 use Rattle.cluster_core.specs.Legal.{Legal}
 use Rattle.cluster_core.specs.declared.event.Event.{Event}
 use Rattle.transcripts.specs.Reasons.{MayFail}
-use Rattle.transcripts.specs.Record.{TurnPlace, IsTurnPlace}
+use Rattle.transcripts.specs.Record.{TurnPosition, IsTurnPosition}
 use Rattle.told_by.specs.Hears.{HearsReason, IsSweepCall}
 use Rattle.told_by.specs.Told.{ToldBy}
 use Rattle.told_causes.specs.Boot.{IsKnownMember}
@@ -27,15 +27,15 @@ IsSweepAct _ = ⊥
 
 -- What is known of a sweep over a placement: it is of a run that a legal list tells of, nodes have one name, and where the disks tell what they hold each member is
 -- a known one.
-pub record IsKnownSweep (tells : Bool) (start : Option MetaState) (turns : List Turn) (events : List Event) (told : ToldBy start turns events) (p : TurnPlace) (place : Placement) : Type 0 where
+pub record IsKnownSweep (tells : Bool) (start : Option MetaState) (turns : List Turn) (events : List Event) (told : ToldBy start turns events) (p : TurnPosition) (place : Placement) : Type 0 where
   pub legal : Legal tells events
-  pub in_run : IsTurnPlace turns p
+  pub in_run : IsTurnPosition turns p
   pub sweeps : IsSweepAct p.turn.act
   pub explained : (shard node : ℕ) → IsIn (nodes_of (shard_at place shard)) node → (steady : IsSteadyNode start turns events told p place shard node) × (tells ≡ true → IsKnownMember start turns events told p shard node steady.name)
 
 -- Each reason that such a sweep hears has its cause.
 abbrev pub SweepsAreSaid : Bool → Type 0
 SweepsAreSaid tells =
-    (start : Option MetaState) (turns : List Turn) (events : List Event) (told : ToldBy start turns events) (p : TurnPlace) (place : Placement) → IsKnownSweep tells start turns events told p place
+    (start : Option MetaState) (turns : List Turn) (events : List Event) (told : ToldBy start turns events) (p : TurnPosition) (place : Placement) → IsKnownSweep tells start turns events told p place
     → (shard node : ℕ) → IsIn (nodes_of (shard_at place shard)) node → (why : Reason) → HearsReason (Within events told.spans p) (IsSweepCall p.turn.act) node shard why
     → MayFail tells (faults_told told.ends events (length turns)) start p place shard node why

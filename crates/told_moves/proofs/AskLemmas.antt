@@ -22,7 +22,7 @@ use Rattle.cluster_core.specs.declared.event.StepReply.{StepReply}
 use Rattle.cluster_core.proofs.ListLemmas.{at_take}
 use Rattle.transcripts.specs.Fates.{OfNode}
 use Rattle.transcripts.specs.Placements.{printed}
-use Rattle.transcripts.specs.Record.{TurnPlace, IsTurnPlace}
+use Rattle.transcripts.specs.Record.{TurnPosition, IsTurnPosition}
 use Rattle.transcripts.specs.Waiting.{is_covering}
 use Rattle.told_by.specs.Makes.{IsAssigned, MayAsk}
 use Rattle.told_by.specs.Spans.{IsWithin}
@@ -45,7 +45,7 @@ ask_is n s c a (event.Ask (asked.Step node shard own)) h = λ i. event.Ask (aske
 ask_is n s c a _ h = absurd h
 
 -- the turn is a bootstrap of the node, as the placement calls it, and of the shard
-pub record IsBootOf (q : TurnPlace) (place : Placement) (node s : ℕ) : Type 0 where
+pub record IsBootOf (q : TurnPosition) (place : Placement) (node s : ℕ) : Type 0 where
   pub name : List ℕ
   pub only : Option ℕ
   pub act_is : q.turn.act ≡ act.Bootstrap name only
@@ -55,8 +55,8 @@ pub record IsBootOf (q : TurnPlace) (place : Placement) (node s : ℕ) : Type 0 
 module _ {tells : Bool} (start : Option MetaState) (turns : List Turn) (events : List Event) (legal : Legal tells events) (told : ToldBy start turns events) where
   -- a turn asks there for a step of the slot
   record IsAsked (k n s : ℕ) (c : StepCall) : Type 0 where
-    q : TurnPlace
-    in_run : IsTurnPlace turns q
+    q : TurnPosition
+    in_run : IsTurnPosition turns q
     within : IsWithin told.spans q k
     asks : MayAsk start (take k events) q q.turn.act (asked.Step n s c)
 
@@ -72,20 +72,20 @@ module _ {tells : Bool} (start : Option MetaState) (turns : List Turn) (events :
 
   -- each step that has to be asked for was, earlier
   asked_by : (i n s : ℕ) (c : StepCall) (a : StepReply) → ((past : List Event) → StepWasAsked past (event.Step n s c a) → WasAsked past (event.Step n s c a)) → At events i (event.Step n s c a) → (k : ℕ) × (k < i) × IsAsked k n s c
-  asked_by i n s c a has there = by_place i (late_step events legal i n s c a there) there
+  asked_by i n s c a has there = by_position i (late_step events legal i n s c a there) there
     where
-      by_place : (i : ℕ) → 2 ≤ i → At events i (event.Step n s c a) → (k : ℕ) × (k < i) × IsAsked k n s c
-      by_place zero late there = absurd (omega (arith, late))
-      by_place (suc zero) late there = absurd (omega (arith, late))
-      by_place (suc (suc i)) late there =
+      by_position : (i : ℕ) → 2 ≤ i → At events i (event.Step n s c a) → (k : ℕ) × (k < i) × IsAsked k n s c
+      by_position zero late there = absurd (omega (arith, late))
+      by_position (suc zero) late there = absurd (omega (arith, late))
+      by_position (suc (suc i)) late there =
           let b = asked_before (take (suc (suc i)) events) (event.Step n s c a) (has (take (suc (suc i)) events) (legal (suc (suc i)) (event.Step n s c a) there).0) in
           let at = at_take events b.0 (suc (suc i)) b.1 b.2 in
           (b.0, at.1, asked_there b.0 n s c (at.0 ∙ ap Some (ask_is n s c a b.1 b.3)))
 
   -- a turn asks there for what a node needs to have the shard with this tenure: a bootstrap of it, or an `init`
   pub record IsMoveAsk (k node s tenure : ℕ) : Type 0 where
-    pub q : TurnPlace
-    pub in_run : IsTurnPlace turns q
+    pub q : TurnPosition
+    pub in_run : IsTurnPosition turns q
     pub within : IsWithin told.spans q k
     pub place : Placement
     pub last : last_place (take k events) ≡ Some place

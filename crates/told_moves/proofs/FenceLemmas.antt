@@ -99,12 +99,12 @@ module _ (start : Option MetaState) (turns : List Turn) (events : List Event) (l
   abbrev at_slot : ℕ → ReplicaState
   at_slot j = slot events legal n s j
 
-  -- a turn asked before this place for a move of the shard with this tenure
+  -- a turn asked before this position for a move of the shard with this tenure
   pub record MovesBefore (j tenure : ℕ) : Type 0 where
-    pub place : ℕ
-    pub below : place < j
+    pub position : ℕ
+    pub below : position < j
     pub node : ℕ
-    pub ask : IsMoveAsk start turns events legal told place node s tenure
+    pub ask : IsMoveAsk start turns events legal told position node s tenure
 
   -- none, one that an earlier run left, or that of a move
   abbrev IsKnown : ℕ → ℕ → Type 0
@@ -113,13 +113,13 @@ module _ (start : Option MetaState) (turns : List Turn) (events : List Event) (l
   known_later : (j fence : ℕ) → IsKnown j fence → IsKnown (suc j) fence
   known_later j fence (inl none) = inl none
   known_later j fence (inr (inl left)) = inr (inl left)
-  known_later j fence (inr (inr m)) = let below = m.below in inr (inr (record { place = m.place; below = omega (arith, below); node = m.node; ask = m.ask }))
+  known_later j fence (inr (inr m)) = let below = m.below in inr (inr (record { position = m.position; below = omega (arith, below); node = m.node; ask = m.ask }))
 
   begin_known : (j tenure : ℕ) (a : StepReply) → At events j (event.Step n s (call.Begin tenure) a) → IsKnown (suc j) tenure
-  begin_known j tenure a there = let b = begin_asked start turns events legal told j n s tenure a there in let low = b.1 in inr (inr (record { place = b.0; below = omega (arith, low); node = n; ask = b.2 }))
+  begin_known j tenure a there = let b = begin_asked start turns events legal told j n s tenure a there in let low = b.1 in inr (inr (record { position = b.0; below = omega (arith, low); node = n; ask = b.2 }))
 
   fence_known : (j fence : ℕ) (a : StepReply) → At events j (event.Step n s (call.Fence fence) a) → IsKnown (suc j) fence
-  fence_known j fence a there = let b = fence_asked start turns events legal told j n s fence a there in let low = b.1 in inr (inr (record { place = b.0; below = omega (arith, low); node = b.2; ask = b.3 }))
+  fence_known j fence a there = let b = fence_asked start turns events legal told j n s fence a there in let low = b.1 in inr (inr (record { position = b.0; below = omega (arith, low); node = b.2; ask = b.3 }))
 
   -- each fence is known
   record Fences (j : ℕ) (r : ReplicaState) : Type 0 where

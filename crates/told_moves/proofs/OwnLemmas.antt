@@ -30,7 +30,7 @@ use Rattle.cluster_core.proofs.PlaceLemmas.{placed_at}
 use Rattle.cluster_core.proofs.TraceLemmas.{lawful_step, open_begun, replica_own}
 use Rattle.transcripts.specs.Moves.{IsNew, IsUnowned, OwnsNot, is_begun_in, placement_by}
 use Rattle.transcripts.specs.Placements.{MayStand, has_replica, placement_after, printed, start_placement}
-use Rattle.transcripts.specs.Record.{InnerTurn, TurnPlace, IsTurnPlace, inner_turns, joined, lists_of}
+use Rattle.transcripts.specs.Record.{InnerTurn, TurnPosition, IsTurnPosition, inner_turns, joined, lists_of}
 use Rattle.transcripts.specs.Waiting.{Replica, is_assigned, is_begun_by, is_covering, is_member}
 use Rattle.told_by.specs.Hears.{IsBegun, IsNamedBy}
 use Rattle.told_by.specs.Told.{ToldBy}
@@ -38,7 +38,7 @@ use Rattle.told_by.proofs.LeaveLemmas.{place_there}
 use Rattle.told_by.proofs.LineLemmas.{line_below, take_front}
 use Rattle.told_by.proofs.OpeningLemmas.{first_event}
 use Rattle.told_by.proofs.PrintedLemmas.{ends_grow, ends_within, placements_stand}
-use Rattle.told_by.proofs.TurnLemmas.{cut_at, own_list, place_in}
+use Rattle.told_by.proofs.TurnLemmas.{cut_at, own_list, position_in}
 use Rattle.told_causes.proofs.AloneLemmas.{stands_from}
 use Rattle.told_causes.proofs.BootLemmas.{HasBegun, covered_begun, true_or_not}
 use Rattle.told_causes.proofs.StoodLemmas.{alone_last, alone_or_beside, back, gives_none, had_before, held_before, member_before, member_met}
@@ -83,14 +83,14 @@ module _ {tells : Bool} (start : Option MetaState) (turns : List Turn) (events :
       (b.0, b.1, omega (arith, (at_take events stands.0 b.0 (event.Place ask.place stands.1) stands.2).1), given_by events legal n s b.0 tenure ask.place ask.last ask.assigned)
 
   -- where the replica has a tenure above the version, the node has no replica of the shard, or has it with a tenure above the version
-  above_owns_not : (p : TurnPlace) (n s version tenure i : ℕ) (place : Placement) → i ≤ length events → last_place (take i events) ≡ Some place → MayStand start p place → (slot events legal n s i).tenure ≡ Some tenure → version < tenure → OwnsNot start p s n version
+  above_owns_not : (p : TurnPosition) (n s version tenure i : ℕ) (place : Placement) → i ≤ length events → last_place (take i events) ≡ Some place → MayStand start p place → (slot events legal n s i).tenure ≡ Some tenure → version < tenure → OwnsNot start p s n version
   above_owns_not p n s version tenure i place high last stands owned above =
       elim (true_or_not (has_replica (Some place) s n)) as (λ _. OwnsNot start p s n version) [
         | inr gone ↦ record { place = place; may_stand = stands; not_owned = inl gone }
         | inl member ↦
             let b = owned_began events legal n s tenure i high owned in
             let below = b.below in
-            let g = begin_given n s b.place tenure b.answer b.there in
+            let g = begin_given n s b.position tenure b.answer b.there in
             let a = member_tenure events legal n s g.0 i tenure place g.2 (omega (arith, g.1, below)) high g.3 last member in
             let low = a.kind in
             record { place = place; may_stand = stands; not_owned = inr (record { assignment = a.assignment; among = a.among; of_node = a.of_node; kind = omega (arith, low, above) }) }
@@ -165,13 +165,13 @@ module _ {tells : Bool} (start : Option MetaState) (turns : List Turn) (events :
       ]
   begin_clash is n s m tenure _ begun there now next none = absurd begun
 
-  -- what a slot tried by a place of a line isn't above the tenure that it had before in the line
+  -- what a slot tried by a position of a line isn't above the tenure that it had before in the line
   pub tried_low : (k : ℕ) → k < length turns → (n s f m tenure : ℕ) → told.ends k ≤ f → f ≤ m → m < told.ends (suc k) → GivenAt events legal n s f tenure → (own : ℕ) → Tries (slot events legal n s m) own → own ≤ tenure
   tried_low k less n s f m tenure begins low high g own tries =
       let bound = ends_within start turns events told (suc k) less in
       let b = tried_began events legal n s own m (omega (arith, high, bound)) tries in
       let below = b.below in
-      let was = begin_given n s b.place own b.answer b.there in
+      let was = begin_given n s b.position own b.answer b.there in
       elim (cases_lt was.0 f) as (λ _. own ≤ tenure) [
         | inl lt ↦ tenure_grows events legal n s was.0 f own tenure was.2 (omega (arith, lt)) (omega (arith, low, high, bound)) was.3 g
         | inr ge ↦ line_low start turns events legal told order k less f was.0 n s tenure own begins ge (omega (arith, was.1, below, high)) g was.3
@@ -182,11 +182,11 @@ module _ {tells : Bool} (start : Option MetaState) (turns : List Turn) (events :
     x = record { shard = s; node = n; name = name }
 
     -- a bootstrap after the end of the slot's tenure that covers it, a member where it begins, would have begun it
-    turn_clash : tells ≡ true → (i : ℕ) → i ≤ length events → (e : EndedAt events legal n s i) → (q : TurnPlace) → IsTurnPlace turns q → (k : ℕ) → k < length turns → e.place < told.ends k → length q.lines ≡ k → (told.spans).to q ≤ i → ((place : Placement) → last_place (take ((told.spans).from q) events) ≡ Some place → has_replica (Some place) s n ≡ true)
+    turn_clash : tells ≡ true → (i : ℕ) → i ≤ length events → (e : EndedAt events legal n s i) → (q : TurnPosition) → IsTurnPosition turns q → (k : ℕ) → k < length turns → e.position < told.ends k → length q.lines ≡ k → (told.spans).to q ≤ i → ((place : Placement) → last_place (take ((told.spans).from q) events) ≡ Some place → has_replica (Some place) s n ≡ true)
         → (stays : Bool) → EndsWait x stays q.turn → ⊥
     turn_clash is i bound e q at_q k less later line_is finishes members stays h =
         let begins : told.ends k ≤ (told.spans).from q = omega (arith, (told.lines).low q at_q, ap told.ends line_is) in
-        let first = first_event events legal e.place (event.Step n s call.End reply.Done) e.there in
+        let first = first_event events legal e.position (event.Step n s call.End reply.Done) e.there in
         let p = placed_at events legal first.place [] first.there ((told.spans).from q) (omega (arith, later, begins)) (omega (arith, (told.tells).order.not_back q at_q, (told.tells).order.not_above q at_q)) in
         let ends = and_both stays (pointwise nat_eq name h.node && is_covering s h.asked) h.ends in
         let covers = and_both (pointwise nat_eq name h.node) (is_covering s h.asked) ends.1 in
@@ -199,27 +199,27 @@ module _ {tells : Bool} (start : Option MetaState) (turns : List Turn) (events :
         by_begun {from} {to} {stood} b begins finishes ends =
             let low = b.low in
             let high = b.high in
-            begin_clash is n s b.place b.tenure b.answer b.begun b.there (e.since b.place (omega (arith, later, begins, low)) (omega (arith, high, finishes))) (e.since (suc b.place) (omega (arith, later, begins, low)) (omega (arith, high, finishes)))
-            (tried_low k less n s from b.place b.tenure begins low (omega (arith, high, ends)) (given_by events legal n s from b.tenure stood b.last b.given))
+            begin_clash is n s b.position b.tenure b.answer b.begun b.there (e.since b.position (omega (arith, later, begins, low)) (omega (arith, high, finishes))) (e.since (suc b.position) (omega (arith, later, begins, low)) (omega (arith, high, finishes)))
+            (tried_low k less n s from b.position b.tenure begins low (omega (arith, high, ends)) (given_by events legal n s from b.tenure stood b.last b.given))
 
     -- so in a line of a member that stays one
-    boot_clash : tells ≡ true → (i : ℕ) → i ≤ length events → (e : EndedAt events legal n s i) → (k : ℕ) → k < length turns → e.place < told.ends k → told.ends (suc k) ≤ i → (line : Turn) → At turns k line
+    boot_clash : tells ≡ true → (i : ℕ) → i ≤ length events → (e : EndedAt events legal n s i) → (k : ℕ) → k < length turns → e.position < told.ends k → told.ends (suc k) ≤ i → (line : Turn) → At turns k line
         → (t : InnerTurn) → IsIn (inner_turns (line ∷ [])) t → EndsWait x (is_member x (placed k) && is_member x (placed (suc k))) t → ⊥
     boot_clash is i bound e k less later finishes line there t m h =
         let cut = cut_at turns k line there in
-        let q = place_in turns cut.0 line cut.1 cut.2 t (subst (λ ts. IsIn ts t) (append-nil (joined (lists_of line))) m) in
+        let q = position_in turns cut.0 line cut.1 cut.2 t (subst (λ ts. IsIn ts t) (append-nil (joined (lists_of line))) m) in
         let line_is : length (q.0).lines ≡ k = ap length q.3 ∙ cut.3 in
         turn_clash is i bound e q.0 q.1 k less later line_is (omega (arith, (told.lines).high q.0 q.1, ap (λ j. told.ends (suc j)) line_is, finishes)) (by_met q.0 q.1 line_is) (is_member x (placed k) && is_member x (placed (suc k))) (subst (EndsWait x (is_member x (placed k) && is_member x (placed (suc k)))) (sym q.2) h)
       where
         stays : (is_member x (placed k) ≡ true) × (is_member x (placed (suc k)) ≡ true)
         stays = let ends = and_both (is_member x (placed k) && is_member x (placed (suc k))) (pointwise nat_eq name h.node && is_covering s h.asked) h.ends in and_both (is_member x (placed k)) (is_member x (placed (suc k))) ends.0
 
-        by_met : (q : TurnPlace) → IsTurnPlace turns q → length q.lines ≡ k → (place : Placement) → last_place (take ((told.spans).from q) events) ≡ Some place → has_replica (Some place) s n ≡ true
+        by_met : (q : TurnPosition) → IsTurnPosition turns q → length q.lines ≡ k → (place : Placement) → last_place (take ((told.spans).from q) events) ≡ Some place → has_replica (Some place) s n ≡ true
         by_met q at line_is place last =
             member_met start turns events legal told order.places k less ((told.spans).from q) (omega (arith, (told.lines).low q at, ap told.ends line_is)) (omega (arith, (told.tells).order.not_back q at, (told.lines).high q at, ap (λ j. told.ends (suc j)) line_is)) place last n s stays.0 stays.1
 
     -- so a member whose tenure ended is new since the line that assigned it
-    is_new : (p : TurnPlace) → IsTurnPlace turns p → printed p.turn.answer ≡ None → (i : ℕ) → (told.spans).from p ≤ i → i ≤ length events → (e : EndedAt events legal n s i) → WasAssigned x e.place (length p.lines) → IsNew tells x start p
+    is_new : (p : TurnPosition) → IsTurnPosition turns p → printed p.turn.answer ≡ None → (i : ℕ) → (told.spans).from p ≤ i → i ≤ length events → (e : EndedAt events legal n s i) → WasAssigned x e.position (length p.lines) → IsNew tells x start p
     is_new p at quiet i low bound e w = record {
       lines = w.line;
       earlier = w.early;
@@ -237,20 +237,20 @@ module _ {tells : Bool} (start : Option MetaState) (turns : List Turn) (events :
             let q = own_list turns p at t m in
             let less : k < length turns = line_below turns p at in
             let later = w.later in
-            let begins : e.place < told.ends k = omega (arith, later, ends_grow start turns events told (suc w.line) k w.early (omega (arith, less))) in
-            let finishes = (told.tells).order.order q.place p q.in_run at (inr (ap length q.lines_are, q.client_is, q.earlier)) in
+            let begins : e.position < told.ends k = omega (arith, later, ends_grow start turns events told (suc w.line) k w.early (omega (arith, less))) in
+            let finishes = (told.tells).order.order q.position p q.in_run at (inr (ap length q.lines_are, q.client_is, q.earlier)) in
             let stays = is_member x (placement_by start p.lines k) && is_member x after in
             let ends = and_both stays (pointwise nat_eq name h.node && is_covering s h.asked) h.ends in
             let both = and_both (is_member x (placement_by start p.lines k)) (is_member x after) ends.0 in
             let member : is_member x (placed k) ≡ true = ap (is_member x) (sym (same k (omega arith))) ∙ both.0 in
-            turn_clash is i bound e q.place q.in_run k less begins (ap length q.lines_are) (omega (arith, finishes, low))
-            (λ place last. member_before start turns events legal told order.places p at ((told.spans).from q.place) (omega (arith, (told.lines).low q.place q.in_run, ap (λ ls. told.ends (length ls)) q.lines_are)) (omega (arith, (told.tells).order.not_back q.place q.in_run, finishes)) place last n s member (ap (is_member x) (sym after_is) ∙ both.1)) stays (subst (EndsWait x stays) (sym q.turn_is) h)
+            turn_clash is i bound e q.position q.in_run k less begins (ap length q.lines_are) (omega (arith, finishes, low))
+            (λ place last. member_before start turns events legal told order.places p at ((told.spans).from q.position) (omega (arith, (told.lines).low q.position q.in_run, ap (λ ls. told.ends (length ls)) q.lines_are)) (omega (arith, (told.tells).order.not_back q.position q.in_run, finishes)) place last n s member (ap (is_member x) (sym after_is) ∙ both.1)) stays (subst (EndsWait x stays) (sym q.turn_is) h)
 
         by_line : tells ≡ true → (k : ℕ) (line : Turn) → w.line < k → At p.lines k line → k < length p.lines → is_begun_in x (placement_by start p.lines k) (placement_by start p.lines (suc k)) (inner_turns (line ∷ [])) ≡ false
         by_line is k line above there early =
             let less : k < length turns = omega (arith, early, line_below turns p at) in
             let later = w.later in
-            let begins : e.place < told.ends k = omega (arith, later, ends_grow start turns events told (suc w.line) k above (omega (arith, less))) in
+            let begins : e.position < told.ends k = omega (arith, later, ends_grow start turns events told (suc w.line) k above (omega (arith, less))) in
             let finishes : told.ends (suc k) ≤ i = omega (arith, ends_grow start turns events told (suc k) (length p.lines) early (omega (arith, line_below turns p at)), (told.lines).low p at, low) in
             let here : At turns k line = subst (λ ts. At ts k line) (sym at.in_run) (at_append p.lines (p.line ∷ at.after) k line there) in
             ap (λ o. is_begun_in x o (placement_by start p.lines (suc k)) (inner_turns (line ∷ []))) (same k (omega (arith, early)))
@@ -258,7 +258,7 @@ module _ {tells : Bool} (start : Option MetaState) (turns : List Turn) (events :
             ∙ none_begun x (placed k) (placed (suc k)) (inner_turns (line ∷ [])) (λ t m h. boot_clash is i bound e k less begins finishes line here t m h)
 
     -- an open replica without a tenure is of a node that has none of the shard, or is new
-    ended_unowned : (p : TurnPlace) → IsTurnPlace turns p → IsQuiet p → (version i : ℕ) → (told.spans).from p ≤ i → i < (told.spans).to p → (place : Placement) → last_place (take i events) ≡ Some place → MayStand start p place → EndedAt events legal n s i
+    ended_unowned : (p : TurnPosition) → IsTurnPosition turns p → IsQuiet p → (version i : ℕ) → (told.spans).from p ≤ i → i < (told.spans).to p → (place : Placement) → last_place (take i events) ≡ Some place → MayStand start p place → EndedAt events legal n s i
         → OwnsNot start p s n version ⊎ IsNew tells x start p
     ended_unowned p at quiet version i low high place last stands e =
         elim (true_or_not (has_replica (Some place) s n)) as (λ _. OwnsNot start p s n version ⊎ IsNew tells x start p) [
@@ -266,29 +266,29 @@ module _ {tells : Bool} (start : Option MetaState) (turns : List Turn) (events :
           | inl member ↦ inr (is_new p at quiet.prints_none i low (omega (arith, high, (told.tells).order.not_above p at)) e (by_member member))
         ]
       where
-        was : (at_end : Placement) × (last_place (take e.place events) ≡ Some at_end)
-        was = stands_at start turns events legal told order e.place n s call.End reply.Done e.there
+        was : (at_end : Placement) × (last_place (take e.position events) ≡ Some at_end)
+        was = stands_at start turns events legal told order e.position n s call.End reply.Done e.there
 
         gone : has_replica (Some was.0) s n ≡ false
-        gone = order.ends e.place n s reply.Done e.there was.0 was.1
+        gone = order.ends e.position n s reply.Done e.there was.0 was.1
 
-        by_member : has_replica (Some place) s n ≡ true → WasAssigned x e.place (length p.lines)
+        by_member : has_replica (Some place) s n ≡ true → WasAssigned x e.position (length p.lines)
         by_member member =
             let k = length p.lines in
             let below = e.below in
             let line_end : i ≤ told.ends (suc k) = omega (arith, high, (told.lines).high p at) in
             let given = member_given place s n member in
-            elim (cases_lt e.place (told.ends k)) as (λ _. WasAssigned x e.place k) [
+            elim (cases_lt e.position (told.ends k)) as (λ _. WasAssigned x e.position k) [
               | inl lt ↦
                   let h = had_before start turns events legal told order.places p at quiet.prints_none i (omega (arith, (told.lines).low p at, low)) line_end place last in
-                  assigned_at x e.place was.0 (late_step events legal e.place n s call.End reply.Done e.there) was.1 gone k (omega (arith, line_below turns p at)) lt (ap (is_member x) h.2 ∙ is_member_of h.0 s n given.0 (h.3 n s given.0 given.1))
+                  assigned_at x e.position was.0 (late_step events legal e.position n s call.End reply.Done e.there) was.1 gone k (omega (arith, line_below turns p at)) lt (ap (is_member x) h.2 ∙ is_member_of h.0 s n given.0 (h.3 n s given.0 given.1))
               | inr ge ↦
-                  let old = back start turns events legal told order.places k (line_below turns p at) (λ z next done above below there. (gives_none start turns events legal told order.places p at quiet.prints_none z next done above below there).0) e.place i ge (omega (arith, below)) line_end was.0 place was.1 last n s given.0 given.1 in
+                  let old = back start turns events legal told order.places k (line_below turns p at) (λ z next done above below there. (gives_none start turns events legal told order.places p at quiet.prints_none z next done above below there).0) e.position i ge (omega (arith, below)) line_end was.0 place was.1 last n s given.0 given.1 in
                   let bad : true ≡ false = sym (is_member_of was.0 s n given.0 old) ∙ gone in
                   cc
             ]
 
-  not_owned_at : (p : TurnPlace) → IsTurnPlace turns p → IsQuiet p → (used : Placement) (s n : ℕ) → IsRefusedAt start turns events told p used s n reason.NotOwned → RefusedIn start turns events told p n s used.version reason.NotOwned → IsUnowned tells start p used s n
+  not_owned_at : (p : TurnPosition) → IsTurnPosition turns p → IsQuiet p → (used : Placement) (s n : ℕ) → IsRefusedAt start turns events told p used s n reason.NotOwned → RefusedIn start turns events told p n s used.version reason.NotOwned → IsUnowned tells start p used s n
   not_owned_at p at quiet used s n h r =
       elim r.founds as (λ _. IsUnowned tells start p used s n) [
         | inr t ↦ inl (above_owns_not p n s used.version t.0 r.at r.place r.bound r.last r.stands t.1 t.2)

@@ -17,7 +17,7 @@ use Rattle.cluster_core.specs.Earlier.{last_place}
 use Rattle.cluster_core.specs.Legal.{Legal}
 use Rattle.cluster_core.specs.Refusals.{first_refusal, outdated, outside, outside_of, reason_if, shut, unowned}
 use Rattle.cluster_core.specs.Replicas.{replica}
-use Rattle.cluster_core.specs.Rows.{MayRefuse}
+use Rattle.cluster_core.specs.Rows.{ReplicaMayRefuse}
 use Rattle.cluster_core.specs.declared.event.Event.{Event}
 use Rattle.cluster_core.specs.declared.event.StepCall.{StepCall}
 use Rattle.cluster_core.specs.declared.event.StepCall.TheVariants as call
@@ -26,7 +26,7 @@ use Rattle.cluster_core.specs.declared.replica_state.ReplicaState.{ReplicaState}
 use Rattle.cluster_core.proofs.ListLemmas.{some_same}
 use Rattle.cluster_core.proofs.TraceLemmas.{lawful_step}
 use Rattle.transcripts.specs.Placements.{MayStand}
-use Rattle.transcripts.specs.Record.{TurnPlace, IsTurnPlace}
+use Rattle.transcripts.specs.Record.{TurnPosition, IsTurnPosition}
 use Rattle.told_by.specs.Told.{ToldBy}
 use Rattle.told_causes.proofs.RefusalLemmas.{or_cases, refused_law}
 use Rattle.told_moves.specs.Moves.{IsAtVersion, IsQuiet, IsRefusedAt}
@@ -117,7 +117,7 @@ refused_move r (call.Read client number rules at_version pick from to) version w
 refused_move r _ version why same is e = absurd same
 
 -- such a reason of a put or a read is its first one
-first_is : (tells : Bool) (past : List Event) (s : ℕ) (r : ReplicaState) (c : StepCall) (version : ℕ) (why : Reason) → IsAtVersion version c → IsMoveReason why → MayRefuse tells past s r c why → first_refusal r c ≡ Some why
+first_is : (tells : Bool) (past : List Event) (s : ℕ) (r : ReplicaState) (c : StepCall) (version : ℕ) (why : Reason) → IsAtVersion version c → IsMoveReason why → ReplicaMayRefuse tells past s r c why → first_refusal r c ≡ Some why
 first_is tells past s r (call.Put client number rules at_version point) version reason.NotOwned same is h = h
 first_is tells past s r (call.Read client number rules at_version pick from to) version reason.NotOwned same is h = h
 first_is tells past s r c version (reason.Stale fence) same is h = h
@@ -128,7 +128,7 @@ first_is tells past s r _ version _ same is h = absurd same
 -- ---- the turn that is refused so
 
 -- where within its stretch it is, and over which placement
-pub record RefusedIn (start : Option MetaState) (turns : List Turn) (events : List Event) (told : ToldBy start turns events) (p : TurnPlace) (n s version : ℕ) (why : Reason) : Type 0 where
+pub record RefusedIn (start : Option MetaState) (turns : List Turn) (events : List Event) (told : ToldBy start turns events) (p : TurnPosition) (n s version : ℕ) (why : Reason) : Type 0 where
   pub at : ℕ
   pub low : told.spans.from p ≤ at
   pub high : at < told.spans.to p
@@ -139,7 +139,7 @@ pub record RefusedIn (start : Option MetaState) (turns : List Turn) (events : Li
   pub open_ : (replica n s (take at events)).standing ≡ standing.Open
   pub founds : FoundsMove (replica n s (take at events)).tenure (replica n s (take at events)).fence version why
 
-pub refused_in : {tells : Bool} → (start : Option MetaState) (turns : List Turn) (events : List Event) → Legal tells events → (told : ToldBy start turns events) → IsInOrder start turns events told → (p : TurnPlace) → IsTurnPlace turns p → IsQuiet p
+pub refused_in : {tells : Bool} → (start : Option MetaState) (turns : List Turn) (events : List Event) → Legal tells events → (told : ToldBy start turns events) → IsInOrder start turns events told → (p : TurnPosition) → IsTurnPosition turns p → IsQuiet p
     → (used : Placement) (s n : ℕ) (why : Reason) → IsMoveReason why → IsRefusedAt start turns events told p used s n why → RefusedIn start turns events told p n s used.version why
 refused_in {tells} start turns events legal told order p at quiet used s n why is h =
     let i = (h.refused).0 in

@@ -113,18 +113,18 @@ module _ {tells : Bool} (events : List Event) (legal : Legal tells events) (n s 
       ])
       j (omega arith) high
 
-  -- the slot was to begin with the tenure before this place
+  -- the slot was to begin with the tenure before this position
   pub record BeginAt (j tenure : ℕ) : Type 0 where
-    pub place : ℕ
-    pub below : place < j
+    pub position : ℕ
+    pub below : position < j
     pub answer : StepReply
-    pub there : At events place (event.Step n s (call.Begin tenure) answer)
+    pub there : At events position (event.Step n s (call.Begin tenure) answer)
 
   pub begin_later : (j tenure : ℕ) → BeginAt j tenure → BeginAt (suc j) tenure
-  begin_later j tenure b = let below = b.below in record { place = b.place; below = omega (arith, below); answer = b.answer; there = b.there }
+  begin_later j tenure b = let below = b.below in record { position = b.position; below = omega (arith, below); answer = b.answer; there = b.there }
 
   pub begin_here : (j tenure : ℕ) (c : StepCall) (a : StepReply) → At events j (event.Step n s c a) → c ≡ call.Begin tenure → BeginAt (suc j) tenure
-  begin_here j tenure c a there is = record { place = j; below = omega arith; answer = a; there = subst (λ d. At events j (event.Step n s d a)) is there }
+  begin_here j tenure c a there is = record { position = j; below = omega arith; answer = a; there = subst (λ d. At events j (event.Step n s d a)) is there }
 
   -- each tenure that it has, began with or tried is one that it was to begin with
   pub owned_began : (tenure j : ℕ) → j ≤ length events → (slot j).tenure ≡ Some tenure → BeginAt j tenure
@@ -141,18 +141,18 @@ module _ {tells : Bool} (events : List Event) (legal : Legal tells events) (n s 
       none (inl m) = absurd m
       none (inr m) = absurd m
 
-  -- its tenure ended before this place, and it is open without one since
+  -- its tenure ended before this position, and it is open without one since
   pub record EndedAt (j : ℕ) : Type 0 where
-    pub place : ℕ
-    pub below : place < j
-    pub there : At events place (event.Step n s call.End reply.Done)
-    pub since : (i : ℕ) → place < i → i ≤ j → IsEnded (slot i)
+    pub position : ℕ
+    pub below : position < j
+    pub there : At events position (event.Step n s call.End reply.Done)
+    pub since : (i : ℕ) → position < i → i ≤ j → IsEnded (slot i)
 
   goes_on : (j : ℕ) → IsEnded (slot (suc j)) → EndedAt j → EndedAt (suc j)
   goes_on j now e =
       let below = e.below in
       record {
-        place = e.place;
+        position = e.position;
         below = omega (arith, below);
         there = e.there;
         since = λ i low high. elim (cases_eq i (suc j)) as (λ _. IsEnded (slot i)) [ inl last ↦ subst (λ m. IsEnded (slot m)) (sym last) now | inr other ↦ e.since i low (omega (arith, high, other)) ];
@@ -164,7 +164,7 @@ module _ {tells : Bool} (events : List Event) (legal : Legal tells events) (n s 
       (λ j c a there is was h. elim (ended_by (slot j) c a (subst IsEnded is h)) as (λ _. EndedAt (suc j)) [
         | inl before ↦ goes_on j h (was before)
         | inr ends ↦ record {
-          place = j;
+          position = j;
           below = omega arith;
           there = subst (λ b. At events j (event.Step n s call.End b)) ends.1 (subst (λ d. At events j (event.Step n s d a)) ends.0 there);
           since = λ i low high. let last : suc j ≡ i = omega (arith, low, high) in subst (λ m. IsEnded (slot m)) last h;

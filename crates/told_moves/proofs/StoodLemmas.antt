@@ -13,7 +13,7 @@ use Rattle.cluster_core.specs.declared.event.Event.{Event}
 use Rattle.cluster_core.specs.declared.event.Event.TheVariants as event
 use Rattle.cluster_core.proofs.ListLemmas.{at_same, at_some}
 use Rattle.transcripts.specs.Placements.{placements, start_placement}
-use Rattle.transcripts.specs.Record.{TurnPlace, IsTurnPlace, inner_turns, joined, lists_of}
+use Rattle.transcripts.specs.Record.{TurnPosition, IsTurnPosition, inner_turns, joined, lists_of}
 use Rattle.transcripts.proofs.PlacementLemmas.{after_from, known_first, known_more, known_printed}
 use Rattle.told_by.specs.Openings.{opening_length}
 use Rattle.told_by.specs.Told.{ToldBy}
@@ -23,7 +23,7 @@ use Rattle.told_causes.proofs.StoodLemmas.{alone_last, alone_or_beside}
 use Rattle.told_moves.specs.Order.{IsInOrder}
 
 -- a turn is one of the lines up to its own
-in_front : (turns : List Turn) (q : TurnPlace) → IsTurnPlace turns q → IsIn (inner_turns (take (suc (length q.lines)) turns)) q.turn
+in_front : (turns : List Turn) (q : TurnPosition) → IsTurnPosition turns q → IsIn (inner_turns (take (suc (length q.lines)) turns)) q.turn
 in_front turns q at =
     let there : At turns (length q.lines) q.line = subst (λ ts. At ts (length q.lines) q.line) (sym at.in_run) (at_cut q.lines q.line at.after) in
     subst (λ ts. IsIn ts q.turn) (sym (ap inner_turns (take_line turns (length q.lines) q.line there) ∙ inner-append (take (length q.lines) turns) (q.line ∷ [])))

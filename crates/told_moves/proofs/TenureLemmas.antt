@@ -40,7 +40,7 @@ use Rattle.told_causes.proofs.AloneLemmas.{stands_from}
 use Rattle.told_causes.proofs.HaltLemmas.{late_step}
 use Rattle.told_causes.proofs.StoodLemmas.{alone_or_beside, back}
 use Rattle.told_causes.proofs.WaitLemmas.{member_at, shard_is}
-use Rattle.told_moves.specs.Moves.{IsPlaced}
+use Rattle.told_moves.specs.Moves.{IsPlacedIn}
 use Rattle.told_moves.specs.Order.{IsInOrder}
 
 -- ---- one step of a shard
@@ -217,7 +217,7 @@ module _ {tells : Bool} (events : List Event) (legal : Legal tells events) where
       ap (λ (x : Instance). x.name) (some_same b k.0 (sym ib ∙ k.1)) ∙ k.2
 
   -- all Places call a node as one of them does
-  pub name_everywhere : (n : ℕ) (place : Placement) (name : List ℕ) → IsPlaced events place → OfNode place n (λ own. own ≡ name) → IsNamedBy events n name
+  pub name_everywhere : (n : ℕ) (place : Placement) (name : List ℕ) → IsPlacedIn events place → OfNode place n (λ own. own ≡ name) → IsNamedBy events n name
   name_everywhere n place name placed named i other done own there stands =
       elim (cases_lt i placed.place_at) as (λ _. own.name ≡ name) [
         | inl lt ↦ sym (same_name n i placed.place_at other place done placed.done own named.instance_ there placed.there (omega (arith, lt)) stands named.stands) ∙ named.holds

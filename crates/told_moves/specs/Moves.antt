@@ -15,7 +15,7 @@ use Rattle.cluster_core.specs.declared.event.StepReply.TheVariants as reply
 use Rattle.transcripts.specs.Fates.{OfNode}
 use Rattle.transcripts.specs.Moves.{IsFencedAbove, IsUnowned}
 use Rattle.transcripts.specs.Placements.{printed}
-use Rattle.transcripts.specs.Record.{TurnPlace, IsTurnPlace}
+use Rattle.transcripts.specs.Record.{TurnPosition, IsTurnPosition}
 use Rattle.told_by.specs.Hears.{Happens, InStretch}
 use Rattle.told_by.specs.Told.{ToldBy}
 use Rattle.told_causes.specs.Boot.{IsBootAct}
@@ -28,19 +28,19 @@ IsAtVersion version (call.Read client number rules at_version pick from to) = at
 IsAtVersion version _ = ⊥
 
 -- the placement is a Place of the list
-pub record IsPlaced (events : List Event) (place : Placement) : Type 0 where
+pub record IsPlacedIn (events : List Event) (place : Placement) : Type 0 where
   pub place_at : ℕ
   pub done : List (ℕ × ℕ)
   pub there : At events place_at (event.Place place done)
 
 -- a turn that is no bootstrap and prints no placement
-pub record IsQuiet (p : TurnPlace) : Type 0 where
+pub record IsQuiet (p : TurnPosition) : Type 0 where
   pub begins_none : ¬ IsBootAct p.turn.act
   pub prints_none : printed p.turn.answer ≡ None
 
 -- what a replica of the node refused so within the turn's stretch, to a put or a read at the version of a placement
-pub record IsRefusedAt (start : Option MetaState) (turns : List Turn) (events : List Event) (told : ToldBy start turns events) (p : TurnPlace) (used : Placement) (shard node : ℕ) (why : Reason) : Type 0 where
-  pub placed : IsPlaced events used
+pub record IsRefusedAt (start : Option MetaState) (turns : List Turn) (events : List Event) (told : ToldBy start turns events) (p : TurnPosition) (used : Placement) (shard node : ℕ) (why : Reason) : Type 0 where
+  pub placed : IsPlacedIn events used
   pub name : List ℕ
   pub named : OfNode used node (λ own. own ≡ name)
   pub asked : StepCall
@@ -51,10 +51,10 @@ pub record IsRefusedAt (start : Option MetaState) (turns : List Turn) (events : 
 abbrev pub NotOwnedIsSaid : Bool → Type 0
 NotOwnedIsSaid tells =
     (start : Option MetaState) (turns : List Turn) (events : List Event) → Legal tells events → (told : ToldBy start turns events) → IsInOrder start turns events told
-    → (p : TurnPlace) → IsTurnPlace turns p → IsQuiet p → (used : Placement) (shard node : ℕ) → IsRefusedAt start turns events told p used shard node reason.NotOwned → IsUnowned tells start p used shard node
+    → (p : TurnPosition) → IsTurnPosition turns p → IsQuiet p → (used : Placement) (shard node : ℕ) → IsRefusedAt start turns events told p used shard node reason.NotOwned → IsUnowned tells start p used shard node
 
 -- Where it is refused for a fence, a move of the shard fenced the replica above the version.
 abbrev pub StaleIsSaid : Type 0
 StaleIsSaid =
     (start : Option MetaState) (turns : List Turn) (events : List Event) → Legal true events → (told : ToldBy start turns events) → IsInOrder start turns events told → OpensWithin start events
-    → (p : TurnPlace) → IsTurnPlace turns p → IsQuiet p → (used : Placement) (shard node fence : ℕ) → IsRefusedAt start turns events told p used shard node (reason.Stale fence) → IsFencedAbove start p used shard fence
+    → (p : TurnPosition) → IsTurnPosition turns p → IsQuiet p → (used : Placement) (shard node fence : ℕ) → IsRefusedAt start turns events told p used shard node (reason.Stale fence) → IsFencedAbove start p used shard fence

@@ -17,7 +17,7 @@ use Rattle.cluster_core.specs.declared.event.StepReply.{StepReply}
 use Rattle.cluster_core.specs.declared.event.StepReply.TheVariants as reply
 use Rattle.transcripts.specs.Moves.{IsLeftFence}
 use Rattle.transcripts.specs.Placements.{has_replica, printed}
-use Rattle.transcripts.specs.Record.{TurnPlace, IsTurnPlace}
+use Rattle.transcripts.specs.Record.{TurnPosition, IsTurnPosition}
 use Rattle.told_by.specs.Openings.{sets_seed}
 use Rattle.told_by.specs.Told.{ToldBy}
 use Rattle.told_causes.specs.Boot.{ArePlacesInOrder}
@@ -31,7 +31,7 @@ IsInitAct _ = ⊥
 -- where the placement that stands has no replica of the slot
 pub record IsInOrder (start : Option MetaState) (turns : List Turn) (events : List Event) (told : ToldBy start turns events) : Type 0 where
   pub places : ArePlacesInOrder start turns events told
-  pub inits : (q : TurnPlace) → IsTurnPlace turns q → IsInitAct q.turn.act → (place : Placement) → printed q.turn.answer ≡ Some place → sets_seed q.turn.act q.turn.answer ≡ true
+  pub inits : (q : TurnPosition) → IsTurnPosition turns q → IsInitAct q.turn.act → (place : Placement) → printed q.turn.answer ≡ Some place → sets_seed q.turn.act q.turn.answer ≡ true
   pub lawful : (i : ℕ) (place : Placement) (done : List (ℕ × ℕ)) → At events i (event.Place place done) → IsLawful place
   pub ends : (i node shard : ℕ) (a : StepReply) → At events i (event.Step node shard call.End a) → (place : Placement) → last_place (take i events) ≡ Some place → has_replica (Some place) shard node ≡ false
 

@@ -26,7 +26,7 @@ use Rattle.transcripts.specs.Deliveries.{LateMessage}
 use Rattle.transcripts.specs.Faults.{Damaged, Failing, Fault, Taking}
 use Rattle.transcripts.specs.Levels.{MissesLevel}
 use Rattle.transcripts.specs.Placements.{MayStand, printed}
-use Rattle.transcripts.specs.Record.{Record, TurnPlace, IsTurnPlace}
+use Rattle.transcripts.specs.Record.{Record, TurnPosition, IsTurnPosition}
 use Rattle.transcripts.specs.Sweeps.{IsSwept, IsSweptOver}
 use Rattle.transcripts.proofs.MoreFaults.{AreAmong, different_both, failed_more, own_more, step_more}
 use Rattle.transcripts.proofs.SweepLemmas.{entry_slot, failed_entry}
@@ -55,9 +55,9 @@ use Rattle.told_runs.proofs.MemberLemmas.{had_before}
 
 -- What is known of the calls, the deliveries and the sweeps of a run.
 pub record AreKnown (tells : Bool) (start : Option MetaState) (turns : List Turn) (events : List Event) (told : ToldBy start turns events) : Type 0 where
-  pub calls : (p : TurnPlace) → IsTurnPlace turns p → IsTrue (is_call p.turn.act) → printed p.turn.answer ≡ None → IsKnownCall tells start turns events told p
-  pub deliveries : (p : TurnPlace) → IsTurnPlace turns p → p.turn.act ≡ act.Deliver → printed p.turn.answer ≡ None → IsKnownDelivery tells start turns events told p
-  pub sweeps : (p : TurnPlace) → IsTurnPlace turns p → IsSweepAct p.turn.act → printed p.turn.answer ≡ None → (place : Placement) → MayStand start p place → IsKnownSweep tells start turns events told p place
+  pub calls : (p : TurnPosition) → IsTurnPosition turns p → IsTrue (is_call p.turn.act) → printed p.turn.answer ≡ None → IsKnownCall tells start turns events told p
+  pub deliveries : (p : TurnPosition) → IsTurnPosition turns p → p.turn.act ≡ act.Deliver → printed p.turn.answer ≡ None → IsKnownDelivery tells start turns events told p
+  pub sweeps : (p : TurnPosition) → IsTurnPosition turns p → IsSweepAct p.turn.act → printed p.turn.answer ≡ None → (place : Placement) → MayStand start p place → IsKnownSweep tells start turns events told p place
 
 module _ {tells : Bool} (taking : List Fault) (start : Option MetaState) (turns : List Turn) (events : List Event) (legal : Legal tells events) (told : ToldBy start turns events) (order : IsInOrder start turns events told) (halts : HaltsAlone turns) (known : AreKnown tells start turns events told) where
   abbrev told_faults : List Fault
@@ -73,7 +73,7 @@ module _ {tells : Bool} (taking : List Fault) (start : Option MetaState) (turns 
   taking_among f m = IsIn-append_left taking told_faults f m
 
   -- the slots that a restart answers `disk` for had a replica
-  restart_reached : (p : TurnPlace) → IsTurnPlace turns p → printed p.turn.answer ≡ None → (shard : ℕ) (a : Act) → AreReached start (Within events told.spans p) p a shard
+  restart_reached : (p : TurnPosition) → IsTurnPosition turns p → printed p.turn.answer ≡ None → (shard : ℕ) (a : Act) → AreReached start (Within events told.spans p) p a shard
   restart_reached p at quiet shard (act.Restart name pick) = λ n h. by n h.0 h.1 (h.2).0 (h.2).1
     where
       by : (n : ℕ) (c : StepCall) → IsRestartCall c → (i : ℕ) → InStretch events ((told.spans).from p) ((told.spans).to p) i (event.Step n shard c (reply.Refused reason.Disk)) → HadBefore start p shard n
@@ -82,21 +82,21 @@ module _ {tells : Bool} (taking : List Fault) (start : Option MetaState) (turns 
   restart_reached p at quiet shard _ = tt
 
   -- a restart or a bootstrap that was refused for a disk or for files
-  of_node : (p : TurnPlace) → IsTurnPlace turns p → (a : Act) (b : Answer) → p.turn.act ≡ a → p.turn.answer ≡ b → printed b ≡ None → (shard : ℕ) → NamesReplica a b shard → (messages : List LateMessage) → IsOwn tells all_faults start messages p a b
+  of_node : (p : TurnPosition) → IsTurnPosition turns p → (a : Act) (b : Answer) → p.turn.act ≡ a → p.turn.answer ≡ b → printed b ≡ None → (shard : ℕ) → NamesReplica a b shard → (messages : List LateMessage) → IsOwn tells all_faults start messages p a b
   of_node p at a b acts answers quiet shard names messages =
       let names_it : NamesReplica p.turn.act p.turn.answer shard = subst (λ x. NamesReplica x p.turn.answer shard) (sym acts) (subst (λ y. NamesReplica a y shard) (sym answers) names) in
       let own = node_answers start turns events legal told order.places p at shard names_it (restart_reached p at (ap printed answers ∙ quiet) shard p.turn.act) messages in
       own_more tells told_faults all_faults told_among start messages p a b (subst (λ x. IsOwn tells told_faults start messages p x b) acts (subst (λ y. IsOwn tells told_faults start messages p p.turn.act y) answers own))
 
-  call_known : (p : TurnPlace) → IsTurnPlace turns p → (a : Act) (b : Answer) → p.turn.act ≡ a → p.turn.answer ≡ b → IsTrue (is_call a) → printed b ≡ None → IsKnownCall tells start turns events told p
+  call_known : (p : TurnPosition) → IsTurnPosition turns p → (a : Act) (b : Answer) → p.turn.act ≡ a → p.turn.answer ≡ b → IsTrue (is_call a) → printed b ≡ None → IsKnownCall tells start turns events told p
   call_known p at a b acts answers calls quiet = known.calls p at (subst (λ x. IsTrue (is_call x)) (sym acts) calls) (ap printed answers ∙ quiet)
 
   -- a call that was refused for its level
-  of_level : (p : TurnPlace) → IsTurnPlace turns p → (a : Act) → p.turn.act ≡ a → IsTrue (is_call a) → (got needed : ℕ) (reasons : List (ℕ × Reason)) (shard : ℕ) → p.turn.answer ≡ answer.Consistency got needed reasons shard → MissesLevel tells told_faults start p got needed reasons shard
+  of_level : (p : TurnPosition) → IsTurnPosition turns p → (a : Act) → p.turn.act ≡ a → IsTrue (is_call a) → (got needed : ℕ) (reasons : List (ℕ × Reason)) (shard : ℕ) → p.turn.answer ≡ answer.Consistency got needed reasons shard → MissesLevel tells told_faults start p got needed reasons shard
   of_level p at a acts calls got needed reasons shard answers = too_few_said start turns events told p (call_known p at a (answer.Consistency got needed reasons shard) acts answers calls refl) got needed reasons shard answers
 
   -- a sweep over the members of a placement
-  of_sweep : (p : TurnPlace) → IsTurnPlace turns p → (a : Act) (done : List (ℕ × ℕ × ℕ)) (failed : List (ℕ × ℕ × Reason)) → p.turn.act ≡ a → p.turn.answer ≡ answer.Swept done failed → IsSweepAct a → IsSweptOver start p done failed → IsSwept tells all_faults start p done failed
+  of_sweep : (p : TurnPosition) → IsTurnPosition turns p → (a : Act) (done : List (ℕ × ℕ × ℕ)) (failed : List (ℕ × ℕ × Reason)) → p.turn.act ≡ a → p.turn.answer ≡ answer.Swept done failed → IsSweepAct a → IsSweptOver start p done failed → IsSwept tells all_faults start p done failed
   of_sweep p at a done failed acts answers sweeps over =
       let hears : HearsSwept (Within events told.spans p) (IsSweepCall p.turn.act) done failed =
       subst (λ b. HearsBy start (take ((told.spans).from p) events) (Within events told.spans p) p p.turn.act b) answers ((told.tells).hears p at) in
@@ -110,7 +110,7 @@ module _ {tells : Bool} (taking : List Fault) (start : Option MetaState) (turns 
       }
 
   -- the answer is the act's own
-  own_by : (p : TurnPlace) → IsTurnPlace turns p → (a : Act) (b : Answer) → p.turn.act ≡ a → p.turn.answer ≡ b → (messages : List LateMessage) → HearsOf start (Within events told.spans p) p messages b → IsOfKind taking start p a b
+  own_by : (p : TurnPosition) → IsTurnPosition turns p → (a : Act) (b : Answer) → p.turn.act ≡ a → p.turn.answer ≡ b → (messages : List LateMessage) → HearsOf start (Within events told.spans p) p messages b → IsOfKind taking start p a b
       → IsOwn tells all_faults start messages p a b
   own_by p at (act.Init rf shards seed nodes) (answer.Placed place version) acts answers messages h kind = kind
   own_by p at (act.Init rf shards seed nodes) (answer.Group shard) acts answers messages h kind = kind
@@ -151,12 +151,12 @@ module _ {tells : Bool} (taking : List Fault) (start : Option MetaState) (turns 
   own_by p at act.Status (answer.Status now lines version) acts answers messages h kind = kind
   own_by p at _ _ acts answers messages h kind = absurd kind
 
-  due_by : (p : TurnPlace) → IsTurnPlace turns p → (messages : List LateMessage) → Delivers start events told.spans p messages → (o : Option Answer) → IsDecidedBy taking start p o → IsDueBy tells all_faults start messages p o
+  due_by : (p : TurnPosition) → IsTurnPosition turns p → (messages : List LateMessage) → Delivers start events told.spans p messages → (o : Option Answer) → IsDecidedBy taking start p o → IsDueBy tells all_faults start messages p o
   due_by p at messages heard (Some refusal) h = h
   due_by p at messages heard None h = own_by p at p.turn.act p.turn.answer refl refl messages heard h
 
   module _ (past : List Record) (bounded : IsBounded past turns told.ends) where
-    caused_at : (p : TurnPlace) → IsTurnPlace turns p → (messages : List LateMessage) → Delivers start events told.spans p messages → IsAnswered taking start ((told.spans).to p) p → CausedAt tells all_faults past start messages p
+    caused_at : (p : TurnPosition) → IsTurnPosition turns p → (messages : List LateMessage) → Delivers start events told.spans p messages → IsAnswered taking start ((told.spans).to p) p → CausedAt tells all_faults past start messages p
     caused_at p at messages heard (inl memory) = inl memory
     caused_at p at messages heard (inr (inl full)) =
         let less : length p.lines < length turns = line_below turns p at in
@@ -171,7 +171,7 @@ module _ {tells : Bool} (taking : List Fault) (start : Option MetaState) (turns 
         first = omega (arith, (told.lines).first, first_low start)
     caused_at p at messages heard (inr (inr decided)) = inr (inr (decided.0, decided.1, due_by p at messages heard (refusal_after start p decided.0) decided.2))
 
-    pub caused : (unanswered : Option Request) (delivered : TurnPlace → List LateMessage) → AreAnswered taking delivered start turns events told → Caused tells (record { past = past; present = record { start = start; turns = turns; unanswered = unanswered } }) all_faults
+    pub caused : (unanswered : Option Request) (delivered : TurnPosition → List LateMessage) → AreAnswered taking delivered start turns events told → Caused tells (record { past = past; present = record { start = start; turns = turns; unanswered = unanswered } }) all_faults
     caused unanswered delivered answers = record {
       different = different_both taking told_faults answers.different (faults_different told.ends events (length turns)) (λ f m n. taken_and_told f (answers.untaken f m).0 n);
       delivered = delivered;

@@ -29,7 +29,7 @@ use Rattle.transcripts.specs.Caused.{EndsInto, EndsMoves}
 use Rattle.transcripts.specs.Faults.{Fault}
 use Rattle.transcripts.specs.Deliveries.{LateMessage}
 use Rattle.transcripts.specs.Placements.{IsCounted, MayStand, MayUse, counted_nodes, printed}
-use Rattle.transcripts.specs.Record.{InnerTurn, TurnPlace, IsLastTurnPlace, IsAfter, inner_turns, lists_of}
+use Rattle.transcripts.specs.Record.{InnerTurn, TurnPosition, IsLastTurnPosition, IsAfter, inner_turns, lists_of}
 use Rattle.transcripts.specs.Waiting.{is_covering}
 use Rattle.transcripts.proofs.PlacementLemmas.{after_from}
 use Rattle.told_by.specs.Broken.{found_moving, joined, joined_by, joining, moved, moving, other_name}
@@ -81,7 +81,7 @@ serves_first tells = record {
     no_place : (i : ℕ) (place : Placement) (done : List (ℕ × ℕ)) → 2 ≤ i → At events_before i (event.Place place done) → ⊥
     no_place i place done low there = at_before (λ k x. 2 ≤ k → x ≡ event.Place place done → ⊥) (λ late e. omega (arith, late), (λ late e. cc, (λ late e. cc, (λ late e. cc, tt)))) i (event.Place place done) there low refl
 
-abbrev was : TurnPlace → List LateMessage
+abbrev was : TurnPosition → List LateMessage
 was = delivered_on [] none_delivered none_delivered
 
 served_before : (tells : Bool) → IsToldAndServed tells [] was [] start lines_before None events_before
@@ -156,7 +156,7 @@ serves_second tells = record {
   bound = omega arith;
 }
 
-abbrev delivered : TurnPlace → List LateMessage
+abbrev delivered : TurnPosition → List LateMessage
 delivered = delivered_on lines_before was none_delivered
 
 beside_told_and_served : (tells : Bool) → IsToldAndServed tells [] delivered [] start turns None events
@@ -179,18 +179,18 @@ wrong_line = side_by_side (answer.Acks (0 ∷ [])) joined
 abbrev wrong_turn : InnerTurn
 wrong_turn = record { act = written; answer = answer.Acks (0 ∷ []) }
 
-abbrev wrong_place : TurnPlace
-wrong_place = at_side lines_before wrong_line 1 (record { act = fetched; answer = missed } ∷ moving_it.turn ∷ []) wrong_turn
+abbrev wrong_position : TurnPosition
+wrong_position = at_side lines_before wrong_line 1 (record { act = fetched; answer = missed } ∷ moving_it.turn ∷ []) wrong_turn
 
 -- what may stand beside the write is the placement that was found, or the one in which the move is over
-stood_so : (place : Placement) → MayStand start wrong_place place → (moving ≡ place) ⊎ (moved ≡ place)
+stood_so : (place : Placement) → MayStand start wrong_position place → (moving ≡ place) ⊎ (moved ≡ place)
 stood_so place h =
     let after = h.1 in
     elim (after_from h.0 (Some moving) place h.2) as (λ _. (moving ≡ place) ⊎ (moved ≡ place)) [
       | inl found ↦ inl (some_same moving place found)
       | inr t ↦ elim (IsIn-append_cases (inner_turns lines_before) ([] ++ after.others) t.0 (subst (λ ts. IsIn ts t.0) after.are t.1)) as (λ _. (moving ≡ place) ⊎ (moved ≡ place)) [
         | inl before ↦ inl (by_before t.0 before t.2)
-        | inr other ↦ by_other t.0 (some_in after.others wrong_place.beside t.0 after.some_of other) t.2
+        | inr other ↦ by_other t.0 (some_in after.others wrong_position.beside t.0 after.some_of other) t.2
       ]
     ]
   where
@@ -198,13 +198,13 @@ stood_so place h =
     by_before t (inl same) prints = some_same moving place (ap (λ (x : InnerTurn). printed x.answer) same ∙ prints)
     by_before t (inr nobody) prints = absurd nobody
 
-    by_other : (t : InnerTurn) → IsIn wrong_place.beside t → printed t.answer ≡ Some place → (moving ≡ place) ⊎ (moved ≡ place)
+    by_other : (t : InnerTurn) → IsIn wrong_position.beside t → printed t.answer ≡ Some place → (moving ≡ place) ⊎ (moved ≡ place)
     by_other t (inl same) prints = absurd (let bad : None ≡ Some place = ap (λ (x : InnerTurn). printed x.answer) same ∙ prints in cc)
     by_other t (inr (inl same)) prints = inr (some_same moved place (ap (λ (x : InnerTurn). printed x.answer) same ∙ prints))
     by_other t (inr (inr nobody)) prints = absurd nobody
 
 pub leaving_acks : LeavingAcks
-leaving_acks others told = by_hears ((told.tells).hears wrong_place (record { after = []; in_run = refl; stands = record { front = []; later = []; back = (record { act = fetched; answer = missed } ∷ []) ∷ (moving_it.turn ∷ []) ∷ []; in_line = refl; others = refl; client_is = refl } }))
+leaving_acks others told = by_hears ((told.tells).hears wrong_position (record { after = []; in_run = refl; stands = record { front = []; later = []; back = (record { act = fetched; answer = missed } ∷ []) ∷ (moving_it.turn ∷ []) ∷ []; in_line = refl; others = refl; client_is = refl } }))
   where
     by_place : (place : Placement) → (moving ≡ place) ⊎ (moved ≡ place) → ((shard : ℕ) → shard ≡ shard_of name 0 (length place.shards) → (node : ℕ) → IsIn (0 ∷ []) node → IsCounted place shard node) → ⊥
     by_place place (inl same) counted = subst (λ s. IsIn (counted_nodes moving s) 0) (shard_zero name) (subst (λ (q : Placement). IsIn (counted_nodes q (shard_of name 0 (length q.shards))) 0) (sym same) (counted (shard_of name 0 (length place.shards)) refl 0 (inl refl)))
@@ -212,24 +212,24 @@ leaving_acks others told = by_hears ((told.tells).hears wrong_place (record { af
         let m : IsIn (1 ∷ []) 0 = subst (λ s. IsIn (counted_nodes moved s) 0) (shard_zero name) (subst (λ (q : Placement). IsIn (counted_nodes q (shard_of name 0 (length q.shards))) 0) (sym same) (counted (shard_of name 0 (length place.shards)) refl 0 (inl refl))) in
         elim m as (λ _. ⊥) [ inl e ↦ omega (arith, e) | inr nobody ↦ nobody ]
 
-    by_hears : HearsAcks start (InStretch others ((told.spans).from wrong_place) ((told.spans).to wrong_place)) wrong_place (0 ∷ []) → ⊥
+    by_hears : HearsAcks start (InStretch others ((told.spans).from wrong_position) ((told.spans).to wrong_position)) wrong_position (0 ∷ []) → ⊥
     by_hears h = by_call h.call h.of_call h.place h.may_use h.counted
       where
-        by_call : (c : Call) → call_of written ≡ Some c → (place : Placement) → MayUse start wrong_place c.version place → ((shard : ℕ) → AsksShard start wrong_place place c.id shard → (node : ℕ) → IsIn (0 ∷ []) node → IsCounted place shard node) → ⊥
+        by_call : (c : Call) → call_of written ≡ Some c → (place : Placement) → MayUse start wrong_position c.version place → ((shard : ℕ) → AsksShard start wrong_position place c.id shard → (node : ℕ) → IsIn (0 ∷ []) node → IsCounted place shard node) → ⊥
         by_call c is place may counted =
             let same : record { id = Some name; version = None; needed = needed_write taking.Majority } ≡ c = some_same (record { id = Some name; version = None; needed = needed_write taking.Majority }) c is in
-            by_place place (stood_so place (subst (λ (x : Call). MayUse start wrong_place x.version place) (sym same) may)) (λ shard asks. counted shard (subst (λ (x : Call). AsksShard start wrong_place place x.id shard) same asks))
+            by_place place (stood_so place (subst (λ (x : Call). MayUse start wrong_position x.version place) (sym same) may)) (λ shard asks. counted shard (subst (λ (x : Call). AsksShard start wrong_position place x.id shard) same asks))
 
 abbrev idle : Placement → Answer
 idle next = answer.Available [] next 3
 
-abbrev idle_place : Placement → TurnPlace
-idle_place next = at_side lines_before (side_by_side took (idle next)) 3 (writing.turn ∷ reading.turn ∷ []) (record { act = joining; answer = idle next })
+abbrev idle_position : Placement → TurnPosition
+idle_position next = at_side lines_before (side_by_side took (idle next)) 3 (writing.turn ∷ reading.turn ∷ []) (record { act = joining; answer = idle next })
 
 -- a bootstrap that turned nothing available, where no other did, prints what stood before the line
-idle_prints : (next : Placement) (untaken : List Fault) (end : ℕ) → IsAnswered untaken start end (idle_place next) → moving ≡ next
+idle_prints : (next : Placement) (untaken : List Fault) (end : ℕ) → IsAnswered untaken start end (idle_position next) → moving ≡ next
 idle_prints next untaken end answered =
-    elim (kind_or_silent untaken start end (idle_place next) answered) as (λ _. moving ≡ next) [
+    elim (kind_or_silent untaken start end (idle_position next) answered) as (λ _. moving ≡ next) [
       | inl silent ↦ absurd (let bad : Some next ≡ None = silent in cc)
       | inr kind ↦ elim kind.made as (λ _. moving ≡ next) [ inl base ↦ some_same moving kind.before base ∙ sym kind.left | inr t ↦ absurd (nobody t.0 kind.before t.1 t.2) ]
     ]
@@ -245,10 +245,10 @@ placed_for_nothing tells untaken now before next more legal adds serves i place 
     let behind : length events_before + i ≡ suc (3 + i) = omega arith in
     let at : At all (suc (3 + i)) (event.Place place done) = subst (λ k. At all k (event.Place place done)) behind (back_at events_before more i (event.Place place done) there) in
     let line = side_by_side took (idle next) in
-    let here : IsLastTurnPlace lines_before line (idle_place next) = record { lines_are = refl; line_is = refl; stands = record { front = (writing.turn ∷ []) ∷ (reading.turn ∷ []) ∷ []; later = []; back = []; in_line = refl; others = refl; client_is = refl } } in
+    let here : IsLastTurnPosition lines_before line (idle_position next) = record { lines_are = refl; line_is = refl; stands = record { front = (writing.turn ∷ []) ∷ (reading.turn ∷ []) ∷ []; later = []; back = []; in_line = refl; others = refl; client_is = refl } } in
     let by = (serves.order).beside (λ single. let bad = single.1 in cc) (suc (3 + i)) place done (omega arith, at) in
     let same = each_beside lines_before line writing.turn reading.turn (record { act = joining; answer = idle next }) refl (λ k. refl) (λ p. printed p.turn.answer ≡ Some place → next ≡ place)
     (λ e. absurd (let bad : None ≡ Some place = e in cc)) (λ e. absurd (let bad : None ≡ Some place = e in cc)) (λ e. some_same next place e) by.printer by.here by.prints in
-    let is = idle_prints next untaken ((adds.spans).to (idle_place next)) ((serves.answers).each (idle_place next) here) in
+    let is = idle_prints next untaken ((adds.spans).to (idle_position next)) ((serves.answers).each (idle_position next) here) in
     let law = lawful_place all legal (3 + i) place done at in
     omega (arith, (law.step).version, greatest_so_far all legal 0 (suc (3 + i)) moving law.last [] refl (omega arith) (omega (arith, at_within all (suc (3 + i)) (event.Place place done) at)) law.last_is, ap (λ (q : Placement). q.version) (is ∙ same))

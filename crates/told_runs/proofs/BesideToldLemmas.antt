@@ -31,12 +31,12 @@ use Rattle.cluster_core.proofs.ListLemmas.{at_any, at_same, at_within, some_same
 use Rattle.transcripts.specs.Fates.{OfNode}
 use Rattle.transcripts.specs.Joined.{IsBootstrapOf}
 use Rattle.transcripts.specs.Placements.{IsCounted, MayStand, counted_nodes, printed}
-use Rattle.transcripts.specs.Record.{InnerTurn, TurnPlace, IsLastTurnPlace, IsTurnPlace, client_at, inner_turns, joined as in_lists, line_of, lists_of}
-use Rattle.transcripts.proofs.PlaceLemmas.{at_push}
+use Rattle.transcripts.specs.Record.{InnerTurn, TurnPosition, IsLastTurnPosition, IsTurnPosition, client_at, inner_turns, joined as in_lists, line_of, lists_of}
+use Rattle.transcripts.proofs.PositionLemmas.{at_push}
 use Rattle.told_by.specs.Broken.{found_moving, joined, joined_by, joining, moved, moving, other_name}
 use Rattle.told_by.specs.Clocks.{HasClock, IsClockOf, sets_rules}
 use Rattle.told_by.specs.Hears.{HasServed, HasStep, HearsAcks, HearsBegun, HearsBy, HearsTooFew, InStretch, IsBegun, IsBeginOf}
-use Rattle.told_by.specs.Lines.{MayChange, PlainLine, place_after}
+use Rattle.told_by.specs.Lines.{MayChange, PlainLine, position_after}
 use Rattle.told_by.specs.Makes.{CountsOwnPuts, IsAssigned, IsCoveredSlot, MayMake, MayStream}
 use Rattle.told_by.specs.Openings.{sets_seed}
 use Rattle.told_by.specs.Placements.{EndsOwn, EndsPrinted, HasPlace, PrintsPeers}
@@ -125,7 +125,7 @@ reopening_line = record {
   };
   plain = record { no_acks = λ nodes e. cc; not_unmet = none; no_found = refl; no_rules = refl; no_seed = refl };
   opened = inl (omega arith);
-  adds = λ i e there. let here : 0 + i ≡ i = omega arith in subst (λ k. MayChange (place_after [] reopening reopened) (opening ++ take k of_reopening) e) here (each_at (λ j x. MayChange (place_after [] reopening reopened) (opening ++ take j of_reopening) x) 0 of_reopening (tt, (tt, tt)) i e there);
+  adds = λ i e there. let here : 0 + i ≡ i = omega arith in subst (λ k. MayChange (position_after [] reopening reopened) (opening ++ take k of_reopening) e) here (each_at (λ j x. MayChange (position_after [] reopening reopened) (opening ++ take j of_reopening) x) 0 of_reopening (tt, (tt, tt)) i e there);
   prints = record {
     is_place = λ p e. let same : moving ≡ p = some_same moving p e in subst (HasPlace events_before 4) same (record { place_at = 0; done = []; there = refl; in_time = omega arith });
     not_earlier = λ p k. absurd (no_place p k);
@@ -150,35 +150,35 @@ missed_turn = record { act = fetched; answer = missed }
 abbrev pub joined_turn : InnerTurn
 joined_turn = record { act = joining; answer = joined }
 
-abbrev pub writing : TurnPlace
+abbrev pub writing : TurnPosition
 writing = record { lines = lines_before; line = beside; client = 1; earlier = []; beside = missed_turn ∷ joined_turn ∷ []; turn = wrote_turn }
 
-abbrev pub reading : TurnPlace
+abbrev pub reading : TurnPosition
 reading = record { lines = lines_before; line = beside; client = 2; earlier = []; beside = wrote_turn ∷ joined_turn ∷ []; turn = missed_turn }
 
-abbrev pub moving_it : TurnPlace
+abbrev pub moving_it : TurnPosition
 moving_it = record { lines = lines_before; line = beside; client = 3; earlier = []; beside = wrote_turn ∷ missed_turn ∷ []; turn = joined_turn }
 
-pub last_writing : IsLastTurnPlace lines_before beside writing
+pub last_writing : IsLastTurnPosition lines_before beside writing
 last_writing = record { lines_are = refl; line_is = refl; stands = record { front = []; later = []; back = (missed_turn ∷ []) ∷ (joined_turn ∷ []) ∷ []; in_line = refl; others = refl; client_is = refl } }
 
-pub last_reading : IsLastTurnPlace lines_before beside reading
+pub last_reading : IsLastTurnPosition lines_before beside reading
 last_reading = record { lines_are = refl; line_is = refl; stands = record { front = (wrote_turn ∷ []) ∷ []; later = []; back = (joined_turn ∷ []) ∷ []; in_line = refl; others = refl; client_is = refl } }
 
-pub last_moving : IsLastTurnPlace lines_before beside moving_it
+pub last_moving : IsLastTurnPosition lines_before beside moving_it
 last_moving = record { lines_are = refl; line_is = refl; stands = record { front = (wrote_turn ∷ []) ∷ (missed_turn ∷ []) ∷ []; later = []; back = []; in_line = refl; others = refl; client_is = refl } }
 
 single : (t : InnerTurn) (earlier : List InnerTurn) (u : InnerTurn) (later : List InnerTurn) → t ∷ [] ≡ earlier ++ u ∷ later → (earlier ≡ []) × (u ≡ t)
 single t [] u later e = let same : t ≡ u = cc in (refl, sym same)
 single t (x ∷ earlier) u later e = let rest : [] ≡ earlier ++ u ∷ later = cc in absurd (not_empty earlier u later rest)
 
--- the place of one of three turns beside each other
-abbrev pub at_side : List Turn → Turn → ℕ → List InnerTurn → InnerTurn → TurnPlace
+-- the position of one of three turns beside each other
+abbrev pub at_side : List Turn → Turn → ℕ → List InnerTurn → InnerTurn → TurnPosition
 at_side lines line client others turn = record { lines = lines; line = line; client = client; earlier = []; beside = others; turn = turn }
 
 -- what holds of three turns beside each other holds of each turn of their line
 pub each_beside : (lines : List Turn) (line : Turn) (t u v : InnerTurn) → lists_of line ≡ (t ∷ []) ∷ (u ∷ []) ∷ (v ∷ []) ∷ [] → ((k : ℕ) → client_at line.request k ≡ suc k)
-    → (Holds : TurnPlace → Type 0) → Holds (at_side lines line 1 (u ∷ v ∷ []) t) → Holds (at_side lines line 2 (t ∷ v ∷ []) u) → Holds (at_side lines line 3 (t ∷ u ∷ []) v) → (p : TurnPlace) → IsLastTurnPlace lines line p → Holds p
+    → (Holds : TurnPosition → Type 0) → Holds (at_side lines line 1 (u ∷ v ∷ []) t) → Holds (at_side lines line 2 (t ∷ v ∷ []) u) → Holds (at_side lines line 3 (t ∷ u ∷ []) v) → (p : TurnPosition) → IsLastTurnPosition lines line p → Holds p
 each_beside lines line t u v lists clients Holds first second third p h =
     let at = h.stands in
     subst Holds (λ i. record { lines = sym h.lines_are i; line = sym h.line_is i; client = p.client; earlier = p.earlier; beside = p.beside; turn = p.turn })
@@ -210,7 +210,7 @@ each_beside lines line t u v lists clients Holds first second third p h =
         own 3 (t ∷ u ∷ []) v client earlier others x third ce cut.0 (oe ∙ ap (λ bs. in_lists (a ∷ b ∷ []) ++ in_lists bs) (sym rest) ∙ ap (λ ys. in_lists (a ∷ ys ∷ []) ++ []) (sym other) ∙ ap (λ xs. in_lists (xs ∷ (u ∷ []) ∷ []) ++ []) (sym one_list)) cut.1
     by_front (a ∷ (b ∷ (c ∷ front))) earlier x later back e client ce others oe = let rest : [] ≡ front ++ (earlier ++ x ∷ later) ∷ back = cc in absurd (not_empty front (earlier ++ x ∷ later) back rest)
 
-pub each_turn : (Holds : TurnPlace → Type 0) → Holds writing → Holds reading → Holds moving_it → (p : TurnPlace) → IsLastTurnPlace lines_before beside p → Holds p
+pub each_turn : (Holds : TurnPosition → Type 0) → Holds writing → Holds reading → Holds moving_it → (p : TurnPosition) → IsLastTurnPosition lines_before beside p → Holds p
 each_turn = each_beside lines_before beside wrote_turn missed_turn joined_turn refl (λ k. refl)
 
 -- ---- its events
@@ -219,10 +219,10 @@ abbrev pub spans : Spans
 spans = record { from = λ p. 4; to = λ p. 18 }
 
 -- the worker made those up to the Place, and the first client the others
-abbrev makers : ℕ → TurnPlace
+abbrev makers : ℕ → TurnPosition
 makers i = if nat_lt i 14 then moving_it else writing
 
-maker_here : (b : Bool) → IsLastTurnPlace lines_before beside (if b then moving_it else writing)
+maker_here : (b : Bool) → IsLastTurnPosition lines_before beside (if b then moving_it else writing)
 maker_here true = last_moving
 maker_here false = last_writing
 
@@ -232,10 +232,10 @@ at_each Holds each i e there = let here : 0 + i ≡ i = omega arith in subst (λ
 abbrev Mine : ℕ → Type 0
 Mine = From 4
 
-flat : (p : TurnPlace) → IsLastTurnPlace lines_before beside p → (length p.lines ≡ 1) × (length p.earlier ≡ 0)
+flat : (p : TurnPosition) → IsLastTurnPosition lines_before beside p → (length p.lines ≡ 1) × (length p.earlier ≡ 0)
 flat = each_turn (λ p. (length p.lines ≡ 1) × (length p.earlier ≡ 0)) (refl, refl) (refl, refl) (refl, refl)
 
-none_earlier : (p q : TurnPlace) → IsLastTurnPlace lines_before beside p → IsLastTurnPlace lines_before beside q → IsEarlier p q → ⊥
+none_earlier : (p q : TurnPosition) → IsLastTurnPosition lines_before beside p → IsLastTurnPosition lines_before beside q → IsEarlier p q → ⊥
 none_earlier p q hp hq (inl lt) = omega (arith, lt, (flat p hp).0, (flat q hq).0)
 none_earlier p q hp hq (inr later) = omega (arith, later.2, (flat p hp).1, (flat q hq).1)
 
@@ -263,7 +263,7 @@ counts_it : (past : List Event) → At past 14 (event.Send 3 0 point) → At pas
 counts_it past sent step version s p there node (inl is) =
     let same : event.Send 3 0 point ≡ event.Send version s p = at_same past 14 (event.Send 3 0 point) (event.Send version s p) sent there in
     let moved_step : event.Step 1 0 put reply.Done ≡ event.Step node s (call.Put 1 0 rules version p) reply.Done = cc in
-    record { place = 16; later = omega arith; took = step ∙ ap Some moved_step }
+    record { position = 16; later = omega arith; took = step ∙ ap Some moved_step }
 counts_it past sent step version s p there node (inr nobody) = absurd nobody
 
 -- the write uses the placement in which the move is over
@@ -430,10 +430,10 @@ makes_it = (
   ),
 )
 
-prints_one : (p : TurnPlace) → IsLastTurnPlace lines_before beside p → (place : Placement) → printed p.turn.answer ≡ Some place → place ≡ moved
+prints_one : (p : TurnPosition) → IsLastTurnPosition lines_before beside p → (place : Placement) → printed p.turn.answer ≡ Some place → place ≡ moved
 prints_one = each_turn (λ p. (place : Placement) → printed p.turn.answer ≡ Some place → place ≡ moved) (λ place e. absurd (let bad : None ≡ Some place = e in cc)) (λ place e. absurd (let bad : None ≡ Some place = e in cc)) (λ place e. sym (some_same moved place e))
 
-printed_before : (p : TurnPlace) → IsTurnPlace lines_before p → printed p.turn.answer ≡ Some moving
+printed_before : (p : TurnPosition) → IsTurnPosition lines_before p → printed p.turn.answer ≡ Some moving
 printed_before = at_push (λ p. printed p.turn.answer ≡ Some moving) [] (line_of reopening reopened) (λ p k. absurd (no_place p k)) (each start [] opening reopening reopened of_reopening (λ p. printed p.turn.answer ≡ Some moving) refl)
 
 pub second_line : TellsLine start lines_before events_before beside of_both

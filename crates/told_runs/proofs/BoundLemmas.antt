@@ -10,7 +10,7 @@ use Rattle.m3_model.specs.declared.turn.Turn.{Turn}
 use Rattle.cluster_core.specs.Lists.{At}
 use Rattle.cluster_core.proofs.ListLemmas.{at_some}
 use Rattle.transcripts.specs.Caused.{MayBeFull, acts_in, acts_taken, is_write}
-use Rattle.transcripts.specs.Record.{Record, TurnPlace, acts_of}
+use Rattle.transcripts.specs.Record.{Record, TurnPosition, acts_of}
 use Rattle.told_causes.proofs.NameLemmas.{take_line}
 use Rattle.told_runs.specs.Answers.{MayLackRoom}
 use Rattle.told_runs.specs.Bounds.{IsBounded, writes_taken}
@@ -57,7 +57,7 @@ room_for_one requests writes =
     omega (arith, split, some)
 
 -- where the list may have lacked room by the end of a turn's line, so many requests and writes were taken
-pub full_by_many : (past : List Record) (turns : List Turn) (ends : ℕ → ℕ) → IsBounded past turns ends → ends 0 ≤ 2 → (p : TurnPlace) → take (suc (length p.lines)) turns ≡ p.lines ++ p.line ∷ [] → length p.lines < length turns
+pub full_by_many : (past : List Record) (turns : List Turn) (ends : ℕ → ℕ) → IsBounded past turns ends → ends 0 ≤ 2 → (p : TurnPosition) → take (suc (length p.lines)) turns ≡ p.lines ++ p.line ∷ [] → length p.lines < length turns
     → (end : ℕ) → end ≤ ends (suc (length p.lines)) → MayLackRoom end → MayBeFull past p
 full_by_many past turns ends bounded first p lines less end high full =
     let here = p.lines ++ p.line ∷ [] in

@@ -4,8 +4,8 @@ use Rattle.std.specs.Prelude.{None}
 use Rattle.m3_model.specs.Members.{IsIn}
 use Rattle.m3_model.specs.declared.answer.Answer.TheVariants as answer
 use Rattle.transcripts.specs.Caused.{refusal_after}
-use Rattle.transcripts.specs.Record.{AreSomeOf, InnerTurn, TurnPlace, inner_turns, joined, lists_of}
-use Rattle.told_by.specs.Lines.{place_after}
+use Rattle.transcripts.specs.Record.{AreSomeOf, InnerTurn, TurnPosition, inner_turns, joined, lists_of}
+use Rattle.told_by.specs.Lines.{position_after}
 use Rattle.told_by.specs.Sample.{events as short_events, fetched, turns as short_turns}
 use Rattle.told_by.proofs.OneLemmas.{is_last}
 use Rattle.told_causes.proofs.AloneLemmas.{only_cut}
@@ -34,8 +34,8 @@ never_beside tells untaken now was past start turns events line more adds serves
 pub never_order : UndueOrder
 never_order tells untaken now was past more adds serves = by ((serves.answers).each own (is_last None short_turns short_events fetched answer.Order more))
   where
-    own : TurnPlace
-    own = place_after short_turns fetched answer.Order
+    own : TurnPosition
+    own = position_after short_turns fetched answer.Order
 
     by_decided : (ts others : List InnerTurn) → AreSomeOf others [] → ts ≡ inner_turns short_turns ++ ([] ++ others) → IsDecidedBy untaken None own (refusal_after None own ts) → ⊥
     by_decided ts [] some are decided = subst (λ us. IsDecidedBy untaken None own (refusal_after None own us)) are decided

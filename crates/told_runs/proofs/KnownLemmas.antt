@@ -26,7 +26,7 @@ use Rattle.transcripts.specs.Fates.{OfNode}
 use Rattle.transcripts.specs.Faults.{Fault}
 use Rattle.transcripts.specs.Placements.{IsCounted, MayStand, has_replica, placement_after, printed, start_placement}
 use Rattle.transcripts.specs.Reasons.{MayFail}
-use Rattle.transcripts.specs.Record.{TurnPlace, IsTurnPlace, inner_turns}
+use Rattle.transcripts.specs.Record.{TurnPosition, IsTurnPosition, inner_turns}
 use Rattle.told_by.specs.Hears.{HearsLate, IsHeard, IsLatePut, IsNamedBy, IsOwnCall}
 use Rattle.told_by.specs.Told.{ToldBy}
 use Rattle.told_by.proofs.LineLemmas.{line_below, take_front}
@@ -37,7 +37,7 @@ use Rattle.told_causes.specs.Faults.{faults_told}
 use Rattle.told_causes.specs.Standing.{HaltsAlone}
 use Rattle.told_causes.specs.Sweeps.{IsKnownSweep, IsSweepAct}
 use Rattle.told_causes.proofs.WaitLemmas.{member_at}
-use Rattle.told_moves.specs.Moves.{IsAtVersion, IsPlaced, IsQuiet, IsRefusedAt, NotOwnedIsSaid, StaleIsSaid}
+use Rattle.told_moves.specs.Moves.{IsAtVersion, IsPlacedIn, IsQuiet, IsRefusedAt, NotOwnedIsSaid, StaleIsSaid}
 use Rattle.told_moves.specs.Order.{IsInOrder, OpensWithin}
 use Rattle.told_moves.proofs.TenureLemmas.{member_named, name_everywhere}
 use Rattle.told_runs.proofs.AnswerLemmas.{AreKnown}
@@ -57,17 +57,17 @@ module _ {tells : Bool} (start : Option MetaState) (turns : List Turn) (events :
       let own = listed.listed m.assigned m.among in
       (own.0, ap (slice_get place.instances) (sym m.of_node) ∙ own.1)
 
-  placed_by : (p : TurnPlace) (place : Placement) → IsKnownPlace start turns events told p place → IsPlaced events place
+  placed_by : (p : TurnPosition) (place : Placement) → IsKnownPlace start turns events told p place → IsPlacedIn events place
   placed_by p place k = record { place_at = k.place_at; done = k.done; there = k.there }
 
-  named_once : (place : Placement) (node : ℕ) → IsPlaced events place → (i : Instance) → slice_get place.instances node ≡ Some i → IsNamedOnce events place node
+  named_once : (place : Placement) (node : ℕ) → IsPlacedIn events place → (i : Instance) → slice_get place.instances node ≡ Some i → IsNamedOnce events place node
   named_once place node placed i stands =
       let named : OfNode place node (λ own. own ≡ i.name) = record { instance_ = i; stands = stands; holds = refl } in
       (i.name, named, name_everywhere events legal node place i.name placed named)
 
   -- ---- one turn
 
-  module _ (p : TurnPlace) (at : IsTurnPlace turns p) (quiet : IsQuiet p) where
+  module _ (p : TurnPosition) (at : IsTurnPosition turns p) (quiet : IsQuiet p) where
     -- a placement that is known, with a replica of the slot
     record IsSlotAt (place : Placement) (shard node : ℕ) : Type 0 where
       known : IsKnownPlace start turns events told p place
@@ -172,12 +172,12 @@ module _ {tells : Bool} (start : Option MetaState) (turns : List Turn) (events :
     -- ---- late messages
 
     -- a late message's write is a turn of the run, not after this one
-    made_in_run : (m : LateMessage) → IsLateMessage start p m → IsTurnPlace turns m.place × (length (m.place).lines ≤ length p.lines)
+    made_in_run : (m : LateMessage) → IsLateMessage start p m → IsTurnPosition turns m.position × (length (m.position).lines ≤ length p.lines)
     made_in_run m late = by late.made
       where
-        by : IsTurnPlace p.lines m.place ⊎ IsBeside p m.place → IsTurnPlace turns m.place × (length (m.place).lines ≤ length p.lines)
+        by : IsTurnPosition p.lines m.position ⊎ IsBeside p m.position → IsTurnPosition turns m.position × (length (m.position).lines ≤ length p.lines)
         by (inl before) =
-            let q = m.place in
+            let q = m.position in
             let less : length q.lines < length p.lines = line_below p.lines q before in (
               record {
                 after = before.after ++ p.line ∷ at.after;
@@ -187,16 +187,16 @@ module _ {tells : Bool} (start : Option MetaState) (turns : List Turn) (events :
               omega (arith, less),
             )
         by (inr beside) =
-            let q = m.place in (
+            let q = m.position in (
               record { after = at.after; in_run = at.in_run ∙ ap (λ ls. ls ++ p.line ∷ at.after) (sym beside.lines_are) ∙ ap (λ l. q.lines ++ l ∷ at.after) (sym beside.line_is); stands = beside.stands },
               omega (arith, ap length beside.lines_are),
             )
 
-    module _ (silent : (q : TurnPlace) → IsTurnPlace turns q → IsTrue (is_call q.turn.act) → printed q.turn.answer ≡ None) where
+    module _ (silent : (q : TurnPosition) → IsTurnPosition turns q → IsTrue (is_call q.turn.act) → printed q.turn.answer ≡ None) where
       late_slot : (m : LateMessage) → IsLateMessage start p m → (shard : ℕ) → shard ≡ shard_of_message start m → IsSlotAt m.used shard m.node
       late_slot m late shard to =
           let made = made_in_run m late in
-          let q = m.place in
+          let q = m.position in
           let calls : IsTrue (is_call q.turn.act) = call_is q.turn.act late.call late.of_call in
           let k = used_known start turns events legal told order q made.0 (silent q made.0 calls) (late.call).version m.used late.may_use in
           record {
@@ -228,24 +228,24 @@ module _ {tells : Bool} (start : Option MetaState) (turns : List Turn) (events :
 
   -- ---- the run
 
-  calls_quiet : (p : TurnPlace) → IsTrue (is_call p.turn.act) → printed p.turn.answer ≡ None → IsQuiet p
+  calls_quiet : (p : TurnPosition) → IsTrue (is_call p.turn.act) → printed p.turn.answer ≡ None → IsQuiet p
   calls_quiet p calls prints = record { begins_none = begins p.turn.act calls; prints_none = prints }
     where
       begins : (a : Act) → is_call a ≡ true → IsBootAct a → ⊥
       begins (act.Bootstrap node asked) e h = cc
       begins _ e h = h
 
-  deliver_quiet : (p : TurnPlace) → p.turn.act ≡ act.Deliver → printed p.turn.answer ≡ None → IsQuiet p
+  deliver_quiet : (p : TurnPosition) → p.turn.act ≡ act.Deliver → printed p.turn.answer ≡ None → IsQuiet p
   deliver_quiet p delivers prints = record { begins_none = λ h. subst IsBootAct delivers h; prints_none = prints }
 
-  sweep_quiet : (p : TurnPlace) → IsSweepAct p.turn.act → printed p.turn.answer ≡ None → IsQuiet p
+  sweep_quiet : (p : TurnPosition) → IsSweepAct p.turn.act → printed p.turn.answer ≡ None → IsQuiet p
   sweep_quiet p sweeps prints = record { begins_none = begins p.turn.act sweeps; prints_none = prints }
     where
       begins : (a : Act) → IsSweepAct a → IsBootAct a → ⊥
       begins (act.Bootstrap node asked) s h = s
       begins _ s h = h
 
-  pub are_known : ((q : TurnPlace) → IsTurnPlace turns q → IsTrue (is_call q.turn.act) → printed q.turn.answer ≡ None) → AreKnown tells start turns events told
+  pub are_known : ((q : TurnPosition) → IsTurnPosition turns q → IsTrue (is_call q.turn.act) → printed q.turn.answer ≡ None) → AreKnown tells start turns events told
   are_known silent = record {
     calls = λ p at calls prints. call_known p at (calls_quiet p calls prints) calls;
     deliveries = λ p at delivers prints. delivery_known p at (deliver_quiet p delivers prints) silent delivers;

@@ -25,11 +25,11 @@ use Rattle.cluster_core.specs.declared.event.StepReply.TheVariants as reply
 use Rattle.cluster_core.proofs.ListLemmas.{at_append}
 use Rattle.cluster_core.proofs.UntoldLemmas.{legal_untold}
 use Rattle.transcripts.specs.Caused.{acts_in}
-use Rattle.transcripts.specs.Deliveries.{IsLateMessage, IsSamePlace, LateMessage}
+use Rattle.transcripts.specs.Deliveries.{IsLateMessage, IsSamePosition, LateMessage}
 use Rattle.transcripts.specs.Placements.{IsCounted, has_replica}
-use Rattle.transcripts.specs.Record.{IsAfter, IsLastTurnPlace, TurnPlace, inner_turns, line_of, lists_of}
+use Rattle.transcripts.specs.Record.{IsAfter, IsLastTurnPosition, TurnPosition, inner_turns, line_of, lists_of}
 use Rattle.told_by.specs.Hears.{InStretch, IsHeard}
-use Rattle.told_by.specs.Lines.{MayChange, PlainLine, place_after}
+use Rattle.told_by.specs.Lines.{MayChange, PlainLine, position_after}
 use Rattle.told_by.specs.Sample.{begun, events as short_events, name, of_init, of_read, of_space, of_write, place, placed, point, put, spaced, written}
 use Rattle.told_by.specs.Spans.{Spans}
 use Rattle.told_by.specs.Told.{TellsLine}
@@ -62,7 +62,7 @@ node = record { name = name; group = name; listed = true; drained = false }
 
 -- ---- what the lines add
 
-no_more : (start : List Turn) (i : ℕ) (e : Event) → At [] i e → MayChange (place_after start fated answer.Done) (events_to_space ++ take i []) e
+no_more : (start : List Turn) (i : ℕ) (e : Event) → At [] i e → MayChange (position_after start fated answer.Done) (events_to_space ++ take i []) e
 no_more start i e there = cc
 
 fates_line : TellsLine None two_lines events_to_space (line_of fated answer.Done) []
@@ -76,7 +76,7 @@ fates_line = plain_told None two_lines events_to_space fated answer.Done [] (rec
 })
 
 abbrev Heard : ℕ × Reason → Type 0
-Heard r = IsHeard None (InStretch events_to_write 6 7) (place_after lines_to_fates written missed) place 0 r.0 r.1
+Heard r = IsHeard None (InStretch events_to_write 6 7) (position_after lines_to_fates written missed) place 0 r.0 r.1
 
 counted_so : (r : ℕ × Reason) → IsIn ((0, reason.Cut) ∷ []) r → IsCounted place 0 r.0
 counted_so r (inl same) = subst (λ (x : ℕ × Reason). IsCounted place 0 x.0) same (inl refl)
@@ -169,17 +169,17 @@ delivery_line = plain_told None lines_to_write events_to_write act.Deliver came 
 -- ---- each line is served
 
 -- what holds of a line's one turn holds of each
-only : (P : TurnPlace → Type 0) (lines : List Turn) (a : Act) (b : Answer) → P (place_after lines a b) → (q : TurnPlace) → IsLastTurnPlace lines (line_of a b) q → P q
+only : (P : TurnPosition → Type 0) (lines : List Turn) (a : Act) (b : Answer) → P (position_after lines a b) → (q : TurnPosition) → IsLastTurnPosition lines (line_of a b) q → P q
 only P lines a b holds q h = subst P (sym (is_own None lines [] a b [] q h)) holds
 
-alone : (lines : List Turn) (a : Act) (b : Answer) → IsAfter (place_after lines a b) (inner_turns lines)
+alone : (lines : List Turn) (a : Act) (b : Answer) → IsAfter (position_after lines a b) (inner_turns lines)
 alone lines a b = record { others = []; some_of = tt; are = sym (append-nil (inner_turns lines)) }
 
-abbrev nothing_delivered : TurnPlace → List LateMessage
+abbrev nothing_delivered : TurnPosition → List LateMessage
 nothing_delivered p = []
 
 -- a line that delivers nothing
-quiet : (was : TurnPlace → List LateMessage) (lines : List Turn) (a : Act) (b : Answer) (all : List Event) (spans : Spans) → IsAnswered [] None (spans.to (place_after lines a b)) (place_after lines a b) → Delivers None all spans (place_after lines a b) []
+quiet : (was : TurnPosition → List LateMessage) (lines : List Turn) (a : Act) (b : Answer) (all : List Event) (spans : Spans) → IsAnswered [] None (spans.to (position_after lines a b)) (position_after lines a b) → Delivers None all spans (position_after lines a b) []
     → AreNextAnswers [] (λ p. []) was None lines all (line_of a b) spans
 quiet was lines a b all spans answered delivers = record {
   each = only (λ q. IsAnswered [] None (spans.to q) q) lines a b answered;
@@ -191,7 +191,7 @@ quiet was lines a b all spans answered delivers = record {
   different = tt;
 }
 
-module _ {tells : Bool} (now was : TurnPlace → List LateMessage) (lines : List Turn) (a : Act) (b : Answer) (before more : List Event) (adds : TellsLine None lines before (line_of a b) more) where
+module _ {tells : Bool} (now was : TurnPosition → List LateMessage) (lines : List Turn) (a : Act) (b : Answer) (before more : List Event) (adds : TellsLine None lines before (line_of a b) more) where
   serves : ((i : ℕ) (e : Event) → At (before ++ more) i e → At short_events i e) → last_place (before ++ more) ≡ Some place → AreNextAnswers [] now was None lines (before ++ more) (line_of a b) adds.spans
       → length (before ++ more) ≤ length before + (MOST_REQUEST_EVENTS * length (acts_in (line_of a b ∷ []))) * (writes_taken [] (lines ++ line_of a b ∷ []) + 1) → ServesLine tells [] now was [] None lines before (line_of a b) more adds
   serves short last answers bound = record {
@@ -215,29 +215,29 @@ in_front : (front rest : List Event) → front ++ rest ≡ short_events → (i :
 in_front front rest same i e there = subst (λ es. At es i e) same (at_append front rest i e there)
 
 -- what turns delivered before, or now
-either : (lines : List Turn) (was now : TurnPlace → List LateMessage) (p : TurnPlace) (m : LateMessage) → IsIn (delivered_on lines was now p) m → IsIn (was p) m ⊎ IsIn (now p) m
+either : (lines : List Turn) (was now : TurnPosition → List LateMessage) (p : TurnPosition) (m : LateMessage) → IsIn (delivered_on lines was now p) m → IsIn (was p) m ⊎ IsIn (now p) m
 either lines was now p m = by (nat_lt (length p.lines) (length lines))
   where
     by : (old : Bool) → IsIn (if old then was p else now p) m → IsIn (was p) m ⊎ IsIn (now p) m
     by true h = inl h
     by false h = inr h
 
-delivered_none : (lines : List Turn) (was : TurnPlace → List LateMessage) → ((p : TurnPlace) (m : LateMessage) → IsIn (was p) m → ⊥) → (p : TurnPlace) (m : LateMessage) → IsIn (delivered_on lines was nothing_delivered p) m → ⊥
+delivered_none : (lines : List Turn) (was : TurnPosition → List LateMessage) → ((p : TurnPosition) (m : LateMessage) → IsIn (was p) m → ⊥) → (p : TurnPosition) (m : LateMessage) → IsIn (delivered_on lines was nothing_delivered p) m → ⊥
 delivered_none lines was before p m h = elim (either lines was nothing_delivered p m h) as (λ _. ⊥) [ inl old ↦ before p m old | inr new ↦ new ]
 
-abbrev was_init : TurnPlace → List LateMessage
+abbrev was_init : TurnPosition → List LateMessage
 was_init = delivered_on [] nothing_delivered nothing_delivered
 
-abbrev was_space : TurnPlace → List LateMessage
+abbrev was_space : TurnPosition → List LateMessage
 was_space = delivered_on one_line was_init nothing_delivered
 
-abbrev was_fates : TurnPlace → List LateMessage
+abbrev was_fates : TurnPosition → List LateMessage
 was_fates = delivered_on two_lines was_space nothing_delivered
 
-abbrev was_write : TurnPlace → List LateMessage
+abbrev was_write : TurnPosition → List LateMessage
 was_write = delivered_on lines_to_fates was_fates nothing_delivered
 
-none_before : (p : TurnPlace) (m : LateMessage) → IsIn (was_write p) m → ⊥
+none_before : (p : TurnPosition) (m : LateMessage) → IsIn (was_write p) m → ⊥
 none_before = delivered_none lines_to_fates was_fates (delivered_none two_lines was_space (delivered_none one_line was_init (delivered_none [] nothing_delivered (λ p m h. h))))
 
 module _ (tells : Bool) where
@@ -266,7 +266,7 @@ module _ (tells : Bool) where
       (in_front events_to_write (event.Ask (asked.Step 0 0 put) ∷ event.Step 0 0 put reply.Done ∷ event.Ack 6 (0 ∷ []) ∷ of_read) refl) refl
       (quiet was_fates lines_to_fates written missed events_to_write write_line.spans (inr (inr (inner_turns lines_to_fates, alone lines_to_fates written missed, tt))) tt) (omega arith))
 
-  abbrev delivers_it : TurnPlace → List LateMessage
+  abbrev delivers_it : TurnPosition → List LateMessage
   delivers_it p = message ∷ []
 
   delivers_so : Delivers None events delivery_line.spans delivering (message ∷ [])
@@ -275,8 +275,8 @@ module _ (tells : Bool) where
       subst (λ n. HearsOf None (InStretch events n (delivery_line.spans.to delivering)) delivering (message ∷ []) came) (sym (plain_told_from None lines_to_write events_to_write act.Deliver came of_delivery delivery))
       (subst (λ n. HearsOf None (InStretch events 7 n) delivering (message ∷ []) came) (sym (plain_told_to None lines_to_write events_to_write act.Deliver came of_delivery delivery)) heard)
 
-  one_turn : (p q : TurnPlace) → IsLastTurnPlace lines_to_write (line_of act.Deliver came) p → IsLastTurnPlace lines_to_write (line_of act.Deliver came) q → IsSamePlace p q
-  one_turn p q at there = only (λ x. IsSamePlace x q) lines_to_write act.Deliver came (only (λ y. IsSamePlace delivering y) lines_to_write act.Deliver came (refl, refl, refl) q there) p at
+  one_turn : (p q : TurnPosition) → IsLastTurnPosition lines_to_write (line_of act.Deliver came) p → IsLastTurnPosition lines_to_write (line_of act.Deliver came) q → IsSamePosition p q
+  one_turn p q at there = only (λ x. IsSamePosition x q) lines_to_write act.Deliver came (only (λ y. IsSamePosition delivering y) lines_to_write act.Deliver came (refl, refl, refl) q there) p at
 
   served_delivery : IsToldAndServed tells [] (delivered_on lines_to_write was_write delivers_it) [] None turns None events
   served_delivery =

@@ -27,15 +27,15 @@ use Rattle.cluster_core.specs.declared.event.StepReply.{StepReply}
 use Rattle.cluster_core.specs.declared.event.StepReply.TheVariants as reply
 use Rattle.cluster_core.proofs.ListLemmas.{at_append, at_same, at_within}
 use Rattle.transcripts.specs.Caused.{IsRefusedWhole, acts_in}
-use Rattle.transcripts.specs.Deliveries.{IsSameMessage, IsSamePlace, LateMessage}
+use Rattle.transcripts.specs.Deliveries.{IsSameMessage, IsSamePosition, LateMessage}
 use Rattle.transcripts.specs.Faults.{Fault, Taking}
 use Rattle.transcripts.specs.Moves.{IsLeftFence}
 use Rattle.transcripts.specs.Placements.{has_replica}
-use Rattle.transcripts.specs.Record.{Record, TurnPlace, IsLastTurnPlace, IsTurnPlace, line_of, lists_of}
+use Rattle.transcripts.specs.Record.{Record, TurnPosition, IsLastTurnPosition, IsTurnPosition, line_of, lists_of}
 use Rattle.transcripts.proofs.MoreFaults.{AreAmong, different_both, step_more}
-use Rattle.transcripts.proofs.PlaceLemmas.{at_push}
+use Rattle.transcripts.proofs.PositionLemmas.{at_push}
 use Rattle.told_by.specs.Hears.{InStretch}
-use Rattle.told_by.specs.Lines.{ClockLine, InitLine, PlainLine, ReadLine, WriteLine, place_after}
+use Rattle.told_by.specs.Lines.{ClockLine, InitLine, PlainLine, ReadLine, WriteLine, position_after}
 use Rattle.told_by.specs.Spans.{IsAlone}
 use Rattle.told_by.specs.Told.{TellsLine, ToldBy}
 use Rattle.told_by.proofs.HearLemmas.{outcomes_on}
@@ -50,13 +50,13 @@ use Rattle.told_causes.specs.Standing.{HaltsAlone, IsHaltAct}
 use Rattle.told_moves.specs.Order.{OpensWithin}
 use Rattle.told_runs.specs.Answers.{AreAnswered, Delivers, HearsOf, IsAnswered, IsDecidedBy, IsOfKind}
 use Rattle.told_runs.specs.Bounds.{IsBounded, writes_taken}
-use Rattle.told_runs.specs.Laws.{IsMadeInOrder, IsServed, OwnsFiles}
+use Rattle.told_runs.specs.Laws.{IsMadeInOrder, IsServedRun, OwnsFiles}
 use Rattle.told_runs.specs.Lines.{Adds, IsServedAfresh, IsServedAtFirst, IsOneTurn, IsServedLineByLine, IsToldAndServed, KindServes, ServesLine, ServesOne, delivered_on, life_of}
 
 -- ---- answers
 
 -- an answer is decided so also where more disks couldn't be taken
-kind_more : (taking more : List Fault) → AreAmong taking more → (start : Option MetaState) (p : TurnPlace) (a : Act) (b : Answer) → IsOfKind taking start p a b → IsOfKind more start p a b
+kind_more : (taking more : List Fault) → AreAmong taking more → (start : Option MetaState) (p : TurnPosition) (a : Act) (b : Answer) → IsOfKind taking start p a b → IsOfKind more start p a b
 kind_more taking more among start p (act.Init rf shards seed nodes) (answer.Disk name shard) h = (h.0, h.1, h.2, among _ h.3)
 kind_more taking more among start p (act.Add node group) b h = step_more taking more among start p (act.Add node group) b h
 kind_more taking more among start p (act.Drain node) b h = step_more taking more among start p (act.Drain node) b h
@@ -65,27 +65,27 @@ kind_more taking more among start p (act.Remove node) b h = step_more taking mor
 kind_more taking more among start p (act.Replace node by group) b h = step_more taking more among start p (act.Replace node by group) b h
 kind_more taking more among start p _ _ h = h
 
-decided_more : (taking more : List Fault) → AreAmong taking more → (start : Option MetaState) (p : TurnPlace) (o : Option Answer) → IsDecidedBy taking start p o → IsDecidedBy more start p o
+decided_more : (taking more : List Fault) → AreAmong taking more → (start : Option MetaState) (p : TurnPosition) (o : Option Answer) → IsDecidedBy taking start p o → IsDecidedBy more start p o
 decided_more taking more among start p (Some refusal) h = h
 decided_more taking more among start p None h = kind_more taking more among start p p.turn.act p.turn.answer h
 
-answered_more : (taking more : List Fault) → AreAmong taking more → (start : Option MetaState) (end : ℕ) (p : TurnPlace) → IsAnswered taking start end p → IsAnswered more start end p
+answered_more : (taking more : List Fault) → AreAmong taking more → (start : Option MetaState) (end : ℕ) (p : TurnPosition) → IsAnswered taking start end p → IsAnswered more start end p
 answered_more taking more among start end p (inl memory) = inl memory
 answered_more taking more among start end p (inr (inl full)) = inr (inl full)
 answered_more taking more among start end p (inr (inr decided)) = inr (inr (decided.0, decided.1, decided_more taking more among start p _ decided.2))
 
 -- what is heard of late messages is heard where more happens
-heard_on : (start : Option MetaState) (Old New : ℕ → Event → Type 0) → ((i : ℕ) (e : Event) → Old i e → New i e) → (p : TurnPlace) (messages : List LateMessage) (b : Answer) → HearsOf start Old p messages b → HearsOf start New p messages b
+heard_on : (start : Option MetaState) (Old New : ℕ → Event → Type 0) → ((i : ℕ) (e : Event) → Old i e → New i e) → (p : TurnPosition) (messages : List LateMessage) (b : Answer) → HearsOf start Old p messages b → HearsOf start New p messages b
 heard_on start Old New on p messages (answer.Outcomes outcomes) h = (h.0, outcomes_on start [] Old New on p messages outcomes h.1)
 heard_on start Old New on p messages _ h = h
 
 same_back : (a b : LateMessage) → IsSameMessage a b → IsSameMessage b a
-same_back a b same = let place = same.0 in ((sym place.0, sym place.1, sym place.2), sym same.1)
+same_back a b same = let position = same.0 in ((sym position.0, sym position.1, sym position.2), sym same.1)
 
 -- ---- the line
 
-module _ {tells : Bool} (past : List Record) (start : Option MetaState) (turns : List Turn) (unanswered next : Option Request) (events : List Event) (line : Turn) (more : List Event) (untaken taking : List Fault) (now was : TurnPlace → List LateMessage)
-    (told : ToldBy start turns events) (served : IsServed tells taking was (life_of past start turns unanswered) events told) (adds : TellsLine start turns events line more) (serves : ServesLine tells untaken now was past start turns events line more adds) where
+module _ {tells : Bool} (past : List Record) (start : Option MetaState) (turns : List Turn) (unanswered next : Option Request) (events : List Event) (line : Turn) (more : List Event) (untaken taking : List Fault) (now was : TurnPosition → List LateMessage)
+    (told : ToldBy start turns events) (served : IsServedRun tells taking was (life_of past start turns unanswered) events told) (adds : TellsLine start turns events line more) (serves : ServesLine tells untaken now was past start turns events line more adds) where
   abbrev long : List Turn
   long = turns ++ line ∷ []
 
@@ -95,9 +95,9 @@ module _ {tells : Bool} (past : List Record) (start : Option MetaState) (turns :
   abbrev after : ToldBy start long all
   after = line_told start turns events line more told adds
 
-  -- a place of the old lines, or of the new one
-  which : (p : TurnPlace) → IsTurnPlace long p → IsTurnPlace turns p ⊎ IsLastTurnPlace turns line p
-  which p h = at_push (λ q. IsTurnPlace turns q ⊎ IsLastTurnPlace turns line q) turns line (λ q k. inl k) (λ q k. inr k) p h
+  -- a position of the old lines, or of the new one
+  which : (p : TurnPosition) → IsTurnPosition long p → IsTurnPosition turns p ⊎ IsLastTurnPosition turns line p
+  which p h = at_push (λ q. IsTurnPosition turns q ⊎ IsLastTurnPosition turns line q) turns line (λ q k. inl k) (λ q k. inr k) p h
 
   -- an event of the old list, or one that the line adds
   event_cases : (i : ℕ) (e : Event) → At all i e → ((i < length events) × At events i e) ⊎ Adds events more i e
@@ -106,7 +106,7 @@ module _ {tells : Bool} (past : List Record) (start : Option MetaState) (turns :
   front : (i : ℕ) → i ≤ length events → take i all ≡ take i events
   front i le = take_front events more i le
 
-  here_alone : (q : TurnPlace) → IsLastTurnPlace turns line q → lists_of line ≡ (q.turn ∷ []) ∷ [] → IsAlone long q
+  here_alone : (q : TurnPosition) → IsLastTurnPosition turns line q → lists_of line ≡ (q.turn ∷ []) ∷ [] → IsAlone long q
   here_alone q k only = (line, subst (λ ls. At long (length ls) line) (sym k.lines_are) (at_cut turns line []), only)
 
   ends_were : (k : ℕ) → k ≤ length turns → after.ends k ≡ told.ends k
@@ -131,10 +131,10 @@ module _ {tells : Bool} (past : List Record) (start : Option MetaState) (turns :
             subst (λ m. P m i place) (sym is) (new i place done (begins, there))
       ]
 
-  push_old : (p : TurnPlace) → IsTurnPlace turns p → IsTurnPlace long p
+  push_old : (p : TurnPosition) → IsTurnPosition turns p → IsTurnPosition long p
   push_old p at = record { after = at.after ++ line ∷ []; in_run = ap (λ ls. ls ++ line ∷ []) at.in_run ∙ append_assoc p.lines (p.line ∷ at.after) (line ∷ []); stands = at.stands }
 
-  push_new : (p : TurnPlace) → IsLastTurnPlace turns line p → IsTurnPlace long p
+  push_new : (p : TurnPosition) → IsLastTurnPosition turns line p → IsTurnPosition long p
   push_new p at = record { after = []; in_run = ap (λ ls. ls ++ line ∷ []) (sym at.lines_are) ∙ ap (λ l. p.lines ++ l ∷ []) (sym at.line_is); stands = at.stands }
 
   old_one : (k : ℕ) → k < length turns → HasOneTurn long k → HasOneTurn turns k
@@ -203,27 +203,27 @@ module _ {tells : Bool} (past : List Record) (start : Option MetaState) (turns :
 
   -- ---- its answers
 
-  abbrev delivered : TurnPlace → List LateMessage
+  abbrev delivered : TurnPosition → List LateMessage
   delivered = delivered_on turns was now
 
-  as_was : (p : TurnPlace) → IsTurnPlace turns p → delivered p ≡ was p
+  as_was : (p : TurnPosition) → IsTurnPosition turns p → delivered p ≡ was p
   as_was p k = ap (λ b. if b then was p else now p) (lt-ltb (length p.lines) (length turns) (line_below turns p k))
 
-  as_now : (p : TurnPlace) → IsLastTurnPlace turns line p → delivered p ≡ now p
+  as_now : (p : TurnPosition) → IsLastTurnPosition turns line p → delivered p ≡ now p
   as_now p k = ap (λ b. if b then was p else now p) (le-ltb (length p.lines) (length turns) (omega (arith, ap length k.lines_are)))
 
-  answered_on : (p : TurnPlace) → IsTurnPlace long p → IsAnswered (untaken ++ taking) start ((after.spans).to p) p
+  answered_on : (p : TurnPosition) → IsTurnPosition long p → IsAnswered (untaken ++ taking) start ((after.spans).to p) p
   answered_on p at =
       elim (which p at) as (λ _. IsAnswered (untaken ++ taking) start ((after.spans).to p) p) [
         | inl k ↦ answered_more taking (untaken ++ taking) (λ f m. IsIn-append_right untaken taking f m) start ((after.spans).to p) p (subst (λ n. IsAnswered taking start n p) (sym (line_told_was_to start turns events line more told adds p k)) ((served.answers).each p k))
         | inr k ↦ answered_more untaken (untaken ++ taking) (λ f m. IsIn-append_left untaken taking f m) start ((after.spans).to p) p (subst (λ n. IsAnswered untaken start n p) (sym (line_told_to start turns events line more told adds p k)) ((serves.answers).each p k))
       ]
 
-  moved : (p : TurnPlace) (messages : List LateMessage) {from to from_now to_now : ℕ} → from_now ≡ from → to_now ≡ to → HearsOf start (InStretch all from to) p messages p.turn.answer → HearsOf start (InStretch all from_now to_now) p messages p.turn.answer
+  moved : (p : TurnPosition) (messages : List LateMessage) {from to from_now to_now : ℕ} → from_now ≡ from → to_now ≡ to → HearsOf start (InStretch all from to) p messages p.turn.answer → HearsOf start (InStretch all from_now to_now) p messages p.turn.answer
   moved p messages {from} {to} {from_now} {to_now} e f h =
       subst (λ n. HearsOf start (InStretch all from_now n) p messages p.turn.answer) (sym f) (subst (λ n. HearsOf start (InStretch all n to) p messages p.turn.answer) (sym e) h)
 
-  delivers_on : (p : TurnPlace) → IsTurnPlace long p → Delivers start all after.spans p (delivered p)
+  delivers_on : (p : TurnPosition) → IsTurnPosition long p → Delivers start all after.spans p (delivered p)
   delivers_on p at =
       elim (which p at) as (λ _. Delivers start all after.spans p (delivered p)) [
         | inl k ↦ subst (Delivers start all after.spans p) (sym (as_was p k)) (moved p (was p) (line_told_was_from start turns events line more told adds p k) (line_told_was_to start turns events line more told adds p k)
@@ -231,18 +231,18 @@ module _ {tells : Bool} (past : List Record) (start : Option MetaState) (turns :
         | inr k ↦ subst (Delivers start all after.spans p) (sym (as_now p k)) (moved p (now p) (line_told_from start turns events line more told adds p k) (line_told_to start turns events line more told adds p k) ((serves.answers).delivers p k))
       ]
 
-  once_on : (p q : TurnPlace) → IsTurnPlace long p → IsTurnPlace long q → (a b : LateMessage) → IsIn (delivered p) a → IsIn (delivered q) b → IsSameMessage a b → IsSamePlace p q
+  once_on : (p q : TurnPosition) → IsTurnPosition long p → IsTurnPosition long q → (a b : LateMessage) → IsIn (delivered p) a → IsIn (delivered q) b → IsSameMessage a b → IsSamePosition p q
   once_on p q hp hq a b m n same =
-      elim (which p hp) as (λ _. IsSamePlace p q) [
+      elim (which p hp) as (λ _. IsSamePosition p q) [
         | inl op ↦
             let was_p = subst (λ ms. IsIn ms a) (as_was p op) m in
-            elim (which q hq) as (λ _. IsSamePlace p q) [
+            elim (which q hq) as (λ _. IsSamePosition p q) [
               | inl oq ↦ (served.answers).once p q op oq a b was_p (subst (λ ms. IsIn ms b) (as_was q oq) n) same
               | inr nq ↦ absurd ((serves.answers).not_again q p nq op b a (subst (λ ms. IsIn ms b) (as_now q nq) n) was_p (same_back a b same))
             ]
         | inr np ↦
             let now_p = subst (λ ms. IsIn ms a) (as_now p np) m in
-            elim (which q hq) as (λ _. IsSamePlace p q) [
+            elim (which q hq) as (λ _. IsSamePosition p q) [
               | inl oq ↦ absurd ((serves.answers).not_again p q np oq a b now_p (subst (λ ms. IsIn ms b) (as_was q oq) n) same)
               | inr nq ↦ (serves.answers).once p q np nq a b now_p (subst (λ ms. IsIn ms b) (as_now q nq) n) same
             ]
@@ -290,7 +290,7 @@ module _ {tells : Bool} (past : List Record) (start : Option MetaState) (turns :
             (subst (λ n. length all ≤ n + room other long) (sym begins) (subst (λ l. length all ≤ length events + room l long) (sym same) serves.bound)))
       ]
 
-  served_on : IsServed tells (untaken ++ taking) delivered (life_of past start long next) all after
+  served_on : IsServedRun tells (untaken ++ taking) delivered (life_of past start long next) all after
   served_on = record { order = order_on; halts = halts_on; opens = opens_on; owned = owned_on; answers = answers_on; bound = bound_on }
 
 pub served_line : {tells : Bool} → IsServedLineByLine tells
@@ -299,15 +299,15 @@ served_line past start turns unanswered next events line more untaken taking now
 
 -- ---- a line outside `par`
 
-module _ (tells : Bool) (past : List Record) (start : Option MetaState) (turns : List Turn) (events : List Event) (a : Act) (b : Answer) (more : List Event) (untaken taking : List Fault) (messages : List LateMessage) (was : TurnPlace → List LateMessage) where
-  abbrev own : TurnPlace
-  own = place_after turns a b
+module _ (tells : Bool) (past : List Record) (start : Option MetaState) (turns : List Turn) (events : List Event) (a : Act) (b : Answer) (more : List Event) (untaken taking : List Fault) (messages : List LateMessage) (was : TurnPosition → List LateMessage) where
+  abbrev own : TurnPosition
+  own = position_after turns a b
 
-  each_turn : (P : TurnPlace → Type 0) → P own → (q : TurnPlace) → IsLastTurnPlace turns (line_of a b) q → P q
+  each_turn : (P : TurnPosition → Type 0) → P own → (q : TurnPosition) → IsLastTurnPosition turns (line_of a b) q → P q
   each_turn = each start turns events a b more
 
-  same_place : (p q : TurnPlace) → IsLastTurnPlace turns (line_of a b) p → IsLastTurnPlace turns (line_of a b) q → IsSamePlace p q
-  same_place p q at there = each_turn (λ x. IsSamePlace x q) (each_turn (IsSamePlace own) (refl, refl, refl) q there) p at
+  same_place : (p q : TurnPosition) → IsLastTurnPosition turns (line_of a b) p → IsLastTurnPosition turns (line_of a b) q → IsSamePosition p q
+  same_place p q at there = each_turn (λ x. IsSamePosition x q) (each_turn (IsSamePosition own) (refl, refl, refl) q there) p at
 
   serves_so : (adds : TellsLine start turns events (line_of a b) more) → (adds.spans).from own ≡ length events → (adds.spans).to own ≡ length (events ++ more) → ServesOne tells untaken messages was past start turns events a b more
       → ServesLine tells untaken (λ p. messages) was past start turns events (line_of a b) more adds

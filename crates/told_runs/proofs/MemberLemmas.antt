@@ -22,7 +22,7 @@ use Rattle.cluster_core.specs.Legal.{Legal}
 use Rattle.cluster_core.specs.Lists.{At}
 use Rattle.cluster_core.specs.Refusals.{first_refusal, outdated, outside, reads_files, shut, unowned, untenured, uses_disk}
 use Rattle.cluster_core.specs.Replicas.{replica}
-use Rattle.cluster_core.specs.Rows.{IsTaken}
+use Rattle.cluster_core.specs.Rows.{IsTakenCall}
 use Rattle.cluster_core.specs.declared.event.Asked.TheVariants as asked
 use Rattle.cluster_core.specs.declared.event.Event.{Event}
 use Rattle.cluster_core.specs.declared.event.Event.TheVariants as event
@@ -36,7 +36,7 @@ use Rattle.cluster_core.proofs.TraceLemmas.{lawful_step, replica_suc, step_cases
 use Rattle.transcripts.specs.Caused.{HadBefore}
 use Rattle.transcripts.specs.Faults.{Fault}
 use Rattle.transcripts.specs.Placements.{HadReplica, IsCounted, has_replica, placements, printed}
-use Rattle.transcripts.specs.Record.{TurnPlace, IsTurnPlace, inner_turns}
+use Rattle.transcripts.specs.Record.{TurnPosition, IsTurnPosition, inner_turns}
 use Rattle.told_by.specs.Makes.{MayAsk}
 use Rattle.told_by.specs.Told.{ToldBy}
 use Rattle.told_by.proofs.LeaveLemmas.{place_there}
@@ -196,7 +196,7 @@ module _ {tells : Bool} (start : Option MetaState) (turns : List Turn) (events :
   reads_use (call.Begin tenure) e = refl
   reads_use _ e = refl
 
-  taken_free : (r : ReplicaState) (c : StepCall) → IsForOpen c → IsTaken tells r c → first_refusal r c ≡ None
+  taken_free : (r : ReplicaState) (c : StepCall) → IsForOpen c → IsTakenCall tells r c → first_refusal r c ≡ None
   taken_free r (call.Begin tenure) kind h = absurd kind
   taken_free r (call.Put client number rules version point) kind h = h
   taken_free r _ kind h = h
@@ -225,17 +225,17 @@ module _ {tells : Bool} (start : Option MetaState) (turns : List Turn) (events :
   had_by k i n s high low h = let early = h.before in record { place = h.place; known = known_before start turns events legal told order k high h.place_at h.place h.done h.there (omega (arith, early, low)); member = h.member }
 
   -- the slot had a replica by each earlier fault of it
-  pub was_there : (p : TurnPlace) → IsTurnPlace turns p → (n s : ℕ) → WasThere (faults_told told.ends events (length turns)) start p n s
+  pub was_there : (p : TurnPosition) → IsTurnPosition turns p → (n s : ℕ) → WasThere (faults_told told.ends events (length turns)) start p n s
   was_there p at n s fault m of_node of_shard early =
       let f = faults_steps told.ends events (length turns) fault m in
       let less : suc fault.line ≤ length turns = f.early in
       let high = f.high in
-      let had = had_by (suc fault.line) f.place fault.node fault.shard less (omega (arith, high)) (fault_member f.place fault.line f.e fault f.there f.tells) in
+      let had = had_by (suc fault.line) f.position fault.node fault.shard less (omega (arith, high)) (fault_member f.position fault.line f.e fault f.there f.tells) in
       let front : take (suc fault.line) turns ≡ take (suc fault.line) p.lines = ap (take (suc fault.line)) at.in_run ∙ take_front p.lines (p.line ∷ at.after) (suc fault.line) early in
       subst (λ ls. HadReplica start (inner_turns ls) s n) front (subst (λ x. HadReplica start (inner_turns (take (suc fault.line) turns)) x n) of_shard (subst (HadReplica start (inner_turns (take (suc fault.line) turns)) fault.shard) of_node had))
 
   -- a slot that a restart asks had one before its line
-  pub had_before : (p : TurnPlace) → IsTurnPlace turns p → printed p.turn.answer ≡ None → (i n s : ℕ) (a : StepReply) → i ≤ told.ends (suc (length p.lines)) → At events i (event.Step n s call.Restart a) → HadBefore start p s n
+  pub had_before : (p : TurnPosition) → IsTurnPosition turns p → printed p.turn.answer ≡ None → (i n s : ℕ) (a : StepReply) → i ≤ told.ends (suc (length p.lines)) → At events i (event.Step n s call.Restart a) → HadBefore start p s n
   had_before p at quiet i n s a high there =
       let h = restart_member i n s a there in
       let early = h.before in

@@ -25,7 +25,7 @@ use Rattle.cluster_core.proofs.TraceLemmas.{lawful_place}
 use Rattle.transcripts.specs.Caused.{EndsInto, IsMade}
 use Rattle.transcripts.specs.Faults.{Fault}
 use Rattle.transcripts.specs.Placements.{MayStand, placement_after, placement_at, printed, start_placement}
-use Rattle.transcripts.specs.Record.{AreSomeOf, InnerTurn, TurnPlace, IsTurnPlace, inner_turns, lists_of}
+use Rattle.transcripts.specs.Record.{AreSomeOf, InnerTurn, TurnPosition, IsTurnPosition, inner_turns, lists_of}
 use Rattle.transcripts.proofs.PlacementLemmas.{after_from}
 use Rattle.told_by.specs.Makes.{IsAssigned}
 use Rattle.told_by.specs.Openings.{sets_seed}
@@ -33,7 +33,7 @@ use Rattle.told_by.specs.Told.{ToldBy}
 use Rattle.told_by.proofs.LeaveLemmas.{place_there}
 use Rattle.told_by.proofs.LineLemmas.{line_below}
 use Rattle.told_by.proofs.PrintedLemmas.{greatest_so_far, one_place, placements_stand}
-use Rattle.told_by.proofs.TurnLemmas.{at_cut, earlier_line, place_in}
+use Rattle.told_by.proofs.TurnLemmas.{at_cut, earlier_line, position_in}
 use Rattle.told_causes.specs.Boot.{GivesNone, HasOneTurn, IsPrintedIn}
 use Rattle.told_causes.proofs.AloneLemmas.{lines_before}
 use Rattle.told_causes.proofs.StoodLemmas.{in_line}
@@ -62,7 +62,7 @@ available_had old next pairs available n s tenure given =
 -- ---- answers
 
 -- an answer prints nothing that is a refusal or of want of memory or of room; else it is of the act's kind
-pub kind_or_silent : (taking : List Fault) (start : Option MetaState) (end : ℕ) (p : TurnPlace) → IsAnswered taking start end p → (printed p.turn.answer ≡ None) ⊎ IsOfKind taking start p p.turn.act p.turn.answer
+pub kind_or_silent : (taking : List Fault) (start : Option MetaState) (end : ℕ) (p : TurnPosition) → IsAnswered taking start end p → (printed p.turn.answer ≡ None) ⊎ IsOfKind taking start p p.turn.act p.turn.answer
 kind_or_silent taking start end p (inl memory) = inl (ap printed memory)
 kind_or_silent taking start end p (inr (inl full)) = inl (ap printed full.0)
 kind_or_silent taking start end p (inr (inr decided)) = by _ (λ r e. refusal_silent _ _ _ _ p.turn.act r e) decided.2
@@ -72,14 +72,14 @@ kind_or_silent taking start end p (inr (inr decided)) = by _ (λ r e. refusal_si
     by None silent kind = inr kind
 
 -- the placement is what moves that end leave of one that may stand
-record IsEndOfMoves (start : Option MetaState) (p : TurnPlace) (place : Placement) : Type 0 where
+record IsEndOfMoves (start : Option MetaState) (p : TurnPosition) (place : Placement) : Type 0 where
   before : Placement
   stands : MayStand start p before
   pairs : List (ℕ × ℕ)
   next : IsAvailable before pairs place
 
 -- whoever prints a placement is an `init`, is the only turn of its line, ended moves into it, or prints one that was made
-prints_by : (taking : List Fault) (start : Option MetaState) (p : TurnPlace) (a : Act) (b : Answer) (place : Placement) → IsOfKind taking start p a b → printed b ≡ Some place
+prints_by : (taking : List Fault) (start : Option MetaState) (p : TurnPosition) (a : Act) (b : Answer) (place : Placement) → IsOfKind taking start p a b → printed b ≡ Some place
     → (sets_seed a b ≡ true) ⊎ ((lists_of p.line ≡ (p.turn ∷ []) ∷ []) ⊎ (IsEndOfMoves start p place ⊎ IsMade start p place))
 prints_by taking start p (act.Init rf shards seed nodes) (answer.Placed next version) place kind prints = inl refl
 prints_by taking start p (act.Bootstrap node asked) (answer.Available [] next version) place kind prints = inr (inr (inr (subst (IsMade start p) (sym kind.left ∙ some_same next place prints) kind.made)))
@@ -99,13 +99,13 @@ ends_prints : (b : Answer) (place : Placement) → EndsInto b place → printed 
 ends_prints (answer.Available (x ∷ available) next version) place is = ap Some is
 ends_prints _ place is = absurd is
 
-end_by : (taking : List Fault) (start : Option MetaState) (p : TurnPlace) (a : Act) (b : Answer) (place : Placement) → IsOfKind taking start p a b → EndsInto b place → IsEndOfMoves start p place
+end_by : (taking : List Fault) (start : Option MetaState) (p : TurnPosition) (a : Act) (b : Answer) (place : Placement) → IsOfKind taking start p a b → EndsInto b place → IsEndOfMoves start p place
 end_by taking start p (act.Bootstrap node asked) (answer.Available (x ∷ available) next version) place kind is =
     record { before = kind.before; stands = kind.stands; pairs = map (λ (y : ℕ × List ℕ). (y.0, (kind.left).node)) (x ∷ available); next = subst (IsAvailable kind.before (map (λ (y : ℕ × List ℕ). (y.0, (kind.left).node)) (x ∷ available))) is (kind.left).next }
 end_by taking start p _ (answer.Available (x ∷ available) next version) place kind is = absurd kind
 end_by taking start p _ _ place kind is = absurd is
 
-sets_by : (taking : List Fault) (start : Option MetaState) (p : TurnPlace) (a : Act) (b : Answer) (place : Placement) → IsOfKind taking start p a b → IsInitAct a → printed b ≡ Some place → sets_seed a b ≡ true
+sets_by : (taking : List Fault) (start : Option MetaState) (p : TurnPosition) (a : Act) (b : Answer) (place : Placement) → IsOfKind taking start p a b → IsInitAct a → printed b ≡ Some place → sets_seed a b ≡ true
 sets_by taking start p (act.Init rf shards seed nodes) (answer.Placed next version) place kind is prints = refl
 sets_by taking start p (act.Init rf shards seed nodes) (answer.Group shard) place kind is prints = absurd (let bad : None ≡ Some place = prints in cc)
 sets_by taking start p (act.Init rf shards seed nodes) (answer.Disk name shard) place kind is prints = absurd (let bad : None ≡ Some place = prints in cc)
@@ -115,9 +115,9 @@ sets_by taking start p _ b place kind is prints = absurd is
 -- ---- the list
 
 module _ {tells : Bool} (taking : List Fault) (start : Option MetaState) (turns : List Turn) (events : List Event) (legal : Legal tells events) (told : ToldBy start turns events)
-    (answered : (p : TurnPlace) → IsTurnPlace turns p → IsAnswered taking start ((told.spans).to p) p) where
+    (answered : (p : TurnPosition) → IsTurnPosition turns p → IsAnswered taking start ((told.spans).to p) p) where
   -- a placement that may stand is a Place
-  stood_place : (p : TurnPlace) → IsTurnPlace turns p → (place : Placement) → MayStand start p place → (z : ℕ) × (done : List (ℕ × ℕ)) × At events z (event.Place place done)
+  stood_place : (p : TurnPosition) → IsTurnPosition turns p → (place : Placement) → MayStand start p place → (z : ℕ) × (done : List (ℕ × ℕ)) × At events z (event.Place place done)
   stood_place p at place h =
       let after = h.1 in
       elim (after_from h.0 (start_placement start) place h.2) as (λ _. (z : ℕ) × (done : List (ℕ × ℕ)) × At events z (event.Place place done)) [
@@ -125,16 +125,16 @@ module _ {tells : Bool} (taking : List Fault) (start : Option MetaState) (turns 
         | inr t ↦ by_turn t.0 (subst (λ ts. IsIn ts t.0) after.are t.1) t.2 after.others after.some_of
       ]
     where
-      by_place : (q : TurnPlace) → IsTurnPlace turns q → printed q.turn.answer ≡ Some place → (z : ℕ) × (done : List (ℕ × ℕ)) × At events z (event.Place place done)
-      by_place q at_q prints = let has = (told.tells).placements.is_place q at_q place prints in (has.place_at, has.done, has.there)
+      by_position : (q : TurnPosition) → IsTurnPosition turns q → printed q.turn.answer ≡ Some place → (z : ℕ) × (done : List (ℕ × ℕ)) × At events z (event.Place place done)
+      by_position q at_q prints = let has = (told.tells).placements.is_place q at_q place prints in (has.place_at, has.done, has.there)
 
       by_beside : (t : InnerTurn) → IsIn (p.earlier ++ p.beside) t → printed t.answer ≡ Some place → (z : ℕ) × (done : List (ℕ × ℕ)) × At events z (event.Place place done)
-      by_beside t m prints = let q = place_in turns p.lines p.line at.after at.in_run t (in_line p turns at t m) in by_place q.0 q.1 (ap (λ (u : InnerTurn). printed u.answer) q.2 ∙ prints)
+      by_beside t m prints = let q = position_in turns p.lines p.line at.after at.in_run t (in_line p turns at t m) in by_position q.0 q.1 (ap (λ (u : InnerTurn). printed u.answer) q.2 ∙ prints)
 
       by_turn : (t : InnerTurn) → IsIn (inner_turns p.lines ++ (p.earlier ++ (h.1).others)) t → printed t.answer ≡ Some place → (others : List InnerTurn) → AreSomeOf others p.beside → (z : ℕ) × (done : List (ℕ × ℕ)) × At events z (event.Place place done)
       by_turn t m prints others some =
           elim (IsIn-append_cases (inner_turns p.lines) (p.earlier ++ (h.1).others) t m) as (λ _. (z : ℕ) × (done : List (ℕ × ℕ)) × At events z (event.Place place done)) [
-            | inl before ↦ let q = earlier_line turns p at t before in by_place q.place q.in_run (ap (λ (u : InnerTurn). printed u.answer) q.turn_is ∙ prints)
+            | inl before ↦ let q = earlier_line turns p at t before in by_position q.position q.in_run (ap (λ (u : InnerTurn). printed u.answer) q.turn_is ∙ prints)
             | inr rest ↦ by_beside t (elim (IsIn-append_cases p.earlier (h.1).others t rest) as (λ _. IsIn (p.earlier ++ p.beside) t) [
               | inl earlier ↦ IsIn-append_left p.earlier p.beside t earlier
               | inr other ↦ IsIn-append_right p.earlier p.beside t (some_in (h.1).others p.beside t (h.1).some_of other)
@@ -147,12 +147,12 @@ module _ {tells : Bool} (taking : List Fault) (start : Option MetaState) (turns 
 
   -- a placement that a turn of this line ended moves into
   record IsEndedBy (place : Placement) : Type 0 where
-    ender : TurnPlace
-    in_run : IsTurnPlace turns ender
+    ender : TurnPosition
+    in_run : IsTurnPosition turns ender
     moves : IsEndOfMoves start ender place
 
   -- a placement that a turn of a line of several turns prints, and that is a Place of the line, is one
-  ended_by : (p : TurnPlace) → IsTurnPlace turns p → (HasOneTurn turns (length p.lines) → ⊥) → (place : Placement) → printed p.turn.answer ≡ Some place
+  ended_by : (p : TurnPosition) → IsTurnPosition turns p → (HasOneTurn turns (length p.lines) → ⊥) → (place : Placement) → printed p.turn.answer ≡ Some place
       → (z : ℕ) (was : Placement) → told.ends (length p.lines) ≤ suc z → suc z ≤ length events → last_place (take (suc z) events) ≡ Some was → place.version ≡ suc was.version → IsEndedBy place
   ended_by p at many place prints z was low high was_is version =
       elim (kind_or_silent taking start ((told.spans).to p) p (answered p at)) as (λ _. IsEndedBy place) [
@@ -184,7 +184,7 @@ module _ {tells : Bool} (taking : List Fault) (start : Option MetaState) (turns 
 
       by_turn : (t : InnerTurn) → IsIn (p.earlier ++ p.beside) t → EndsInto t.answer place → IsEndedBy place
       by_turn t m ends =
-          let q = place_in turns p.lines p.line at.after at.in_run t (in_line p turns at t m) in
+          let q = position_in turns p.lines p.line at.after at.in_run t (in_line p turns at t m) in
           let ends_q : EndsInto (q.0).turn.answer place = subst (λ (u : InnerTurn). EndsInto u.answer place) (sym q.2) ends in
           elim (kind_or_silent taking start ((told.spans).to q.0) q.0 (answered q.0 q.1)) as (λ _. IsEndedBy place) [
             | inl silent ↦ absurd (let bad : None ≡ Some place = sym silent ∙ ends_prints (q.0).turn.answer place ends_q in cc)
@@ -199,7 +199,7 @@ module _ {tells : Bool} (taking : List Fault) (start : Option MetaState) (turns 
       let ended = ended_by by.printer by.in_run (λ one. many (subst (HasOneTurn turns) by.of_line one)) place by.prints z law.last (omega (arith, low, ap told.ends by.of_line)) (omega (arith, at_within events (suc z) (event.Place place done) there)) law.last_is (law.step).version in
       by_moves ended.ender ended.in_run ended.moves law.last law.last_is (law.step).version (some_same last law.last (sym last_is ∙ law.last_is))
     where
-      by_moves : (p : TurnPlace) → IsTurnPlace turns p → IsEndOfMoves start p place → (was : Placement) → last_place (take (suc z) events) ≡ Some was → place.version ≡ suc was.version → last ≡ was → IsAssigned last n s tenure
+      by_moves : (p : TurnPosition) → IsTurnPosition turns p → IsEndOfMoves start p place → (was : Placement) → last_place (take (suc z) events) ≡ Some was → place.version ≡ suc was.version → last ≡ was → IsAssigned last n s tenure
       by_moves p at moves was was_is version same =
           let b = stood_place p at moves.before moves.stands in
           let w = place_there (take (suc z) events) was was_is in

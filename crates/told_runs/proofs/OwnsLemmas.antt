@@ -16,7 +16,7 @@ use Rattle.cluster_core.specs.declared.event.StepReply.TheVariants as reply
 use Rattle.cluster_core.proofs.ListLemmas.{at_take, some_same}
 use Rattle.cluster_core.proofs.TraceLemmas.{lawful_step}
 use Rattle.transcripts.specs.Placements.{printed}
-use Rattle.transcripts.specs.Record.{TurnPlace, IsTurnPlace}
+use Rattle.transcripts.specs.Record.{TurnPosition, IsTurnPosition}
 use Rattle.told_by.specs.Hears.{InStretch}
 use Rattle.told_by.specs.Makes.{IsAssigned}
 use Rattle.told_by.specs.Openings.{sets_seed}
@@ -47,7 +47,7 @@ module _ (start : Option MetaState) (turns : List Turn) (events : List Event) (l
       ]
 
   -- over the placement that stands when a bootstrap begins
-  by_boot : (q : TurnPlace) → IsTurnPlace turns q → IsBootAct q.turn.act → (place : Placement) → last_place (take ((told.spans).from q) events) ≡ Some place → (n s tenure : ℕ) → IsAssigned place n s tenure
+  by_boot : (q : TurnPosition) → IsTurnPosition turns q → IsBootAct q.turn.act → (place : Placement) → last_place (take ((told.spans).from q) events) ≡ Some place → (n s tenure : ℕ) → IsAssigned place n s tenure
       → (i : ℕ) → InStretch events ((told.spans).from q) ((told.spans).to q) i (event.Step n s (call.Begin tenure) (reply.Refused reason.NotOwned)) → ⊥
   by_boot q at boots place last n s tenure given i here =
       let k = length q.lines in
@@ -56,7 +56,7 @@ module _ (start : Option MetaState) (turns : List Turn) (events : List Event) (l
       owned_begin n s i tenure here.2 (tried_low start turns events legal told order k less n s from i tenure ((told.lines).low q at) here.0 (omega (arith, here.1, (told.lines).high q at)) (given_by events legal n s from tenure place last given))
 
   -- over the placement that an `init` prints
-  by_init : (q : TurnPlace) → IsTurnPlace turns q → sets_seed q.turn.act q.turn.answer ≡ true → (place : Placement) → printed q.turn.answer ≡ Some place → (n s tenure : ℕ) → IsAssigned place n s tenure
+  by_init : (q : TurnPosition) → IsTurnPosition turns q → sets_seed q.turn.act q.turn.answer ≡ true → (place : Placement) → printed q.turn.answer ≡ Some place → (n s tenure : ℕ) → IsAssigned place n s tenure
       → (i : ℕ) → InStretch events ((told.spans).from q) ((told.spans).to q) i (event.Step n s (call.Begin tenure) (reply.Refused reason.NotOwned)) → ⊥
   by_init q at sets place prints n s tenure given i here =
       let k = length q.lines in
@@ -71,7 +71,7 @@ module _ (start : Option MetaState) (turns : List Turn) (events : List Event) (l
       owned_begin n s i tenure here.2 (λ own tries.
       let b = tried_began events legal n s own i (omega (arith, high, bound)) tries in
       let below = b.below in
-      let was = begin_given start turns events legal told order n s b.place own b.answer b.there in
+      let was = begin_given start turns events legal told order n s b.position own b.answer b.there in
       let g = was.3 in
       by_given own one was.0 (omega (arith, was.1, below, high)) was.2 g low high less last same bound)
     where

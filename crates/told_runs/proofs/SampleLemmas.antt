@@ -26,11 +26,11 @@ use Rattle.cluster_core.specs.declared.event.StepCall.TheVariants as call
 use Rattle.cluster_core.specs.declared.event.StepReply.{StepReply}
 use Rattle.cluster_core.specs.declared.event.StepReply.TheVariants as reply
 use Rattle.transcripts.specs.Caused.{IsRefusedWhole, acts_in}
-use Rattle.transcripts.specs.Record.{TurnPlace, IsAfter, IsTurnPlace, IsLastTurnPlace, inner_turns, line_of}
-use Rattle.transcripts.proofs.PlaceLemmas.{at_push}
+use Rattle.transcripts.specs.Record.{TurnPosition, IsAfter, IsTurnPosition, IsLastTurnPosition, inner_turns, line_of}
+use Rattle.transcripts.proofs.PositionLemmas.{at_push}
 use Rattle.cluster_core.proofs.ListLemmas.{at_in, at_within, some_same}
 use Rattle.cluster_core.proofs.UntoldLemmas.{legal_untold}
-use Rattle.told_by.specs.Lines.{place_after}
+use Rattle.told_by.specs.Lines.{position_after}
 use Rattle.told_by.specs.Sample.{begun, events, fetched, name, place, placed, series, spaced, turns, written}
 use Rattle.told_by.proofs.LegalSampleLemmas.{lawful_place, sample_legal}
 use Rattle.told_by.proofs.LineLemmas.{no_place}
@@ -62,7 +62,7 @@ abbrev found : Answer
 found = answer.Found series false
 
 -- what holds of the four holds of each
-each_turn : (P : TurnPlace → Type 0) → P (place_after [] begun placed) → P (place_after one_line spaced answer.Done) → P (place_after two_lines written (answer.Acks (0 ∷ []))) → P (place_after three_lines fetched found) → (q : TurnPlace) → IsTurnPlace turns q → P q
+each_turn : (P : TurnPosition → Type 0) → P (position_after [] begun placed) → P (position_after one_line spaced answer.Done) → P (position_after two_lines written (answer.Acks (0 ∷ []))) → P (position_after three_lines fetched found) → (q : TurnPosition) → IsTurnPosition turns q → P q
 each_turn P first second third fourth =
     at_push P three_lines (line_of fetched found)
     (at_push P two_lines (line_of written (answer.Acks (0 ∷ [])))
@@ -70,7 +70,7 @@ each_turn P first second third fourth =
     (last two_lines written (answer.Acks (0 ∷ [])) third))
     (last three_lines fetched found fourth)
   where
-    last : (lines : List Turn) (a : Act) (b : Answer) → P (place_after lines a b) → (q : TurnPlace) → IsLastTurnPlace lines (line_of a b) q → P q
+    last : (lines : List Turn) (a : Act) (b : Answer) → P (position_after lines a b) → (q : TurnPosition) → IsLastTurnPosition lines (line_of a b) q → P q
     last lines a b holds q h = subst P (sym (is_own None lines [] a b [] q h)) holds
 
 -- ---- its events
@@ -164,7 +164,7 @@ answered = record {
   different = tt;
 }
   where
-    alone : {lines : List Turn} {a : Act} {b : Answer} → IsAfter (place_after lines a b) (inner_turns lines)
+    alone : {lines : List Turn} {a : Act} {b : Answer} → IsAfter (position_after lines a b) (inner_turns lines)
     alone {lines} = record { others = []; some_of = tt; are = sym (append-nil (inner_turns lines)) }
 
 bounded : IsBounded [] turns sample_told.ends

@@ -16,7 +16,7 @@ use Rattle.cluster_core.proofs.ListLemmas.{some_same}
 use Rattle.transcripts.specs.Caused.{refusal_after}
 use Rattle.transcripts.specs.Faults.{Fault}
 use Rattle.transcripts.specs.Placements.{printed}
-use Rattle.transcripts.specs.Record.{TurnPlace}
+use Rattle.transcripts.specs.Record.{TurnPosition}
 use Rattle.placement_acts.specs.Acts.{answer_if, is_known, is_step_act, versions_due}
 use Rattle.transcripts.specs.Refusals.{is_out_of_order, kept_versions, limit_reached, lowered_moment, missing_name, names_reached, refusal_by, wrong_state}
 use Rattle.told_causes.proofs.RefusalLemmas.{or_cases}
@@ -74,7 +74,7 @@ refusal_silent place versions rules stopped a r e =
       ]
     ]
 
-module _ (taking : List Fault) (start : Option MetaState) (p : TurnPlace) where
+module _ (taking : List Fault) (start : Option MetaState) (p : TurnPosition) where
   by_kind : (a : Act) (b : Answer) → is_call a ≡ true → IsOfKind taking start p a b → printed b ≡ None
   by_kind (act.Write ns id t v level version) (answer.Acks nodes) calls kind = refl
   by_kind (act.Write ns id t v level version) (answer.Consistency got needed reasons shard) calls kind = refl

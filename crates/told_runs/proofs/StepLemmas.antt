@@ -33,10 +33,10 @@ use Rattle.transcripts.specs.Caused.{IsStepOf, acts_in, kept_after}
 use Rattle.transcripts.specs.Deliveries.{LateMessage}
 use Rattle.transcripts.specs.Faults.{AreDifferent, Fault, Taking}
 use Rattle.transcripts.specs.Placements.{has_replica, placement_at}
-use Rattle.transcripts.specs.Record.{Record, TurnPlace, inner_turns, line_of}
+use Rattle.transcripts.specs.Record.{Record, TurnPosition, inner_turns, line_of}
 use Rattle.transcripts.proofs.RefusalLemmas.{step_refusal}
 use Rattle.told_by.specs.Hears.{InStretch}
-use Rattle.told_by.specs.Lines.{place_after}
+use Rattle.told_by.specs.Lines.{position_after}
 use Rattle.told_by.specs.Steps.{EndsGone, IsUnmoved}
 use Rattle.told_by.proofs.KindLemmas.{taken}
 use Rattle.told_by.proofs.LineLemmas.{nothing_at, take_all}
@@ -51,12 +51,12 @@ use Rattle.told_runs.proofs.LineLemmas.{plain_serves}
 -- ---- answers
 
 -- what is of a step is of the act's kind
-kind_step : (taking : List Fault) (start : Option MetaState) (p : TurnPlace) (b : Answer) (a : Act) → is_step_act a ≡ true → IsStepOf taking start p a b → IsOfKind taking start p a b
+kind_step : (taking : List Fault) (start : Option MetaState) (p : TurnPosition) (b : Answer) (a : Act) → is_step_act a ≡ true → IsStepOf taking start p a b → IsOfKind taking start p a b
 kind_step taking start p b = by_step (λ a. IsStepOf taking start p a b → IsOfKind taking start p a b) (λ node group h. h) (λ node h. h) (λ node h. h) (λ node h. h) (λ node by group h. h)
 
 module _ (taking : List Fault) (start : Option MetaState) (turns : List Turn) (place : Placement) (a : Act) (b : Answer) (meets : MeetsStep start turns place a) where
-  abbrev own : TurnPlace
-  own = place_after turns a b
+  abbrev own : TurnPosition
+  own = position_after turns a b
 
   abbrev due : Option Answer
   due = refusal_due (Some place) (kept_after start (inner_turns turns) place) a
@@ -78,7 +78,7 @@ module _ (taking : List Fault) (start : Option MetaState) (turns : List Turn) (p
   way_here c way = subst (λ (o : Option Placement). IsInTheWay o a c) (sym meets.stands) way
 
   -- what is in the way is the step's own answer
-  way_step : (p : TurnPlace) (c : Answer) → IsInTheWay (placement_at start p) a c → IsStepOf taking start p a c
+  way_step : (p : TurnPosition) (c : Answer) → IsInTheWay (placement_at start p) a c → IsStepOf taking start p a c
   way_step p (answer.Busy name shard) h = h
   way_step p (answer.Group shard) h = h
   way_step p _ h = absurd h
@@ -139,7 +139,7 @@ module _ (place : Placement) (kept : ℕ) where
       by None e way = way_unmoved a b way
 
 -- no outcome is heard in such an answer
-unmoved_hears_none : (start : Option MetaState) (Here : ℕ → Event → Type 0) (p : TurnPlace) (b : Answer) → IsUnmoved b → HearsOf start Here p [] b
+unmoved_hears_none : (start : Option MetaState) (Here : ℕ → Event → Type 0) (p : TurnPosition) (b : Answer) → IsUnmoved b → HearsOf start Here p [] b
 unmoved_hears_none start Here p (answer.Outcomes outcomes) h = absurd h
 unmoved_hears_none start Here p _ h = tt
 
@@ -210,12 +210,12 @@ steps_serve {tells} past start turns unanswered later events taking was told pla
 
 -- ---- lines that make none
 
-module _ {tells : Bool} (past : List Record) (start : Option MetaState) (turns : List Turn) (unanswered later : Option Request) (events : List Event) (taking : List Fault) (was : TurnPlace → List LateMessage)
+module _ {tells : Bool} (past : List Record) (start : Option MetaState) (turns : List Turn) (unanswered later : Option Request) (events : List Event) (taking : List Fault) (was : TurnPosition → List LateMessage)
     (told : IsToldAndServed tells taking was past start turns unanswered events) (a : Act) (b : Answer) (step : is_step_act a ≡ true) (unmoved : IsUnmoved b) where
   none_added : (i : ℕ) (e : Event) → Adds events [] i e → ⊥
   none_added i e adds = let r = at_back events [] i e adds.1 adds.0 in nothing_at r.0 e r.2
 
-  unmoved_serves : (untaken : List Fault) → ((fault : Fault) → IsIn untaken fault → (fault.kind ≡ Taking) × (fault.line ≡ length turns)) → AreDifferent untaken → ((end : ℕ) → IsAnswered untaken start end (place_after turns a b))
+  unmoved_serves : (untaken : List Fault) → ((fault : Fault) → IsIn untaken fault → (fault.kind ≡ Taking) × (fault.line ≡ length turns)) → AreDifferent untaken → ((end : ℕ) → IsAnswered untaken start end (position_after turns a b))
       → IsToldAndServed tells (untaken ++ taking) (delivered_on turns was (λ p. [])) past start (turns ++ line_of a b ∷ []) later events
   unmoved_serves untaken are different answered =
       subst (λ es. IsToldAndServed tells (untaken ++ taking) (delivered_on turns was (λ p. [])) past start (turns ++ line_of a b ∷ []) later es) (append-nil events) (
@@ -230,7 +230,7 @@ module _ {tells : Bool} (past : List Record) (start : Option MetaState) (turns :
           owned = λ i n s tenure adds. absurd (none_added i (event.Step n s (call.Begin tenure) (reply.Refused reason.NotOwned)) adds);
         };
         answered = answered (length (events ++ []));
-        delivers = unmoved_hears_none start (InStretch (events ++ []) (length events) (length (events ++ []))) (place_after turns a b) b unmoved;
+        delivers = unmoved_hears_none start (InStretch (events ++ []) (length events) (length (events ++ []))) (position_after turns a b) b unmoved;
         not_again = λ q at x y m k. absurd m;
         untaken_are = are;
         different = different;

@@ -14,13 +14,13 @@ use Rattle.cluster_core.specs.declared.event.Event.{Event}
 use Rattle.cluster_core.specs.declared.event.Event.TheVariants as event
 use Rattle.cluster_core.proofs.ListLemmas.{fold_suc, some_same}
 use Rattle.transcripts.specs.Placements.{MayStand, MayUse, has_replica, placement_after, placements, printed, start_placement}
-use Rattle.transcripts.specs.Record.{AreSomeOf, InnerTurn, TurnPlace, IsTurnPlace, inner_turns}
+use Rattle.transcripts.specs.Record.{AreSomeOf, InnerTurn, TurnPosition, IsTurnPosition, inner_turns}
 use Rattle.transcripts.proofs.PlacementLemmas.{after_from}
 use Rattle.told_by.specs.Openings.{opening_length}
 use Rattle.told_by.specs.Told.{ToldBy}
 use Rattle.told_by.proofs.LineLemmas.{line_below}
 use Rattle.told_by.proofs.PrintedLemmas.{ends_grow, placements_stand}
-use Rattle.told_by.proofs.TurnLemmas.{earlier_line, place_in}
+use Rattle.told_by.proofs.TurnLemmas.{earlier_line, position_in}
 use Rattle.told_causes.proofs.AloneLemmas.{take_none}
 use Rattle.told_causes.proofs.StoodLemmas.{alone_last, alone_or_beside, back, line_base, had_before, in_line, printed_in}
 use Rattle.told_causes.proofs.WaitLemmas.{is_member_of, member_given}
@@ -39,19 +39,19 @@ abbrev pub WasMemberBy : Option MetaState → List Turn → ℕ → ℕ → ℕ 
 WasMemberBy start turns most s n = (lines : ℕ) × (lines ≤ most) × (has_replica (placement_after (start_placement start) (inner_turns (take lines turns))) s n ≡ true)
 
 -- A placement that is known at a turn: it is a Place, and each of its replicas was a member after some lines before the turn's.
-pub record IsKnownPlace (start : Option MetaState) (turns : List Turn) (events : List Event) (told : ToldBy start turns events) (p : TurnPlace) (place : Placement) : Type 0 where
+pub record IsKnownPlace (start : Option MetaState) (turns : List Turn) (events : List Event) (told : ToldBy start turns events) (p : TurnPosition) (place : Placement) : Type 0 where
   pub place_at : ℕ
   pub done : List (ℕ × ℕ)
   pub there : At events place_at (event.Place place done)
   pub members : (s n : ℕ) → has_replica (Some place) s n ≡ true → WasMemberBy start turns (length p.lines) s n
 
 module _ {tells : Bool} (start : Option MetaState) (turns : List Turn) (events : List Event) (legal : Legal tells events) (told : ToldBy start turns events) (order : IsInOrder start turns events told) where
-  -- the line of a place in the list, or the opening
-  line_of_place : (k z : ℕ) → k ≤ length turns → z < told.ends k → (z < told.ends 0) ⊎ ((j : ℕ) × (j < k) × (told.ends j ≤ z) × (z < told.ends (suc j)))
-  line_of_place zero z high before = inl before
-  line_of_place (suc k) z high before =
+  -- the line of a position in the list, or the opening
+  line_of_position : (k z : ℕ) → k ≤ length turns → z < told.ends k → (z < told.ends 0) ⊎ ((j : ℕ) × (j < k) × (told.ends j ≤ z) × (z < told.ends (suc j)))
+  line_of_position zero z high before = inl before
+  line_of_position (suc k) z high before =
       elim (cases_lt z (told.ends k)) as (λ _. (z < told.ends 0) ⊎ ((j : ℕ) × (j < suc k) × (told.ends j ≤ z) × (z < told.ends (suc j)))) [
-        | inl lt ↦ elim (line_of_place k z (omega (arith, high)) lt) as (λ _. (z < told.ends 0) ⊎ ((j : ℕ) × (j < suc k) × (told.ends j ≤ z) × (z < told.ends (suc j)))) [
+        | inl lt ↦ elim (line_of_position k z (omega (arith, high)) lt) as (λ _. (z < told.ends 0) ⊎ ((j : ℕ) × (j < suc k) × (told.ends j ≤ z) × (z < told.ends (suc j)))) [
           | inl opening ↦ inl opening
           | inr line ↦ inr (line.0, omega (arith, line.1), line.2, line.3)
         ]
@@ -62,13 +62,13 @@ module _ {tells : Bool} (start : Option MetaState) (turns : List Turn) (events :
   first_stood state is = ap (λ ts. placement_after (start_placement start) (inner_turns ts)) (take_none turns) ∙ ap start_placement is
 
   -- the placement that was found
-  found_known : (p : TurnPlace) (state : MetaState) → start ≡ Some state → IsKnownPlace start turns events told p state.place
+  found_known : (p : TurnPosition) (state : MetaState) → start ≡ Some state → IsKnownPlace start turns events told p state.place
   found_known p state is = record { place_at = 0; done = []; there = (told.opened state is).placed; members = λ s n member. (0, omega arith, ap (λ o. has_replica o s n) (first_stood state is) ∙ member) }
 
   -- a Place before a line
-  listed_known : (p : TurnPlace) → length p.lines ≤ length turns → (z : ℕ) (place : Placement) (done : List (ℕ × ℕ)) → At events z (event.Place place done) → z < told.ends (length p.lines) → IsKnownPlace start turns events told p place
+  listed_known : (p : TurnPosition) → length p.lines ≤ length turns → (z : ℕ) (place : Placement) (done : List (ℕ × ℕ)) → At events z (event.Place place done) → z < told.ends (length p.lines) → IsKnownPlace start turns events told p place
   listed_known p high z place done there before =
-      elim (line_of_place (length p.lines) z high before) as (λ _. IsKnownPlace start turns events told p place) [
+      elim (line_of_position (length p.lines) z high before) as (λ _. IsKnownPlace start turns events told p place) [
         | inl opening ↦ by_start start refl opening
         | inr line ↦
             let less : line.0 < length turns = omega (arith, line.1, high) in
@@ -104,15 +104,15 @@ module _ {tells : Bool} (start : Option MetaState) (turns : List Turn) (events :
           by (suc zero) there opening = absurd (legal 1 (event.Place place done) there)
           by (suc (suc z)) there opening = absurd (omega (arith, opening, (told.lines).first, ap opening_length is))
 
-  module _ (p : TurnPlace) (at : IsTurnPlace turns p) (quiet : printed p.turn.answer ≡ None) where
+  module _ (p : TurnPosition) (at : IsTurnPosition turns p) (quiet : printed p.turn.answer ≡ None) where
     -- one that a turn of an earlier line printed
     printed_known : (t : InnerTurn) (place : Placement) → IsIn (inner_turns p.lines) t → printed t.answer ≡ Some place → IsKnownPlace start turns events told p place
     printed_known t place m prints =
         let q = earlier_line turns p at t m in
-        let h = (told.tells).placements.is_place q.place q.in_run place (ap (λ (u : InnerTurn). printed u.answer) q.turn_is ∙ prints) in
+        let h = (told.tells).placements.is_place q.position q.in_run place (ap (λ (u : InnerTurn). printed u.answer) q.turn_is ∙ prints) in
         let less : length p.lines < length turns = line_below turns p at in
         listed_known p (omega (arith, less)) h.place_at place h.done h.there
-        (omega (arith, h.in_time, (told.lines).high q.place q.in_run, ends_grow start turns events told (suc (length (q.place).lines)) (length p.lines) (omega (arith, q.earlier)) (omega (arith, less))))
+        (omega (arith, h.in_time, (told.lines).high q.position q.in_run, ends_grow start turns events told (suc (length (q.position).lines)) (length p.lines) (omega (arith, q.earlier)) (omega (arith, less))))
 
     -- so is a Place by the end of its own line, which gives nobody a shard
     known_here : (z : ℕ) (place : Placement) (done : List (ℕ × ℕ)) → At events z (event.Place place done) → z < told.ends (suc (length p.lines)) → IsKnownPlace start turns events told p place
@@ -134,7 +134,7 @@ module _ {tells : Bool} (start : Option MetaState) (turns : List Turn) (events :
     -- one that another turn of its own line printed
     known_beside : (t : InnerTurn) (place : Placement) → IsIn (p.earlier ++ p.beside) t → printed t.answer ≡ Some place → IsKnownPlace start turns events told p place
     known_beside t place m prints =
-        let q = place_in turns p.lines p.line at.after at.in_run t (in_line p turns at t m) in
+        let q = position_in turns p.lines p.line at.after at.in_run t (in_line p turns at t m) in
         let prints_q : printed (q.0).turn.answer ≡ Some place = ap (λ (u : InnerTurn). printed u.answer) q.2 ∙ prints in
         let less : length p.lines < length turns = line_below turns p at in
         let z = printed_in start turns events legal told order.places p at quiet q.0 q.1 (ap length q.3) place prints_q in

@@ -14,16 +14,16 @@ use Rattle.placement_plan.specs.First.{IsInitial}
 use Rattle.placement_acts.specs.Acts.{IsInTheWay}
 use Rattle.cluster_core.specs.declared.event.Event.{Event}
 use Rattle.transcripts.specs.Caused.{IsBootstrapped, IsRefusedWhole, IsStepOf, IsUnmade, refusal_after}
-use Rattle.transcripts.specs.Deliveries.{LateMessage, IsLateBefore, IsSameMessage, IsSamePlace}
+use Rattle.transcripts.specs.Deliveries.{LateMessage, IsLateBefore, IsSameMessage, IsSamePosition}
 use Rattle.transcripts.specs.Faults.{AreDifferent, Fault, Taking}
-use Rattle.transcripts.specs.Record.{InnerTurn, TurnPlace, IsAfter, IsTurnPlace}
+use Rattle.transcripts.specs.Record.{InnerTurn, TurnPosition, IsAfter, IsTurnPosition}
 use Rattle.transcripts.specs.Sweeps.{IsStatus, IsSweptOver}
 use Rattle.told_by.specs.Hears.{HearsOutcomes, InStretch}
 use Rattle.told_by.specs.Spans.{Spans}
 use Rattle.told_by.specs.Told.{ToldBy}
 
 -- an answer of the act's own kind, with what no event says of it
-abbrev pub IsOfKind : List Fault → Option MetaState → TurnPlace → Act → Answer → Type 0
+abbrev pub IsOfKind : List Fault → Option MetaState → TurnPosition → Act → Answer → Type 0
 IsOfKind taking start p (act.Init rf shards seed nodes) (answer.Placed place version) = IsInitial rf shards nodes place × (version ≡ place.version)
 IsOfKind taking start p (act.Init rf shards seed nodes) (answer.Group shard) = IsInTheWay None (act.Init rf shards seed nodes) (answer.Group shard)
 IsOfKind taking start p (act.Init rf shards seed nodes) (answer.Disk name shard) = IsUnmade taking p nodes shards name shard
@@ -55,12 +55,12 @@ IsOfKind taking start p act.Status (answer.Status now lines version) = IsStatus 
 IsOfKind taking start p _ _ = ⊥
 
 -- the refusal that is due, or an answer of the act's own kind where none is due
-abbrev pub IsDecidedBy : List Fault → Option MetaState → TurnPlace → Option Answer → Type 0
+abbrev pub IsDecidedBy : List Fault → Option MetaState → TurnPosition → Option Answer → Type 0
 IsDecidedBy taking start p (Some refusal) = p.turn.answer ≡ refusal
 IsDecidedBy taking start p None = IsOfKind taking start p p.turn.act p.turn.answer
 
 -- the answer is decided so after some turns after which it may have been given
-abbrev pub IsDecided : List Fault → Option MetaState → TurnPlace → Type 0
+abbrev pub IsDecided : List Fault → Option MetaState → TurnPosition → Type 0
 IsDecided taking start p = (turns : List InnerTurn) × IsAfter p turns × IsDecidedBy taking start p (refusal_after start p turns)
 
 -- a list of so many events may lack room for what one more request adds
@@ -68,24 +68,24 @@ abbrev pub MayLackRoom : ℕ → Type 0
 MayLackRoom end = MOST_EVENTS + 2 ≤ end + MOST_REQUEST_EVENTS
 
 -- an answer for want of memory, one where the list may have lacked room by the end of the turn, or one that is decided
-abbrev pub IsAnswered : List Fault → Option MetaState → ℕ → TurnPlace → Type 0
+abbrev pub IsAnswered : List Fault → Option MetaState → ℕ → TurnPosition → Type 0
 IsAnswered taking start end p = (p.turn.answer ≡ answer.Memory) ⊎ (((p.turn.answer ≡ answer.Full) × MayLackRoom end) ⊎ IsDecided taking start p)
 
 -- where the answer has outcomes, they are heard of these late messages, in the order in which they were made late
-abbrev pub HearsOf : Option MetaState → (ℕ → Event → Type 0) → TurnPlace → List LateMessage → Answer → Type 0
+abbrev pub HearsOf : Option MetaState → (ℕ → Event → Type 0) → TurnPosition → List LateMessage → Answer → Type 0
 HearsOf start Here p messages (answer.Outcomes outcomes) = Ascends IsLateBefore messages × HearsOutcomes start Here p messages outcomes
 HearsOf start Here p messages _ = ⊤
 
 -- the turn heard so within its stretch
-abbrev pub Delivers : Option MetaState → List Event → Spans → TurnPlace → List LateMessage → Type 0
+abbrev pub Delivers : Option MetaState → List Event → Spans → TurnPosition → List LateMessage → Type 0
 Delivers start events spans p messages = HearsOf start (InStretch events (spans.from p) (spans.to p)) p messages p.turn.answer
 
 -- Each answer of the run is so, where its turns deliver these late messages; no message is delivered twice; a `par` line is refused as a whole only where no
 -- placement stands; and these disks couldn't be taken in its lines, no two of them alike.
-pub record AreAnswered (taking : List Fault) (delivered : TurnPlace → List LateMessage) (start : Option MetaState) (turns : List Turn) (events : List Event) (told : ToldBy start turns events) : Type 0 where
-  pub each : (p : TurnPlace) → IsTurnPlace turns p → IsAnswered taking start (told.spans.to p) p
-  pub delivers : (p : TurnPlace) → IsTurnPlace turns p → Delivers start events told.spans p (delivered p)
-  pub once : (p q : TurnPlace) → IsTurnPlace turns p → IsTurnPlace turns q → (a b : LateMessage) → IsIn (delivered p) a → IsIn (delivered q) b → IsSameMessage a b → IsSamePlace p q
+pub record AreAnswered (taking : List Fault) (delivered : TurnPosition → List LateMessage) (start : Option MetaState) (turns : List Turn) (events : List Event) (told : ToldBy start turns events) : Type 0 where
+  pub each : (p : TurnPosition) → IsTurnPosition turns p → IsAnswered taking start (told.spans.to p) p
+  pub delivers : (p : TurnPosition) → IsTurnPosition turns p → Delivers start events told.spans p (delivered p)
+  pub once : (p q : TurnPosition) → IsTurnPosition turns p → IsTurnPosition turns q → (a b : LateMessage) → IsIn (delivered p) a → IsIn (delivered q) b → IsSameMessage a b → IsSamePosition p q
   pub whole : (before : List Turn) (line : Turn) (after : List Turn) → turns ≡ before ++ line ∷ after → IsRefusedWhole start before line.request line.reply
   pub untaken : (fault : Fault) → IsIn taking fault → (fault.kind ≡ Taking) × (fault.line < length turns)
   pub different : AreDifferent taking

@@ -22,7 +22,7 @@ use Rattle.transcripts.specs.Caused.{Caused}
 use Rattle.transcripts.specs.Deliveries.{LateMessage}
 use Rattle.transcripts.specs.Faults.{Fault}
 use Rattle.transcripts.specs.Kept.{Kept}
-use Rattle.transcripts.specs.Record.{TurnPlace, line_of}
+use Rattle.transcripts.specs.Record.{TurnPosition, line_of}
 use Rattle.told_by.specs.Broken.{found_moving, joined, joining, moved, moving}
 use Rattle.told_by.specs.Sample.{fetched, name, point, rules, written}
 use Rattle.told_by.specs.Told.{TellsLine, ToldBy}
@@ -101,12 +101,12 @@ events = events_before ++ of_both
 
 -- ---- what is so of it
 
-abbrev pub none_delivered : TurnPlace → List LateMessage
+abbrev pub none_delivered : TurnPosition → List LateMessage
 none_delivered p = []
 
 -- The list is legal, tells of the run, and the run is served.
 abbrev pub BesideIsServed : Bool → Type 0
-BesideIsServed tells = Legal tells events × (delivered : TurnPlace → List LateMessage) × IsToldAndServed tells [] delivered [] (Some found_moving) turns None events
+BesideIsServed tells = Legal tells events × (delivered : TurnPosition → List LateMessage) × IsToldAndServed tells [] delivered [] (Some found_moving) turns None events
 
 -- Its replicas began with nothing, as earlier runs left it, so it is kept; and it is caused.
 abbrev pub BesideIsKept : Type 0
@@ -121,7 +121,7 @@ LeavingAcks = (events : List Event) → ToldBy (Some found_moving) (line_of reop
 -- a placement that the line makes, though its bootstrap prints no shard as turned available: over a legal list that is never served
 abbrev pub PlacedForNothing : Type 0
 PlacedForNothing =
-    (tells : Bool) (untaken : List Fault) (now was : TurnPlace → List LateMessage) (next : Placement) (more : List Event) → Legal tells (events_before ++ more)
+    (tells : Bool) (untaken : List Fault) (now was : TurnPosition → List LateMessage) (next : Placement) (more : List Event) → Legal tells (events_before ++ more)
     → (adds : TellsLine (Some found_moving) lines_before events_before (side_by_side took (answer.Available [] next 3)) more)
     → ServesLine tells untaken now was [] (Some found_moving) lines_before events_before (side_by_side took (answer.Available [] next 3)) more adds
     → (i : ℕ) (place : Placement) (done : List (ℕ × ℕ)) → At more i (event.Place place done) → ⊥

@@ -4,15 +4,15 @@ use Rattle.m3_model.specs.Members.{IsIn}
 use Rattle.cluster_core.specs.declared.event.Event.{Event}
 use Rattle.transcripts.specs.Deliveries.{LateMessage}
 use Rattle.transcripts.specs.Faults.{Fault, Taking}
-use Rattle.transcripts.specs.Record.{Life, TurnPlace}
+use Rattle.transcripts.specs.Record.{Life, TurnPosition}
 use Rattle.told_by.specs.Told.{ToldBy}
 use Rattle.told_causes.specs.Faults.{at_first_line, faults_told, tells_of}
-use Rattle.told_runs.specs.Laws.{IsServed}
+use Rattle.told_runs.specs.Laws.{IsServedRun}
 
 -- of a run that is served, over any disks
 abbrev pub OfServed : ((life : Life) (events : List Event) → ToldBy life.present.start life.present.turns events → List Fault → Type 0) → Bool → Type 0
 OfServed Holds tells =
-    (life : Life) (events : List Event) (told : ToldBy life.present.start life.present.turns events) (taking : List Fault) (delivered : TurnPlace → List LateMessage) → IsServed tells taking delivered life events told
+    (life : Life) (events : List Event) (told : ToldBy life.present.start life.present.turns events) (taking : List Fault) (delivered : TurnPosition → List LateMessage) → IsServedRun tells taking delivered life events told
     → Holds life events told (taking ++ faults_told told.ends events (length life.present.turns))
 
 -- Each is of a line of the run.

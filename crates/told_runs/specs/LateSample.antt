@@ -13,8 +13,8 @@ use Rattle.cluster_core.specs.declared.event.Event.{Event}
 use Rattle.cluster_core.specs.declared.event.Event.TheVariants as event
 use Rattle.cluster_core.specs.declared.event.StepReply.TheVariants as reply
 use Rattle.transcripts.specs.Deliveries.{LateMessage}
-use Rattle.transcripts.specs.Record.{TurnPlace, line_of}
-use Rattle.told_by.specs.Lines.{place_after}
+use Rattle.transcripts.specs.Record.{TurnPosition, line_of}
+use Rattle.told_by.specs.Lines.{position_after}
 use Rattle.told_by.specs.Sample.{begun, name, of_init, of_space, place, placed, point, put, spaced, written}
 use Rattle.told_by.specs.Told.{ToldBy}
 use Rattle.told_causes.specs.Deliveries.{IsKnownDelivery}
@@ -40,11 +40,11 @@ lines_to_write = line_of begun placed ∷ line_of spaced answer.Done ∷ line_of
 abbrev pub turns : List Turn
 turns = line_of begun placed ∷ line_of spaced answer.Done ∷ line_of fated answer.Done ∷ line_of written missed ∷ line_of act.Deliver came ∷ []
 
-abbrev pub delivering : TurnPlace
-delivering = place_after lines_to_write act.Deliver came
+abbrev pub delivering : TurnPosition
+delivering = position_after lines_to_write act.Deliver came
 
 abbrev pub message : LateMessage
-message = record { place = place_after lines_to_fates written missed; used = place; node = 0; point = point }
+message = record { position = position_after lines_to_fates written missed; used = place; node = 0; point = point }
 
 -- ---- its events
 
@@ -62,7 +62,7 @@ events = events_to_write ++ of_delivery
 
 -- The list is legal, tells of the run, and the run is served, with some late messages delivered.
 abbrev pub LateIsServed : Bool → Type 0
-LateIsServed tells = Legal tells events × (delivered : TurnPlace → List LateMessage) × IsToldAndServed tells [] delivered [] None turns None events
+LateIsServed tells = Legal tells events × (delivered : TurnPosition → List LateMessage) × IsToldAndServed tells [] delivered [] None turns None events
 
 -- What is asked of a delivery is so of its last turn.
 abbrev pub DeliveryIsKnown : Bool → Type 0

@@ -18,7 +18,7 @@ use Rattle.transcripts.specs.Caused.{Caused}
 use Rattle.transcripts.specs.Faults.{Fault}
 use Rattle.transcripts.specs.Deliveries.{LateMessage}
 use Rattle.transcripts.specs.Placements.{has_replica}
-use Rattle.transcripts.specs.Record.{Life, TurnPlace}
+use Rattle.transcripts.specs.Record.{Life, TurnPosition}
 use Rattle.told_by.specs.Told.{ToldBy}
 use Rattle.told_causes.specs.Faults.{faults_told}
 use Rattle.told_causes.specs.Standing.{HaltsAlone}
@@ -45,7 +45,7 @@ pub record IsMadeInOrder (start : Option MetaState) (turns : List Turn) (events 
 
 -- What is known of a run beside that a legal list tells of it: its lines were served in order, stops and restarts alone in theirs; where the disks tell what
 -- they hold, its files hold no more than earlier runs left; its answers, with the late messages that its turns deliver; and how many events a line adds at most.
-pub record IsServed (tells : Bool) (taking : List Fault) (delivered : TurnPlace → List LateMessage) (life : Life) (events : List Event) (told : ToldBy life.present.start life.present.turns events) : Type 0 where
+pub record IsServedRun (tells : Bool) (taking : List Fault) (delivered : TurnPosition → List LateMessage) (life : Life) (events : List Event) (told : ToldBy life.present.start life.present.turns events) : Type 0 where
   pub order : IsMadeInOrder life.present.start life.present.turns events told
   pub halts : HaltsAlone life.present.turns
   pub opens : tells ≡ true → OpensWithin life.present.start events
@@ -56,13 +56,13 @@ pub record IsServed (tells : Bool) (taking : List Fault) (delivered : TurnPlace 
 -- The life's present run is caused, as far as the disks tell, by the faults of disks that couldn't be taken, and those that its steps tell.
 abbrev pub IsCausedWhereTold : Bool → Type 0
 IsCausedWhereTold tells =
-    (life : Life) (events : List Event) → Legal tells events → (told : ToldBy life.present.start life.present.turns events) → (taking : List Fault) (delivered : TurnPlace → List LateMessage)
-    → IsServed tells taking delivered life events told
+    (life : Life) (events : List Event) → Legal tells events → (told : ToldBy life.present.start life.present.turns events) → (taking : List Fault) (delivered : TurnPosition → List LateMessage)
+    → IsServedRun tells taking delivered life events told
     → Caused tells life (taking ++ faults_told told.ends events (length life.present.turns))
 
 -- And in a line where turns stand beside each other no Place gives a node a shard.
 abbrev pub IsGivenAlone : Bool → Type 0
 IsGivenAlone tells =
-    (life : Life) (events : List Event) → Legal tells events → (told : ToldBy life.present.start life.present.turns events) → (taking : List Fault) (delivered : TurnPlace → List LateMessage)
-    → IsServed tells taking delivered life events told
+    (life : Life) (events : List Event) → Legal tells events → (told : ToldBy life.present.start life.present.turns events) → (taking : List Fault) (delivered : TurnPosition → List LateMessage)
+    → IsServedRun tells taking delivered life events told
     → (k i : ℕ) (place : Placement) (done : List (ℕ × ℕ)) → k < length life.present.turns → ¬ HasOneTurn life.present.turns k → told.ends k ≤ i → i < told.ends (suc k) → At events i (event.Place place done) → GivesNone (take i events) place

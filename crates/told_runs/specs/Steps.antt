@@ -16,8 +16,8 @@ use Rattle.transcripts.specs.Caused.{IsUnmadeIn, kept_after}
 use Rattle.transcripts.specs.Deliveries.{LateMessage}
 use Rattle.transcripts.specs.Faults.{Fault, Taking}
 use Rattle.transcripts.specs.Placements.{placement_after, start_placement}
-use Rattle.transcripts.specs.Record.{Record, TurnPlace, inner_turns, line_of}
-use Rattle.told_by.specs.Lines.{place_after}
+use Rattle.transcripts.specs.Record.{Record, TurnPosition, inner_turns, line_of}
+use Rattle.told_by.specs.Lines.{position_after}
 use Rattle.told_by.specs.Steps.{AddsStep}
 use Rattle.told_runs.specs.Lines.{IsToldAndServed, delivered_on}
 
@@ -38,7 +38,7 @@ pub record MakesStep (tells : Bool) (start : Option MetaState) (turns : List Tur
 -- A run that is told and served stays so by the line that prints such a placement with its version.
 abbrev pub StepsServe : Bool → Type 0
 StepsServe tells =
-    (past : List Record) (start : Option MetaState) (turns : List Turn) (unanswered later : Option Request) (events : List Event) (taking : List Fault) (was : TurnPlace → List LateMessage)
+    (past : List Record) (start : Option MetaState) (turns : List Turn) (unanswered later : Option Request) (events : List Event) (taking : List Fault) (was : TurnPosition → List LateMessage)
     → IsToldAndServed tells taking was past start turns unanswered events
     → (place : Placement) (a : Act) (next : Placement) (more : List Event) → MeetsStep start turns place a → MakesStep tells start turns events place a next more
     → IsToldAndServed tells taking (delivered_on turns was (λ p. [])) past start (turns ++ line_of a (answer.Placed next next.version) ∷ []) later (events ++ more)
@@ -46,7 +46,7 @@ StepsServe tells =
 -- And by one whose step leads nowhere, which adds nothing.
 abbrev pub RefusedStepsServe : Bool → Type 0
 RefusedStepsServe tells =
-    (past : List Record) (start : Option MetaState) (turns : List Turn) (unanswered later : Option Request) (events : List Event) (taking : List Fault) (was : TurnPlace → List LateMessage)
+    (past : List Record) (start : Option MetaState) (turns : List Turn) (unanswered later : Option Request) (events : List Event) (taking : List Fault) (was : TurnPosition → List LateMessage)
     → IsToldAndServed tells taking was past start turns unanswered events
     → (place : Placement) (a : Act) (b : Answer) → MeetsStep start turns place a → LeadsNowhere (Some place) (kept_after start (inner_turns turns) place) a b
     → IsToldAndServed tells taking (delivered_on turns was (λ p. [])) past start (turns ++ line_of a b ∷ []) later events
@@ -58,8 +58,8 @@ untaken_after turns node shard = record { line = length turns; node = node; shar
 -- And by one whose step leads to a placement, of a slot of which the disk couldn't be taken, which adds nothing.
 abbrev pub UntakenStepsServe : Bool → Type 0
 UntakenStepsServe tells =
-    (past : List Record) (start : Option MetaState) (turns : List Turn) (unanswered later : Option Request) (events : List Event) (taking : List Fault) (was : TurnPlace → List LateMessage)
+    (past : List Record) (start : Option MetaState) (turns : List Turn) (unanswered later : Option Request) (events : List Event) (taking : List Fault) (was : TurnPosition → List LateMessage)
     → IsToldAndServed tells taking was past start turns unanswered events
     → (place : Placement) (a : Act) (next : Placement) (name : List ℕ) (node shard : ℕ) → MeetsStep start turns place a → LeadsTo (Some place) (kept_after start (inner_turns turns) place) a next
-    → IsUnmadeIn (untaken_after turns node shard ∷ []) start (place_after turns a (answer.Disk name shard)) next name shard
+    → IsUnmadeIn (untaken_after turns node shard ∷ []) start (position_after turns a (answer.Disk name shard)) next name shard
     → IsToldAndServed tells (untaken_after turns node shard ∷ taking) (delivered_on turns was (λ p. [])) past start (turns ++ line_of a (answer.Disk name shard) ∷ []) later events

@@ -1,4 +1,4 @@
-pub mod PlaceLemmas
+pub mod PositionLemmas
 pub mod MoreFaults
 pub mod PlacementLemmas
 pub mod RefusalLemmas

@@ -18,14 +18,14 @@ use Rattle.transcripts.specs.Fates.{IsStoppedAt}
 use Rattle.transcripts.specs.Faults.{AreDifferent, Fault, IsClosedByFault}
 use Rattle.transcripts.specs.Levels.{AreSilent, IsFoundFor, MissesLevel}
 use Rattle.transcripts.specs.Reasons.{MayFail, MayRefuse}
-use Rattle.transcripts.specs.Record.{Record, TurnPlace}
+use Rattle.transcripts.specs.Record.{Record, TurnPosition}
 use Rattle.transcripts.specs.Sweeps.{IsSwept}
 
 -- all faults of one list are of the other
 abbrev pub AreAmong : List Fault → List Fault → Type 0
 AreAmong faults more = (f : Fault) → IsIn faults f → IsIn more f
 
-pub closed_more : (faults more : List Fault) → AreAmong faults more → (start : Option MetaState) (p : TurnPlace) (place : Placement) (shard node : ℕ) → IsClosedByFault faults start p place shard node → IsClosedByFault more start p place shard node
+pub closed_more : (faults more : List Fault) → AreAmong faults more → (start : Option MetaState) (p : TurnPosition) (place : Placement) (shard node : ℕ) → IsClosedByFault faults start p place shard node → IsClosedByFault more start p place shard node
 closed_more faults more among start p place shard node closed = record {
   fault = closed.fault;
   among = among closed.fault closed.among;
@@ -37,12 +37,12 @@ closed_more faults more among start p place shard node closed = record {
   not_restarted = closed.not_restarted;
 }
 
-pub down_more : (faults more : List Fault) → AreAmong faults more → (start : Option MetaState) (p : TurnPlace) (place : Placement) (shard node : ℕ) → IsStoppedAt p place node ⊎ IsClosedByFault faults start p place shard node
+pub down_more : (faults more : List Fault) → AreAmong faults more → (start : Option MetaState) (p : TurnPosition) (place : Placement) (shard node : ℕ) → IsStoppedAt p place node ⊎ IsClosedByFault faults start p place shard node
     → IsStoppedAt p place node ⊎ IsClosedByFault more start p place shard node
 down_more faults more among start p place shard node (inl stopped) = inl stopped
 down_more faults more among start p place shard node (inr closed) = inr (closed_more faults more among start p place shard node closed)
 
-pub failed_more : (tells : Bool) (faults more : List Fault) → AreAmong faults more → (start : Option MetaState) (p : TurnPlace) (place : Placement) (shard node : ℕ) (why : Reason) → MayFail tells faults start p place shard node why → MayFail tells more start p place shard node why
+pub failed_more : (tells : Bool) (faults more : List Fault) → AreAmong faults more → (start : Option MetaState) (p : TurnPosition) (place : Placement) (shard node : ℕ) (why : Reason) → MayFail tells faults start p place shard node why → MayFail tells more start p place shard node why
 failed_more tells faults more among start p place shard node reason.Down h = down_more faults more among start p place shard node h
 failed_more tells faults more among start p place shard node reason.Boot h = h
 failed_more tells faults more among start p place shard node reason.NotOwned h = h
@@ -52,17 +52,17 @@ failed_more tells faults more among start p place shard node (reason.Corrupt dam
 failed_more tells faults more among start p place shard node reason.Memory h = tt
 failed_more tells faults more among start p place shard node _ h = absurd h
 
-refused_more : (tells : Bool) (faults more : List Fault) → AreAmong faults more → (start : Option MetaState) (p : TurnPlace) (place : Placement) (shard node : ℕ) (why : Reason) → MayRefuse tells faults start p place shard node why → MayRefuse tells more start p place shard node why
+refused_more : (tells : Bool) (faults more : List Fault) → AreAmong faults more → (start : Option MetaState) (p : TurnPosition) (place : Placement) (shard node : ℕ) (why : Reason) → MayRefuse tells faults start p place shard node why → MayRefuse tells more start p place shard node why
 refused_more tells faults more among start p place shard node reason.Cut h = h
 refused_more tells faults more among start p place shard node reason.Past h = h
 refused_more tells faults more among start p place shard node reason.Future h = h
 refused_more tells faults more among start p place shard node why h = failed_more tells faults more among start p place shard node why h
 
-silent_more : (tells : Bool) (faults more : List Fault) → AreAmong faults more → (start : Option MetaState) (p : TurnPlace) (place : Placement) (shard : ℕ) (reasons : List (ℕ × Reason)) → AreSilent tells faults start p place shard reasons → AreSilent tells more start p place shard reasons
+silent_more : (tells : Bool) (faults more : List Fault) → AreAmong faults more → (start : Option MetaState) (p : TurnPosition) (place : Placement) (shard : ℕ) (reasons : List (ℕ × Reason)) → AreSilent tells faults start p place shard reasons → AreSilent tells more start p place shard reasons
 silent_more tells faults more among start p place shard reasons h =
     record { counted = h.counted; by_name = h.by_name; unreached = h.unreached; refused = λ r i. refused_more tells faults more among start p place shard r.0 r.1 (h.refused r i) }
 
-missed_more : (tells : Bool) (faults more : List Fault) → AreAmong faults more → (start : Option MetaState) (p : TurnPlace) (got needed : ℕ) (reasons : List (ℕ × Reason)) (shard : ℕ) → MissesLevel tells faults start p got needed reasons shard → MissesLevel tells more start p got needed reasons shard
+missed_more : (tells : Bool) (faults more : List Fault) → AreAmong faults more → (start : Option MetaState) (p : TurnPosition) (got needed : ℕ) (reasons : List (ℕ × Reason)) (shard : ℕ) → MissesLevel tells faults start p got needed reasons shard → MissesLevel tells more start p got needed reasons shard
 missed_more tells faults more among start p got needed reasons shard h = record {
   call = h.call;
   of_act = h.of_act;
@@ -77,7 +77,7 @@ missed_more tells faults more among start p got needed reasons shard h = record 
   served = h.served;
 }
 
-found_more : (tells : Bool) (faults more : List Fault) → AreAmong faults more → (start : Option MetaState) (p : TurnPlace) (id : Option (List ℕ)) (level : ReadLevel) (version : Option ℕ) (short : Bool) → IsFoundFor tells faults start p id level version short → IsFoundFor tells more start p id level version short
+found_more : (tells : Bool) (faults more : List Fault) → AreAmong faults more → (start : Option MetaState) (p : TurnPosition) (id : Option (List ℕ)) (level : ReadLevel) (version : Option ℕ) (short : Bool) → IsFoundFor tells faults start p id level version short → IsFoundFor tells more start p id level version short
 found_more tells faults more among start p id level version short h = record {
   place = h.place;
   may_use = h.may_use;
@@ -89,13 +89,13 @@ found_more tells faults more among start p id level version short h = record {
   not_short = h.not_short;
 }
 
-came_more : (tells : Bool) (faults more : List Fault) → AreAmong faults more → (start : Option MetaState) (p : TurnPlace) (m : LateMessage) (shard : ℕ) (outcome : Option Reason) → MayComeOf tells faults start p m shard outcome → MayComeOf tells more start p m shard outcome
+came_more : (tells : Bool) (faults more : List Fault) → AreAmong faults more → (start : Option MetaState) (p : TurnPosition) (m : LateMessage) (shard : ℕ) (outcome : Option Reason) → MayComeOf tells faults start p m shard outcome → MayComeOf tells more start p m shard outcome
 came_more tells faults more among start p m shard None h = h
 came_more tells faults more among start p m shard (Some reason.Past) h = h
 came_more tells faults more among start p m shard (Some reason.Future) h = h
 came_more tells faults more among start p m shard (Some why) h = failed_more tells faults more among start p m.used shard m.node why h
 
-outcomes_more : (tells : Bool) (faults more : List Fault) → AreAmong faults more → (start : Option MetaState) (p : TurnPlace) (messages : List LateMessage) (outcomes : List (ℕ × ℕ × Option Reason)) → AreOutcomes tells faults start p messages outcomes → AreOutcomes tells more start p messages outcomes
+outcomes_more : (tells : Bool) (faults more : List Fault) → AreAmong faults more → (start : Option MetaState) (p : TurnPosition) (messages : List LateMessage) (outcomes : List (ℕ × ℕ × Option Reason)) → AreOutcomes tells faults start p messages outcomes → AreOutcomes tells more start p messages outcomes
 outcomes_more tells faults more among start p [] [] h = tt
 outcomes_more tells faults more among start p (m ∷ messages) (outcome ∷ outcomes) h = (
   record {
@@ -110,16 +110,16 @@ outcomes_more tells faults more among start p [] (outcome ∷ outcomes) h = absu
 outcomes_more tells faults more among start p (m ∷ messages) [] h = absurd h
 
 -- a step's answer is one also where more disks couldn't be taken
-pub step_more : (faults more : List Fault) → AreAmong faults more → (start : Option MetaState) (p : TurnPlace) (a : Act) (b : Answer) → IsStepOf faults start p a b → IsStepOf more start p a b
+pub step_more : (faults more : List Fault) → AreAmong faults more → (start : Option MetaState) (p : TurnPosition) (a : Act) (b : Answer) → IsStepOf faults start p a b → IsStepOf more start p a b
 step_more faults more among start p a (answer.Disk name shard) h =
     let slot = h.2 in
     (h.0, h.1, record { node = slot.node; named = slot.named; member = slot.member; is_new = slot.is_new; untaken = among _ slot.untaken })
 step_more faults more among start p a _ h = h
 
-swept_more : (tells : Bool) (faults more : List Fault) → AreAmong faults more → (start : Option MetaState) (p : TurnPlace) (done : List (ℕ × ℕ × ℕ)) (failed : List (ℕ × ℕ × Reason)) → IsSwept tells faults start p done failed → IsSwept tells more start p done failed
+swept_more : (tells : Bool) (faults more : List Fault) → AreAmong faults more → (start : Option MetaState) (p : TurnPosition) (done : List (ℕ × ℕ × ℕ)) (failed : List (ℕ × ℕ × Reason)) → IsSwept tells faults start p done failed → IsSwept tells more start p done failed
 swept_more tells faults more among start p done failed h = record { over = h.over; refused = λ x m. failed_more tells faults more among start p (h.over).place x.1 x.0 x.2 (h.refused x m) }
 
-pub own_more : (tells : Bool) (faults more : List Fault) → AreAmong faults more → (start : Option MetaState) (messages : List LateMessage) (p : TurnPlace) (a : Act) (b : Answer) → IsOwn tells faults start messages p a b → IsOwn tells more start messages p a b
+pub own_more : (tells : Bool) (faults more : List Fault) → AreAmong faults more → (start : Option MetaState) (messages : List LateMessage) (p : TurnPosition) (a : Act) (b : Answer) → IsOwn tells faults start messages p a b → IsOwn tells more start messages p a b
 own_more tells faults more among start messages p (act.Init rf shards seed nodes) (answer.Placed place version) h = h
 own_more tells faults more among start messages p (act.Init rf shards seed nodes) (answer.Group shard) h = h
 own_more tells faults more among start messages p (act.Init rf shards seed nodes) (answer.Disk name shard) h = (h.0, h.1, h.2, among _ h.3)
@@ -150,12 +150,12 @@ own_more tells faults more among start messages p act.Snapshot (answer.Swept don
 own_more tells faults more among start messages p act.Status (answer.Status now lines version) h = h
 own_more tells faults more among start messages p _ _ h = absurd h
 
-due_more : (tells : Bool) (faults more : List Fault) → AreAmong faults more → (start : Option MetaState) (messages : List LateMessage) (p : TurnPlace) (refusal : Option Answer) → IsDueBy tells faults start messages p refusal → IsDueBy tells more start messages p refusal
+due_more : (tells : Bool) (faults more : List Fault) → AreAmong faults more → (start : Option MetaState) (messages : List LateMessage) (p : TurnPosition) (refusal : Option Answer) → IsDueBy tells faults start messages p refusal → IsDueBy tells more start messages p refusal
 due_more tells faults more among start messages p (Some refusal) h = h
 due_more tells faults more among start messages p None h = own_more tells faults more among start messages p p.turn.act p.turn.answer h
 
 -- an answer that is caused stays so
-pub caused_more : (tells : Bool) (faults more : List Fault) → AreAmong faults more → (past : List Record) (start : Option MetaState) (messages : List LateMessage) (p : TurnPlace) → CausedAt tells faults past start messages p → CausedAt tells more past start messages p
+pub caused_more : (tells : Bool) (faults more : List Fault) → AreAmong faults more → (past : List Record) (start : Option MetaState) (messages : List LateMessage) (p : TurnPosition) → CausedAt tells faults past start messages p → CausedAt tells more past start messages p
 caused_more tells faults more among past start messages p (inl memory) = inl memory
 caused_more tells faults more among past start messages p (inr (inl full)) = inr (inl full)
 caused_more tells faults more among past start messages p (inr (inr due)) = inr (inr (due.0, due.1, due_more tells faults more among start messages p (refusal_after start p due.0) due.2))

@@ -15,7 +15,7 @@ use Rattle.placement_acts.proofs.ActLemmas.{by_step}
 use Rattle.transcripts.specs.Caused.{kept_after, refusal_after, versions_after}
 use Rattle.transcripts.specs.Fates.{is_stopped}
 use Rattle.transcripts.specs.Placements.{placement_after, start_placement}
-use Rattle.transcripts.specs.Record.{InnerTurn, TurnPlace, inner_turns}
+use Rattle.transcripts.specs.Record.{InnerTurn, TurnPosition, inner_turns}
 use Rattle.transcripts.specs.Refusals.{kept_versions, refusal_by}
 use Rattle.transcripts.specs.Rules.{rules_at}
 
@@ -52,7 +52,7 @@ refusals_agree place versions rules stopped =
     (λ node by group. both_agree (answer_if (is_listed by place) answer.Order) (is_listed node place) node (names_due place by) (versions_due kept (act.Replace node by group)))
 
 -- so it is with the turns before one that meets the placement
-pub step_refusal : (start : Option MetaState) (p : TurnPlace) (turns : List InnerTurn) (place : Placement) → placement_after (start_placement start) turns ≡ Some place → is_step_act p.turn.act ≡ true
+pub step_refusal : (start : Option MetaState) (p : TurnPosition) (turns : List InnerTurn) (place : Placement) → placement_after (start_placement start) turns ≡ Some place → is_step_act p.turn.act ≡ true
     → refusal_after start p turns ≡ refusal_due (Some place) (kept_after start turns place) p.turn.act
 step_refusal start p turns place stands step =
     ap (λ (o : Option Placement). refusal_by o (versions_after start turns) (rules_at start p) (is_stopped (inner_turns p.lines)) p.turn.act) stands

@@ -7,7 +7,7 @@ use Rattle.m3_model.specs.declared.act.Act.TheVariants as act
 use Rattle.m3_model.specs.declared.placement.Placement.{Placement}
 use Rattle.m3_model.specs.declared.rules.MetaState.{MetaState}
 use Rattle.transcripts.specs.Placements.{seed_at}
-use Rattle.transcripts.specs.Record.{TurnPlace}
+use Rattle.transcripts.specs.Record.{TurnPosition}
 
 -- What a write, a fetch or a match asks for beside its points.
 pub record Call : Type 0 where
@@ -26,6 +26,6 @@ abbrev pub IsAskedOf : Option (List ℕ) → ℕ → ℕ → ℕ → Type 0
 IsAskedOf (Some id) seed shards shard = shard ≡ shard_of id seed shards
 IsAskedOf None seed shards shard = shard < shards
 
--- a shard that a call at this place asks where it uses this placement
-abbrev pub AsksShard : Option MetaState → TurnPlace → Placement → Option (List ℕ) → ℕ → Type 0
+-- a shard that a call at this position asks where it uses this placement
+abbrev pub AsksShard : Option MetaState → TurnPosition → Placement → Option (List ℕ) → ℕ → Type 0
 AsksShard start p place id shard = IsAskedOf id (seed_at start p) (length place.shards) shard

@@ -18,13 +18,13 @@ use Rattle.m3_model.specs.declared.turn.Turn.{Turn}
 use Rattle.placement_plan.specs.First.{IsInitial}
 use Rattle.placement_plan.specs.Plans.{AreJoining, IsAvailable}
 use Rattle.placement_acts.specs.Acts.{IsInTheWay, Plans}
-use Rattle.transcripts.specs.Deliveries.{LateMessage, IsDelivered, IsSameMessage, IsSamePlace}
+use Rattle.transcripts.specs.Deliveries.{LateMessage, IsDelivered, IsSameMessage, IsSamePosition}
 use Rattle.transcripts.specs.Fates.{is_stopped, OfNode}
 use Rattle.transcripts.specs.Faults.{Fault, AreDifferent, IsUntaken, HasFailed, IsDamaged}
 use Rattle.transcripts.specs.Levels.{IsAcked, MissesLevel, IsFoundFor}
 use Rattle.transcripts.specs.Placements.{placement_after, placement_at, placements, start_placement, HadReplica, MayStand, has_replica}
 use Rattle.transcripts.specs.Reasons.{IsShown}
-use Rattle.transcripts.specs.Record.{Record, Life, InnerTurn, TurnPlace, IsTurnPlace, IsAfter, acts_of, inner_turns, lists_of}
+use Rattle.transcripts.specs.Record.{Record, Life, InnerTurn, TurnPosition, IsTurnPosition, IsAfter, acts_of, inner_turns, lists_of}
 use Rattle.transcripts.specs.Refusals.{kept_versions, refusal_by}
 use Rattle.transcripts.specs.Rules.{rules_at}
 use Rattle.transcripts.specs.Sweeps.{IsStatus, IsSwept}
@@ -33,25 +33,25 @@ use Rattle.transcripts.specs.Waiting.{is_covering}
 -- ---- answers that are the act's own
 
 -- the node has this name in a placement that may stand
-pub record IsCalled (start : Option MetaState) (p : TurnPlace) (name : List ℕ) (node : ℕ) : Type 0 where
+pub record IsCalled (start : Option MetaState) (p : TurnPosition) (name : List ℕ) (node : ℕ) : Type 0 where
   pub place : Placement
   pub stands : MayStand start p place
   pub named : OfNode place node (λ own. own ≡ name)
 
 -- a restart reaches each slot of its node that had a replica before its line
-abbrev pub HadBefore : Option MetaState → TurnPlace → ℕ → ℕ → Type 0
+abbrev pub HadBefore : Option MetaState → TurnPosition → ℕ → ℕ → Type 0
 HadBefore start p shard node = HadReplica start (inner_turns p.lines) shard node
 
 -- a bootstrap reaches each member before its line
-abbrev pub IsMemberBefore : Option MetaState → TurnPlace → ℕ → ℕ → Type 0
+abbrev pub IsMemberBefore : Option MetaState → TurnPosition → ℕ → ℕ → Type 0
 IsMemberBefore start p shard node = IsTrue (has_replica (placement_at start p) shard node)
 
 -- the disk of one of the slots that are reached of the node of this name failed in this line
-abbrev pub OnDisk : List Fault → Option MetaState → TurnPlace → (ℕ → Type 0) → List ℕ → ℕ → Type 0
+abbrev pub OnDisk : List Fault → Option MetaState → TurnPosition → (ℕ → Type 0) → List ℕ → ℕ → Type 0
 OnDisk faults start p Reached name shard = (node : ℕ) × IsCalled start p name node × Reached node × HasFailed faults p shard node
 
 -- its files were found damaged in this line
-abbrev pub InFiles : List Fault → Option MetaState → TurnPlace → (ℕ → Type 0) → List ℕ → ℕ → Type 0
+abbrev pub InFiles : List Fault → Option MetaState → TurnPosition → (ℕ → Type 0) → List ℕ → ℕ → Type 0
 InFiles faults start p Reached name shard = (node : ℕ) × IsCalled start p name node × Reached node × IsDamaged faults p shard node
 
 -- the name is that of this one of the nodes
@@ -59,11 +59,11 @@ abbrev pub NamesNode : List (List ℕ × List ℕ) → List ℕ → ℕ → Type
 NamesNode nodes name node = (group : List ℕ) × (slice_get nodes node ≡ Some (name, group))
 
 -- the disk of one of the shards that `init` asks for couldn't be taken, on the node of this name
-abbrev pub IsUnmade : List Fault → TurnPlace → List (List ℕ × List ℕ) → ℕ → List ℕ → ℕ → Type 0
+abbrev pub IsUnmade : List Fault → TurnPosition → List (List ℕ × List ℕ) → ℕ → List ℕ → ℕ → Type 0
 IsUnmade faults p nodes shards name shard = (node : ℕ) × NamesNode nodes name node × (shard < shards) × IsUntaken faults p shard node
 
 -- the disk of a slot that the placement gives a replica, and that had none before, couldn't be taken; the placement calls its node so
-pub record IsUnmadeIn (faults : List Fault) (start : Option MetaState) (p : TurnPlace) (place : Placement) (name : List ℕ) (shard : ℕ) : Type 0 where
+pub record IsUnmadeIn (faults : List Fault) (start : Option MetaState) (p : TurnPosition) (place : Placement) (name : List ℕ) (shard : ℕ) : Type 0 where
   pub node : ℕ
   pub named : OfNode place node (λ own. own ≡ name)
   pub member : IsTrue (has_replica (Some place) shard node)
@@ -72,7 +72,7 @@ pub record IsUnmadeIn (faults : List Fault) (start : Option MetaState) (p : Turn
 
 -- A step from the placement before the line of an act, which is the only one of its line: the next placement and its version are printed; or what is in the way of
 -- it is named; or a slot of it whose disk couldn't be taken.
-abbrev pub IsStepOf : List Fault → Option MetaState → TurnPlace → Act → Answer → Type 0
+abbrev pub IsStepOf : List Fault → Option MetaState → TurnPosition → Act → Answer → Type 0
 IsStepOf faults start p a (answer.Placed next version) = (lists_of p.line ≡ (p.turn ∷ []) ∷ []) × Plans (placement_at start p) a next × (version ≡ next.version)
 IsStepOf faults start p a (answer.Busy name shard) = IsInTheWay (placement_at start p) a (answer.Busy name shard)
 IsStepOf faults start p a (answer.Group shard) = IsInTheWay (placement_at start p) a (answer.Group shard)
@@ -99,11 +99,11 @@ EndsInto (answer.Available (x ∷ available) next version) place = next ≡ plac
 EndsInto _ place = ⊥
 
 -- the placement stood before the turn's line, or a turn before it in its list or beside it ended moves into it
-abbrev pub IsMade : Option MetaState → TurnPlace → Placement → Type 0
+abbrev pub IsMade : Option MetaState → TurnPosition → Placement → Type 0
 IsMade start p place = (placement_at start p ≡ Some place) ⊎ ((turn : InnerTurn) × IsIn (p.earlier ++ p.beside) turn × EndsInto turn.answer place)
 
 -- a bootstrap prints what it leaves of a placement that stands and that was made, and the shards that turned available by it
-pub record IsBootstrapped (start : Option MetaState) (p : TurnPlace) (name : List ℕ) (asked : Option ℕ) (available : List (ℕ × List ℕ)) (place : Placement) (version : ℕ) : Type 0 where
+pub record IsBootstrapped (start : Option MetaState) (p : TurnPosition) (name : List ℕ) (asked : Option ℕ) (available : List (ℕ × List ℕ)) (place : Placement) (version : ℕ) : Type 0 where
   pub before : Placement
   pub stands : MayStand start p before
   pub made : IsMade start p before
@@ -111,7 +111,7 @@ pub record IsBootstrapped (start : Option MetaState) (p : TurnPlace) (name : Lis
   pub version_is : version ≡ place.version
 
 -- the answer is the act's own: ok, or too few replicas answered; what a read finds is said by what it keeps
-abbrev pub IsOwn : Bool → List Fault → Option MetaState → List LateMessage → TurnPlace → Act → Answer → Type 0
+abbrev pub IsOwn : Bool → List Fault → Option MetaState → List LateMessage → TurnPosition → Act → Answer → Type 0
 IsOwn tells faults start messages p (act.Init rf shards seed nodes) (answer.Placed place version) = IsInitial rf shards nodes place × (version ≡ place.version)
 IsOwn tells faults start messages p (act.Init rf shards seed nodes) (answer.Group shard) = IsInTheWay None (act.Init rf shards seed nodes) (answer.Group shard)
 IsOwn tells faults start messages p (act.Init rf shards seed nodes) (answer.Disk name shard) = IsUnmade faults p nodes shards name shard
@@ -145,7 +145,7 @@ IsOwn tells faults start messages p _ _ = ⊥
 -- ---- answers that are due
 
 -- the refusal that is due, or the act's own answer where none is due
-abbrev pub IsDueBy : Bool → List Fault → Option MetaState → List LateMessage → TurnPlace → Option Answer → Type 0
+abbrev pub IsDueBy : Bool → List Fault → Option MetaState → List LateMessage → TurnPosition → Option Answer → Type 0
 IsDueBy tells faults start messages p (Some refusal) = p.turn.answer ≡ refusal
 IsDueBy tells faults start messages p None = IsOwn tells faults start messages p p.turn.act p.turn.answer
 
@@ -158,14 +158,14 @@ abbrev pub kept_after : Option MetaState → List InnerTurn → Placement → �
 kept_after start turns place = kept_versions (Some place) (versions_after start turns)
 
 -- the refusal that is due after these turns, if one is
-abbrev pub refusal_after : Option MetaState → TurnPlace → List InnerTurn → Option Answer
+abbrev pub refusal_after : Option MetaState → TurnPosition → List InnerTurn → Option Answer
 refusal_after start p turns = refusal_by (placement_after (start_placement start) turns) (versions_after start turns) (rules_at start p) (is_stopped (inner_turns p.lines)) p.turn.act
 
 -- the answer is the one that is due after some turns after which it may have been given
-abbrev pub IsDue : Bool → List Fault → Option MetaState → List LateMessage → TurnPlace → Type 0
+abbrev pub IsDue : Bool → List Fault → Option MetaState → List LateMessage → TurnPosition → Type 0
 IsDue tells faults start messages p = (turns : List InnerTurn) × IsAfter p turns × IsDueBy tells faults start messages p (refusal_after start p turns)
 
--- ---- answers that may come at any place
+-- ---- answers that may come at any position
 
 -- the acts that a run took with these lines
 abbrev pub acts_in : List Turn → List Act
@@ -181,15 +181,15 @@ abbrev pub acts_taken : Record → List Act
 acts_taken run = acts_in run.turns ++ acts_of run.unanswered
 
 -- so many requests and writes were taken that the list of events may be full
-pub record MayBeFull (past : List Record) (p : TurnPlace) : Type 0 where
+pub record MayBeFull (past : List Record) (p : TurnPosition) : Type 0 where
   pub requests : ℕ  -- of this run, with those of the turn's own line
   pub requests_are : requests ≡ length (acts_in (p.lines ++ p.line ∷ []))
   pub writes : ℕ  -- of all runs
   pub writes_are : writes ≡ count_by is_write (flat_map acts_taken past ++ acts_in (p.lines ++ p.line ∷ []))
   pub many : MOST_EVENTS ≤ (MOST_REQUEST_EVENTS * (requests + 1)) * (writes + 1)
 
--- an answer is the one that is due, or says that the list of events is full; want of memory may come at any place
-abbrev pub CausedAt : Bool → List Fault → List Record → Option MetaState → List LateMessage → TurnPlace → Type 0
+-- an answer is the one that is due, or says that the list of events is full; want of memory may come at any position
+abbrev pub CausedAt : Bool → List Fault → List Record → Option MetaState → List LateMessage → TurnPosition → Type 0
 CausedAt tells faults past start messages p = (p.turn.answer ≡ answer.Memory) ⊎ (((p.turn.answer ≡ answer.Full) × MayBeFull past p) ⊎ IsDue tells faults start messages p)
 
 -- a `par` line is refused as a whole with `order` only where no placement stands
@@ -203,8 +203,8 @@ IsRefusedWhole start before _ _ = ⊤
 -- a replica's files can be known, more is said of reasons.
 pub record Caused (tells : Bool) (life : Life) (faults : List Fault) : Type 0 where
   pub different : AreDifferent faults
-  pub delivered : TurnPlace → List LateMessage  -- which late messages a `deliver` delivered
-  pub each : (p : TurnPlace) → IsTurnPlace life.present.turns p → CausedAt tells faults life.past life.present.start (delivered p) p
-  pub once : (p q : TurnPlace) → IsTurnPlace life.present.turns p → IsTurnPlace life.present.turns q
-      → (a b : LateMessage) → IsIn (delivered p) a → IsIn (delivered q) b → IsSameMessage a b → IsSamePlace p q
+  pub delivered : TurnPosition → List LateMessage  -- which late messages a `deliver` delivered
+  pub each : (p : TurnPosition) → IsTurnPosition life.present.turns p → CausedAt tells faults life.past life.present.start (delivered p) p
+  pub once : (p q : TurnPosition) → IsTurnPosition life.present.turns p → IsTurnPosition life.present.turns q
+      → (a b : LateMessage) → IsIn (delivered p) a → IsIn (delivered q) b → IsSameMessage a b → IsSamePosition p q
   pub whole : (before : List Turn) (line : Turn) (after : List Turn) → life.present.turns ≡ before ++ line ∷ after → IsRefusedWhole life.present.start before line.request line.reply

@@ -2,7 +2,7 @@
 use Rattle.std.specs.Prelude.{◌≡◌, ℕ, ◌+◌, List, [], ◌∷◌, Option, Some, None, Bool, true, false, not, ◌&&◌, if◌then◌else◌, nat_eq, slice_get, slice_index_or, count_by, map, fold, IsTrue}
 use Rattle.std.specs.Option.{option_map_or}
 use Rattle.std.specs.Cmp.Lexicographic.{pointwise}
-use Rattle.transcripts.specs.Record.{InnerTurn, TurnPlace, inner_turns}
+use Rattle.transcripts.specs.Record.{InnerTurn, TurnPosition, inner_turns}
 use Rattle.m3_model.specs.Calls.{is_call}
 use Rattle.m3_model.specs.Delivery.{is_cut}
 use Rattle.m3_model.specs.declared.act.Act.{Act}
@@ -53,7 +53,7 @@ abbrev pub numbering_after : ℕ → List Turn → Numbering
 numbering_after client lines = fold (λ before line. numbering_by (fates_set line.request line.reply) (calls_in (client_acts client line.request)) before) (record { fates = []; calls = 0 }) lines
 
 -- the number of a call among its client's
-abbrev pub call_number : TurnPlace → ℕ
+abbrev pub call_number : TurnPosition → ℕ
 call_number p = (numbering_after p.client p.lines).calls + calls_in (map (λ turn. turn.act) p.earlier)
 
 -- ---- fates
@@ -67,8 +67,8 @@ abbrev pub fate_in : List (ℕ × ℕ × List ℕ × Fate) → ℕ → ℕ → L
 fate_in [] client call name = fate.Deliver
 fate_in (item ∷ list) client call name = if is_fate_of client call name item then item.3 else fate_in list client call name
 
--- the fate of the messages of the call at this place to the node of this name
-abbrev pub fate_at : TurnPlace → List ℕ → Fate
+-- the fate of the messages of the call at this position to the node of this name
+abbrev pub fate_at : TurnPosition → List ℕ → Fate
 fate_at p name = fate_in (numbering_after p.client p.lines).fates p.client (call_number p) name
 
 -- ---- stops
@@ -92,17 +92,17 @@ pub record OfNode (place : Placement) (node : ℕ) (Holds : List ℕ → Type 0)
   pub holds : Holds instance_.name
 
 -- the turn is a call, and its messages to the node are lost or late
-abbrev pub IsCutAt : TurnPlace → Placement → ℕ → Type 0
+abbrev pub IsCutAt : TurnPosition → Placement → ℕ → Type 0
 IsCutAt p place node = IsTrue (is_call p.turn.act) × OfNode place node (λ name. is_cut (fate_at p name) ≡ true)
 
 -- the node is stopped
-abbrev pub IsStoppedAt : TurnPlace → Placement → ℕ → Type 0
+abbrev pub IsStoppedAt : TurnPosition → Placement → ℕ → Type 0
 IsStoppedAt p place node = OfNode place node (λ name. is_stopped (inner_turns p.lines) name ≡ true)
 
 -- messages of the call to the node are delivered, and it isn't stopped
-abbrev pub is_reached : TurnPlace → List ℕ → Bool
+abbrev pub is_reached : TurnPosition → List ℕ → Bool
 is_reached p name = not (is_cut (fate_at p name)) && not (is_stopped (inner_turns p.lines) name)
 
 -- the same, of a node by its number
-abbrev pub reaches : TurnPlace → Placement → ℕ → Bool
+abbrev pub reaches : TurnPosition → Placement → ℕ → Bool
 reaches p place node = option_map_or (λ i. is_reached p i.name) (slice_get place.instances node) false

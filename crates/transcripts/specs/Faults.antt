@@ -12,7 +12,7 @@ use Rattle.m3_model.specs.declared.placement.Placement.{Placement}
 use Rattle.m3_model.specs.declared.rules.MetaState.{MetaState}
 use Rattle.transcripts.specs.Fates.{OfNode}
 use Rattle.transcripts.specs.Placements.{HadReplica}
-use Rattle.transcripts.specs.Record.{InnerTurn, TurnPlace, inner_turns}
+use Rattle.transcripts.specs.Record.{InnerTurn, TurnPosition, inner_turns}
 
 -- The disk of a slot couldn't be taken, by a fault of the disks as a whole; the slot's own disk failed; or bytes of its files were found damaged.
 pub data FaultKind : Type 0 where
@@ -33,19 +33,19 @@ AreDifferent [] = ⊤
 AreDifferent (fault ∷ faults) = ¬ IsIn faults fault × AreDifferent faults
 
 -- a fault of this kind came at the slot in this very line
-abbrev pub CameAt : FaultKind → List Fault → TurnPlace → ℕ → ℕ → Type 0
+abbrev pub CameAt : FaultKind → List Fault → TurnPosition → ℕ → ℕ → Type 0
 CameAt kind faults p shard node = IsIn faults (record { line = length p.lines; node = node; shard = shard; kind = kind })
 
 -- the disk of the slot couldn't be taken
-abbrev pub IsUntaken : List Fault → TurnPlace → ℕ → ℕ → Type 0
+abbrev pub IsUntaken : List Fault → TurnPosition → ℕ → ℕ → Type 0
 IsUntaken = CameAt Taking
 
 -- the disk of the slot failed
-abbrev pub HasFailed : List Fault → TurnPlace → ℕ → ℕ → Type 0
+abbrev pub HasFailed : List Fault → TurnPosition → ℕ → ℕ → Type 0
 HasFailed = CameAt Failing
 
 -- the files of the slot were found damaged
-abbrev pub IsDamaged : List Fault → TurnPlace → ℕ → ℕ → Type 0
+abbrev pub IsDamaged : List Fault → TurnPosition → ℕ → ℕ → Type 0
 IsDamaged = CameAt Damaged
 
 -- the kind of a fault that came while a disk was taken
@@ -73,7 +73,7 @@ is_restart name turn = restarts turn.act turn.answer
     restarts _ _ = false
 
 -- a fault or damage closed the replica in this line, or in an earlier one by whose end the slot had one, and its node wasn't restarted since
-pub record IsClosedByFault (faults : List Fault) (start : Option MetaState) (p : TurnPlace) (place : Placement) (shard node : ℕ) : Type 0 where
+pub record IsClosedByFault (faults : List Fault) (start : Option MetaState) (p : TurnPosition) (place : Placement) (shard node : ℕ) : Type 0 where
   pub fault : Fault
   pub among : IsIn faults fault
   pub of_node : fault.node ≡ node

@@ -10,7 +10,7 @@ use Rattle.m3_model.specs.declared.placement.Placement.{Placement}
 use Rattle.m3_model.specs.declared.placement.ShardState.TheVariants.{Initializing, Available}
 use Rattle.placement_core.specs.Shards.{Shard, former}
 use Rattle.transcripts.specs.Placements.{placements}
-use Rattle.transcripts.specs.Record.{Life, TurnPlace, IsTurnPlace, inner_turns}
+use Rattle.transcripts.specs.Record.{Life, TurnPosition, IsTurnPosition, inner_turns}
 
 -- the node is Initializing in the shard in one placement, and Available in the next
 pub record TurnsAvailable (was next : Placement) (number node : ℕ) : Type 0 where
@@ -29,7 +29,7 @@ pub record TurnsAvailable (was next : Placement) (number node : ℕ) : Type 0 wh
   pub is_available : joined.state ≡ Available
 
 -- a bootstrap that was answered ok, with the shards that turned available and their peers
-pub record IsBootstrapOf (p : TurnPlace) (available : List (ℕ × List ℕ)) : Type 0 where
+pub record IsBootstrapOf (p : TurnPosition) (available : List (ℕ × List ℕ)) : Type 0 where
   pub node : List ℕ
   pub asked : Option ℕ
   pub act_is : p.turn.act ≡ act.Bootstrap node asked
@@ -38,7 +38,7 @@ pub record IsBootstrapOf (p : TurnPlace) (available : List (ℕ × List ℕ)) : 
   pub answered : p.turn.answer ≡ answer.Available available place version
 
 -- the turn is a bootstrap that prints with the shard different former replicas, at least a majority
-pub record PrintsMajority (p : TurnPlace) (rf number : ℕ) (shard : Shard) : Type 0 where
+pub record PrintsMajority (p : TurnPosition) (rf number : ℕ) (shard : Shard) : Type 0 where
   pub available : List (ℕ × List ℕ)
   pub bootstrap : IsBootstrapOf p available
   pub names : List ℕ
@@ -51,4 +51,4 @@ pub record PrintsMajority (p : TurnPlace) (rf number : ℕ) (shard : Shard) : Ty
 abbrev pub Joined : Life → Type 0
 Joined life =
     (was next : Placement) → IsIn (placements life.present.start (inner_turns life.present.turns)) was → IsIn (placements life.present.start (inner_turns life.present.turns)) next
-    → (number node : ℕ) → (turns : TurnsAvailable was next number node) → (p : TurnPlace) × IsTurnPlace life.present.turns p × PrintsMajority p was.rf number turns.shard
+    → (number node : ℕ) → (turns : TurnsAvailable was next number node) → (p : TurnPosition) × IsTurnPosition life.present.turns p × PrintsMajority p was.rf number turns.shard

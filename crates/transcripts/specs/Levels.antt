@@ -15,7 +15,7 @@ use Rattle.transcripts.specs.Fates.{reaches}
 use Rattle.transcripts.specs.Faults.{Fault}
 use Rattle.transcripts.specs.Placements.{MayUse, counted_nodes, IsCounted}
 use Rattle.transcripts.specs.Reasons.{MayRefuse, MayServe, TakesPoint}
-use Rattle.transcripts.specs.Record.{TurnPlace}
+use Rattle.transcripts.specs.Record.{TurnPosition}
 use Rattle.transcripts.specs.Rules.{rules_at}
 
 -- how many of the replicas that a level needs these counted nodes are: each is one
@@ -27,13 +27,13 @@ abbrev pub AreAnswers : Placement → ℕ → ℕ → List (ℕ × Reason) → T
 AreAnswers place shard got reasons = got + length reasons ≡ length (counted_nodes place shard)
 
 -- how many counted replicas of a shard the messages of the call reach
-abbrev pub reached_of : TurnPlace → Placement → ℕ → ℕ
+abbrev pub reached_of : TurnPosition → Placement → ℕ → ℕ
 reached_of p place shard = count_by (reaches p place) (counted_nodes place shard)
 
 -- ---- enough
 
 -- the nodes that took a write: counted ones of the identifier's shard, each once, by name, and as many as the level needs
-pub record IsAcked (start : Option MetaState) (p : TurnPlace) (id : List ℕ) (level : WriteLevel) (version : Option ℕ) (acks : List ℕ) : Type 0 where
+pub record IsAcked (start : Option MetaState) (p : TurnPosition) (id : List ℕ) (level : WriteLevel) (version : Option ℕ) (acks : List ℕ) : Type 0 where
   pub place : Placement
   pub may_use : MayUse start p version place
   pub counted : (shard : ℕ) → AsksShard start p place (Some id) shard → (node : ℕ) → IsIn acks node → IsCounted place shard node
@@ -45,14 +45,14 @@ pub record IsAcked (start : Option MetaState) (p : TurnPlace) (id : List ℕ) (l
 -- ---- too few
 
 -- some counted replicas of a shard that didn't answer, each once with its reason, by name; all that no message reaches are among them
-pub record AreSilent (tells : Bool) (faults : List Fault) (start : Option MetaState) (p : TurnPlace) (place : Placement) (shard : ℕ) (reasons : List (ℕ × Reason)) : Type 0 where
+pub record AreSilent (tells : Bool) (faults : List Fault) (start : Option MetaState) (p : TurnPosition) (place : Placement) (shard : ℕ) (reasons : List (ℕ × Reason)) : Type 0 where
   pub counted : (r : ℕ × Reason) → IsIn reasons r → IsCounted place shard r.0
   pub by_name : Ascends (λ a b. IsNamedBelow place a.0 b.0) reasons
   pub unreached : (node : ℕ) → IsCounted place shard node → reaches p place node ≡ false → IsIn (map (λ r. r.0) reasons) node
   pub refused : (r : ℕ × Reason) → IsIn reasons r → MayRefuse tells faults start p place shard r.0 r.1
 
 -- fewer replicas of a shard answered than the level needs, and the others have their reasons; the messages reach enough of each lower shard that is asked
-pub record MissesLevel (tells : Bool) (faults : List Fault) (start : Option MetaState) (p : TurnPlace) (got needed : ℕ) (reasons : List (ℕ × Reason)) (shard : ℕ) : Type 0 where
+pub record MissesLevel (tells : Bool) (faults : List Fault) (start : Option MetaState) (p : TurnPosition) (got needed : ℕ) (reasons : List (ℕ × Reason)) (shard : ℕ) : Type 0 where
   pub call : Call
   pub of_act : call_of p.turn.act ≡ Some call
   pub place : Placement
@@ -68,7 +68,7 @@ pub record MissesLevel (tells : Bool) (faults : List Fault) (start : Option Meta
 -- ---- short
 
 -- some replicas of a shard answered, but fewer than a majority, and the others have their reasons
-pub record IsShort (tells : Bool) (faults : List Fault) (start : Option MetaState) (p : TurnPlace) (place : Placement) (shard : ℕ) : Type 0 where
+pub record IsShort (tells : Bool) (faults : List Fault) (start : Option MetaState) (p : TurnPosition) (place : Placement) (shard : ℕ) : Type 0 where
   pub reasons : List (ℕ × Reason)
   pub silent : AreSilent tells faults start p place shard reasons
   pub got : ℕ
@@ -78,7 +78,7 @@ pub record IsShort (tells : Bool) (faults : List Fault) (start : Option MetaStat
 
 -- a read is answered where its messages reach enough replicas of each shard that it asks; only an unstrict one may be short, which fewer than a majority of
 -- some shard answered, and one that isn't short reaches a majority of each
-pub record IsFoundFor (tells : Bool) (faults : List Fault) (start : Option MetaState) (p : TurnPlace) (id : Option (List ℕ)) (level : ReadLevel) (version : Option ℕ) (short : Bool) : Type 0 where
+pub record IsFoundFor (tells : Bool) (faults : List Fault) (start : Option MetaState) (p : TurnPosition) (id : Option (List ℕ)) (level : ReadLevel) (version : Option ℕ) (short : Bool) : Type 0 where
   pub place : Placement
   pub may_use : MayUse start p version place
   pub enough : (shard : ℕ) → AsksShard start p place id shard → needed_read level place.rf ≤ reached_of p place shard

@@ -11,7 +11,7 @@ use Rattle.m3_model.specs.declared.turn.Turn.{Turn}
 use Rattle.placement_core.specs.Shards.{shard_at}
 use Rattle.transcripts.specs.Fates.{OfNode}
 use Rattle.transcripts.specs.Placements.{MayStand, has_replica, placement_after, placement_at, start_placement}
-use Rattle.transcripts.specs.Record.{InnerTurn, TurnPlace, inner_turns}
+use Rattle.transcripts.specs.Record.{InnerTurn, TurnPosition, inner_turns}
 use Rattle.transcripts.specs.Waiting.{Replica, is_assigned, is_begun_by, is_covering, is_member}
 
 -- the placement gives the node the shard with a tenure of this kind
@@ -24,7 +24,7 @@ pub record HasAssignment (place : Placement) (shard node : ℕ) (Kind : ℕ → 
 -- ---- nodes that don't own the shard
 
 -- in a placement that may stand the node has no replica of the shard, or has it with a tenure above the version
-pub record OwnsNot (start : Option MetaState) (p : TurnPlace) (shard node version : ℕ) : Type 0 where
+pub record OwnsNot (start : Option MetaState) (p : TurnPosition) (shard node version : ℕ) : Type 0 where
   pub place : Placement
   pub may_stand : MayStand start p place
   pub not_owned : (has_replica (Some place) shard node ≡ false) ⊎ HasAssignment place shard node (λ tenure. version < tenure)
@@ -38,7 +38,7 @@ abbrev pub is_begun_in : Replica → Option Placement → Option Placement → L
 is_begun_in x before next turns = list_any (λ turn. is_begun_by x (is_member x before && is_member x next) turn.act turn.answer) turns
 
 -- a line after the first placement assigned the replica, and where the disks tell what they hold no bootstrap that covers it was answered ok since
-pub record IsNew (tells : Bool) (x : Replica) (start : Option MetaState) (p : TurnPlace) : Type 0 where
+pub record IsNew (tells : Bool) (x : Replica) (start : Option MetaState) (p : TurnPosition) : Type 0 where
   pub lines : ℕ
   pub earlier : lines < length p.lines
   pub assigned : is_assigned x (placement_by start p.lines lines) (placement_by start p.lines (suc lines)) ≡ true
@@ -46,7 +46,7 @@ pub record IsNew (tells : Bool) (x : Replica) (start : Option MetaState) (p : Tu
   pub not_beside : tells ≡ true → is_begun_in x (placement_by start p.lines (length p.lines)) (placement_after (placement_by start p.lines (length p.lines)) (p.earlier ++ p.beside)) p.earlier ≡ false
 
 -- the node doesn't own the shard at the version of the placement that the call uses
-abbrev pub IsUnowned : Bool → Option MetaState → TurnPlace → Placement → ℕ → ℕ → Type 0
+abbrev pub IsUnowned : Bool → Option MetaState → TurnPosition → Placement → ℕ → ℕ → Type 0
 IsUnowned tells start p used shard node = OwnsNot start p shard node used.version ⊎ OfNode used node (λ name. IsNew tells (record { shard = shard; node = node; name = name }) start p)
 
 -- ---- fences
@@ -65,11 +65,11 @@ pub record IsTakenIn (start : Option MetaState) (lines : List Turn) (place : Pla
   pub stood : (placement_by start lines number ≡ Some place) ⊎ (placement_by start lines (suc number) ≡ Some place)
 
 -- the turn was taken before this one or beside it: in an earlier line so, or in its own line, at whose beginning the placement stood
-abbrev pub IsTakenBy : Option MetaState → TurnPlace → Placement → InnerTurn → Type 0
+abbrev pub IsTakenBy : Option MetaState → TurnPosition → Placement → InnerTurn → Type 0
 IsTakenBy start p place turn = IsTakenIn start p.lines place turn ⊎ (IsIn (p.earlier ++ p.beside) turn × (placement_at start p ≡ Some place))
 
 -- a placement assigns the shard with the fence as tenure, and a bootstrap of that node and shard was taken with it, before the turn or beside it
-pub record IsOfMove (start : Option MetaState) (p : TurnPlace) (shard fence : ℕ) : Type 0 where
+pub record IsOfMove (start : Option MetaState) (p : TurnPosition) (shard fence : ℕ) : Type 0 where
   pub place : Placement
   pub node : ℕ
   pub assigned : HasAssignment place shard node (λ tenure. tenure ≡ fence)
@@ -85,7 +85,7 @@ pub record IsLeftFence (start : Option MetaState) (fence : ℕ) : Type 0 where
 
 -- a fence above the version of the placement that the call uses, and not above one that may stand: that of a move of the shard whose bootstrap was asked, or
 -- one that an earlier run left
-pub record IsFencedAbove (start : Option MetaState) (p : TurnPlace) (used : Placement) (shard fence : ℕ) : Type 0 where
+pub record IsFencedAbove (start : Option MetaState) (p : TurnPosition) (used : Placement) (shard fence : ℕ) : Type 0 where
   pub above : used.version < fence
   pub place : Placement
   pub may_stand : MayStand start p place

@@ -10,7 +10,7 @@ use Rattle.m3_model.specs.declared.act.Act.TheVariants as act
 use Rattle.m3_model.specs.declared.answer.Answer.{Answer}
 use Rattle.m3_model.specs.declared.answer.Answer.TheVariants as answer
 use Rattle.placement_core.specs.Shards.{shard_at, counted, nodes_of}
-use Rattle.transcripts.specs.Record.{InnerTurn, TurnPlace, IsAfter, inner_turns}
+use Rattle.transcripts.specs.Record.{InnerTurn, TurnPosition, IsAfter, inner_turns}
 
 -- the placement that an answer prints
 abbrev pub printed : Answer → Option Placement
@@ -43,15 +43,15 @@ abbrev pub placement_after : Option Placement → List InnerTurn → Option Plac
 placement_after place turns = fold (λ p turn. later_placement (printed turn.answer) p) place turns
 
 -- the placement before the line of a turn
-abbrev pub placement_at : Option MetaState → TurnPlace → Option Placement
+abbrev pub placement_at : Option MetaState → TurnPosition → Option Placement
 placement_at start p = placement_after (start_placement start) (inner_turns p.lines)
 
 -- a request without a version may use this placement: one that stood between the beginning and the end of its line
-abbrev pub MayStand : Option MetaState → TurnPlace → Placement → Type 0
+abbrev pub MayStand : Option MetaState → TurnPosition → Placement → Type 0
 MayStand start p place = (turns : List InnerTurn) × IsAfter p turns × (placement_after (start_placement start) turns ≡ Some place)
 
 -- a request that gives a version uses the kept placement of that version, and else one that stood during its line
-abbrev pub MayUse : Option MetaState → TurnPlace → Option ℕ → Placement → Type 0
+abbrev pub MayUse : Option MetaState → TurnPosition → Option ℕ → Placement → Type 0
 MayUse start p None place = MayStand start p place
 MayUse start p (Some version) place = IsIn (placements start (inner_turns p.lines ++ (p.earlier ++ p.beside))) place × (place.version ≡ version)
 
@@ -67,8 +67,8 @@ seed_by _ _ before = before
 abbrev pub seed_after : Option MetaState → List InnerTurn → ℕ
 seed_after start turns = fold (λ seed turn. seed_by turn.act turn.answer seed) (option_map_or (λ state. state.seed) start 0) turns
 
--- the seed at a place of a run
-abbrev pub seed_at : Option MetaState → TurnPlace → ℕ
+-- the seed at a position of a run
+abbrev pub seed_at : Option MetaState → TurnPosition → ℕ
 seed_at start p = seed_after start (inner_turns p.lines)
 
 -- the nodes of a shard whose answers count for its reads and writes

@@ -15,7 +15,7 @@ use Rattle.transcripts.specs.Fates.{IsCutAt, IsStoppedAt}
 use Rattle.transcripts.specs.Faults.{Fault, HasFailed, IsDamaged, IsClosedByFault}
 use Rattle.transcripts.specs.Moves.{IsFencedAbove, IsUnowned}
 use Rattle.transcripts.specs.Points.{point_of}
-use Rattle.transcripts.specs.Record.{TurnPlace}
+use Rattle.transcripts.specs.Record.{TurnPosition}
 use Rattle.transcripts.specs.Rules.{rules_at}
 use Rattle.transcripts.specs.Waiting.{WaitsForBoot}
 
@@ -26,8 +26,8 @@ IsShown (damaged.Form file at) = ⊤
 
 -- Why the replica of a node for a shard may refuse whatever it is asked: the node is stopped, or a fault closed the replica; it waits for a bootstrap; the node
 -- doesn't own the shard at the version; a move of the shard fenced it above the version; its disk failed, or its files were found damaged, in this line; or
--- memory is wanted, which may come at any place. Where disks don't tell what they hold, nothing is said of a bootstrap's end and of fences, which the files decide.
-abbrev pub MayFail : Bool → List Fault → Option MetaState → TurnPlace → Placement → ℕ → ℕ → Reason → Type 0
+-- memory is wanted, which may come at any position. Where disks don't tell what they hold, nothing is said of a bootstrap's end and of fences, which the files decide.
+abbrev pub MayFail : Bool → List Fault → Option MetaState → TurnPosition → Placement → ℕ → ℕ → Reason → Type 0
 MayFail tells faults start p place shard node reason.Down = IsStoppedAt p place node ⊎ IsClosedByFault faults start p place shard node
 MayFail tells faults start p place shard node reason.Boot = tells ≡ true → WaitsForBoot start p place shard node
 MayFail tells faults start p place shard node reason.NotOwned = IsUnowned tells start p place shard node
@@ -55,7 +55,7 @@ pub record IsOutside (Outside : Rules → Point → Type 0) (rules : Rules) (a :
   pub outside : Outside rules point
 
 -- why it may refuse a call: its messages aren't delivered, the point isn't in the window, or the replica refuses whatever it is asked
-abbrev pub MayRefuse : Bool → List Fault → Option MetaState → TurnPlace → Placement → ℕ → ℕ → Reason → Type 0
+abbrev pub MayRefuse : Bool → List Fault → Option MetaState → TurnPosition → Placement → ℕ → ℕ → Reason → Type 0
 MayRefuse tells faults start p place shard node reason.Cut = IsCutAt p place node
 MayRefuse tells faults start p place shard node reason.Past = IsOutside IsPast (rules_at start p) p.turn.act
 MayRefuse tells faults start p place shard node reason.Future = IsOutside IsFuture (rules_at start p) p.turn.act

@@ -19,13 +19,13 @@ pub record InnerTurn : Type 0 where
   pub act : Act
   pub answer : Answer
 
--- acts with the answers in their places
+-- acts with the answers at their positions
 abbrev pub answered : List Act → List Answer → List InnerTurn
 answered [] answers = []
 answered (a ∷ acts) [] = []
 answered (a ∷ acts) (b ∷ answers) = record { act = a; answer = b } ∷ answered acts answers
 
--- lists of acts with the lists of answers in their places
+-- lists of acts with the lists of answers at their positions
 abbrev pub answered_lists : List (List Act) → List (List Answer) → List (List InnerTurn)
 answered_lists [] answers = []
 answered_lists (a ∷ acts) [] = []
@@ -86,24 +86,24 @@ pub record Life : Type 0 where
   pub past : List Record
   pub present : Record
 
--- ---- places of turns
+-- ---- positions of turns
 
 -- An inner turn of the present run, with what stands before and beside it.
-pub record TurnPlace : Type 0 where
+pub record TurnPosition : Type 0 where
   pub lines : List Turn  -- the earlier lines of the run
   pub line : Turn  -- its own line
-  pub client : ℕ  -- whose list it is in: 0 outside `par`, and in it one more than the list's place
+  pub client : ℕ  -- whose list it is in: 0 outside `par`, and in it one more than the list's position
   pub earlier : List InnerTurn  -- earlier in its own list
   pub beside : List InnerTurn  -- in the other lists of its own line
   pub turn : InnerTurn
 
--- who makes the turns of the list at this place of a line; workers' lists come after those of the clients
+-- who makes the turns of the list at this position of a line; workers' lists come after those of the clients
 abbrev pub client_at : Request → ℕ → ℕ
-client_at (request.One a) place = 0
-client_at (request.Par clients workers) place = suc place
+client_at (request.One a) position = 0
+client_at (request.Par clients workers) position = suc position
 
 -- the turn stands so in its own line
-pub record IsInLine (p : TurnPlace) : Type 0 where
+pub record IsInLine (p : TurnPosition) : Type 0 where
   pub front : List (List InnerTurn)
   pub later : List InnerTurn
   pub back : List (List InnerTurn)
@@ -111,14 +111,14 @@ pub record IsInLine (p : TurnPlace) : Type 0 where
   pub others : p.beside ≡ joined front ++ joined back
   pub client_is : p.client ≡ client_at p.line.request (length front)
 
--- a place of an inner turn in the turns of a run
-pub record IsTurnPlace (turns : List Turn) (p : TurnPlace) : Type 0 where
+-- a position of an inner turn in the turns of a run
+pub record IsTurnPosition (turns : List Turn) (p : TurnPosition) : Type 0 where
   pub after : List Turn
   pub in_run : turns ≡ p.lines ++ p.line ∷ after
   pub stands : IsInLine p
 
--- a place of an inner turn in the line that comes after these
-pub record IsLastTurnPlace (turns : List Turn) (line : Turn) (p : TurnPlace) : Type 0 where
+-- a position of an inner turn in the line that comes after these
+pub record IsLastTurnPosition (turns : List Turn) (line : Turn) (p : TurnPosition) : Type 0 where
   pub lines_are : p.lines ≡ turns
   pub line_is : p.line ≡ line
   pub stands : IsInLine p
@@ -126,11 +126,11 @@ pub record IsLastTurnPlace (turns : List Turn) (line : Turn) (p : TurnPlace) : T
 -- ---- before
 
 -- all that earlier runs, earlier lines and its own list did before an inner turn
-abbrev pub turns_before : List Record → TurnPlace → List InnerTurn
+abbrev pub turns_before : List Record → TurnPosition → List InnerTurn
 turns_before past p = flat_map (λ run. inner_turns run.turns) past ++ (inner_turns p.lines ++ p.earlier)
 
 -- one inner turn is before another
-abbrev pub IsBefore : List Record → InnerTurn → TurnPlace → Type 0
+abbrev pub IsBefore : List Record → InnerTurn → TurnPosition → Type 0
 IsBefore past turn p = IsIn (turns_before past p) turn
 
 -- the first are some of the others, in their order
@@ -140,7 +140,7 @@ AreSomeOf (x ∷ xs) [] = ⊥
 AreSomeOf (x ∷ xs) (y ∷ ys) = ((x ≡ y) × AreSomeOf xs ys) ⊎ AreSomeOf (x ∷ xs) ys
 
 -- the turns of its run after which a turn may have been answered: all that are before it, and some of those in the other lists of its line
-pub record IsAfter (p : TurnPlace) (turns : List InnerTurn) : Type 0 where
+pub record IsAfter (p : TurnPosition) (turns : List InnerTurn) : Type 0 where
   pub others : List InnerTurn
   pub some_of : AreSomeOf others p.beside
   pub are : turns ≡ inner_turns p.lines ++ (p.earlier ++ others)

@@ -1,8 +1,8 @@
--- What the turns before an act refuse it for: its place among the lines, a name, a limit, a moment.
+-- What the turns before an act refuse it for: its position among the lines, a name, a limit, a moment.
 use Rattle.std.specs.Prelude.{ℕ, suc, ◌-◌, List, length, Option, Some, None, option_map, option_and_then, Bool, true, false, if◌then◌else◌, not, is_some, nat_eq, nat_le, nat_lt, ◌∷◌, [], decimal}
 use Rattle.std.specs.List.{list_any}
 use Rattle.std.specs.Option.{option_map_or, option_or}
-use Rattle.m3_model.specs.Rules.{namespace_place}
+use Rattle.m3_model.specs.Rules.{namespace_position}
 use Rattle.placement_core.specs.NodeNames.{is_listed}
 use Rattle.m3_model.specs.declared.placement.Placement.{Placement}
 use Rattle.m3_model.specs.declared.rules.Space.{Space}
@@ -17,7 +17,7 @@ use Rattle.placement_acts.specs.Acts.{answer_if, names_due, versions_due}
 
 -- a name that the act is to make is there already
 abbrev pub is_taken : Placement → List Space → Act → Bool
-is_taken place spaces (act.Namespace name block past future retention) = is_some (namespace_place name spaces)
+is_taken place spaces (act.Namespace name block past future retention) = is_some (namespace_position name spaces)
 is_taken place spaces (act.Add node group) = is_listed node place
 is_taken place spaces (act.Replace node by group) = is_listed by place
 is_taken place spaces _ = false
@@ -29,7 +29,7 @@ is_out_of_order place spaces a = option_map_or (λ p. is_taken p spaces a) place
 
 -- the name, where no namespace has it
 abbrev pub missing_space : List Space → List ℕ → Option (List ℕ)
-missing_space spaces name = if is_some (namespace_place name spaces) then None else Some name
+missing_space spaces name = if is_some (namespace_position name spaces) then None else Some name
 
 -- the name, where no listed node has it
 abbrev pub missing_node : Option Placement → List ℕ → Option (List ℕ)

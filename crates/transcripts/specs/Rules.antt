@@ -6,7 +6,7 @@ use Rattle.m3_model.specs.declared.act.Act.{Act}
 use Rattle.m3_model.specs.declared.act.Act.TheVariants as act
 use Rattle.m3_model.specs.declared.answer.Answer.{Answer}
 use Rattle.m3_model.specs.declared.answer.Answer.TheVariants as answer
-use Rattle.transcripts.specs.Record.{InnerTurn, TurnPlace, inner_turns}
+use Rattle.transcripts.specs.Record.{InnerTurn, TurnPosition, inner_turns}
 
 -- a run without a saved state begins at moment 0 without namespaces
 abbrev pub start_rules : Option MetaState → Rules
@@ -23,6 +23,6 @@ rules_by _ _ rules = rules
 abbrev pub rules_after : Rules → List InnerTurn → Rules
 rules_after rules turns = fold (λ r turn. rules_by turn.act turn.answer r) rules turns
 
--- the rules at a place of a run: its lists don't change them, so its own line doesn't count
-abbrev pub rules_at : Option MetaState → TurnPlace → Rules
+-- the rules at a position of a run: its lists don't change them, so its own line doesn't count
+abbrev pub rules_at : Option MetaState → TurnPosition → Rules
 rules_at start p = rules_after (start_rules start) (inner_turns p.lines)

@@ -13,7 +13,7 @@ use Rattle.placement_core.specs.Shards.{nodes_of, shard_at}
 use Rattle.transcripts.specs.Faults.{Fault}
 use Rattle.transcripts.specs.Placements.{MayStand}
 use Rattle.transcripts.specs.Reasons.{MayFail}
-use Rattle.transcripts.specs.Record.{TurnPlace}
+use Rattle.transcripts.specs.Record.{TurnPosition}
 use Rattle.transcripts.specs.Rules.{rules_at}
 
 -- ---- the members of a placement
@@ -48,7 +48,7 @@ abbrev pub failed_in : List Entry → List (ℕ × ℕ × Reason)
 failed_in entries = filter_map (λ e. option_map (λ why. (e.node, e.shard, why)) (result_err e.said)) entries
 
 -- each member of a placement that stands did it or refused
-pub record IsSweptOver (start : Option MetaState) (p : TurnPlace) (done : List (ℕ × ℕ × ℕ)) (failed : List (ℕ × ℕ × Reason)) : Type 0 where
+pub record IsSweptOver (start : Option MetaState) (p : TurnPosition) (done : List (ℕ × ℕ × ℕ)) (failed : List (ℕ × ℕ × Reason)) : Type 0 where
   pub place : Placement
   pub stands : MayStand start p place
   pub entries : List Entry
@@ -57,14 +57,14 @@ pub record IsSweptOver (start : Option MetaState) (p : TurnPlace) (done : List (
   pub failed_are : failed ≡ failed_in entries
 
 -- and those that refused have their causes
-pub record IsSwept (tells : Bool) (faults : List Fault) (start : Option MetaState) (p : TurnPlace) (done : List (ℕ × ℕ × ℕ)) (failed : List (ℕ × ℕ × Reason)) : Type 0 where
+pub record IsSwept (tells : Bool) (faults : List Fault) (start : Option MetaState) (p : TurnPosition) (done : List (ℕ × ℕ × ℕ)) (failed : List (ℕ × ℕ × Reason)) : Type 0 where
   pub over : IsSweptOver start p done failed
   pub refused : (x : ℕ × ℕ × Reason) → IsIn failed x → MayFail tells faults start p over.place x.1 x.0 x.2
 
 -- ---- status
 
 -- A `status` has the moment, the version of a placement that stands, and one line of each of its members, with the state in which it has its shard.
-pub record IsStatus (start : Option MetaState) (p : TurnPlace) (now : ℕ) (lines : List StatusLine) (version : ℕ) : Type 0 where
+pub record IsStatus (start : Option MetaState) (p : TurnPosition) (now : ℕ) (lines : List StatusLine) (version : ℕ) : Type 0 where
   pub place : Placement
   pub stands : MayStand start p place
   pub now_is : now ≡ (rules_at start p).now

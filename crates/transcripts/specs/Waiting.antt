@@ -11,7 +11,7 @@ use Rattle.m3_model.specs.declared.rules.MetaState.{MetaState}
 use Rattle.m3_model.specs.declared.turn.Turn.{Turn}
 use Rattle.transcripts.specs.Fates.{OfNode}
 use Rattle.transcripts.specs.Placements.{has_replica, placement_after, start_placement}
-use Rattle.transcripts.specs.Record.{InnerTurn, TurnPlace, inner_turns}
+use Rattle.transcripts.specs.Record.{InnerTurn, TurnPosition, inner_turns}
 
 -- the bootstrap is of this shard: of all of its node's, or of this one
 abbrev pub is_covering : ℕ → Option ℕ → Bool
@@ -63,11 +63,11 @@ abbrev pub waiting_after : Replica → Option MetaState → List Turn → Waitin
 waiting_after x start lines = fold (waiting_by x) (record { place = start_placement start; waits = is_member x (start_placement start) }) lines
 
 -- the replica waits for a bootstrap at this turn
-abbrev pub waits_at : Replica → Option MetaState → TurnPlace → Bool
+abbrev pub waits_at : Replica → Option MetaState → TurnPosition → Bool
 waits_at x start p =
     let before = waiting_after x start p.lines in
     waits_after x (is_member x before.place && is_member x (placement_after before.place (p.earlier ++ p.beside))) p.earlier before.waits
 
 -- the same of a node by its number
-abbrev pub WaitsForBoot : Option MetaState → TurnPlace → Placement → ℕ → ℕ → Type 0
+abbrev pub WaitsForBoot : Option MetaState → TurnPosition → Placement → ℕ → ℕ → Type 0
 WaitsForBoot start p place shard node = OfNode place node (λ name. waits_at (record { shard = shard; node = node; name = name }) start p ≡ true)

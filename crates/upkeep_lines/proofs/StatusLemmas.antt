@@ -23,7 +23,7 @@ use Rattle.cluster_core.specs.declared.event.StepCall.TheVariants as call
 use Rattle.cluster_core.specs.declared.event.StepReply.TheVariants as reply
 use Rattle.session_net.specs.Runs.{slot_at}
 use Rattle.told_by.specs.Hears.{Happens, HearsStatus, InStretch}
-use Rattle.told_by.specs.Lines.{place_after}
+use Rattle.told_by.specs.Lines.{position_after}
 use Rattle.told_by.specs.Makes.{MayAsk, MayMake}
 use Rattle.told_runs.proofs.MemberLemmas.{listed_member}
 use Rattle.transcripts.specs.Sweeps.{IsStatus}
@@ -34,13 +34,13 @@ use Rattle.cluster_upkeep.specs.Status.{report_of, told_at}
 use Rattle.cluster_upkeep.specs.Upkeep.{HasTold}
 use Rattle.cluster_upkeep.proofs.SweepLemmas.{told_long, told_quiet}
 use Rattle.act_lines.specs.Nodes.{LeavesStanding}
-use Rattle.act_lines.specs.Stands.{Stands}
+use Rattle.act_lines.specs.Stands.{ClusterStands}
 use Rattle.act_lines.proofs.GrowLemmas.{happens_in}
 use Rattle.act_lines.proofs.HaltLemmas.{IsHaltOf, plain_so}
 use Rattle.upkeep_lines.specs.Upkeep.{StatusTells}
 use Rattle.upkeep_lines.proofs.UpkeepLemmas.{MayBeAsked, leaves_standing, rules_here, slot_there, stands_here}
 
-module _ {D : Type 0} {G : Ghosts D} (state : D → DiskState) (start : Option MetaState) (turns : List Turn) (old new : Members D G) (stands : Stands start turns old) (now : ℕ) (lines : List StatusLine) (version : ℕ) (h : HasTold state old now lines version new) where
+module _ {D : Type 0} {G : Ghosts D} (state : D → DiskState) (start : Option MetaState) (turns : List Turn) (old new : Members D G) (stands : ClusterStands start turns old) (now : ℕ) (lines : List StatusLine) (version : ℕ) (h : HasTold state old now lines version new) where
   abbrev b : Answer
   b = answer.Status now lines version
 
@@ -82,7 +82,7 @@ module _ {D : Type 0} {G : Ghosts D} (state : D → DiskState) (start : Option M
     each = λ line m. (listed_member old.net.state.place line.shard line.node (member line m), (report_of line, refl, refl, happens_in events more (step_of line) (flat-IsIn told_at lines line (step_of line) m (inl refl))));
   }
 
-  status_is : IsStatus start (place_after turns act.Status b) now lines version
+  status_is : IsStatus start (position_after turns act.Status b) now lines version
   status_is = record {
     place = old.net.state.place;
     stands = stands_here start turns old stands act.Status b;
@@ -97,8 +97,8 @@ module _ {D : Type 0} {G : Ghosts D} (state : D → DiskState) (start : Option M
 
   told : LeavesStanding start turns old act.Status b new
   told = leaves_standing state start turns old new stands act.Status b (plain_so act.Status b (λ nodes e. cc) (λ u. u) refl refl refl) tt tt (λ available place from e. cc) IsReport (record {
-    asks = λ past n s c is. subst (λ x. MayAsk start past (place_after turns act.Status b) act.Status (asked.Step n s x)) (sym is) tt;
-    steps = λ past n s c r is. subst (λ x. MayMake start past (place_after turns act.Status b) (event.Step n s x r)) (sym is) tt;
+    asks = λ past n s c is. subst (λ x. MayAsk start past (position_after turns act.Status b) act.Status (asked.Step n s x)) (sym is) tt;
+    steps = λ past n s c r is. subst (λ x. MayMake start past (position_after turns act.Status b) (event.Step n s x r)) (sym is) tt;
     calm = λ c is. subst IsCalmCall (sym is) tt;
     no_restart = λ is. cc;
   }) more h.ran each h.keeps heard few tt status_is (told_quiet lines)

@@ -29,7 +29,7 @@ use Rattle.replica_exchange.specs.declared.slot.Slot.{Slot}
 use Rattle.session_net.specs.Messages.{exchange}
 use Rattle.session_net.specs.Runs.{slot_at}
 use Rattle.told_by.specs.Hears.{Happens, HasStep, HearsReason, HearsSwept, InStretch, IsSweepCall}
-use Rattle.told_by.specs.Lines.{IsPlain, place_after}
+use Rattle.told_by.specs.Lines.{IsPlain, position_after}
 use Rattle.told_by.specs.Makes.{MayAsk, MayMake}
 use Rattle.told_runs.specs.Answers.{IsOfKind}
 use Rattle.transcripts.specs.Reasons.{IsShown}
@@ -43,7 +43,7 @@ use Rattle.cluster_upkeep.specs.Sweeps.{asked_at}
 use Rattle.cluster_upkeep.specs.Upkeep.{HasSwept}
 use Rattle.cluster_upkeep.proofs.SweepLemmas.{asked_quiet}
 use Rattle.act_lines.specs.Nodes.{LeavesStanding}
-use Rattle.act_lines.specs.Stands.{Stands}
+use Rattle.act_lines.specs.Stands.{ClusterStands}
 use Rattle.act_lines.proofs.BootLemmas.{form_shown}
 use Rattle.act_lines.proofs.GrowLemmas.{happens_in}
 use Rattle.act_lines.proofs.HaltLemmas.{IsHaltOf, exchange_halts, plain_so}
@@ -56,7 +56,7 @@ reason_heard Here Kind n s reason.Memory shown step = tt
 reason_heard Here Kind n s (reason.Corrupt damage) shown step = (shown damage refl, step)
 reason_heard Here Kind n s why shown step = step
 
-module _ {D : Type 0} {G : Ghosts D} (state : D → DiskState) (start : Option MetaState) (turns : List Turn) (old new : Members D G) (stands : Stands start turns old) (c : StepCall) (done : List (ℕ × ℕ × ℕ)) (failed : List (ℕ × ℕ × Reason)) (h : HasSwept state c old done failed new)
+module _ {D : Type 0} {G : Ghosts D} (state : D → DiskState) (start : Option MetaState) (turns : List Turn) (old new : Members D G) (stands : ClusterStands start turns old) (c : StepCall) (done : List (ℕ × ℕ × ℕ)) (failed : List (ℕ × ℕ × Reason)) (h : HasSwept state c old done failed new)
     (a : Act) (kind : IsSweepCall a c) where
   abbrev b : Answer
   b = answer.Swept done failed
@@ -100,42 +100,42 @@ module _ {D : Type 0} {G : Ghosts D} (state : D → DiskState) (start : Option M
       of_damage : (said : Result ℕ Reason) (why : Reason) (damage : Damage) → said ≡ Err why → why ≡ reason.Corrupt damage → IsErrOf said (reason.Corrupt damage)
       of_damage said why damage e f = e ∙ ap (λ (r : Reason). Err r) f
 
-  over : IsSweptOver start (place_after turns a b) done failed
+  over : IsSweptOver start (position_after turns a b) done failed
   over = record { place = old.net.state.place; stands = stands_here start turns old stands a b; entries = h.entries; members = h.members; done_are = h.done_are; failed_are = h.failed_are }
 
   few : length more ≤ MOST_REQUEST_EVENTS
   few = let long = flat_long (asked_at c) (λ e. refl) h.entries in let low = h.few in omega (arith, long, low)
 
   -- where the turn may ask so, it is told and served
-  swept_so : IsPlain a b → MayBeAsked IsIt start turns a b → (IsSweptOver start (place_after turns a b) done failed → IsOfKind [] start (place_after turns a b) a b) → LeavesStanding start turns old a b new
+  swept_so : IsPlain a b → MayBeAsked IsIt start turns a b → (IsSweptOver start (position_after turns a b) done failed → IsOfKind [] start (position_after turns a b) a b) → LeavesStanding start turns old a b new
   swept_so plain may of_kind = leaves_standing state start turns old new stands a b plain tt tt (λ available place version e. cc) IsIt may more h.ran each h.keeps heard few tt (of_kind over) (asked_quiet c h.entries)
 
 -- ---- each act
 
-module _ {D : Type 0} {G : Ghosts D} (state : D → DiskState) (start : Option MetaState) (turns : List Turn) (old new : Members D G) (stands : Stands start turns old) (done : List (ℕ × ℕ × ℕ)) (failed : List (ℕ × ℕ × Reason)) where
+module _ {D : Type 0} {G : Ghosts D} (state : D → DiskState) (start : Option MetaState) (turns : List Turn) (old new : Members D G) (stands : ClusterStands start turns old) (done : List (ℕ × ℕ × ℕ)) (failed : List (ℕ × ℕ × Reason)) where
   abbrev swept : Answer
   swept = answer.Swept done failed
 
   tick_tells : HasSwept state (call.Tick old.net.state.rules) old done failed new → LeavesStanding start turns old act.Tick swept new
   tick_tells h = swept_so state start turns old new stands (call.Tick old.net.state.rules) done failed h act.Tick tt (plain_so act.Tick swept (λ nodes e. cc) (λ u. u) refl refl refl) (record {
-    asks = λ past n s c is. subst (λ x. MayAsk start past (place_after turns act.Tick swept) act.Tick (asked.Step n s x)) (sym is) (rules_here start turns old stands act.Tick swept);
-    steps = λ past n s c r is. subst (λ x. MayMake start past (place_after turns act.Tick swept) (event.Step n s x r)) (sym is) tt;
+    asks = λ past n s c is. subst (λ x. MayAsk start past (position_after turns act.Tick swept) act.Tick (asked.Step n s x)) (sym is) (rules_here start turns old stands act.Tick swept);
+    steps = λ past n s c r is. subst (λ x. MayMake start past (position_after turns act.Tick swept) (event.Step n s x r)) (sym is) tt;
     calm = λ c is. subst IsCalmCall (sym is) tt;
     no_restart = λ is. cc;
   }) (λ over. over)
 
   flush_tells : HasSwept state (call.Flush old.net.state.rules) old done failed new → LeavesStanding start turns old act.Flush swept new
   flush_tells h = swept_so state start turns old new stands (call.Flush old.net.state.rules) done failed h act.Flush tt (plain_so act.Flush swept (λ nodes e. cc) (λ u. u) refl refl refl) (record {
-    asks = λ past n s c is. subst (λ x. MayAsk start past (place_after turns act.Flush swept) act.Flush (asked.Step n s x)) (sym is) (rules_here start turns old stands act.Flush swept);
-    steps = λ past n s c r is. subst (λ x. MayMake start past (place_after turns act.Flush swept) (event.Step n s x r)) (sym is) tt;
+    asks = λ past n s c is. subst (λ x. MayAsk start past (position_after turns act.Flush swept) act.Flush (asked.Step n s x)) (sym is) (rules_here start turns old stands act.Flush swept);
+    steps = λ past n s c r is. subst (λ x. MayMake start past (position_after turns act.Flush swept) (event.Step n s x r)) (sym is) tt;
     calm = λ c is. subst IsCalmCall (sym is) tt;
     no_restart = λ is. cc;
   }) (λ over. over)
 
   snapshot_tells : HasSwept state call.Snapshot old done failed new → LeavesStanding start turns old act.Snapshot swept new
   snapshot_tells h = swept_so state start turns old new stands call.Snapshot done failed h act.Snapshot tt (plain_so act.Snapshot swept (λ nodes e. cc) (λ u. u) refl refl refl) (record {
-    asks = λ past n s c is. subst (λ x. MayAsk start past (place_after turns act.Snapshot swept) act.Snapshot (asked.Step n s x)) (sym is) tt;
-    steps = λ past n s c r is. subst (λ x. MayMake start past (place_after turns act.Snapshot swept) (event.Step n s x r)) (sym is) tt;
+    asks = λ past n s c is. subst (λ x. MayAsk start past (position_after turns act.Snapshot swept) act.Snapshot (asked.Step n s x)) (sym is) tt;
+    steps = λ past n s c r is. subst (λ x. MayMake start past (position_after turns act.Snapshot swept) (event.Step n s x r)) (sym is) tt;
     calm = λ c is. subst IsCalmCall (sym is) tt;
     no_restart = λ is. cc;
   }) (λ over. over)

@@ -28,13 +28,13 @@ use Rattle.session_net.specs.Ready.{IsReady}
 use Rattle.session_net.specs.Runs.{Ran, slot_at}
 use Rattle.session_net.proofs.ReadyLemmas.{AreQuiet}
 use Rattle.told_by.specs.Hears.{HearsBy, InStretch}
-use Rattle.told_by.specs.Lines.{IsPlain, MayChange, PlainLine, place_after}
+use Rattle.told_by.specs.Lines.{IsPlain, MayChange, PlainLine, position_after}
 use Rattle.told_by.specs.Makes.{MayAsk, MayMake}
 use Rattle.told_by.proofs.LeaveLemmas.{place_there}
 use Rattle.told_by.proofs.OneLemmas.{among_back}
 use Rattle.told_runs.specs.Answers.{HearsOf, IsOfKind}
 use Rattle.transcripts.specs.Placements.{MayStand}
-use Rattle.transcripts.specs.Record.{TurnPlace, inner_turns, line_of}
+use Rattle.transcripts.specs.Record.{TurnPosition, inner_turns, line_of}
 use Rattle.transcripts.specs.Rules.{rules_at}
 use Rattle.call_lines.specs.Laws.{IsCalm, IsCalmCall, LeavesLine}
 use Rattle.call_lines.proofs.KeepLemmas.{left_as_before}
@@ -45,7 +45,7 @@ use Rattle.cluster_upkeep.proofs.RunLemmas.{ready_still}
 use Rattle.act_lines.specs.Due.{IsDueNext}
 use Rattle.act_lines.specs.Nodes.{LeavesStanding}
 use Rattle.act_lines.specs.Quiet.{DeliversNone, SetsNone}
-use Rattle.act_lines.specs.Stands.{Stands}
+use Rattle.act_lines.specs.Stands.{ClusterStands}
 use Rattle.act_lines.specs.Stays.{HaveNoPlace}
 use Rattle.act_lines.proofs.DueLemmas.{refused_by}
 use Rattle.act_lines.proofs.HaltLemmas.{IsHaltOf, halt_no_place, halt_step}
@@ -69,18 +69,18 @@ upkeep_is_due start turns place rules left a b is = by a is
 
 -- the turn may ask each slot for calls of this kind, and have it step so; these restart, begin and end nothing
 pub record MayBeAsked (Kind : StepCall → Type 0) (start : Option MetaState) (turns : List Turn) (a : Act) (b : Answer) : Type 0 where
-  pub asks : (past : List Event) (n s : ℕ) (c : StepCall) → Kind c → MayAsk start past (place_after turns a b) a (asked.Step n s c)
-  pub steps : (past : List Event) (n s : ℕ) (c : StepCall) (r : StepReply) → Kind c → MayMake start past (place_after turns a b) (event.Step n s c r)
+  pub asks : (past : List Event) (n s : ℕ) (c : StepCall) → Kind c → MayAsk start past (position_after turns a b) a (asked.Step n s c)
+  pub steps : (past : List Event) (n s : ℕ) (c : StepCall) (r : StepReply) → Kind c → MayMake start past (position_after turns a b) (event.Step n s c r)
   pub calm : (c : StepCall) → Kind c → IsCalmCall c
   pub no_restart : Kind call.Restart → ⊥
 
-module _ {D : Type 0} {G : Ghosts D} (start : Option MetaState) (turns : List Turn) (old : Members D G) (stands : Stands start turns old) where
+module _ {D : Type 0} {G : Ghosts D} (start : Option MetaState) (turns : List Turn) (old : Members D G) (stands : ClusterStands start turns old) where
   -- the rules are those of the turn
-  pub rules_here : (a : Act) (b : Answer) → old.net.state.rules ≡ rules_at start (place_after turns a b)
+  pub rules_here : (a : Act) (b : Answer) → old.net.state.rules ≡ rules_at start (position_after turns a b)
   rules_here a b = sym stands.left.rules
 
   -- and the placement stands
-  pub stands_here : (a : Act) (b : Answer) → MayStand start (place_after turns a b) old.net.state.place
+  pub stands_here : (a : Act) (b : Answer) → MayStand start (position_after turns a b) old.net.state.place
   stands_here a b = (inner_turns turns, record { others = []; some_of = tt; are = sym (append-nil (inner_turns turns)) }, stands.left.place)
 
   -- a replica of it has a slot
@@ -89,7 +89,7 @@ module _ {D : Type 0} {G : Ghosts D} (start : Option MetaState) (turns : List Tu
 
 -- ---- the line
 
-module _ {D : Type 0} {G : Ghosts D} (state : D → DiskState) (start : Option MetaState) (turns : List Turn) (old new : Members D G) (stands : Stands start turns old) (a : Act) (b : Answer) (plain : IsPlain a b) (sets : SetsNone b) (delivers : DeliversNone b)
+module _ {D : Type 0} {G : Ghosts D} (state : D → DiskState) (start : Option MetaState) (turns : List Turn) (old new : Members D G) (stands : ClusterStands start turns old) (a : Act) (b : Answer) (plain : IsPlain a b) (sets : SetsNone b) (delivers : DeliversNone b)
     (no_boot : (available : List (ℕ × List ℕ)) (place : Placement) (version : ℕ) → b ≡ answer.Available available place version → ⊥) (Kind : StepCall → Type 0) (may : MayBeAsked Kind start turns a b) (more : List Event)
     (ran : Ran state old.net.replicas more new.net.replicas) (each : (e : Event) → IsIn more e → IsHaltOf Kind old.slots.items e) (keeps : KeepsButBoots old new) where
   abbrev pub events : List Event
@@ -98,8 +98,8 @@ module _ {D : Type 0} {G : Ghosts D} (state : D → DiskState) (start : Option M
   abbrev pub whole : List Event
   whole = events ++ more
 
-  abbrev pub p : TurnPlace
-  p = place_after turns a b
+  abbrev pub p : TurnPosition
+  p = position_after turns a b
 
   no_place : HaveNoPlace more
   no_place e m = halt_no_place Kind old.slots.items e (each e m)
@@ -164,7 +164,7 @@ module _ {D : Type 0} {G : Ghosts D} (state : D → DiskState) (start : Option M
       subst (λ st. IsReady st new.net.replicas new.net.bag) (sym keeps.keeps.state)
       (subst (IsReady old.net.state new.net.replicas) (sym keeps.keeps.bag) (ready_still state old.net.replicas new.net.replicas more ran old.net.state old.net.bag stands.ready quiet))
 
-  stands_so : AreQuiet more → Stands start (turns ++ line_of a b ∷ []) new
+  stands_so : AreQuiet more → ClusterStands start (turns ++ line_of a b ∷ []) new
   stands_so quiet =
       let place = ap (λ (s : MetaState). s.place) keeps.keeps.state in
       stands_on state start turns old stands a b new place more ran no_place (λ n s c r m. halt_step Kind old.slots.items n s c r (each (event.Step n s c r) m)) keeps.keeps.slots

@@ -17,7 +17,7 @@ use Rattle.cluster_members.specs.declared.members.Members.{Members}
 use Rattle.cluster_upkeep.specs.Upkeep.{HasSwept, HasTold}
 use Rattle.act_lines.specs.Due.{IsDueNext, WhereLeft}
 use Rattle.act_lines.specs.Nodes.{LeavesStanding}
-use Rattle.act_lines.specs.Stands.{Stands}
+use Rattle.act_lines.specs.Stands.{ClusterStands}
 
 -- ---- sweeps
 
@@ -32,14 +32,14 @@ sweep_call _ rules = None
 abbrev pub SweptTells : {D : Type 0} {G : Ghosts D} → (D → DiskState) → Members D G → Type 0
 SweptTells {D} {G} state old =
     (start : Option MetaState) (turns : List Turn) (new : Members D G) (a : Act) (c : StepCall) (done : List (ℕ × ℕ × ℕ)) (failed : List (ℕ × ℕ × Reason)) → sweep_call a old.net.state.rules ≡ Some c
-    → Stands start turns old → HasSwept state c old done failed new → LeavesStanding start turns old a (answer.Swept done failed) new
+    → ClusterStands start turns old → HasSwept state c old done failed new → LeavesStanding start turns old a (answer.Swept done failed) new
 
 -- ---- status
 
 -- so it does of a `status`
 abbrev pub StatusTells : {D : Type 0} {G : Ghosts D} → (D → DiskState) → Members D G → Type 0
 StatusTells {D} {G} state old =
-    (start : Option MetaState) (turns : List Turn) (new : Members D G) (now : ℕ) (lines : List StatusLine) (version : ℕ) → Stands start turns old → HasTold state old now lines version new
+    (start : Option MetaState) (turns : List Turn) (new : Members D G) (now : ℕ) (lines : List StatusLine) (version : ℕ) → ClusterStands start turns old → HasTold state old now lines version new
     → LeavesStanding start turns old act.Status (answer.Status now lines version) new
 
 -- ---- refusals

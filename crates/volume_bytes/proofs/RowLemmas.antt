@@ -14,7 +14,7 @@ use Rattle.m3_model.specs.declared.point.Series.{Series}
 use Rattle.wire_bytes.specs.Volumes.{id_bytes, pair_bytes, row_bytes, data_bytes, index_entry, index_from, span_bytes, summaries_from, count_of}
 use Rattle.wire_bytes.proofs.NumberLemmas.{length_number}
 
--- what is left from the place of an item
+-- what is left from the offset of an item
 pub left_at : {X : Type 0} (xs : List X) (i : ℕ) (x : X) → i < length xs → x ≡ get_or xs i x → drop i xs ≡ x ∷ drop (i + 1) xs
 left_at xs i x lt is = rw add-one (drop-cons xs i x lt) ∙ ap (λ y. y ∷ drop (i + 1) xs) (sym is)
 
@@ -58,10 +58,10 @@ length_entry at s =
 
 -- ---- one series more
 
-pub entry_is : (old a b d id : List ℕ) (at place len : ℕ) (s : Series) → a ≡ old ++ id_bytes id → id ≡ s.id → b ≡ a ++ big_bytes 8 at → at ≡ place → d ≡ b ++ big_bytes 4 len → len ≡ length (row_bytes s) → d ≡ old ++ index_entry 1 place s
-entry_is old a b d id at place len s first named second stands third long =
+pub entry_is : (old a b d id : List ℕ) (at offset len : ℕ) (s : Series) → a ≡ old ++ id_bytes id → id ≡ s.id → b ≡ a ++ big_bytes 8 at → at ≡ offset → d ≡ b ++ big_bytes 4 len → len ≡ length (row_bytes s) → d ≡ old ++ index_entry 1 offset s
+entry_is old a b d id at offset len s first named second stands third long =
     let x = id_bytes s.id in
-    let y = big_bytes 8 place in
+    let y = big_bytes 8 offset in
     let z = big_bytes 4 (length (row_bytes s)) in
     let none : List ℕ = [] in
     third
@@ -84,10 +84,10 @@ module _ (rows : List Series) (i : ℕ) (s : Series) (left : drop i rows ≡ s �
       ∙ before
 
   pub index_more : (old new whole : List ℕ) (at next : ℕ) → new ≡ old ++ index_entry 1 at s → next ≡ at + length (row_bytes s) → old ++ index_from 1 at (drop i rows) ≡ whole → new ++ index_from 1 next rest ≡ whole
-  index_more old new whole at next more place before =
+  index_more old new whole at next more offset before =
       ap (λ (l : List ℕ). l ++ index_from 1 next rest) more
       ∙ append_assoc old (index_entry 1 at s) (index_from 1 next rest)
-      ∙ ap (λ (n : ℕ). old ++ (index_entry 1 at s ++ index_from 1 n rest)) place
+      ∙ ap (λ (n : ℕ). old ++ (index_entry 1 at s ++ index_from 1 n rest)) offset
       ∙ ap (λ (l : List Series). old ++ index_from 1 at l) (sym left)
       ∙ before
 
@@ -96,10 +96,10 @@ module _ (rows : List Series) (i : ℕ) (s : Series) (left : drop i rows ≡ s �
       let one = ap count_of left ∙ sum_by-cons (λ (r : Series). length r.points) s rest in
       omega (arith, is, before, one)
 
-  pub summaries_more : (old new whole : List ℕ) (others next place after : ℕ) → ((l : List Series) → new ++ summaries_from 1 next (place + length (index_entry 1 0 s)) l ≡ old ++ summaries_from 1 others place (s ∷ l))
-      → after ≡ place + length (index_entry 1 0 s) → old ++ summaries_from 1 others place (drop i rows) ≡ whole → new ++ summaries_from 1 next after rest ≡ whole
-  summaries_more old new whole others next place after more is before =
-      ap (λ (n : ℕ). new ++ summaries_from 1 next n rest) is ∙ more rest ∙ ap (λ (l : List Series). old ++ summaries_from 1 others place l) (sym left) ∙ before
+  pub summaries_more : (old new whole : List ℕ) (others next offset after : ℕ) → ((l : List Series) → new ++ summaries_from 1 next (offset + length (index_entry 1 0 s)) l ≡ old ++ summaries_from 1 others offset (s ∷ l))
+      → after ≡ offset + length (index_entry 1 0 s) → old ++ summaries_from 1 others offset (drop i rows) ≡ whole → new ++ summaries_from 1 next after rest ≡ whole
+  summaries_more old new whole others next offset after more is before =
+      ap (λ (n : ℕ). new ++ summaries_from 1 next n rest) is ∙ more rest ∙ ap (λ (l : List Series). old ++ summaries_from 1 others offset l) (sym left) ∙ before
 
 -- one pair more
 pub pair_more : (pairs : List (ℕ × ℤ)) (i : ℕ) (old a new whole : List ℕ) (v : ℕ) → i < length pairs → All (λ (x : ℕ × ℤ). FitsSigned w64 x.1) pairs

@@ -8,7 +8,7 @@ ghost use Rattle.volume_bytes.specs.Bits.{number_at};
 use byteorder::{BigEndian, ByteOrder};
 use wire_bytes::digest;
 
-// Sets the bit whose number the four bytes at the place give, modulo the count of bits.
+// Sets the bit whose number the four bytes at the offset give, modulo the count of bits.
 fn set_bit(bits: &mut [bool], digest: &[u8; 32], at: usize)
     requires some { 0 < length bits.old }
     requires inside { at ≤ 28 }

@@ -10,7 +10,7 @@ use wire_bytes::{digest, put_number};
 /// Which volume of a disk, of format 1.
 #[derive(Clone, Copy, Debug, PartialEq, Eq)]
 pub struct Head {
-    /// The place of the namespace among the namespaces.
+    /// The position of the namespace among the namespaces.
     pub ns: u8,
     /// The first time of the block, and its size.
     pub start: u64,

@@ -26,17 +26,17 @@ pub struct Tables {
 // How many series come from one in the summaries to the next.
 const STEP: u32 = 16;
 
-// Appends the summary of a series whose entry in the index begins at this place, where none comes before it. Gives how many
+// Appends the summary of a series whose entry in the index begins at this offset, where none comes before it. Gives how many
 // series then come before the next summary.
-fn push_summary(out: &mut Vec<u8>, before: u32, id: &str, place: usize) -> Result<u32, Memory>
+fn push_summary(out: &mut Vec<u8>, before: u32, id: &str, offset: usize) -> Result<u32, Memory>
     requires long { length id.now ≤ MOST_ID_BYTES }
-    ensures { IfOk result (λ n. (row : Row) → row.id ≡ id.now → (rest : List Row) → out.new.items ++ summaries_from 1 n (place + length (index_entry 1 0 row)) rest ≡ out.old.items ++ summaries_from 1 before place (row ∷ rest)) }
+    ensures { IfOk result (λ n. (row : Row) → row.id ≡ id.now → (rest : List Row) → out.new.items ++ summaries_from 1 n (offset + length (index_entry 1 0 row)) rest ≡ out.old.items ++ summaries_from 1 before offset (row ∷ rest)) }
 {
     if before > 0 {
         return Ok(before - 1);
     }
     push_id(out, id)?;
-    put_number(out, 8, place as u64)?;
+    put_number(out, 8, offset as u64)?;
     Ok(STEP - 1)
 }
 

@@ -1,19 +1,22 @@
-ghost use Rattle.std.specs.Prelude.{◌≡◌, ◌≤◌, ◌↔◌, true, List, length, IfOk, IfErr, IsErrOf, IsTrue};
+ghost use Rattle.std.specs.Prelude.{◌≡◌, ◌≤◌, ◌↔◌, true, List, length, IfOk, IfErr, IfSome, IsErrOf, IsTrue};
 ghost use Rattle.m3_model.specs.declared.point.Series.{Series as Row};
 ghost use Rattle.m3_outside.specs.DiskState.{DiskState, Told};
 ghost use Rattle.m3_outside.specs.DiskCalls.{LeavesFiles};
 ghost use Rattle.shard_files.specs.Parts.{VolumeHolds};
 ghost use Rattle.volume_bytes.specs.Heads.{head_of};
+ghost use Rattle.fileset_read.specs.Rows.{IsSeriesOf};
 ghost use Rattle.fileset_read.specs.Volumes.{IsThere, IsUndamaged};
 ghost use Rattle.fileset_read.specs.declared.file_err.FileErr.TheVariants as failures;
+ghost use Rattle.volume_rows.specs.Seekers.{IsSeekerOf};
 ghost use Rattle.volume_points.specs.Candidates.{AreCandidates, IsOneOf, MayStand, one_or_none};
 
 use fileset_check::is_volume;
-use fileset_read::{FileErr, row, rows};
+use fileset_read::{FileErr, rows};
 use m3_model::{Memory, Pick, Seq, Series};
 use m3_outside::Disk;
 use std::alloc::Global;
 use volume_bytes::Head;
+use volume_rows::{Seeker, row_of, seeker_of};
 
 // The series as a list.
 fn one_or_none(alloc: Global, found: Option<Series>) -> Result<Seq<Series>, Memory>
@@ -26,19 +29,57 @@ fn one_or_none(alloc: Global, found: Option<Series>) -> Result<Seq<Series>, Memo
     Ok(Seq::from_vec(series))
 }
 
-// The series of one identifier.
-fn row_of<D: Disk>(
+// The series of one identifier, where nothing is kept of the volume.
+fn look_up<D: Disk>(
     alloc: Global,
     disk: &mut D,
     head: &Head,
     id: &str,
-) -> Result<Seq<Series>, FileErr>
+) -> Result<Option<Series>, FileErr>
     requires { Told (D.state disk.old) (IsThere (head_of head.now)) }
+    ensures leaves { LeavesFiles (IsErrOf result failures.Disk) (D.state disk.old) (D.state disk.new) }
+    ensures ok { (D.state disk.old).tells ≡ true → IfOk result (λ found. (rows : List Row) → VolumeHolds (head_of head.now) rows (D.state disk.old).files → IsSeriesOf id.now rows found) }
+    ensures sound { (D.state disk.old).tells ≡ true → IfErr result IsUndamaged }
+{
+    let seeker = seeker_of(alloc, disk, head)?;
+    row_of(alloc, disk, head, &seeker, id)
+}
+
+// The series of one identifier.
+fn look_up_kept<D: Disk>(
+    alloc: Global,
+    disk: &mut D,
+    head: &Head,
+    seeker: Option<&Seeker>,
+    id: &str,
+) -> Result<Option<Series>, FileErr>
+    requires there { Told (D.state disk.old) (IsThere (head_of head.now)) }
+    requires seeker { Told (D.state disk.old) (λ files. IfSome seeker (λ k. IsSeekerOf (head_of head.now) k.now files)) }
+    ensures leaves { LeavesFiles (IsErrOf result failures.Disk) (D.state disk.old) (D.state disk.new) }
+    ensures ok { (D.state disk.old).tells ≡ true → IfOk result (λ found. (rows : List Row) → VolumeHolds (head_of head.now) rows (D.state disk.old).files → IsSeriesOf id.now rows found) }
+    ensures sound { (D.state disk.old).tells ≡ true → IfErr result IsUndamaged }
+{
+    match seeker {
+        Some(seeker) => row_of(alloc, disk, head, seeker, id),
+        None => look_up(alloc, disk, head, id),
+    }
+}
+
+// The same as a list.
+fn one_of<D: Disk>(
+    alloc: Global,
+    disk: &mut D,
+    head: &Head,
+    seeker: Option<&Seeker>,
+    id: &str,
+) -> Result<Seq<Series>, FileErr>
+    requires there { Told (D.state disk.old) (IsThere (head_of head.now)) }
+    requires seeker { Told (D.state disk.old) (λ files. IfSome seeker (λ k. IsSeekerOf (head_of head.now) k.now files)) }
     ensures leaves { LeavesFiles (IsErrOf result failures.Disk) (D.state disk.old) (D.state disk.new) }
     ensures ok { (D.state disk.old).tells ≡ true → IfOk result (λ found. (rows : List Row) → VolumeHolds (head_of head.now) rows (D.state disk.old).files → IsOneOf id.now rows found) }
     ensures sound { (D.state disk.old).tells ≡ true → IfErr result IsUndamaged }
 {
-    let found = row(alloc, disk, head, id)?;
+    let found = look_up_kept(alloc, disk, head, seeker, id)?;
     match one_or_none(alloc, found) {
         Ok(series) => Ok(series),
         Err(_) => Err(FileErr::Memory),
@@ -50,15 +91,17 @@ pub(crate) fn candidates<D: Disk>(
     alloc: Global,
     disk: &mut D,
     head: &Head,
+    seeker: Option<&Seeker>,
     pick: &Pick,
 ) -> Result<Seq<Series>, FileErr>
-    requires { Told (D.state disk.old) (IsThere (head_of head.now)) }
+    requires there { Told (D.state disk.old) (IsThere (head_of head.now)) }
+    requires seeker { Told (D.state disk.old) (λ files. IfSome seeker (λ k. IsSeekerOf (head_of head.now) k.now files)) }
     ensures leaves { LeavesFiles (IsErrOf result failures.Disk) (D.state disk.old) (D.state disk.new) }
     ensures ok { (D.state disk.old).tells ≡ true → IfOk result (λ found. (rows : List Row) → VolumeHolds (head_of head.now) rows (D.state disk.old).files → AreCandidates pick.now rows found) }
     ensures sound { (D.state disk.old).tells ≡ true → IfErr result IsUndamaged }
 {
     match pick {
-        Pick::One { id, .. } => row_of(alloc, disk, head, id.as_str()),
+        Pick::One { id, .. } => one_of(alloc, disk, head, seeker, id.as_str()),
         Pick::Match { .. } => rows(alloc, disk, head),
     }
 }

@@ -14,4 +14,4 @@ mod reading;
 pub use block::block_rows;
 pub use block_err::BlockErr;
 pub use joining::join;
-pub use reading::read;
+pub use reading::{read, read_volume};

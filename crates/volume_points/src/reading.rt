@@ -1,4 +1,4 @@
-ghost use Rattle.std.specs.Prelude.{◌≡◌, ◌+◌, true, false, List, IfOk, IfErr, IsErrOf};
+ghost use Rattle.std.specs.Prelude.{◌≡◌, ◌+◌, true, false, List, IfOk, IfErr, IfSome, IsErrOf};
 ghost use Rattle.m3_model.specs.Answers.{IsAnswer};
 ghost use Rattle.m3_model.specs.Contents.{content_of};
 ghost use Rattle.m3_model.specs.Reads.{IsOrdered, space_picked};
@@ -12,6 +12,7 @@ ghost use Rattle.shard_files.specs.FilesHold.{volume_points};
 ghost use Rattle.volume_bytes.specs.Heads.{head_of};
 ghost use Rattle.fileset_read.specs.Volumes.{IsThere, IsUndamaged};
 ghost use Rattle.fileset_read.specs.declared.file_err.FileErr.TheVariants as failures;
+ghost use Rattle.volume_rows.specs.Seekers.{IsSeekerOf};
 ghost use Rattle.series_merge.specs.Merges.{IsMergeOf};
 ghost use Rattle.volume_points.specs.Candidates.{AreCandidates, MayStand};
 ghost use Rattle.volume_points.specs.Known.{AreOf, AreThere};
@@ -26,6 +27,7 @@ use m3_outside::{Disk, FileName};
 use series_merge::merge;
 use std::alloc::Global;
 use volume_bytes::Head;
+use volume_rows::Seeker;
 
 // The namespace of a pick.
 fn space_of(pick: &Pick) -> u8
@@ -87,25 +89,39 @@ fn select_checked(
     }
 }
 
-// What one volume has of the points that a read asks for.
-fn read_one<D: Disk>(
+/// The points with `from <= t < to` that this volume has, which is there whole, of the series that the pick asks for: of the one
+/// identifier, or of each identifier of the namespace for which every matcher holds. Identifiers ascend strictly by bytes, times
+/// ascend strictly, and no series is empty.
+///
+/// Nothing is read of a volume of another namespace, or whose block has no time in the range. Of one identifier the record of its
+/// series is read, if there is one, and before it a piece of the index of 16 entries at most, unless bloom filter and summaries
+/// exclude it; these two are read first where no seeker is at hand. For matchers the data is read in one piece.
+///
+/// # Errors
+///
+/// A fault, by which the disk's count rose in this call. Want of memory. Damage only where the disk doesn't tell what it holds.
+/// In any case the files, and what a stop leaves of them, are as they were.
+pub fn read_volume<D: Disk>(
     alloc: Global,
     disk: &mut D,
     head: &Head,
+    seeker: Option<&Seeker>,
     pick: &Pick,
     from: u64,
     to: u64,
 ) -> Result<Seq<Series>, FileErr>
-    requires { Told (D.state disk.old) (IsThere (head_of head.now)) }
+    requires there { Told (D.state disk.old) (IsThere (head_of head.now)) }
+    requires seeker { Told (D.state disk.old) (λ files. IfSome seeker (λ k. IsSeekerOf (head_of head.now) k.now files)) }
     ensures leaves { LeavesFiles (IsErrOf result failures.Disk) (D.state disk.old) (D.state disk.new) }
     ensures ordered { IfOk result IsOrdered }
     ensures answer { (D.state disk.old).tells ≡ true → IfOk result (λ series. (rows : List Row) → VolumeHolds (head_of head.now) rows (D.state disk.old).files → IsAnswer (content_of (points_of_rows head.now.ns rows)) pick.now from to series) }
     ensures sound { (D.state disk.old).tells ≡ true → IfErr result IsUndamaged }
+    ensures faults { CountsFaults (IsErrOf result failures.Disk) (D.state disk.old).faults (D.state disk.new).faults }
 {
     if !meets(head, space_of(pick), from, to) {
         return Ok(Seq::new(alloc));
     }
-    let found = candidates(alloc, disk, head, pick)?;
+    let found = candidates(alloc, disk, head, seeker, pick)?;
     select_checked(alloc, head, found, pick, from, to)
 }
 
@@ -126,9 +142,8 @@ fn both(alloc: Global, one: Seq<Series>, other: Seq<Series>) -> Result<Seq<Serie
 /// one identifier, or of each identifier of the namespace for which every matcher holds; and of several at one time the highest.
 /// Identifiers ascend strictly by bytes, times ascend strictly, and no series is empty.
 ///
-/// Nothing is read of a volume of another namespace, or whose block has no time in the range. Of each other one the data is read in
-/// one piece, and the points of a series that isn't asked for by its identifier aren't taken from it. Beside that it costs in
-/// proportion to the series of these volumes times the logarithm of their number.
+/// Of each volume is read what `read_volume` reads where no seeker is at hand. Beside that it costs in proportion to the series that
+/// are found times the logarithm of the number of volumes.
 ///
 /// # Errors
 ///
@@ -151,7 +166,7 @@ pub fn read<D: Disk>(
 {
     match volumes {
         [] => Ok(Seq::new(alloc)),
-        [head] => read_one(alloc, disk, head, pick, from, to),
+        [head] => read_volume(alloc, disk, head, None, pick, from, to),
         _ => {
             let (one, other) = volumes.split_at(volumes.len() / 2);
             let early = read(alloc, disk, one, pick, from, to)?;

@@ -40,19 +40,19 @@ module _ (v : VolumeHead) (id : List ℕ) (rows : List Series) (files : Files) (
   pub index_there : file ≡ part_of Index v → get files file ≡ Some (index_bytes v.format rows)
   index_there named = ap (get files) named ∙ holds.parts Index
 
-  pub entries_inside : (place : Stretch) → file ≡ part_of Index v → HasEntries v.format id rows place → IsInside file place.at place.len files
-  entries_inside place named h = record {
+  pub entries_inside : (stretch : Stretch) → file ≡ part_of Index v → HasEntries v.format id rows stretch → IsInside file stretch.at stretch.len files
+  entries_inside stretch named h = record {
     file = index_bytes v.format rows;
     there = index_there named;
-    within = (entries_stand v.format id rows place h).0;
+    within = (entries_stand v.format id rows stretch h).0;
   }
 
-  pub entries_read : (place : Stretch) (bytes : List ℕ) → file ≡ part_of Index v → (h : HasEntries v.format id rows place)
-      → ((whole : List ℕ) → get files file ≡ Some whole → bytes ≡ take place.len (drop place.at whole)) → bytes ≡ index_from v.format (length (data_bytes h.before)) h.run
-  entries_read place bytes named h read = read (index_bytes v.format rows) (index_there named) ∙ (entries_stand v.format id rows place h).1
+  pub entries_read : (stretch : Stretch) (bytes : List ℕ) → file ≡ part_of Index v → (h : HasEntries v.format id rows stretch)
+      → ((whole : List ℕ) → get files file ≡ Some whole → bytes ≡ take stretch.len (drop stretch.at whole)) → bytes ≡ index_from v.format (length (data_bytes h.before)) h.run
+  entries_read stretch bytes named h read = read (index_bytes v.format rows) (index_there named) ∙ (entries_stand v.format id rows stretch h).1
 
-  pub run_values : (place : Stretch) → (h : HasEntries v.format id rows place) → IsVolume v (h.before ++ (h.run ++ h.later))
-  run_values place h = subst (IsVolume v) h.split holds.values
+  pub run_values : (stretch : Stretch) → (h : HasEntries v.format id rows stretch) → IsVolume v (h.before ++ (h.run ++ h.later))
+  run_values stretch h = subst (IsVolume v) h.split holds.values
 
 some_one : {X : Type 0} (m : Option X) (x y : X) → m ≡ Some x → m ≡ Some y → x ≡ y
 some_one m x y a b = let same : Some x ≡ Some y = sym a ∙ b in cc

@@ -7,7 +7,7 @@ use Rattle.m3_model.specs.Members.{IsIn}
 use Rattle.m3_model.specs.declared.point.Series.{Series}
 use Rattle.m3_model.proofs.MemberLemmas.{IsIn-append_right, IsIn-append_cases}
 use Rattle.wire_bytes.specs.Volumes.{row_bytes, data_bytes, index_bytes, index_entry, index_from}
-use Rattle.fileset_lookup.specs.Runs.{AreAbove, IsPiece, place_of}
+use Rattle.fileset_lookup.specs.Runs.{AreAbove, IsPiece, offset_of}
 use Rattle.fileset_lookup.specs.Spots.{FindsSpot}
 use Rattle.fileset_lookup.specs.declared.entries.Spot.{Spot}
 use Rattle.fileset_lookup.specs.declared.summaries.Piece.{Piece}
@@ -26,20 +26,20 @@ index_size : (format : ℕ) (xs : List Series) → length (index_bytes format xs
 index_size format xs = length_from format 0 xs
 
 -- where a piece ends
-end_of : (later : List Series) (place len : ℕ) → (later ≡ [] → len ≡ place) → unwrap_or (place_of later place) len ≡ place
-end_of [] place len is = is refl
-end_of (s ∷ later) place len is = refl
+end_of : (later : List Series) (offset len : ℕ) → (later ≡ [] → len ≡ offset) → unwrap_or (offset_of later offset) len ≡ offset
+end_of [] offset len is = is refl
+end_of (s ∷ later) offset len is = refl
 
 -- the piece that is found by summaries, up to its end
 pub record IsPieceTo (format : ℕ) (id : List ℕ) (rows : List Series) (from to : ℕ) : Type 0 where
   pub order : from ≤ to
-  pub has : (place : Stretch) → place.at ≡ from → place.len ≡ to - from → HasEntries format id rows place
+  pub has : (stretch : Stretch) → stretch.at ≡ from → stretch.len ≡ to - from → HasEntries format id rows stretch
 
 pub piece_to : (format : ℕ) (id : List ℕ) (rows : List Series) (piece : Piece) (index_len to : ℕ) → IsPiece format id rows piece → index_len ≡ length (index_bytes format rows) → to ≡ unwrap_or piece.to index_len → IsPieceTo format id rows piece.from to
 piece_to format id rows piece index_len to is whole ends =
     let r = is.run in
     let run : List Series = r.first ∷ r.others in
-    let place = length (index_bytes format (r.before ++ run)) in
+    let offset = length (index_bytes format (r.before ++ run)) in
     let all_rows : size format rows ≡ size format r.before + size format (run ++ r.later) = ap (size format) r.split ∙ size_append format r.before (run ++ r.later) in
     let tail = size_append format run r.later in
     let front = size_append format r.before run in
@@ -47,10 +47,10 @@ piece_to format id rows piece index_len to is whole ends =
     let b = index_size format run in
     let d = index_size format (r.before ++ run) in
     let e = index_size format rows in
-    let last : r.later ≡ [] → index_len ≡ place = λ none.
+    let last : r.later ≡ [] → index_len ≡ offset = λ none.
     let nothing : size format r.later ≡ 0 = ap (size format) none in
     omega (arith, all_rows, tail, front, d, e, whole, nothing) in
-    let end : to ≡ place = ends ∙ ap (λ (o : Option ℕ). unwrap_or o index_len) is.to ∙ end_of r.later place index_len last in
+    let end : to ≡ offset = ends ∙ ap (λ (o : Option ℕ). unwrap_or o index_len) is.to ∙ end_of r.later offset index_len last in
     let from = is.from in
     record {
       order = omega (arith, end, from, front, a, d);
@@ -94,23 +94,23 @@ between a b c all at len is from long =
     )
 
 -- the entries stand there, and they alone
-pub entries_stand : (format : ℕ) (id : List ℕ) (rows : List Series) (place : Stretch) → (h : HasEntries format id rows place)
-    → (place.at + place.len ≤ length (index_bytes format rows)) × (take place.len (drop place.at (index_bytes format rows)) ≡ index_from format (length (data_bytes h.before)) h.run)
-entries_stand format id rows place h =
+pub entries_stand : (format : ℕ) (id : List ℕ) (rows : List Series) (stretch : Stretch) → (h : HasEntries format id rows stretch)
+    → (stretch.at + stretch.len ≤ length (index_bytes format rows)) × (take stretch.len (drop stretch.at (index_bytes format rows)) ≡ index_from format (length (data_bytes h.before)) h.run)
+entries_stand format id rows stretch h =
     let at = 0 + length (data_bytes h.before) in
     let here : at ≡ length (data_bytes h.before) = omega arith in
     let long : length (index_from format at h.run) ≡ length (index_bytes format h.run) = length_from format at h.run ∙ sym (index_size format h.run) in
     let split : index_bytes format rows ≡ index_bytes format h.before ++ (index_from format at h.run ++ index_from format (at + length (data_bytes h.run)) h.later) =
     ap (index_bytes format) h.split ∙ index_append format 0 h.before (h.run ++ h.later) ∙ ap (λ (l : List ℕ). index_bytes format h.before ++ l) (index_append format at h.run h.later) in
-    let r = between (index_bytes format h.before) (index_from format at h.run) (index_from format (at + length (data_bytes h.run)) h.later) (index_bytes format rows) place.at place.len split h.at (h.len ∙ sym long) in
+    let r = between (index_bytes format h.before) (index_from format at h.run) (index_from format (at + length (data_bytes h.run)) h.later) (index_bytes format rows) stretch.at stretch.len split h.at (h.len ∙ sym long) in
     (r.0, r.1 ∙ ap (λ (n : ℕ). index_from format n h.run) here)
 
 -- ---- records
 
 -- the spot among the run is one among all rows
-pub record_found : (format : ℕ) (id : List ℕ) (rows : List Series) (place : Stretch) → (h : HasEntries format id rows place) → (found : Option Spot) → FindsSpot id h.before h.run found → FindsRecord id rows found
-record_found format id rows place h None none = λ s m named. none s (h.all s m named) named
-record_found format id rows place h (Some spot) is = record {
+pub record_found : (format : ℕ) (id : List ℕ) (rows : List Series) (stretch : Stretch) → (h : HasEntries format id rows stretch) → (found : Option Spot) → FindsSpot id h.before h.run found → FindsRecord id rows found
+record_found format id rows stretch h None none = λ s m named. none s (h.all s m named) named
+record_found format id rows stretch h (Some spot) is = record {
   before = h.before ++ is.front;
   one = is.one;
   later = is.back ++ h.later;

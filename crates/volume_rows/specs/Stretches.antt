@@ -16,17 +16,17 @@ abbrev pub HaveNot : List ℕ → List Series → Type 0
 HaveNot id rows = (s : Series) → IsIn rows s → ¬ (s.id ≡ id)
 
 -- the entries of some of the rows stand there in the index, and of no others may one be that of the identifier
-pub record HasEntries (format : ℕ) (id : List ℕ) (rows : List Series) (place : Stretch) : Type 0 where
+pub record HasEntries (format : ℕ) (id : List ℕ) (rows : List Series) (stretch : Stretch) : Type 0 where
   pub before : List Series
   pub run : List Series
   pub later : List Series
   pub split : rows ≡ before ++ (run ++ later)
-  pub at : place.at ≡ length (index_bytes format before)
-  pub len : place.len ≡ length (index_bytes format run)
+  pub at : stretch.at ≡ length (index_bytes format before)
+  pub len : stretch.len ≡ length (index_bytes format run)
   pub all : (s : Series) → IsIn rows s → s.id ≡ id → IsIn run s
 
 abbrev pub FindsEntries : ℕ → List ℕ → List Series → Option Stretch → Type 0
-FindsEntries format id rows (Some place) = HasEntries format id rows place
+FindsEntries format id rows (Some stretch) = HasEntries format id rows stretch
 FindsEntries format id rows None = HaveNot id rows
 
 -- the record of the identifier's series stands there in the data

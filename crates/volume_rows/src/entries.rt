@@ -19,7 +19,7 @@ use std::alloc::Global;
 use volume_bytes::Head;
 use wire_bytes::WireErr;
 
-/// A piece of a file: its place, and how many bytes it has.
+/// A piece of a file: its offset, and how many bytes it has.
 #[derive(Clone, Copy)]
 pub(crate) struct Stretch {
     pub at: u64,
@@ -62,17 +62,17 @@ pub(crate) fn find_record<D: Disk>(
     alloc: Global,
     disk: &mut D,
     head: &Head,
-    place: Stretch,
+    stretch: Stretch,
     id: &str,
 ) -> Result<Option<Spot>, FileErr>
     requires there { Told (D.state disk.old) (IsThere (head_of head.now)) }
-    requires entries { Told (D.state disk.old) (OfVolume (head_of head.now) (λ rows. HasEntries 1 id.now rows place)) }
+    requires entries { Told (D.state disk.old) (OfVolume (head_of head.now) (λ rows. HasEntries 1 id.now rows stretch)) }
     ensures leaves { LeavesFiles (IsErrOf result failures.Disk) (D.state disk.old) (D.state disk.new) }
     ensures ok { (D.state disk.old).tells ≡ true → IfOk result (λ found. OfVolume (head_of head.now) (λ rows. FindsRecord id.now rows found) (D.state disk.old).files) }
     ensures sound { (D.state disk.old).tells ≡ true → IfErr result IsUndamaged }
 {
     let file = part_name(INDEX, head);
-    let bytes = read_stretch(alloc, disk, file, place.at, place.len)?;
+    let bytes = read_stretch(alloc, disk, file, stretch.at, stretch.len)?;
     match find(bytes.as_slice(), 0, id.as_bytes()) {
         Ok(spot) => Ok(spot),
         Err(_) => Err(FileErr::Form { file }),

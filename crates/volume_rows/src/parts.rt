@@ -37,7 +37,7 @@ pub(crate) fn part_name(kind: u8, head: &Head) -> FileName
     }
 }
 
-/// So many bytes of a file, from this place on.
+/// So many bytes of a file, from this offset on.
 ///
 /// # Errors
 ///

@@ -43,8 +43,8 @@ pub fn row_of<D: Disk>(
     ensures sound { (D.state disk.old).tells ≡ true → IfErr result IsUndamaged }
     ensures faults { CountsFaults (IsErrOf result failures.Disk) (D.state disk.old).faults (D.state disk.new).faults }
 {
-    let place = match find_entries(seeker, id) {
-        Ok(Some(place)) => place,
+    let stretch = match find_entries(seeker, id) {
+        Ok(Some(stretch)) => stretch,
         Ok(None) => return Ok(None),
         Err(_) => {
             return Err(FileErr::Form {
@@ -52,7 +52,7 @@ pub fn row_of<D: Disk>(
             });
         }
     };
-    let Some(spot) = find_record(alloc, disk, head, place, id)? else {
+    let Some(spot) = find_record(alloc, disk, head, stretch, id)? else {
         return Ok(None);
     };
     Ok(Some(read_row(alloc, disk, head, spot, id)?))

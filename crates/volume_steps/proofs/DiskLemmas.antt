@@ -8,13 +8,13 @@ use Rattle.m3_model.specs.declared.point.Series.{Series}
 use Rattle.m3_model.proofs.MemberLemmas.{IsIn-map, IsIn-append_left}
 use Rattle.m3_outside.specs.declared.disk_err.DiskErr.{DiskErr}
 use Rattle.m3_outside.specs.declared.file_name.FileName.{FileName}
-use Rattle.m3_outside.specs.DiskState.{DiskState, EachImage, StepOf, Elapses, Becomes, IsLawful, HaveSameNames}
+use Rattle.m3_outside.specs.DiskState.{DiskState, EachImage, StepOf, Elapses, Becomes, IsLawfulDisk, HaveSameNames}
 use Rattle.m3_outside.specs.Files.{Files, IsAbsent}
 use Rattle.m3_outside.specs.Removal.{without_files, MayTakeAway, HasTakenAway}
 use Rattle.m3_outside.proofs.Moments.{step_as, elapses_as}
 use Rattle.m3_outside.proofs.Removal.{none_stays, gone_none, left_same}
 use Rattle.commit_log.specs.Contents.{numbers}
-use Rattle.commit_log.specs.LogEnd.{LogEnd, Stands}
+use Rattle.commit_log.specs.LogEnd.{LogEnd, LogEndStands}
 use Rattle.commit_log.specs.Segment.{segment}
 use Rattle.wire_bytes.specs.Volumes.{VolumeHead, Part, Info, Summaries, Index, Data, Bloom, Digests, Checkpoint}
 use Rattle.shard_files.specs.Parts.{KnownVolume, kind_of, part_name, part_of}
@@ -40,14 +40,14 @@ kept_as old new same keeps steps each tells c image =
 
 -- the log's end stands where no segment changes, neither in reads nor in an image
 pub stands_through : (log : LogEnd) (old new : DiskState) → new.tells ≡ old.tells → (old.tells ≡ true → SameKinds 0 0 old.files new.files)
-    → (old.tells ≡ true → (c : Files) → new.images c → StepOf (SameKinds 0 0) old.images c) → Stands log old → Stands log new
+    → (old.tells ≡ true → (c : Files) → new.images c → StepOf (SameKinds 0 0) old.images c) → LogEndStands log old → LogEndStands log new
 stands_through log old new same files images st = record {
   kept = λ clean.
       let kept = st.kept clean in
       record {
         rest = λ tells.
             let rest = kept.rest (sym same ∙ tells) in
-            record { chunks = rest.chunks; place = rest.place; there = segment_same (sym same ∙ tells) log.number ∙ rest.there };
+            record { chunks = rest.chunks; offset = rest.offset; there = segment_same (sym same ∙ tells) log.number ∙ rest.there };
         synced = λ tells c image.
             let step = images (sym same ∙ tells) c image in
             step.stepped (segment log.number) (omega arith) (omega arith) ∙ kept.synced (sym same ∙ tells) step.before step.was ∙ sym (segment_same (sym same ∙ tells) log.number);
@@ -60,7 +60,7 @@ stands_through log old new same files images st = record {
     segment_same tells n = files tells (segment n) (omega arith) (omega arith)
 
 -- a known volume is there in what reads give
-pub known_are_there : {D : Type 0} (state : D → DiskState) → ((d : D) → IsLawful (state d)) → KnownAreThere state
+pub known_are_there : {D : Type 0} (state : D → DiskState) → ((d : D) → IsLawfulDisk (state d)) → KnownAreThere state
 known_are_there state lawful d memory known tenure fence each k m tells =
     let files = (state d).files in
     let has = each tells files ((lawful d).read_is_image tells) in
@@ -72,7 +72,7 @@ known_are_there state lawful d memory known tenure fence each k m tells =
 wrote_stay : (v : VolumeHead) (x y : Files) → OthersStay (IsPartOf v) x y → (q : FileName) → ((part : Part) → q ≡ part_name part v.ns v.start v.number → ⊥) → get y q ≡ get x q
 wrote_stay v x y others q apart = others q (λ own. apart own.part own.is)
 
-module _ (old new : DiskState) (lawful : IsLawful old) (same : new.tells ≡ old.tells) (ns start size : ℕ) (rows : List Series) where
+module _ (old new : DiskState) (lawful : IsLawfulDisk old) (same : new.tells ≡ old.tells) (ns start size : ℕ) (rows : List Series) where
   abbrev v : VolumeHead
   v = volume_after 1 ns start size old.files
 
@@ -113,7 +113,7 @@ module _ (old new : DiskState) (lawful : IsLawful old) (same : new.tells ≡ old
   pub write_segments : MayWrite v rows old.files new.files → numbers new.files ≡ numbers old.files
   write_segments may = same_numbers old.files new.files (same_log old.files new.files may.others)
 
-  pub write_stands : (log : LogEnd) → (old.tells ≡ true → MayWrite v rows old.files new.files) → (old.tells ≡ true → Elapses (MayWrite v rows) old new) → Stands log old → Stands log new
+  pub write_stands : (log : LogEnd) → (old.tells ≡ true → MayWrite v rows old.files new.files) → (old.tells ≡ true → Elapses (MayWrite v rows) old new) → LogEndStands log old → LogEndStands log new
   write_stands log files goes st = stands_through log old new same (λ tells. same_log old.files new.files (files tells).others) (λ tells c image. step_as (λ x y was may. same_log x y may.others) c ((goes tells).images c image)) st
 
 -- ---- a volume that is taken away
@@ -167,7 +167,7 @@ module _ (ns start number : ℕ) where
       let e = there_part f q (subst (λ l. IsIn l q) (sym split) (IsIn-append_left gone left q m)) in
       apart e.0 (sym e.1))
 
-  module _ (old new : DiskState) (lawful : IsLawful old) (same : new.tells ≡ old.tells) where
+  module _ (old new : DiskState) (lawful : IsLawfulDisk old) (same : new.tells ≡ old.tells) where
     abbrev names : List FileName
     names = parts_there ns start number old.files
 
@@ -205,6 +205,6 @@ module _ (ns start number : ℕ) where
     pub remove_segments : HasTakenAway names old new → numbers new.files ≡ numbers old.files
     remove_segments has = same_numbers old.files new.files (log_stays ns start number old.files new.files (taken_stay has))
 
-    pub remove_stands : (log : LogEnd) → (old.tells ≡ true → HasTakenAway names old new) → (old.tells ≡ true → Elapses (MayTakeAway names) old new) → Stands log old → Stands log new
+    pub remove_stands : (log : LogEnd) → (old.tells ≡ true → HasTakenAway names old new) → (old.tells ≡ true → Elapses (MayTakeAway names) old new) → LogEndStands log old → LogEndStands log new
     remove_stands log files goes st = stands_through log old new same (λ tells. log_stays ns start number old.files new.files (taken_stay (files tells)))
         (λ tells c image. step_as (λ x y was may. log_stays ns start number x y (may_stay x y may)) c ((goes tells).images c image)) st

@@ -47,7 +47,7 @@ before_of_other m n e apart lt = by (name_cmp m n) refl (ap is_lt (name_is_tail 
 
 -- ---- one more
 
--- with one name more, in its place
+-- with one name more, at its offset
 abbrev pub insert_name : FileName → List FileName → List FileName
 insert_name own [] = own ∷ []
 insert_name own (n ∷ names) = cond (is_lt (tail_cmp n own)) (n ∷ insert_name own names) (own ∷ n ∷ names)

@@ -11,7 +11,7 @@ use Rattle.m3_outside.specs.declared.file_name.FileName.{FileName}
 use Rattle.m3_outside.specs.Files.{Files}
 use Rattle.m3_outside.proofs.Names.{get_apart}
 use Rattle.commit_log.specs.Segment.{segment, Adds}
-use Rattle.commit_log.specs.LogEnd.{NoneAbove, NoneFrom, MayBegin}
+use Rattle.commit_log.specs.LogEnd.{NoneAbove, NoneFrom, MayBeginSegment}
 use Rattle.volume_steps.proofs.LawLemmas.{raised_from}
 use Rattle.shard_files.specs.declared.entries.LogEntry.{LogEntry}
 use Rattle.shard_files.specs.Entries.{IsEntry}
@@ -70,17 +70,17 @@ module _ (x y : Files) (same : (q : FileName) → (q.kind ≡ 0 → ⊥) → get
 
 -- ---- a segment that begins
 
-begun_same : (number : ℕ) (x y : Files) → MayBegin number x y → (q : FileName) → (q.kind ≡ 0 → ⊥) → get y q ≡ get x q
+begun_same : (number : ℕ) (x y : Files) → MayBeginSegment number x y → (q : FileName) → (q.kind ≡ 0 → ⊥) → get y q ≡ get x q
 begun_same number x y (inl same) q apart = ap (λ (f : Files). get f q) same
 begun_same number x y (inr done) q apart = ap (λ (f : Files). get f q) done ∙ get_apart x (segment number) _ q (λ e. apart (ap (λ (n : FileName). n.kind) e))
 
-begun_log : (number : ℕ) (x y : Files) (es : List LogEntry) → NoneFrom number x → MayBegin number x y → HoldsEntries es x → HoldsEntries es y
+begun_log : (number : ℕ) (x y : Files) (es : List LogEntry) → NoneFrom number x → MayBeginSegment number x y → HoldsEntries es x → HoldsEntries es y
 begun_log zero x y es none may log = first_segment es x y log none may
 begun_log (suc last) x y es none may log =
     let up : suc last ≡ last + 1 = omega arith in
-    begun_entries es last x y log (λ n lt. none n (omega (arith, lt))) (subst (λ (n : ℕ). MayBegin n x y) up may)
+    begun_entries es last x y log (λ n lt. none n (omega (arith, lt))) (subst (λ (n : ℕ). MayBeginSegment n x y) up may)
 
-pub begun_known : (number : ℕ) (memory : Contents) (known : List KnownVolume) (tenure fence : ℕ) (x y : Files) → NoneFrom number x → MayBegin number x y → HoldsKnown memory known tenure fence x → HoldsKnown memory known tenure fence y
+pub begun_known : (number : ℕ) (memory : Contents) (known : List KnownVolume) (tenure fence : ℕ) (x y : Files) → NoneFrom number x → MayBeginSegment number x y → HoldsKnown memory known tenure fence x → HoldsKnown memory known tenure fence y
 begun_known number memory known tenure fence x y none may has = known_same x y (begun_same number x y may) memory known tenure fence has (begun_log number x y has.held.parts.entries none may has.held.holds.log)
 
 -- ---- an entry that is added

@@ -16,7 +16,7 @@ use Rattle.m3_outside.specs.Files.{Files, IsAbsent}
 use Rattle.m3_outside.specs.declared.file_name.FileName.{FileName}
 use Rattle.m3_outside.proofs.Moments.{elapses_as, elapses_then}
 use Rattle.commit_log.specs.Contents.{numbers}
-use Rattle.commit_log.specs.LogEnd.{LogEnd, Stands}
+use Rattle.commit_log.specs.LogEnd.{LogEnd, LogEndStands}
 use Rattle.commit_log.proofs.Begin.{stands_stays}
 use Rattle.wire_bytes.specs.Volumes.{Part}
 use Rattle.shard_files.specs.Parts.{kind_of, part_name, KnownVolume}
@@ -112,8 +112,8 @@ none_back ns start number x y own others part m s n absent = by (is_part ns star
     by false e b f = others (part_name part m s n) (λ is. let never : false ≡ true = sym e ∙ is.0 in cc) ∙ absent
     by true e false f = others (part_name part m s n) (λ is. eqb-false n number f is.1) ∙ absent
     by true e true f =
-        let place = both (nat_le 1 (kind_of part) && nat_le (kind_of part) 7) ((m == ns) && (s == start)) e in
-        let two = both (m == ns) (s == start) place.1 in
+        let offset = both (nat_le 1 (kind_of part) && nat_le (kind_of part) 7) ((m == ns) && (s == start)) e in
+        let two = both (m == ns) (s == start) offset.1 in
         let same_ns = eqb-true m ns two.0 in
         let same_start = eqb-true s start two.1 in
         let same_number = eqb-true n number f in
@@ -126,7 +126,7 @@ pub record Removing (heads : List Head) (i : ℕ) (old now : DiskState) : Type 0
   pub segments : old.tells ≡ true → numbers now.files ≡ numbers old.files
   pub gone : old.tells ≡ true → (h : Head) → IsIn (take i heads) h → (part : Part) → IsAbsent (part_name part h.ns h.start h.number) now.files
   pub others : old.tells ≡ true → OthersStay (IsOfOne heads) old.files now.files
-  pub stands : (log : LogEnd) → Stands log old → Stands log now
+  pub stands : (log : LogEnd) → LogEndStands log old → LogEndStands log now
   pub known : (memory : Contents) (known : List KnownVolume) (tenure fence : ℕ) → EachImage old (HoldsKnown memory known tenure fence) → EachImage now (HoldsKnown memory (without_volumes (take i heads) known) tenure fence)
   pub elapses : (kept memory : Contents) (known : List KnownVolume) (tenure fence : ℕ) → EachImage old (HoldsKnown memory known tenure fence) → HaveContent memory (without_volumes heads known) kept → old.tells ≡ true → Elapses (Keeps kept) old now
 

@@ -19,7 +19,7 @@ head_cmp = then_cmp (on (λ v. v.ns) nat_cmp) (then_cmp (on (λ v. v.start) nat_
 abbrev pub volume_of : ℕ → ℕ → ℕ → ℕ → List Series → KnownVolume
 volume_of ns start size number rows = record { head = record { format = 1; ns = ns; start = start; size = size; number = number }; rows = rows }
 
--- with one volume more, in its place
+-- with one volume more, where its name stands
 abbrev pub with_volume : KnownVolume → List KnownVolume → List KnownVolume
 with_volume k [] = k ∷ []
 with_volume k (j ∷ known) = if is_lt (head_cmp j.head k.head) then j ∷ with_volume k known else k ∷ j ∷ known

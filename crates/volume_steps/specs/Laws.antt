@@ -6,7 +6,7 @@ use Rattle.m3_model.specs.Members.{IsIn}
 use Rattle.m3_model.specs.declared.point.Point.{Point}
 use Rattle.m3_outside.specs.Files.{Files}
 use Rattle.m3_outside.specs.DiskState.{DiskState, Told, EachImage}
-use Rattle.commit_log.specs.LogEnd.{NoneAbove, NoneFrom, MayBegin}
+use Rattle.commit_log.specs.LogEnd.{NoneAbove, NoneFrom, MayBeginSegment}
 use Rattle.commit_log.specs.Segment.{segment, Adds}
 use Rattle.shard_files.specs.declared.entries.LogEntry.{LogEntry}
 use Rattle.shard_files.specs.Entries.{IsEntry}
@@ -44,6 +44,6 @@ OneMoreKnown = (k j : KnownVolume) (known : List KnownVolume) → IsIn (with_vol
 -- What the log's steps do to files that hold what is in memory: a segment that begins leaves it, and an entry brings its points to what is in memory, and its
 -- tenure and its fence where they are greater.
 pub record LogStepsKeep : Type 0 where
-  pub begins : (number : ℕ) (memory : Contents) (known : List KnownVolume) (tenure fence : ℕ) (x y : Files) → NoneFrom number x → MayBegin number x y → HoldsKnown memory known tenure fence x → HoldsKnown memory known tenure fence y
+  pub begins : (number : ℕ) (memory : Contents) (known : List KnownVolume) (tenure fence : ℕ) (x y : Files) → NoneFrom number x → MayBeginSegment number x y → HoldsKnown memory known tenure fence x → HoldsKnown memory known tenure fence y
   pub adds : (e : LogEntry) (bytes : List ℕ) (number : ℕ) (memory : Contents) (known : List KnownVolume) (tenure fence : ℕ) (x y : Files) → IsEntry bytes e → NoneAbove number x → Adds (segment number) bytes x y
       → HoldsKnown memory known tenure fence x → HoldsKnown (fold raised memory (points_in e)) known (max tenure (tenure_in e)) (max fence (fence_in e)) y

@@ -6,7 +6,7 @@ ghost use Rattle.m3_outside.specs.DiskState.{DiskState, EachImage, Elapses, Beco
 ghost use Rattle.m3_outside.specs.Files.{IsAbsent};
 ghost use Rattle.m3_outside.specs.declared.disk_err.DiskErr.TheVariants.{Failed as DiskFailed, Memory as WantOfMemory};
 ghost use Rattle.commit_log.specs.Contents.{numbers};
-ghost use Rattle.commit_log.specs.LogEnd.{LogEnd, Stands};
+ghost use Rattle.commit_log.specs.LogEnd.{LogEnd, LogEndStands};
 ghost use Rattle.wire_bytes.specs.Volumes.{Part};
 ghost use Rattle.shard_files.specs.Keeps.{Keeps};
 ghost use Rattle.shard_files.specs.Parts.{KnownVolume, part_name};
@@ -34,7 +34,7 @@ pub fn remove_volume<D: Disk>(disk: &mut D, ns: u8, start: u64, number: u64) -> 
     ensures memory { (D.state disk.old).tells ≡ true → IsErrOf result WantOfMemory → Becomes (λ files. files) (D.state disk.old) (D.state disk.new) }
     ensures others { (D.state disk.old).tells ≡ true → OthersStay (λ name. (is_part ns start name ≡ true) × (name.number ≡ number)) (D.state disk.old).files (D.state disk.new).files }
     ensures segments { (D.state disk.old).tells ≡ true → numbers (D.state disk.new).files ≡ numbers (D.state disk.old).files }
-    ensures log_stands { (log : LogEnd) → Stands log (D.state disk.old) → Stands log (D.state disk.new) }
+    ensures log_stands { (log : LogEnd) → LogEndStands log (D.state disk.old) → LogEndStands log (D.state disk.new) }
     ensures room { 7 ≤ (D.state disk.old).spare → ¬ (IsErrOf result WantOfMemory) }
     ensures spare { (D.state disk.old).spare ≤ (D.state disk.new).spare + 7 }
     ensures tells { (D.state disk.new).tells ≡ (D.state disk.old).tells }
@@ -62,7 +62,7 @@ pub fn remove_volumes<D: Disk>(disk: &mut D, olds: &[Head]) -> Result<(), DiskEr
     ensures memory { (D.state disk.old).tells ≡ true → IsErrOf result WantOfMemory → Becomes (λ files. files) (D.state disk.old) (D.state disk.new) }
     ensures others { (D.state disk.old).tells ≡ true → OthersStay (IsOfOne olds.now) (D.state disk.old).files (D.state disk.new).files }
     ensures segments { (D.state disk.old).tells ≡ true → numbers (D.state disk.new).files ≡ numbers (D.state disk.old).files }
-    ensures log_stands { (log : LogEnd) → Stands log (D.state disk.old) → Stands log (D.state disk.new) }
+    ensures log_stands { (log : LogEnd) → LogEndStands log (D.state disk.old) → LogEndStands log (D.state disk.new) }
     ensures room { 7 * length olds.now ≤ (D.state disk.old).spare → ¬ (IsErrOf result WantOfMemory) }
     ensures tells { (D.state disk.new).tells ≡ (D.state disk.old).tells }
     ensures faults { CountsFaults (IsErrOf result DiskFailed) (D.state disk.old).faults (D.state disk.new).faults }

@@ -67,12 +67,12 @@ pub bounded_more : (ps : List Point) (p : Point) → AllBounded ps → IsBounded
 bounded_more [] p all one = (one, tt)
 bounded_more (q ∷ ps) p all one = (all.0, bounded_more ps p all.1 one)
 
-pub stands_more : (ps : List Point) (bytes : List ℕ) (from : ℕ) (place : ℕ) (p : PointAt) → PointsStand ps bytes from place → (st : PointStands bytes place p) → PointsStand (ps ++ record { ns = p.ns; id = st.id; t = p.t; v = p.v } ∷ []) bytes from p.next
-stands_more ps bytes from place p all st =
+pub stands_more : (ps : List Point) (bytes : List ℕ) (from : ℕ) (offset : ℕ) (p : PointAt) → PointsStand ps bytes from offset → (st : PointStands bytes offset p) → PointsStand (ps ++ record { ns = p.ns; id = st.id; t = p.t; v = p.v } ∷ []) bytes from p.next
+stands_more ps bytes from offset p all st =
     let q : Point = record { ns = p.ns; id = st.id; t = p.t; v = p.v } in
     record {
       bounded = bounded_more ps q all.bounded st.values;
-      stands = subst (λ (l : List ℕ). Stands l bytes from p.next) (sym (points_more ps q)) (stands_both (points_bytes ps) (bytes_of_point q) bytes from place p.next all.stands st.stands);
+      stands = subst (λ (l : List ℕ). Stands l bytes from p.next) (sym (points_more ps q)) (stands_both (points_bytes ps) (bytes_of_point q) bytes from offset p.next all.stands st.stands);
     }
 
 pub stands_none : (bytes : List ℕ) (from : ℕ) → from ≤ length bytes → PointsStand [] bytes from from

@@ -36,15 +36,15 @@ misfits_below F l m n p q lt = p.none (subst (Begins F) (take-take (suc m) n l (
 short_misfits : (F : List ℕ → Type 0) (l : List ℕ) (n : ℕ) → GoesOn F l → Misfits F l n → ⊥
 short_misfits F l n g m = m.none (begins_take F (suc n) l (begins_goes F l g))
 
-same_place : (at p q : ℕ) → at ≤ p → at ≤ q → p - at ≡ q - at → p ≡ q
-same_place at p q a b e = omega arith
+same_offset : (at p q : ℕ) → at ≤ p → at ≤ q → p - at ≡ q - at → p ≡ q
+same_offset at p q a b e = omega arith
 
 bad_one : (F : List ℕ → Type 0) (bytes : List ℕ) (at p q : ℕ) → IsFault F bytes at (errors.Bad p) → IsFault F bytes at (errors.Bad q) → errors.Bad p ≡ errors.Bad q
 bad_one F bytes at p q a b = ap errors.Bad (elim (cases_lt (p - at) (q - at)) as (λ _. p ≡ q) [
   | inl lt ↦ absurd (misfits_below F (drop at bytes) (p - at) (q - at) a.1 b.1 lt)
   | inr ge ↦ elim (cases_lt (q - at) (p - at)) as (λ _. p ≡ q) [
     | inl lt ↦ absurd (misfits_below F (drop at bytes) (q - at) (p - at) b.1 a.1 lt)
-    | inr le ↦ same_place at p q a.0 b.0 (omega arith)
+    | inr le ↦ same_offset at p q a.0 b.0 (omega arith)
   ]
 ])
 

@@ -123,8 +123,8 @@ read_bytes (suc w) (x ∷ l) small le =
     low_bytes : (w x y : ℕ) → y < 256 ^ w → big_bytes w (x * 256 ^ w + y) ≡ big_bytes w y
     low_bytes w x y fits = same w w (omega arith)
       where
-        at_place : (j k : ℕ) → j + suc k ≡ w → byte_at j (x * 256 ^ w + y) ≡ byte_at j y
-        at_place j k sum =
+        at_offset : (j k : ℕ) → j + suc k ≡ w → byte_at j (x * 256 ^ w + y) ≡ byte_at j y
+        at_offset j k sum =
             let pow : 256 ^ w ≡ 256 ^ k * 256 * 256 ^ j = ap (λ (i : ℕ). 256 ^ i) (sym sum) ∙ pow-add 256 j (suc k) ∙ mul_comm (256 ^ j) (256 ^ suc k) ∙ ap (λ (p : ℕ). p * 256 ^ j) (pow-suc 256 k) in
             let top : x * 256 ^ w ≡ x * (256 ^ k * 256) * 256 ^ j = ap (λ (p : ℕ). x * p) pow ∙ sym (mul_assoc x (256 ^ k * 256) (256 ^ j)) in
             let quot : (x * 256 ^ w + y) / 256 ^ j ≡ x * (256 ^ k * 256) + y / 256 ^ j = ap (λ (p : ℕ). (p + y) / 256 ^ j) top ∙ mul-add-div_right (pow_pos j) (x * (256 ^ k * 256)) y in
@@ -133,7 +133,7 @@ read_bytes (suc w) (x ∷ l) small le =
 
         same : (v k : ℕ) → v ≤ w → big_bytes v (x * 256 ^ w + y) ≡ big_bytes v y
         same zero k le = refl
-        same (suc v) k le = ap (λ (b : ℕ). b ∷ big_bytes v (x * 256 ^ w + y)) (at_place v (w - suc v) (omega arith)) ∙ ap (λ (l : List ℕ). byte_at v y ∷ l) (same v k (omega arith))
+        same (suc v) k le = ap (λ (b : ℕ). b ∷ big_bytes v (x * 256 ^ w + y)) (at_offset v (w - suc v) (omega arith)) ∙ ap (λ (l : List ℕ). byte_at v y ∷ l) (same v k (omega arith))
 
 pub short_number : (w : ℕ) (l : List ℕ) → ((k : ℕ) → get_or l k 0 < 256) → length l < w → GoesOn (ANumber w 0 (256 ^ w - 1)) l
 short_number w l small lt =
@@ -148,7 +148,7 @@ short_number w l small lt =
     zero_div : (p : ℕ) → 0 < p → 0 / p ≡ 0
     zero_div p pos = omega (arith, div-mul-le_self 0 p, mul-le-mul_right (0 / p) pos)
 
--- what a number that stands at a place says of the answer
+-- what a number that stands at an offset says of the answer
 pub same_number : (w m n at : ℕ) (bytes : List ℕ) → m < 256 ^ w → n < 256 ^ w → Stands (big_bytes w m) bytes at (at + w) → Stands (big_bytes w n) bytes at (at + w) → m ≡ n
 same_number w m n at bytes p q a b =
     let same : big_bytes w m ≡ big_bytes w n = sym (take_at (big_bytes w m) (drop (at + w) bytes) w (length_number w m)) ∙ ap (λ (l : List ℕ). take w l) (sym a.split ∙ b.split) ∙ take_at (big_bytes w n) (drop (at + w) bytes) w (length_number w n) in

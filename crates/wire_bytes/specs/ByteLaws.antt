@@ -21,7 +21,7 @@ pub record OneSpellingStops : Type 0 where
   pub long : (word bytes : List ℕ) (next : ℕ) (more : List ℕ) → bytes ≡ word ++ next ∷ more → StopsAt (λ b. b ≡ word) bytes (length word)
   pub other : (word bytes front : List ℕ) (due stands : ℕ) (more rest : List ℕ) → word ≡ front ++ due ∷ more → bytes ≡ front ++ stands ∷ rest → ¬ (due ≡ stands) → StopsAt (λ b. b ≡ word) bytes (length front)
 
--- bytes stop at one place at most
+-- bytes stop at one offset at most
 abbrev pub StopsAtOne : Type 0
 StopsAtOne = (form : List (List ℕ)) (bytes : List ℕ) (at other : ℕ) → StopsAt (IsIn form) bytes at → StopsAt (IsIn form) bytes other → at ≡ other
 

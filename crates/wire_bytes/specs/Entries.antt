@@ -46,12 +46,12 @@ pub data AnEntry (bytes : List ℕ) : Type 0 where
   OfFence : (fence : ℕ) → fence < 2 ^ 64 → bytes ≡ fence_entry fence → AnEntry bytes
   OfTenure : (tenure : ℕ) → tenure < 2 ^ 64 → bytes ≡ tenure_entry tenure → AnEntry bytes
 
--- these points stand from the one place to the other
+-- these points stand from the one offset to the other
 pub record PointsStand (ps : List Point) (bytes : List ℕ) (from next : ℕ) : Type 0 where
   pub bounded : AllBounded ps
   pub stands : Stands (points_bytes ps) bytes from next
 
--- an entry of so many points stands at the place, with its points and its end where it says
+-- an entry of so many points stands at the offset, with its points and its end where it says
 pub record PointsEntryStands (bytes : List ℕ) (at count from next : ℕ) : Type 0 where
   pub ps : List Point
   pub count_is : length ps ≡ count
@@ -60,7 +60,7 @@ pub record PointsEntryStands (bytes : List ℕ) (at count from next : ℕ) : Typ
   pub points : Stands (points_bytes ps) bytes from next
   pub stands : Stands (points_entry ps) bytes at next
 
--- this entry stands at the place
+-- this entry stands at the offset
 abbrev pub EntryStands : List ℕ → ℕ → EntryAt → Type 0
 EntryStands bytes at (found.Points count from next) = PointsEntryStands bytes at count from next
 EntryStands bytes at (found.Fence fence next) = (fence < 2 ^ 64) × Stands (fence_entry fence) bytes at next

@@ -28,7 +28,7 @@ pub record APoint (bytes : List ℕ) : Type 0 where
   pub values : IsPoint ns id t v
   pub spelled : bytes ≡ point_bytes ns id t v
 
--- this point stands at the place, with its identifier and its end where it says
+-- this point stands at the offset, with its identifier and its end where it says
 pub record PointStands (bytes : List ℕ) (at : ℕ) (p : PointAt) : Type 0 where
   pub id : List ℕ
   pub values : IsPoint p.ns id p.t p.v

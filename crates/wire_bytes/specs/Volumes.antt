@@ -72,11 +72,11 @@ last_time (x ∷ xs) = last_time xs
 abbrev pub span_bytes : ℕ → Series → List ℕ
 span_bytes format s = if format == 2 then big_bytes 8 (first_time s.points) ++ big_bytes 8 (last_time s.points) else []
 
--- a series in the index, which begins at this place of the data
+-- a series in the index, which begins at this offset of the data
 abbrev pub index_entry : ℕ → ℕ → Series → List ℕ
 index_entry format at s = id_bytes s.id ++ (big_bytes 8 at ++ (big_bytes 4 (length (row_bytes s)) ++ span_bytes format s))
 
--- the series from this place of the data on
+-- the series from this offset of the data on
 abbrev pub index_from : ℕ → ℕ → List Series → List ℕ
 index_from format at [] = []
 index_from format at (s ∷ rows) = index_entry format at s ++ index_from format (at + length (row_bytes s)) rows
@@ -84,7 +84,7 @@ index_from format at (s ∷ rows) = index_entry format at s ++ index_from format
 abbrev pub index_bytes : ℕ → List Series → List ℕ
 index_bytes format rows = index_from format 0 rows
 
--- every sixteenth series with the place of its entry in the index; so many others come before the first of these
+-- every sixteenth series with the offset of its entry in the index; so many others come before the first of these
 abbrev pub summaries_from : ℕ → ℕ → ℕ → List Series → List ℕ
 summaries_from format others at [] = []
 summaries_from format zero at (s ∷ rows) = (id_bytes s.id ++ big_bytes 8 at) ++ summaries_from format 15 (at + length (index_entry format 0 s)) rows

@@ -15,7 +15,7 @@ use crate::points::get_point;
 use crate::wire_err::WireErr;
 use m3_model::limits::MOST_PAGE_POINTS;
 
-/// An entry that stands in some bytes. `next` is the place behind it.
+/// An entry that stands in some bytes. `next` is the offset behind it.
 #[derive(Clone, Copy, Debug, PartialEq, Eq)]
 pub enum EntryAt {
     /// So many points, one after another from `from` on, as `get_point` reads them.
@@ -34,20 +34,20 @@ pub enum EntryAt {
     },
 }
 
-// The place behind so many points.
+// The offset behind so many points.
 fn behind_points(bytes: &[u8], from: usize, count: usize) -> Result<usize, WireErr>
     requires { from ≤ length bytes.now }
     ensures ok { IfOk result (λ next. (ps : List APointOf) × (length ps ≡ count) × PointsStand ps bytes.now from next) }
     ensures err { IfErr result (λ e. IsFault (SomePoints count) bytes.now from e) }
 {
-    let mut place = from;
+    let mut offset = from;
     for _i in 0..count {
-        place = get_point(bytes, place)?.next;
+        offset = get_point(bytes, offset)?.next;
     }
-    Ok(place)
+    Ok(offset)
 }
 
-// The points behind their count, which stands at the place.
+// The points behind their count, which stands at the offset.
 fn read_points(bytes: &[u8], at: usize) -> Result<(usize, usize), WireErr>
     ensures ok { IfOk result (λ r. (1 ≤ r.0) × (r.0 ≤ MOST_PAGE_POINTS) × ((ps : List APointOf) × (length ps ≡ r.0) × Stands (big_bytes 2 r.0) bytes.now at (at + 2) × PointsStand ps bytes.now (at + 2) r.1)) }
     ensures err { IfErr result (λ e. IsFault SomeCounted bytes.now at e) }
@@ -57,7 +57,7 @@ fn read_points(bytes: &[u8], at: usize) -> Result<(usize, usize), WireErr>
     Ok((count, next))
 }
 
-// The entry at the place.
+// The entry at the offset.
 fn read_entry(bytes: &[u8], at: usize) -> Result<EntryAt, WireErr>
     ensures ok { IfOk result (λ e. EntryStands bytes.now at e) }
     ensures err { IfErr result (λ e. IsFault AnEntry bytes.now at e) }
@@ -85,7 +85,7 @@ fn read_entry(bytes: &[u8], at: usize) -> Result<EntryAt, WireErr>
     })
 }
 
-/// The entry at the place. Takes no memory.
+/// The entry at the offset. Takes no memory.
 ///
 /// # Errors
 ///

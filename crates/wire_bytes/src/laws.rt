@@ -11,12 +11,12 @@ pub fn snapshots_are_one()
     ensures { SnapshotsAreOne }
 {}
 
-/// Where a form has one spelling, the place at which bytes stop is the first byte that differs, their end, or its end.
+/// Where a form has one spelling, the offset at which bytes stop is the first byte that differs, their end, or its end.
 pub fn one_spelling_stops()
     ensures { OneSpellingStops }
 {}
 
-/// Bytes stop to have a form at one place at most.
+/// Bytes stop to have a form at one offset at most.
 pub fn stops_at_one()
     ensures { StopsAtOne }
 {}

@@ -36,7 +36,7 @@ pub(crate) fn rest_at(bytes: &[u8], at: usize) -> &[u8]
     }
 }
 
-/// The number in `width` bytes at the place, the highest first. Takes no memory.
+/// The number in `width` bytes at the offset, the highest first. Takes no memory.
 ///
 /// # Errors
 ///
@@ -57,7 +57,7 @@ pub fn get_number(bytes: &[u8], at: usize, width: usize) -> Result<u64, WireErr>
     Ok(BigEndian::read_uint(rest, width))
 }
 
-/// The number from `low` to `high` in `width` bytes at the place, the highest first. Takes no memory.
+/// The number from `low` to `high` in `width` bytes at the offset, the highest first. Takes no memory.
 ///
 /// # Errors
 ///

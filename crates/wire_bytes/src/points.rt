@@ -10,7 +10,7 @@ use crate::wire_err::WireErr;
 use m3_model::Memory;
 use m3_model::limits::{MOST_ID_BYTES, MOST_NAMESPACES, TIME_END};
 
-/// A point that stands in some bytes: its identifier is the bytes from `id_from` to `id_to`, and `next` is the place
+/// A point that stands in some bytes: its identifier is the bytes from `id_from` to `id_to`, and `next` is the offset
 /// behind the point.
 #[derive(Clone, Copy, Debug, PartialEq, Eq)]
 pub struct PointAt {
@@ -55,7 +55,7 @@ pub fn put_point(out: &mut Vec<u8>, ns: u8, id: &[u8], t: u64, v: i64) -> Result
     done
 }
 
-// The point at the place.
+// The point at the offset.
 fn read_point(bytes: &[u8], at: usize) -> Result<PointAt, WireErr>
     ensures ok { IfOk result (λ p. PointStands bytes.now at p) }
     ensures err { IfErr result (λ e. IsFault APoint bytes.now at e) }
@@ -77,7 +77,7 @@ fn read_point(bytes: &[u8], at: usize) -> Result<PointAt, WireErr>
     })
 }
 
-/// The point at the place. Takes no memory.
+/// The point at the offset. Takes no memory.
 ///
 /// # Errors
 ///

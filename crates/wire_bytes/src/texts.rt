@@ -6,7 +6,7 @@ use crate::due::Due;
 use crate::numbers::rest_at;
 use crate::wire_err::WireErr;
 
-/// Whether a text of `len` bytes stands at the place.
+/// Whether a text of `len` bytes stands at the offset.
 pub(crate) fn find_text(bytes: &[u8], at: usize, len: usize) -> Result<(), WireErr>
     requires { at ≤ length bytes.now }
     ensures ok { OnOk result (Stands (take len (drop at bytes.now)) bytes.now at (at + len)) }

@@ -2,7 +2,7 @@ use Rattle.std.proofs.Common.{◌≡◌, ℕ, ◌<◌, ℤ, Some, true}
 use Rattle.std.specs.BTreeSet.{contains}
 use Rattle.m3_model.specs.declared.point.Key.{Key}
 use Rattle.series_slots.specs.Points.{value_of}
-use Rattle.series_slots.specs.Places.{slots_of}
+use Rattle.series_slots.specs.SeriesEntries.{slots_of}
 use Rattle.block_buffer.specs.Blocks.{block_cmp, block_of, IsBlockOf}
 use Rattle.block_buffer.proofs.blocks.block_starts.Given as goal
 

@@ -1,5 +1,5 @@
 use Rattle.std.proofs.Common.{◌<◌, ℕ, List, [], ◌∷◌, ◌++◌, length, refl, sym, ap, subst, ◌∙◌, append_assoc}
-use Rattle.wire_bytes.specs.Fields.{StopsAt}
+use Rattle.log_chunks.specs.Fields.{StopsAt}
 use Rattle.commit_log.specs.Segment.{IsSegment}
 use Rattle.commit_log.specs.Reading.{IsNext, IsFront}
 use Rattle.log_chunks.proofs.Fronts.{chunk_push, payload_is, end_stands}

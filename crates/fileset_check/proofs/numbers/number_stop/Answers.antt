@@ -19,7 +19,7 @@ returns-in-Err-clause-some c =
     let fs = c.args.fields.now in
     let i = c.loop-field.field-index in
     let d : Field = record { width = 0; low = 0; high = 0 } in
-    subst (StopsAt (AreNumbers fs) c.args.bytes.now) (sym c.place_of.ensures) (carries_err fs (get_or fs i d) (drop (i + 1) fs) c.args.bytes.now c.loop-field.at c.in-Err.e (carries_at fs c.args.bytes.now c.loop-field.at i d c.loop-field-test.true c.loop-field.invariant) c.in-Err.ensures.err)
+    subst (StopsAt (AreNumbers fs) c.args.bytes.now) (sym c.offset_of.ensures) (carries_err fs (get_or fs i d) (drop (i + 1) fs) c.args.bytes.now c.loop-field.at c.in-Err.e (carries_at fs c.args.bytes.now c.loop-field.at i d c.loop-field-test.true c.loop-field.invariant) c.in-Err.ensures.err)
 
 pub loop-field-preserved : goal.loop-field-preserved
 loop-field-preserved c =

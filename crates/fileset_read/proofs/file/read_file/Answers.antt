@@ -2,8 +2,8 @@ use Rattle.std.proofs.Common.{ap, sym, ◌∙◌}
 use Rattle.std.specs.FinMap.{get}
 use Rattle.m3_outside.specs.Files.{Files}
 use Rattle.m3_outside.specs.declared.disk_err.DiskErr.TheVariants.{Failed as DiskFailed}
-use Rattle.commit_log.proofs.Leaves.{leaves_as, leaves_then}
-use Rattle.commit_log.proofs.ReadLemmas.{passed_err}
+use Rattle.shard_files.proofs.Leaves.{leaves_as, leaves_then}
+use Rattle.shard_files.proofs.ReadLemmas.{passed_err}
 use Rattle.fileset_read.proofs.FileLemmas.{read_whole}
 use Rattle.fileset_read.proofs.file.read_file.Goals as goal
 

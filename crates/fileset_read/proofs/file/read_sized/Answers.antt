@@ -1,4 +1,4 @@
-use Rattle.commit_log.proofs.Leaves.{leaves_memory}
+use Rattle.shard_files.proofs.Leaves.{leaves_memory}
 use Rattle.fileset_read.proofs.file.read_sized.Goals as goal
 
 pub returns-in_err-bytes-clause-leaves : goal.returns-in_err-bytes-clause-leaves

@@ -3,8 +3,8 @@ use Rattle.std.specs.Prelude.{filter}
 use Rattle.std.specs.FinMap.{keys}
 use Rattle.m3_outside.specs.Files.{Files}
 use Rattle.m3_outside.specs.declared.disk_err.DiskErr.TheVariants.{Failed as DiskFailed}
-use Rattle.commit_log.proofs.Leaves.{leaves_as, leaves_then}
-use Rattle.commit_log.proofs.ReadLemmas.{passed_err}
+use Rattle.shard_files.proofs.Leaves.{leaves_as, leaves_then}
+use Rattle.shard_files.proofs.ReadLemmas.{passed_err}
 use Rattle.fileset_read.specs.Volumes.{is_counted}
 use Rattle.fileset_read.proofs.NameLemmas.{counted_names}
 use Rattle.fileset_read.proofs.names.counted.Goals as goal

@@ -1,4 +1,4 @@
-use Rattle.commit_log.proofs.Leaves.{leaves_none}
+use Rattle.shard_files.proofs.Leaves.{leaves_none}
 use Rattle.fileset_read.proofs.names.counts.Goals as goal
 
 pub returns-then-name-ne-CHECKPOINT-clause-leaves : goal.returns-then-name-ne-CHECKPOINT-clause-leaves

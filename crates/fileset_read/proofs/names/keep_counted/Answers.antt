@@ -1,7 +1,7 @@
 use Rattle.std.proofs.Common.{refl, ap, ◌∙◌, get_or}
 use Rattle.m3_outside.specs.declared.file_name.FileName.{FileName}
 use Rattle.m3_outside.specs.Files.{Files}
-use Rattle.commit_log.proofs.Leaves.{leaves_none, leaves_as, leaves_then, leaves_memory}
+use Rattle.shard_files.proofs.Leaves.{leaves_none, leaves_as, leaves_then, leaves_memory}
 use Rattle.fileset_read.specs.Volumes.{is_counted}
 use Rattle.fileset_read.proofs.NameLemmas.{name_more, err_is}
 use Rattle.fileset_read.proofs.names.keep_counted.Goals as goal

@@ -8,8 +8,8 @@ pub returns-in_err-t : goal.returns-in_err-t
 returns-in_err-t c = λ xs rest pairs long stands.
     let test = c.loop-i-test.true in
     let counted = c.loop-i.invariant.counted in
-    let place = c.loop-i.invariant.place in
-    let n = next_pair xs c.loop-i.pairs.items rest c.args.bytes.now c.loop-i.at (c.loop-i.invariant.left xs rest pairs long stands) (omega (arith, test, counted, long)) (let inside = c.requires in omega (arith, place, inside, test)) in
+    let offset = c.loop-i.invariant.offset in
+    let n = next_pair xs c.loop-i.pairs.items rest c.args.bytes.now c.loop-i.at (c.loop-i.invariant.left xs rest pairs long stands) (omega (arith, test, counted, long)) (let inside = c.requires in omega (arith, offset, inside, test)) in
     let no = c.in_err-t.ensures.whole n.one.0 (let fits = n.fits in omega (arith, fits)) n.time in
     absurd (cc)
 
@@ -17,8 +17,8 @@ pub returns-in_err-v : goal.returns-in_err-v
 returns-in_err-v c = λ xs rest pairs long stands.
     let test = c.loop-i-test.true in
     let counted = c.loop-i.invariant.counted in
-    let place = c.loop-i.invariant.place in
-    let n = next_pair xs c.loop-i.pairs.items rest c.args.bytes.now c.loop-i.at (c.loop-i.invariant.left xs rest pairs long stands) (omega (arith, test, counted, long)) (let inside = c.requires in omega (arith, place, inside, test)) in
+    let offset = c.loop-i.invariant.offset in
+    let n = next_pair xs c.loop-i.pairs.items rest c.args.bytes.now c.loop-i.at (c.loop-i.invariant.left xs rest pairs long stands) (omega (arith, test, counted, long)) (let inside = c.requires in omega (arith, offset, inside, test)) in
     let no = c.in_err-v.ensures.whole _ (let word = n.word in omega (arith, word)) n.value in
     absurd (cc)
 
@@ -26,14 +26,14 @@ pub loop-i-preserved : goal.loop-i-preserved
 loop-i-preserved c =
     let test = c.loop-i-test.true in
     let counted = c.loop-i.invariant.counted in
-    let place = c.loop-i.invariant.place in
+    let offset = c.loop-i.invariant.offset in
     let old = c.loop-i.pairs.items in
     let pushed = c.in_ok-push.ensures.items in
     record {
-      place = omega (arith, place);
+      offset = omega (arith, offset);
       counted = ap length pushed ∙ length_push old _ ∙ ap (λ (n : ℕ). n + 1) counted;
       left = λ xs rest pairs long stands.
-          let n = next_pair xs old rest c.args.bytes.now c.loop-i.at (c.loop-i.invariant.left xs rest pairs long stands) (omega (arith, test, counted, long)) (let inside = c.requires in omega (arith, place, inside, test)) in
+          let n = next_pair xs old rest c.args.bytes.now c.loop-i.at (c.loop-i.invariant.left xs rest pairs long stands) (omega (arith, test, counted, long)) (let inside = c.requires in omega (arith, offset, inside, test)) in
           let t = c.in_ok-t.ensures.whole n.one.0 (let fits = n.fits in omega (arith, fits)) n.time in
           let v = c.in_ok-v.ensures.whole _ (let word = n.word in omega (arith, word)) n.value in
           let time : c.in_ok-t.t ≡ n.one.0 = cc in

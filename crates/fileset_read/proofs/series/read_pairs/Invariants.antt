@@ -6,7 +6,7 @@ use Rattle.fileset_read.proofs.series.read_pairs.Given as goal
 
 abbrev pub invariant-loop-i : goal.invariant-loop-i
 invariant-loop-i l = record {
-  place : l.at ≡ l.from + 16 * l._i;
+  offset : l.at ≡ l.from + 16 * l._i;
   counted : length l.pairs.items ≡ l._i;
   left : (xs : List (ℕ × ℤ)) (rest : List ℕ) → ArePairs xs → length xs ≡ l.count → drop l.from l.bytes ≡ flat_map pair_bytes xs ++ rest → PairsLeft xs l.pairs.items rest l.bytes l.at;
 }

@@ -12,7 +12,7 @@ loop-slot-init g c = record { given = given_none g.D.Disk.state (depot_by g.X.Di
 
 pub give-requires : goal.give-requires
 give-requires g c =
-    subst (λ place. g.X.Disks.held c.loop-slot.disks place ≡ Out) (sym c.place_of.ensures)
+    subst (λ disk_slot. g.X.Disks.held c.loop-slot.disks disk_slot ≡ Out) (sym c.disk_slot.ensures)
     (given_out g.D.Disk.state (take c.loop-slot.slot-index c.args.slots.now) _ c.in-Some.member (depot_by g.X.Disks.held g.X.Disks.counted g.X.Disks.all_faults c.args.disks.now) (depot_by g.X.Disks.held g.X.Disks.counted g.X.Disks.all_faults c.loop-slot.disks) c.args.replicas.now.members c.loop-slot.replicas.members c.loop-slot.invariant.given c.requires
     (sym c.in-Some.ensures.taken))
 
@@ -21,8 +21,8 @@ loop-slot-preserved g c = record {
   given = elim c.match-take.branch [
     | in-Some w ↦
         subst (λ disks. HasGivenBack g.D.Disk.state (take (c.loop-slot.slot-index + 1) c.args.slots.now) (depot_by g.X.Disks.held g.X.Disks.counted g.X.Disks.all_faults c.args.disks.now) c.args.replicas.now.members (depot_by g.X.Disks.held g.X.Disks.counted g.X.Disks.all_faults disks) c.take.new.self.members) (sym w.disks-is)
-        (given_by g.D.Disk.state c.args.slots.now c.loop-slot.slot-index _ w.place_of.result w.disk_of.result w.in-Some.member (depot_by g.X.Disks.held g.X.Disks.counted g.X.Disks.all_faults c.args.disks.now) (depot_by g.X.Disks.held g.X.Disks.counted g.X.Disks.all_faults c.loop-slot.disks) (depot_by g.X.Disks.held g.X.Disks.counted g.X.Disks.all_faults w.give.new.self)
-        c.args.replicas.now.members c.loop-slot.replicas.members c.take.new.self.members c.loop-slot-test.true c.loop-slot.invariant.given (sym w.in-Some.is ∙ c.take.ensures.taken) (ap (λ t. t.members) c.take.ensures.left) w.place_of.ensures w.disk_of.ensures w.give.ensures.here w.give.ensures.others
+        (given_by g.D.Disk.state c.args.slots.now c.loop-slot.slot-index _ w.disk_slot.result w.disk_of.result w.in-Some.member (depot_by g.X.Disks.held g.X.Disks.counted g.X.Disks.all_faults c.args.disks.now) (depot_by g.X.Disks.held g.X.Disks.counted g.X.Disks.all_faults c.loop-slot.disks) (depot_by g.X.Disks.held g.X.Disks.counted g.X.Disks.all_faults w.give.new.self)
+        c.args.replicas.now.members c.loop-slot.replicas.members c.take.new.self.members c.loop-slot-test.true c.loop-slot.invariant.given (sym w.in-Some.is ∙ c.take.ensures.taken) (ap (λ t. t.members) c.take.ensures.left) w.disk_slot.ensures w.disk_of.ensures w.give.ensures.here w.give.ensures.others
         w.give.ensures.counted w.give.ensures.counted_others w.give.ensures.cause.later w.give.ensures.rose)
     | in-None w ↦
         subst (λ disks. HasGivenBack g.D.Disk.state (take (c.loop-slot.slot-index + 1) c.args.slots.now) (depot_by g.X.Disks.held g.X.Disks.counted g.X.Disks.all_faults c.args.disks.now) c.args.replicas.now.members (depot_by g.X.Disks.held g.X.Disks.counted g.X.Disks.all_faults disks) c.take.new.self.members) (sym w.disks-is)

@@ -5,7 +5,7 @@ use Rattle.std.proofs.lemmas.Result.{IfOk-weaker}
 use Rattle.m3_model.specs.Members.{IsIn}
 use Rattle.tag_index.specs.Listed.{IsAt}
 use Rattle.tag_query.proofs.Members.{at_or_later, IsIn-get_or}
-use Rattle.held_points.specs.Matched.{IsNamed}
+use Rattle.held_points.specs.Matched.{IsMatchedBy}
 use Rattle.held_points.proofs.candidates.names.Goals as goal
 
 pub loop-ordinal-preserved : goal.loop-ordinal-preserved
@@ -16,7 +16,7 @@ loop-ordinal-preserved c =
     let ids = c.add_name.new.ids.keys in
     let added = c.in_ok-add_name.ensures in
     record {
-      sound = λ id m. elim ((added id).0 m) as (λ _. IsNamed index c.args.wanted.now ordinals id) [
+      sound = λ id m. elim ((added id).0 m) as (λ _. IsMatchedBy index c.args.wanted.now ordinals id) [
         | inl old ↦ c.loop-ordinal.invariant.sound id old
         | inr new ↦ (get_or ordinals i 0, IsIn-get_or ordinals i 0 c.loop-ordinal-test.true, new.0, new.1)
       ];

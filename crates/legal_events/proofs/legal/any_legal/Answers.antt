@@ -6,15 +6,15 @@ use Rattle.legal_events.specs.Sumless.{HasNoSums}
 use Rattle.legal_events.proofs.LegalLemmas.{legal_more, legal_done}
 use Rattle.legal_events.proofs.legal.any_legal.Goals as goal
 
-pub loop-place-preserved : goal.loop-place-preserved
-loop-place-preserved c =
+pub loop-position-preserved : goal.loop-position-preserved
+loop-position-preserved c =
     let events = c.as_slice-events.result.now in
-    let place = c.loop-place.place in
-    let event = c.index-events-place.result in
-    let at = at_index events place event c.loop-place-test.true c.index-events-place.is in
-    legal_more events place event at (c.in_ok-is_lawful_at.ensures.0 c.if-not-branch.false) c.loop-place.invariant
+    let position = c.loop-position.position in
+    let event = c.index-events-position.result in
+    let at = at_index events position event c.loop-position-test.true c.index-events-position.is in
+    legal_more events position event at (c.in_ok-is_lawful_at.ensures.0 c.if-not-branch.false) c.loop-position.invariant
 
 pub returns-clause-legal : goal.returns-clause-legal
 returns-clause-legal c =
-    let whole = legal_done c.as_slice-events.result.now c.loop-place.place c.loop-place-test.false c.loop-place.invariant in
+    let whole = legal_done c.as_slice-events.result.now c.loop-position.position c.loop-position-test.false c.loop-position.invariant in
     (λ t. subst (λ (events : List Event). Legal true events × All HasNoSums events) c.as_slice-events.ensures whole, λ h. refl)

@@ -1,24 +1,24 @@
 use Rattle.std.proofs.Common.{◌≡◌, inl, inr, refl, ap, sym, ◌∙◌}
 use Rattle.std.specs.Prelude.{◌⊎◌}
 use Rattle.std.proofs.lemmas.Bool.{cases_eq}
-use Rattle.m3_outside.specs.declared.slot.Slot.{Slot}
+use Rattle.m3_outside.specs.declared.slot.DiskSlot.{DiskSlot}
 use Rattle.m3_outside.specs.Slots.{Held, Unused, Here, Out}
 use Rattle.mem_disk.specs.declared.disk.MemDisk.{MemDisk}
 use Rattle.mem_disk.specs.Slots.{held_of}
 use Rattle.line_runs.proofs.disks.disks_with.Goals as goal
 
-abbrev of_c : Slot
+abbrev of_c : DiskSlot
 of_c = record { node = 2; shard = 0 }
 
 -- a slot is that of node c, or another
-which : (s : Slot) → (s ≡ of_c) ⊎ (s ≡ of_c → ⊥)
+which : (s : DiskSlot) → (s ≡ of_c) ⊎ (s ≡ of_c → ⊥)
 which s =
     elim (cases_eq s.node 2) as (λ _. (s ≡ of_c) ⊎ (s ≡ of_c → ⊥)) [
       | inl node ↦ elim (cases_eq s.shard 0) as (λ _. (s ≡ of_c) ⊎ (s ≡ of_c → ⊥)) [
         | inl shard ↦ inl (λ i. record { node = node i; shard = shard i })
-        | inr other ↦ inr (λ e. other (ap (λ (q : Slot). q.shard) e))
+        | inr other ↦ inr (λ e. other (ap (λ (q : DiskSlot). q.shard) e))
       ]
-      | inr other ↦ inr (λ e. other (ap (λ (q : Slot). q.node) e))
+      | inr other ↦ inr (λ e. other (ap (λ (q : DiskSlot). q.node) e))
     ]
 
 unused_is_in : (h : Held MemDisk) → h ≡ Unused → h ≡ Out → ⊥

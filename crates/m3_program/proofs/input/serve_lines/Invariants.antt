@@ -1,5 +1,5 @@
 use Rattle.std.proofs.Common.{◌≡◌, ◌<◌, ◌≤◌, ◌++◌, ℕ, List, length}
-use Rattle.served_cluster.specs.Owned.{MayServe}
+use Rattle.served_cluster.specs.Owned.{MayServeCluster}
 use Rattle.m3_program.specs.Streams.{TakesOn, stage}
 use Rattle.m3_program.specs.Writing.{Gathers}
 use Rattle.m3_program.proofs.input.serve_lines.Given as goal
@@ -13,7 +13,7 @@ invariant-loop-end g l = record {
   few : length l.fn.replies.items < 65536 → length l.replies.items < 65536;
   takes : TakesOn g.X.D.Disk.state (stage l.fn.cluster (g.X.Disks.held l.fn.disks) (g.X.Disks.counted l.fn.disks) (g.X.Disks.all_faults l.fn.disks)) l.fn.line.items done text
       (stage l.cluster (g.X.Disks.held l.disks) (g.X.Disks.counted l.disks) (g.X.Disks.all_faults l.disks)) l.line.items;
-  owned : MayServe l.cluster (g.X.Disks.held l.disks);
+  owned : MayServeCluster l.cluster (g.X.Disks.held l.disks);
   faults : g.K.Sink.faulted l.fn.out ≤ g.K.Sink.faulted l.out;
   stalls : g.K.Sink.stalled l.fn.out ≤ g.K.Sink.stalled l.out;
 }

@@ -8,8 +8,8 @@ use Rattle.meta_bytes.specs.Forms.{Byte, Has, Times}
 use Rattle.meta_bytes.proofs.NameLemmas.{name_short, name_bad, name_step, name_so_far}
 use Rattle.meta_bytes.proofs.names.find_name.Goals as goal
 
-pub loop-place-init : goal.loop-place-init
-loop-place-init c =
+pub loop-offset-init : goal.loop-offset-init
+loop-offset-init c =
     let none : c.args.at - c.args.at ≡ 0 = omega arith in
     let all : c.args.at + c.args.len - c.args.at ≡ c.args.len = omega arith in
     record {
@@ -18,22 +18,22 @@ loop-place-init c =
       faults = λ e a. subst (λ (n : ℕ). IsFault (Times n (Has (Byte is_name_byte))) c.args.bytes.now c.args.at e) all a;
     }
 
-pub returns-then-place-bytes-clause-err : goal.returns-then-place-bytes-clause-err
-returns-then-place-bytes-clause-err c = c.loop-place.invariant.faults errors.Short (name_short (c.args.at + c.args.len - c.loop-place.place) c.args.bytes.now c.loop-place.place (omega arith) (omega arith))
+pub returns-then-offset-bytes-clause-err : goal.returns-then-offset-bytes-clause-err
+returns-then-offset-bytes-clause-err c = c.loop-offset.invariant.faults errors.Short (name_short (c.args.at + c.args.len - c.loop-offset.offset) c.args.bytes.now c.loop-offset.offset (omega arith) (omega arith))
 
 pub returns-then-not-is_name_byte-clause-err : goal.returns-then-not-is_name_byte-clause-err
 returns-then-not-is_name_byte-clause-err c =
-    c.loop-place.invariant.faults (errors.Bad c.loop-place.place) (name_bad (c.args.at + c.args.len - c.loop-place.place) c.args.bytes.now c.loop-place.place (omega arith) (omega arith) (sym c.is_name_byte.ensures ∙ c.if-not-is_name_byte.true))
+    c.loop-offset.invariant.faults (errors.Bad c.loop-offset.offset) (name_bad (c.args.at + c.args.len - c.loop-offset.offset) c.args.bytes.now c.loop-offset.offset (omega arith) (omega arith) (sym c.is_name_byte.ensures ∙ c.if-not-is_name_byte.true))
 
-pub loop-place-preserved : goal.loop-place-preserved
-loop-place-preserved c =
-    let fits : is_name_byte (get_or c.args.bytes.now c.loop-place.place 0) ≡ true = sym c.is_name_byte.ensures ∙ c.if-not-is_name_byte.false in
+pub loop-offset-preserved : goal.loop-offset-preserved
+loop-offset-preserved c =
+    let fits : is_name_byte (get_or c.args.bytes.now c.loop-offset.offset 0) ≡ true = sym c.is_name_byte.ensures ∙ c.if-not-is_name_byte.false in
     record {
       within = omega arith;
-      name = name_so_far c.args.at c.loop-place.place c.args.bytes.now (omega arith) (omega arith) fits c.loop-place.invariant.name;
-      faults = λ e a. c.loop-place.invariant.faults e (name_step (c.args.at + c.args.len - c.loop-place.place) c.args.bytes.now c.loop-place.place e (omega arith) (omega arith) fits
-          (let less : c.args.at + c.args.len - (c.loop-place.place + 1) ≡ c.args.at + c.args.len - c.loop-place.place - 1 = omega arith in
-          subst (λ (n : ℕ). IsFault (Times n (Has (Byte is_name_byte))) c.args.bytes.now (c.loop-place.place + 1) e) less a));
+      name = name_so_far c.args.at c.loop-offset.offset c.args.bytes.now (omega arith) (omega arith) fits c.loop-offset.invariant.name;
+      faults = λ e a. c.loop-offset.invariant.faults e (name_step (c.args.at + c.args.len - c.loop-offset.offset) c.args.bytes.now c.loop-offset.offset e (omega arith) (omega arith) fits
+          (let less : c.args.at + c.args.len - (c.loop-offset.offset + 1) ≡ c.args.at + c.args.len - c.loop-offset.offset - 1 = omega arith in
+          subst (λ (n : ℕ). IsFault (Times n (Has (Byte is_name_byte))) c.args.bytes.now (c.loop-offset.offset + 1) e) less a));
     }
 
 pub returns-clause-ok : goal.returns-clause-ok
@@ -41,5 +41,5 @@ returns-clause-ok c = stands_text c.args.len c.args.at c.args.bytes.now (omega (
 
 pub returns-clause-name : goal.returns-clause-name
 returns-clause-name c =
-    let all : c.loop-place.place - c.args.at ≡ c.args.len = omega arith in
-    subst (λ (k : ℕ). list_all is_name_byte (take k (drop c.args.at c.args.bytes.now)) ≡ true) all c.loop-place.invariant.name
+    let all : c.loop-offset.offset - c.args.at ≡ c.args.len = omega arith in
+    subst (λ (k : ℕ). list_all is_name_byte (take k (drop c.args.at c.args.bytes.now)) ≡ true) all c.loop-offset.invariant.name

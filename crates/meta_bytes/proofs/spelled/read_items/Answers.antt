@@ -23,8 +23,8 @@ returns-in_err-item-clause-err g c =
     let left : suc (c.args.count - c.loop-i._i - 1) ≡ c.args.count - c.loop-i._i = omega arith in
     let e = c.in_err-item.field-0.0 in
     exit_err c.from_residual.result e (MayFault (Times c.args.count (Has form)) c.args.bytes.now c.args.from) c.from_residual.ensures.1
-    (c.loop-i.invariant.faults e (subst (λ (n : ℕ). MayFault (Times n (Has form)) c.args.bytes.now c.loop-i.place e) left
-    (may_one form c.requires.fair (c.args.count - c.loop-i._i - 1) c.args.bytes.now c.loop-i.place e c.in_err-item.ensures.err)))
+    (c.loop-i.invariant.faults e (subst (λ (n : ℕ). MayFault (Times n (Has form)) c.args.bytes.now c.loop-i.offset e) left
+    (may_one form c.requires.fair (c.args.count - c.loop-i._i - 1) c.args.bytes.now c.loop-i.offset e c.in_err-item.ensures.err)))
 
 pub loop-i-preserved : goal.loop-i-preserved
 loop-i-preserved g c =
@@ -36,17 +36,17 @@ loop-i-preserved g c =
     let st = c.in_ok-item.ensures.ok in
     record {
       items = subst (λ (xs : List g.row.T.Denot). ItemsStand form spelled (c.loop-i._i + 1) xs c.args.bytes.now c.args.from next) (sym c.in_ok-push.ensures.items)
-          (one_more form spelled c.loop-i._i c.loop-i.items.items item c.args.bytes.now c.args.from c.loop-i.place next c.loop-i.invariant.items st);
+          (one_more form spelled c.loop-i._i c.loop-i.items.items item c.args.bytes.now c.args.from c.loop-i.offset next c.loop-i.invariant.items st);
       fits = subst (All g.T.Spelled.fits) (sym c.in_ok-push.ensures.items) (All-push g.T.Spelled.fits c.loop-i.items.items item c.loop-i.invariant.fits c.in_ok-item.ensures.fits);
-      faults = λ e a. c.loop-i.invariant.faults e (subst (λ (n : ℕ). MayFault (Times n (Has form)) c.args.bytes.now c.loop-i.place e) left
-          (may_later form c.requires.fair (c.args.count - (c.loop-i._i + 1)) (spelled item) c.args.bytes.now c.loop-i.place next e st a));
+      faults = λ e a. c.loop-i.invariant.faults e (subst (λ (n : ℕ). MayFault (Times n (Has form)) c.args.bytes.now c.loop-i.offset e) left
+          (may_later form c.requires.fair (c.args.count - (c.loop-i._i + 1)) (spelled item) c.args.bytes.now c.loop-i.offset next e st a));
     }
 
 pub returns-clause-ok : goal.returns-clause-ok
 returns-clause-ok g c =
     let all : c.loop-i._i ≡ c.args.count = omega arith in
-    subst (λ (xs : List g.row.T.Denot). ItemsStand g.T.Spelled.form g.T.Spelled.spelled c.args.count xs c.args.bytes.now c.args.from c.loop-i.place) (sym c.from_vec.ensures)
-    (subst (λ (n : ℕ). ItemsStand g.T.Spelled.form g.T.Spelled.spelled n c.loop-i.items.items c.args.bytes.now c.args.from c.loop-i.place) all c.loop-i.invariant.items)
+    subst (λ (xs : List g.row.T.Denot). ItemsStand g.T.Spelled.form g.T.Spelled.spelled c.args.count xs c.args.bytes.now c.args.from c.loop-i.offset) (sym c.from_vec.ensures)
+    (subst (λ (n : ℕ). ItemsStand g.T.Spelled.form g.T.Spelled.spelled n c.loop-i.items.items c.args.bytes.now c.args.from c.loop-i.offset) all c.loop-i.invariant.items)
 
 pub returns-clause-fits : goal.returns-clause-fits
 returns-clause-fits g c = subst (All g.T.Spelled.fits) (sym c.from_vec.ensures) c.loop-i.invariant.fits

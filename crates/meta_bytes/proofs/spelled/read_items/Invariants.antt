@@ -6,7 +6,7 @@ use Rattle.meta_bytes.proofs.spelled.read_items.Given as goal
 
 abbrev pub invariant-loop-i : goal.invariant-loop-i
 invariant-loop-i g l = record {
-  items : ItemsStand g.T.Spelled.form g.T.Spelled.spelled l._i l.items.items l.bytes l.from l.place;
+  items : ItemsStand g.T.Spelled.form g.T.Spelled.spelled l._i l.items.items l.bytes l.from l.offset;
   fits : All g.T.Spelled.fits l.items.items;
-  faults : (e : ReadErr) → MayFault (Times (l.count - l._i) (Has g.T.Spelled.form)) l.bytes l.place e → MayFault (Times l.count (Has g.T.Spelled.form)) l.bytes l.from e;
+  faults : (e : ReadErr) → MayFault (Times (l.count - l._i) (Has g.T.Spelled.form)) l.bytes l.offset e → MayFault (Times l.count (Has g.T.Spelled.form)) l.bytes l.from e;
 }

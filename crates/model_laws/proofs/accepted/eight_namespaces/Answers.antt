@@ -1,5 +1,5 @@
 use Rattle.std.proofs.Common.{[], true, refl}
-use Rattle.model_laws.proofs.PlaceLemmas.{due}
+use Rattle.model_laws.proofs.PositionLemmas.{due}
 use Rattle.model_laws.proofs.CausedLives.{with_eight-caused}
 use Rattle.model_laws.proofs.accepted.eight_namespaces.Goals as goal
 

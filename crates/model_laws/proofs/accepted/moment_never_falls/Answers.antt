@@ -1,5 +1,5 @@
 use Rattle.std.proofs.Common.{[], true, refl}
-use Rattle.model_laws.proofs.PlaceLemmas.{due}
+use Rattle.model_laws.proofs.PositionLemmas.{due}
 use Rattle.model_laws.proofs.CausedLives.{at_moment-caused}
 use Rattle.model_laws.proofs.accepted.moment_never_falls.Goals as goal
 

@@ -9,20 +9,20 @@ use Rattle.past_events.proofs.joins.has_fenced.Goals.{else-fenced_at-via-then-fe
 pub returns-then-branch : goal.returns-then-branch
 returns-then-branch c =
     let since = c.args.since.now in
-    let event = c.index-since-place.result in
-    let at = at_index since c.loop-place.place event c.loop-place-test.true c.index-since-place.is in (
-      λ t. after_here (FencedAt c.args.peer c.args.shard c.args.tenure) (HasCover c.args.shard c.args.peer c.args.node c.args.since.now) since c.loop-place.place event at
-          (c.fenced_at.ensures.0 c.if-fenced_at.true) (c.in_ok-has_cover.ensures.0 c.if-branch.true) c.loop-place.invariant,
+    let event = c.index-since-position.result in
+    let at = at_index since c.loop-position.position event c.loop-position-test.true c.index-since-position.is in (
+      λ t. after_here (FencedAt c.args.peer c.args.shard c.args.tenure) (HasCover c.args.shard c.args.peer c.args.node c.args.since.now) since c.loop-position.position event at
+          (c.fenced_at.ensures.0 c.if-fenced_at.true) (c.in_ok-has_cover.ensures.0 c.if-branch.true) c.loop-position.invariant,
       λ h. refl,
     )
 
-pub loop-place-preserved : goal.loop-place-preserved
-loop-place-preserved c =
+pub loop-position-preserved : goal.loop-position-preserved
+loop-position-preserved c =
     let since = c.args.since.now in
-    let event = c.index-since-place.result in
-    let at = at_index since c.loop-place.place event c.loop-place-test.true c.index-since-place.is in
-    let next = after_next (FencedAt c.args.peer c.args.shard c.args.tenure) (HasCover c.args.shard c.args.peer c.args.node c.args.since.now) since c.loop-place.place event at in
+    let event = c.index-since-position.result in
+    let at = at_index since c.loop-position.position event c.loop-position-test.true c.index-since-position.is in
+    let next = after_next (FencedAt c.args.peer c.args.shard c.args.tenure) (HasCover c.args.shard c.args.peer c.args.node c.args.since.now) since c.loop-position.position event at in
     elim c.else-fenced_at.branch [
-      | else-fenced_at-via-then-fenced_at+in_ok-has_cover+else-branch w ↦ next (λ h. no_true w.in_ok-has_cover.field-0 w.if-branch.false (w.in_ok-has_cover.ensures.1 h.1)) c.loop-place.invariant
-      | else-fenced_at-via-else-fenced_at w ↦ next (λ h. no_true c.fenced_at.result w.if-fenced_at.false (c.fenced_at.ensures.1 h.0)) c.loop-place.invariant
+      | else-fenced_at-via-then-fenced_at+in_ok-has_cover+else-branch w ↦ next (λ h. no_true w.in_ok-has_cover.field-0 w.if-branch.false (w.in_ok-has_cover.ensures.1 h.1)) c.loop-position.invariant
+      | else-fenced_at-via-else-fenced_at w ↦ next (λ h. no_true c.fenced_at.result w.if-fenced_at.false (c.fenced_at.ensures.1 h.0)) c.loop-position.invariant
     ]

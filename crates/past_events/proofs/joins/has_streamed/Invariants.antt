@@ -4,5 +4,5 @@ use Rattle.cluster_core.specs.Lists.{AfterSome}
 use Rattle.past_events.proofs.joins.has_streamed.Given as goal
 
 -- the whole list has what is looked for exactly where what is left of it has
-abbrev pub invariant-loop-place : goal.invariant-loop-place
-invariant-loop-place l = AfterSome (BeganWith l.node l.shard l.tenure) (HasFenced l.shard l.peer l.node l.tenure) l.past ↔ AfterSome (BeganWith l.node l.shard l.tenure) (HasFenced l.shard l.peer l.node l.tenure) (drop l.place l.past)
+abbrev pub invariant-loop-position : goal.invariant-loop-position
+invariant-loop-position l = AfterSome (BeganWith l.node l.shard l.tenure) (HasFenced l.shard l.peer l.node l.tenure) l.past ↔ AfterSome (BeganWith l.node l.shard l.tenure) (HasFenced l.shard l.peer l.node l.tenure) (drop l.position l.past)

@@ -14,17 +14,17 @@ blank = record { node = 0; tenure = 0; state = Initializing; source = None }
 pub returns-then-not-is_spread_from : goal.returns-then-not-is_spread_from
 returns-then-not-is_spread_from c =
     let shard = c.args.shard.now in
-    let place = c.loop-place.place in
-    let a = get_or shard place blank in
+    let position = c.loop-position.position in
+    let a = get_or shard position blank in
     let Apart : Assignment → Assignment → Type 0 = λ x y. ApartBefore c.args.instances.now x y × ApartAfter c.args.instances.now x y in
-    let next = ascends_next Apart shard place a (at_read shard place blank c.loop-place-test.true) in
-    (λ t. absurd (no_true false refl t), λ h. absurd (no_true c.is_spread_from.result c.if-not-is_spread_from.true (c.is_spread_from.ensures.1 (subst (All (Apart a)) (sym (rest_is shard (place + 1))) (next.0 (c.loop-place.invariant.0 h)).0))))
+    let next = ascends_next Apart shard position a (at_read shard position blank c.loop-position-test.true) in
+    (λ t. absurd (no_true false refl t), λ h. absurd (no_true c.is_spread_from.result c.if-not-is_spread_from.true (c.is_spread_from.ensures.1 (subst (All (Apart a)) (sym (rest_is shard (position + 1))) (next.0 (c.loop-position.invariant.0 h)).0))))
 
-pub loop-place-preserved : goal.loop-place-preserved
-loop-place-preserved c =
+pub loop-position-preserved : goal.loop-position-preserved
+loop-position-preserved c =
     let shard = c.args.shard.now in
-    let place = c.loop-place.place in
-    let a = get_or shard place blank in
+    let position = c.loop-position.position in
+    let a = get_or shard position blank in
     let Apart : Assignment → Assignment → Type 0 = λ x y. ApartBefore c.args.instances.now x y × ApartAfter c.args.instances.now x y in
-    let next = ascends_next Apart shard place a (at_read shard place blank c.loop-place-test.true) in
-    (λ h. (next.0 (c.loop-place.invariant.0 h)).1, λ h. c.loop-place.invariant.1 (next.1 (subst (All (Apart a)) (rest_is shard (place + 1)) (c.is_spread_from.ensures.0 c.if-not-is_spread_from.false), h)))
+    let next = ascends_next Apart shard position a (at_read shard position blank c.loop-position-test.true) in
+    (λ h. (next.0 (c.loop-position.invariant.0 h)).1, λ h. c.loop-position.invariant.1 (next.1 (subst (All (Apart a)) (rest_is shard (position + 1)) (c.is_spread_from.ensures.0 c.if-not-is_spread_from.false), h)))

@@ -5,7 +5,7 @@ use Rattle.std.proofs.lemmas.Option.{slice_get_within}
 use Rattle.placement_core.specs.NodeNames.{is_listed}
 use Rattle.m3_model.specs.declared.placement.Placement.{Placement}
 use Rattle.m3_model.specs.declared.placement.Instance.{Instance}
-use Rattle.placement_plan.specs.Nodes.{Lists, fresh_node}
+use Rattle.placement_plan.specs.Nodes.{ListsNode, fresh_node}
 use Rattle.placement_plan.specs.Plans.{HasRoom}
 use Rattle.placement_plan.specs.Additions.{IsAddition, Rebalances}
 use Rattle.placement_plan.specs.Refusals.{IsPastLimit}
@@ -16,7 +16,7 @@ use Rattle.placement_plan.proofs.AddLemmas.{addition_lawful, addition_step}
 use Rattle.placement_moves.proofs.addition.add.Goals as goal
 
 pub returns-in-Some-clause-refused : goal.returns-in-Some-clause-refused
-returns-in-Some-clause-refused c = lists_found c.args.place.now c.args.node.now c.in-Some.field-0 (subst (λ nodes. Lists nodes c.args.node.now c.in-Some.field-0) c.as_slice-old.ensures c.in-Some.ensures.found)
+returns-in-Some-clause-refused c = lists_found c.args.place.now c.args.node.now c.in-Some.field-0 (subst (λ nodes. ListsNode nodes c.args.node.now c.in-Some.field-0) c.as_slice-old.ensures c.in-Some.ensures.found)
 
 pub returns-in-Err-clause-refused : goal.returns-in-Err-clause-refused
 returns-in-Err-clause-refused c =

@@ -4,7 +4,7 @@ use Rattle.placement_core.specs.Shards.{Shard, is_steady}
 use Rattle.placement_core.proofs.ListLemmas.{at_index, same_at}
 use Rattle.placement_plan.specs.Choices.{moved}
 use Rattle.placement_plan.specs.Loads.{AreLoads}
-use Rattle.placement_plan.specs.Additions.{MayGive, IsNextMove, Rebalances}
+use Rattle.placement_plan.specs.Additions.{MayGiveShard, IsNextMove, Rebalances}
 use Rattle.placement_plan.proofs.AddLemmas.{BalancedBelow, balanced_none, balanced_more, balanced_done, fewer_steady}
 use Rattle.placement_moves.proofs.addition.rebalanced.Goals as goal
 
@@ -60,8 +60,8 @@ pub returns-clause-ok : goal.returns-clause-ok
 returns-clause-ok c =
     let instances = c.args.instances.now in
     let current : List Shard = c.loop-number.next.items in
-    let none : (from : ℕ) → ¬ MayGive (slice_index c.loop-number.loads.items) instances current c.args.to from =
-    subst (λ (table : List ℕ). (from : ℕ) → ¬ MayGive (slice_index table) instances current c.args.to from) c.as_slice-in-loop-number.ensures.value
-    (subst (λ (shards : List Shard). (from : ℕ) → ¬ MayGive (slice_index c.as_slice-in-loop-number.result.now) instances shards c.args.to from) c.as_slice-in-loop-number-2.ensures.value c.in_default.ensures.none) in
+    let none : (from : ℕ) → ¬ MayGiveShard (slice_index c.loop-number.loads.items) instances current c.args.to from =
+    subst (λ (table : List ℕ). (from : ℕ) → ¬ MayGiveShard (slice_index table) instances current c.args.to from) c.as_slice-in-loop-number.ensures.value
+    (subst (λ (shards : List Shard). (from : ℕ) → ¬ MayGiveShard (slice_index c.as_slice-in-loop-number.result.now) instances shards c.args.to from) c.as_slice-in-loop-number-2.ensures.value c.in_default.ensures.none) in
     subst (λ (next : List Shard). (moves : List (ℕ × ℕ)) × Rebalances instances c.args.version c.args.to moves c.args.shards.now next) (sym c.from_vec.ensures)
     (balanced_done instances c.args.version c.args.to c.args.shards.now current c.loop-number.loads.items c.requires.to none c.loop-number.invariant)

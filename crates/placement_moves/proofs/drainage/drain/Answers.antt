@@ -6,7 +6,7 @@ use Rattle.placement_plan.proofs.ShardLemmas.{steady_of}
 use Rattle.m3_model.specs.declared.placement.Placement.{Placement}
 use Rattle.m3_model.specs.declared.placement.Instance.{Instance}
 use Rattle.placement_core.specs.Shards.{Shard}
-use Rattle.placement_plan.specs.Nodes.{Lists, Has}
+use Rattle.placement_plan.specs.Nodes.{ListsNode, Has}
 use Rattle.placement_plan.specs.Plans.{MakesAll, MovesAway, IsDrain, IsReady}
 use Rattle.placement_plan.proofs.DrainLemmas.{drain_lawful, drain_step}
 use Rattle.placement_moves.proofs.drainage.drain.Goals as goal
@@ -17,7 +17,7 @@ returns c =
     let name = c.args.node.now in
     let node = c.in-Some.number in
     let next : Placement = record { version = c.in_ok-version.version; rf = old.rf; instances = c.in_ok-instances.instances; shards = c.in-Ok.shards } in
-    let lists : Lists old.instances name node = subst (λ nodes. Lists nodes name node) c.as_slice-old.ensures c.in-Some.ensures.found in
+    let lists : ListsNode old.instances name node = subst (λ nodes. ListsNode nodes name node) c.as_slice-old.ensures c.in-Some.ensures.found in
     let plan : IsDrain old name next = record {
       node = node;
       lists = lists;
@@ -44,5 +44,5 @@ all_moved_away-requires-clause-steady c =
 pub drained-requires : goal.drained-requires
 drained-requires c =
     let old = c.args.place.now in
-    let lists : Lists old.instances c.args.node.now c.in-Some.number = subst (λ nodes. Lists nodes c.args.node.now c.in-Some.number) c.as_slice-old.ensures c.in-Some.ensures.found in
+    let lists : ListsNode old.instances c.args.node.now c.in-Some.number = subst (λ nodes. ListsNode nodes c.args.node.now c.in-Some.number) c.as_slice-old.ensures c.in-Some.ensures.found in
     slice_get_within old.instances c.in-Some.number lists.instance lists.stands

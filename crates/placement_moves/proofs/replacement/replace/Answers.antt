@@ -1,7 +1,7 @@
 use Rattle.std.proofs.Common.{refl, subst}
 use Rattle.std.proofs.lemmas.Option.{slice_get_within}
 use Rattle.m3_model.specs.declared.placement.Placement.{Placement}
-use Rattle.placement_plan.specs.Plans.{MakesAll, MovesTo, IsReplacement, MayReplace}
+use Rattle.placement_plan.specs.Plans.{MakesAll, MovesShardTo, IsReplacement, MayReplace}
 use Rattle.placement_plan.proofs.ReplaceLemmas.{replacement_lawful, replacement_step, marked_at}
 use Rattle.placement_moves.proofs.replacement.replace.Goals as goal
 
@@ -31,7 +31,7 @@ returns c =
         version = (c.in_ok-version.ensures.ok).0;
         version_fits = (c.in_ok-version.ensures.ok).1;
         rf = refl;
-        shards = subst (λ shards. MakesAll (λ s. MovesTo c.in_ok-version.version node to) shards c.in_ok-shards.shards) c.as_slice.ensures c.in_ok-shards.ensures;
+        shards = subst (λ shards. MakesAll (λ s. MovesShardTo c.in_ok-version.version node to) shards c.in_ok-shards.shards) c.as_slice.ensures c.in_ok-shards.ensures;
       };
       instances = c.in_ok-instances.ensures ((may.lists).instance) (marked_at old name by group c.requires.lawful c.requires.named c.requires.grouped node to may c.in_ok-with.with c.in_ok-with.ensures);
     } in

@@ -1,6 +1,6 @@
 use Rattle.std.proofs.Common.{refl, subst}
 use Rattle.m3_model.specs.declared.placement.Placement.{Placement}
-use Rattle.placement_plan.specs.Nodes.{Lists}
+use Rattle.placement_plan.specs.Nodes.{ListsNode}
 use Rattle.placement_plan.specs.Plans.{MakesAll, CancelsJoining, IsCancel, IsFreed, GivesTo}
 use Rattle.placement_plan.proofs.PlanLemmas.{cancel_lawful, cancel_step}
 use Rattle.placement_plan.proofs.completion.cancel.Goals as goal
@@ -13,7 +13,7 @@ returns c =
     let next : Placement = record { version = c.in_ok-version.version; rf = old.rf; instances = c.in_ok-instances.instances; shards = c.in_ok-shards.shards } in
     let plan : IsCancel old name next = record {
       node = node;
-      lists = subst (λ nodes. Lists nodes name node) c.as_slice.ensures c.in-Some.ensures.found;
+      lists = subst (λ nodes. ListsNode nodes name node) c.as_slice.ensures c.in-Some.ensures.found;
       follows = record {
         version = (c.in_ok-version.ensures.ok).0;
         version_fits = (c.in_ok-version.ensures.ok).1;

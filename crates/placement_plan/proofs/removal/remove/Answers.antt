@@ -2,7 +2,7 @@ use Rattle.std.proofs.Common.{refl, subst}
 use Rattle.m3_model.specs.declared.placement.Placement.{Placement}
 use Rattle.m3_model.specs.Members.{IsIn}
 use Rattle.placement_core.specs.Shards.{Shard}
-use Rattle.placement_plan.specs.Nodes.{Lists, Has}
+use Rattle.placement_plan.specs.Nodes.{ListsNode, Has}
 use Rattle.placement_plan.specs.Plans.{IsRemoval}
 use Rattle.placement_plan.proofs.PlanLemmas.{removal_lawful, removal_step, same_shards}
 use Rattle.placement_plan.proofs.removal.remove.Goals as goal
@@ -13,7 +13,7 @@ returns c =
     let name = c.args.node.now in
     let node = c.in-Some.number in
     let next : Placement = record { version = c.in_ok-version.version; rf = old.rf; instances = c.in_ok-instances.instances; shards = c.in_ok-shards.shards } in
-    let lists : Lists old.instances name node = subst (λ nodes. Lists nodes name node) c.as_slice.ensures c.in-Some.ensures.found in
+    let lists : ListsNode old.instances name node = subst (λ nodes. ListsNode nodes name node) c.as_slice.ensures c.in-Some.ensures.found in
     let plan : IsRemoval old name next = record {
       node = node;
       lists = lists;

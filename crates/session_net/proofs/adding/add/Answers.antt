@@ -9,4 +9,4 @@ add-requires-clause-lawful g c κs within tells all =
     lawful_later tells (length events) events c.args.event.now c.know.ensures.opened (c.requires.lawful tells)
 
 pub returns-clause-ran : goal.returns-clause-ran
-returns-clause-ran g c = ran_added g.D.Disk.state c.args.event.now c.in-Ok.place c.args.replicas.now c.add.new.self c.requires.no_step c.in-Ok.ensures.ok c.add.ensures.members
+returns-clause-ran g c = ran_added g.D.Disk.state c.args.event.now c.in-Ok.position c.args.replicas.now c.add.new.self c.requires.no_step c.in-Ok.ensures.ok c.add.ensures.members

@@ -2,13 +2,13 @@ use Rattle.std.proofs.Common.{◌<◌, ℕ, sym, subst, length}
 use Rattle.wire_bytes.specs.Fields.{IsFault, StopsAt}
 use Rattle.wire_bytes.specs.Entries.{AnEntry}
 use Rattle.wire_bytes.specs.declared.wire_err.WireErr.{WireErr}
-use Rattle.shard_files.proofs.PlaceLemmas.{breaks_behind, breaks_short, breaks_bad}
+use Rattle.shard_files.proofs.LocationLemmas.{breaks_behind, breaks_short, breaks_bad}
 use Rattle.shard_files.proofs.entries.find_entry.Goals as goal
 
 pub returns-then-at-chunk-clause-err : goal.returns-then-at-chunk-clause-err
 returns-then-at-chunk-clause-err c =
-    let place = c.end_of-at.ensures in
-    subst (λ (k : ℕ). StopsAt AnEntry c.args.chunk.now k) (sym place) (breaks_behind c.args.chunk.now c.in-Ok.found c.in-Ok.ensures.ok (subst (λ (k : ℕ). k < length c.args.chunk.now) place c.if-at-chunk.true))
+    let offset = c.end_of-at.ensures in
+    subst (λ (k : ℕ). StopsAt AnEntry c.args.chunk.now k) (sym offset) (breaks_behind c.args.chunk.now c.in-Ok.found c.in-Ok.ensures.ok (subst (λ (k : ℕ). k < length c.args.chunk.now) offset c.if-at-chunk.true))
 
 pub returns-in-Err-Short-clause-err : goal.returns-in-Err-Short-clause-err
 returns-in-Err-Short-clause-err c = breaks_short c.args.chunk.now (subst (λ (e : WireErr). IsFault AnEntry c.args.chunk.now 0 e) c.in-Err-Short.field-0-is c.in-Err-Short.ensures.err)

@@ -2,7 +2,7 @@ use Rattle.std.proofs.Common.{◌≡◌, length, subst}
 use Rattle.wire_bytes.specs.Entries.{EntryStands}
 use Rattle.wire_bytes.specs.declared.entry_read.EntryAt.{EntryAt}
 use Rattle.shard_files.specs.Entries.{end_of}
-use Rattle.shard_files.proofs.PlaceLemmas.{points_whole}
+use Rattle.shard_files.proofs.LocationLemmas.{points_whole}
 use Rattle.shard_files.proofs.entries.read_entry.Goals as goal
 
 pub returns-in_ok-points-in-Points-clause-ok : goal.returns-in_ok-points-in-Points-clause-ok

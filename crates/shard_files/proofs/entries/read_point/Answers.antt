@@ -5,7 +5,7 @@ use Rattle.m3_model.specs.declared.point.Point.{Point}
 use Rattle.wire_bytes.specs.Points.{PointStands}
 use Rattle.wire_bytes.specs.declared.points.PointAt.{PointAt}
 use Rattle.wire_bytes.specs.declared.wire_err.WireErr.{WireErr}
-use Rattle.shard_files.proofs.PlaceLemmas.{point_read}
+use Rattle.shard_files.proofs.LocationLemmas.{point_read}
 use Rattle.shard_files.proofs.entries.read_point.Goals as goal
 
 pub unwrap-found-requires : goal.unwrap-found-requires

@@ -3,7 +3,7 @@ use Rattle.std.proofs.lemmas.List.{length_push}
 use Rattle.m3_model.specs.declared.point.Point.{Point}
 use Rattle.wire_bytes.specs.Entries.{PointsStand}
 use Rattle.shard_files.specs.Entries.{HavePoints}
-use Rattle.shard_files.proofs.PlaceLemmas.{first_of, others_of, read_none, read_more}
+use Rattle.shard_files.proofs.LocationLemmas.{first_of, others_of, read_none, read_more}
 use Rattle.shard_files.proofs.entries.read_points.Goals as goal
 
 pub loop-i-init : goal.loop-i-init
@@ -19,7 +19,7 @@ loop-i-init c =
 pub read_point-requires : goal.read_point-requires
 read_point-requires c =
     let left : c.args.count - c.loop-i._i ≡ suc (c.args.count - (c.loop-i._i + 1)) = omega arith in
-    first_of (c.args.count - (c.loop-i._i + 1)) c.args.bytes.now c.loop-i.place (subst (λ (n : ℕ). HavePoints n c.args.bytes.now c.loop-i.place) left c.loop-i.invariant.left)
+    first_of (c.args.count - (c.loop-i._i + 1)) c.args.bytes.now c.loop-i.offset (subst (λ (n : ℕ). HavePoints n c.args.bytes.now c.loop-i.offset) left c.loop-i.invariant.left)
 
 pub loop-i-preserved : goal.loop-i-preserved
 loop-i-preserved c =
@@ -30,8 +30,8 @@ loop-i-preserved c =
     let pushed : c.push.new.self.items ≡ old ++ p ∷ [] = c.in_ok-push.ensures.items in
     record {
       read = subst (λ (ps : List Point). PointsStand ps c.args.bytes.now c.args.from next) (sym pushed)
-          (read_more old p c.args.bytes.now c.args.from c.loop-i.place next c.loop-i.invariant.read c.in_ok-point.ensures.0 c.in_ok-point.ensures.1);
+          (read_more old p c.args.bytes.now c.args.from c.loop-i.offset next c.loop-i.invariant.read c.in_ok-point.ensures.0 c.in_ok-point.ensures.1);
       counted = ap length pushed ∙ length_push old p ∙ ap (λ (n : ℕ). n + 1) c.loop-i.invariant.counted;
-      left = others_of (c.args.count - (c.loop-i._i + 1)) c.args.bytes.now c.loop-i.place next p
-          (subst (λ (n : ℕ). HavePoints n c.args.bytes.now c.loop-i.place) left c.loop-i.invariant.left) c.in_ok-point.ensures.0 c.in_ok-point.ensures.1;
+      left = others_of (c.args.count - (c.loop-i._i + 1)) c.args.bytes.now c.loop-i.offset next p
+          (subst (λ (n : ℕ). HavePoints n c.args.bytes.now c.loop-i.offset) left c.loop-i.invariant.left) c.in_ok-point.ensures.0 c.in_ok-point.ensures.1;
     }

@@ -5,7 +5,7 @@ use Rattle.shard_files.proofs.entries.read_points.Given as goal
 
 abbrev pub invariant-loop-i : goal.invariant-loop-i
 invariant-loop-i l = record {
-  read : PointsStand l.points.items l.bytes l.from l.place;
+  read : PointsStand l.points.items l.bytes l.from l.offset;
   counted : length l.points.items ≡ l._i;
-  left : HavePoints (l.count - l._i) l.bytes l.place;
+  left : HavePoints (l.count - l._i) l.bytes l.offset;
 }

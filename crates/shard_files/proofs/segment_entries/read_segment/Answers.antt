@@ -2,7 +2,7 @@ use Rattle.std.proofs.Common.{◌≡◌, ℕ, List, [], ◌∷◌, ◌++◌, len
 use Rattle.std.proofs.lemmas.List.{map_push}
 use Rattle.commit_log.specs.Segment.{written}
 use Rattle.commit_log.specs.Reading.{IsNext, IsFront}
-use Rattle.log_chunks.proofs.Fronts.{chunk_push, payload_is, end_stands}
+use Rattle.commit_log.proofs.Fronts.{chunk_push, payload_is, end_stands}
 use Rattle.commit_log.proofs.FileFronts.{front_bad, front_ends, front_whole}
 use Rattle.shard_files.specs.declared.entries.EntryErr.{EntryErr}
 use Rattle.shard_files.specs.declared.entries.LogEntry.{LogEntry}

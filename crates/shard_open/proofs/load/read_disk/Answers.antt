@@ -54,6 +54,12 @@ returns-in_err-amount-clause-leaves g c =
     (leaves_then _ _ (g.D.Disk.state c.args.disk.now) (g.D.Disk.state c.open_volumes.new.disk) (g.D.Disk.state c.read_newest.new.disk) c.open_volumes.ensures.leaves c.read_newest.ensures.leaves)
     (leaves_as _ _ (g.D.Disk.state c.read_newest.new.disk) (g.D.Disk.state c.held_entries.new.disk) (λ f. absurd (not_disk c.from_residual-in_err-amount.result c.from_residual-in_err-amount.ensures.1 f)) c.held_entries.ensures.leaves)
 
+pub returns-in_err-claims-clause-leaves : goal.returns-in_err-claims-clause-leaves
+returns-in_err-claims-clause-leaves g c =
+    leaves_then _ _ (g.D.Disk.state c.args.disk.now) (g.D.Disk.state c.read_newest.new.disk) (g.D.Disk.state c.held_entries.new.disk)
+    (leaves_then _ _ (g.D.Disk.state c.args.disk.now) (g.D.Disk.state c.open_volumes.new.disk) (g.D.Disk.state c.read_newest.new.disk) c.open_volumes.ensures.leaves c.read_newest.ensures.leaves)
+    (leaves_as _ _ (g.D.Disk.state c.read_newest.new.disk) (g.D.Disk.state c.held_entries.new.disk) (λ f. absurd (not_disk c.from_residual-in_err-claims.result c.from_residual-in_err-claims.ensures.1 f)) c.held_entries.ensures.leaves)
+
 pub returns-in_err-join_points-clause-leaves : goal.returns-in_err-join_points-clause-leaves
 returns-in_err-join_points-clause-leaves g c =
     leaves_then _ _ (g.D.Disk.state c.args.disk.now) (g.D.Disk.state c.read_newest.new.disk) (g.D.Disk.state c.held_entries.new.disk)
@@ -76,4 +82,4 @@ returns-clause-ok g c = λ t.
     loaded_once files c.in_ok-volumes.volumes c.in_ok-newest.newest c.in_ok-log.log.entries c.open_volumes.new.points.items c.in_ok-amount.amount.points _ c.in_ok-amount.amount.tenure c.in_ok-amount.amount.fence _ _ (c.in_ok-volumes.ensures.ok t)
     (subst (λ (m : Files). IsNewest m c.in_ok-newest.newest) (opened.files t) (c.in_ok-newest.ensures.ok (opened.proceeds.tells ∙ t)))
     (subst (λ (m : Files). HoldsEntries c.in_ok-log.log.entries m) (both.files t) (c.in_ok-log.ensures.ok (both.proceeds.tells ∙ t))) c.in_ok-amount.ensures.amount
-    own c.in_ok-join_points.ensures c.greater.ensures c.greater-2.ensures
+    own c.in_ok-join_points.ensures c.greater-tenure.ensures c.greater.ensures

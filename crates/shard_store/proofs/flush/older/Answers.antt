@@ -2,8 +2,8 @@ use Rattle.std.proofs.Common.{ap, ◌∙◌, rules}
 use Rattle.std.specs.Prelude.{filter}
 use Rattle.volume_bytes.specs.declared.heads.Head.{Head}
 use Rattle.volume_bytes.specs.Heads.{head_of}
-use Rattle.volume_points.specs.Known.{is_head_of}
-use Rattle.volume_points.proofs.RetainLemmas.{filtered}
+use Rattle.listed_volumes.specs.Known.{is_head_of}
+use Rattle.listed_volumes.proofs.RetainLemmas.{filtered}
 use Rattle.shard_store.proofs.flush.older.Goals as goal
 
 pub returns-clause-ok : goal.returns-clause-ok

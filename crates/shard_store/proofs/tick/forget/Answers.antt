@@ -1,8 +1,8 @@
 use Rattle.std.proofs.Common.{ap, ◌∙◌, not, rules}
-use Rattle.volume_points.proofs.RetainLemmas.{filtered}
-use Rattle.shard_store.specs.Listed.{known_as, known_in}
+use Rattle.listed_volumes.proofs.RetainLemmas.{filtered}
+use Rattle.listed_volumes.specs.Listed.{known_as, known_in}
 use Rattle.shard_store.specs.Ticks.{has_outlived}
-use Rattle.shard_store.specs.declared.volumes.ListedVolume.{ListedVolume}
+use Rattle.listed_volumes.specs.declared.volume.ListedVolume.{ListedVolume}
 use Rattle.shard_store.proofs.VolumeLists.{filter_known}
 use Rattle.shard_store.proofs.tick.forget.Goals as goal
 

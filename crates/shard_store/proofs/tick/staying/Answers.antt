@@ -2,7 +2,7 @@ use Rattle.std.proofs.Common.{not, rules}
 use Rattle.wire_bytes.specs.Volumes.{VolumeHead}
 use Rattle.volume_bytes.specs.declared.heads.Head.{Head}
 use Rattle.volume_bytes.specs.Heads.{head_of}
-use Rattle.volume_points.proofs.RetainLemmas.{filtered}
+use Rattle.listed_volumes.proofs.RetainLemmas.{filtered}
 use Rattle.shard_store.specs.Ticks.{is_outlived}
 use Rattle.shard_store.proofs.VolumeLists.{some_heads}
 use Rattle.shard_store.proofs.tick.staying.Goals as goal

@@ -1,7 +1,7 @@
 use Rattle.std.proofs.Common.{◌≡◌, ◌++◌, ◌∷◌, List, take, drop, subst}
 use Rattle.volume_steps.specs.KnownLists.{with_volume}
-use Rattle.shard_store.specs.Listed.{known_as, known_in}
-use Rattle.shard_store.specs.declared.volumes.ListedVolume.{ListedVolume}
+use Rattle.listed_volumes.specs.Listed.{known_as, known_in}
+use Rattle.listed_volumes.specs.declared.volume.ListedVolume.{ListedVolume}
 use Rattle.shard_store.proofs.VolumeLists.{added}
 use Rattle.shard_store.proofs.volumes.add.Goals as goal
 

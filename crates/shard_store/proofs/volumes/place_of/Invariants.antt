@@ -2,7 +2,7 @@ use Rattle.std.proofs.Common.{◌≡◌, ◌++◌, List, take, drop}
 use Rattle.m3_model.specs.declared.point.Series.{Series}
 use Rattle.volume_bytes.specs.Heads.{head_of}
 use Rattle.volume_steps.specs.KnownLists.{with_volume}
-use Rattle.shard_store.specs.Listed.{known_in}
+use Rattle.listed_volumes.specs.Listed.{known_in}
 use Rattle.shard_store.proofs.volumes.place_of.Given as goal
 
 -- the volume comes behind those so far

@@ -2,7 +2,7 @@ use Rattle.std.proofs.Common.{refl, ◌∙◌, to_z, of_z, w64}
 use Rattle.std.proofs.lemmas.Int.{to_z-of_z}
 use Rattle.m3_model.specs.declared.point.Point.{Point}
 use Rattle.shard_files.specs.Entries.{HasPoint}
-use Rattle.shard_files.proofs.PlaceLemmas.{point_read}
+use Rattle.shard_files.proofs.LocationLemmas.{point_read}
 use Rattle.shard_files.proofs.SegmentStops.{passed_on}
 use Rattle.fileset_read.specs.declared.row_err.RowErr.TheVariants as errors
 use Rattle.snapshot_files.specs.Bodies.{Refuses}

@@ -4,7 +4,7 @@ use Rattle.m3_model.specs.declared.point.Point.{Point}
 use Rattle.wire_bytes.specs.Entries.{PointsStand}
 use Rattle.wire_bytes.proofs.EntryLemmas.{stands_none}
 use Rattle.shard_files.specs.Entries.{HasPoint, HavePoints}
-use Rattle.shard_files.proofs.PlaceLemmas.{first_of, others_of, read_more}
+use Rattle.shard_files.proofs.LocationLemmas.{first_of, others_of, read_more}
 use Rattle.shard_files.proofs.SegmentStops.{passed_on}
 use Rattle.snapshot_files.specs.Bodies.{Refuses}
 use Rattle.snapshot_files.proofs.CheckLemmas.{refuses_as}
@@ -24,8 +24,8 @@ pub returns-in_err-point-clause-err : goal.returns-in_err-point-clause-err
 returns-in_err-point-clause-err c =
     let left : c.args.count - c.loop-i._i ≡ suc (c.args.count - (c.loop-i._i + 1)) = omega arith in
     passed_on c.from_residual.result c.in_err-point.field-0.0 (Refuses (HavePoints c.args.count c.args.bytes.now c.args.from)) c.from_residual.ensures.1
-    (refuses_as (HasPoint c.args.bytes.now c.loop-i.place) (HavePoints c.args.count c.args.bytes.now c.args.from) c.in_err-point.field-0.0
-    (λ h. first_of (c.args.count - (c.loop-i._i + 1)) c.args.bytes.now c.loop-i.place (subst (λ (n : ℕ). HavePoints n c.args.bytes.now c.loop-i.place) left (c.loop-i.invariant.left h))) c.in_err-point.ensures.err)
+    (refuses_as (HasPoint c.args.bytes.now c.loop-i.offset) (HavePoints c.args.count c.args.bytes.now c.args.from) c.in_err-point.field-0.0
+    (λ h. first_of (c.args.count - (c.loop-i._i + 1)) c.args.bytes.now c.loop-i.offset (subst (λ (n : ℕ). HavePoints n c.args.bytes.now c.loop-i.offset) left (c.loop-i.invariant.left h))) c.in_err-point.ensures.err)
 
 pub loop-i-preserved : goal.loop-i-preserved
 loop-i-preserved c =
@@ -36,8 +36,8 @@ loop-i-preserved c =
     let pushed : c.push.new.self.items ≡ old ++ p ∷ [] = c.in_ok-push.ensures.items in
     record {
       read = subst (λ (ps : List Point). PointsStand ps c.args.bytes.now c.args.from next) (sym pushed)
-          (read_more old p c.args.bytes.now c.args.from c.loop-i.place next c.loop-i.invariant.read c.in_ok-point.ensures.ok.0 c.in_ok-point.ensures.ok.1);
+          (read_more old p c.args.bytes.now c.args.from c.loop-i.offset next c.loop-i.invariant.read c.in_ok-point.ensures.ok.0 c.in_ok-point.ensures.ok.1);
       counted = ap length pushed ∙ length_push old p ∙ ap (λ (n : ℕ). n + 1) c.loop-i.invariant.counted;
-      left = λ h. others_of (c.args.count - (c.loop-i._i + 1)) c.args.bytes.now c.loop-i.place next p
-          (subst (λ (n : ℕ). HavePoints n c.args.bytes.now c.loop-i.place) left (c.loop-i.invariant.left h)) c.in_ok-point.ensures.ok.0 c.in_ok-point.ensures.ok.1;
+      left = λ h. others_of (c.args.count - (c.loop-i._i + 1)) c.args.bytes.now c.loop-i.offset next p
+          (subst (λ (n : ℕ). HavePoints n c.args.bytes.now c.loop-i.offset) left (c.loop-i.invariant.left h)) c.in_ok-point.ensures.ok.0 c.in_ok-point.ensures.ok.1;
     }

@@ -22,12 +22,12 @@ loop-row-preserved c =
     let index = c.in_ok-push_series.ensures.index in
     let at = length c.loop-row.data.items in
     let next : length c.push_series.new.body.items ≡ at + length (row_bytes s) = ap length body ∙ length-append c.loop-row.data.items (row_bytes s) in
-    let place : c.len.result ≡ length c.loop-row.index.items = omega (arith, c.len.ensures, c.loop-row.index.ok) in
+    let offset : c.len.result ≡ length c.loop-row.index.items = omega (arith, c.len.ensures, c.loop-row.index.ok) in
     let after : length c.push_series.new.index.items ≡ length c.loop-row.index.items + length (index_entry 1 0 s) = ap length index ∙ length-append c.loop-row.index.items (index_entry 1 at s) ∙ ap (λ n. length c.loop-row.index.items + n) (length_entry at s) in
     record {
       body = body_more rows i s left c.loop-row.data.items c.push_series.new.body.items _ body c.loop-row.invariant.body;
       index = index_more rows i s left c.loop-row.index.items c.push_series.new.index.items _ at (length c.push_series.new.body.items) index next c.loop-row.invariant.index;
       summaries = summaries_more rows i s left c.loop-row.summaries.items c.push_summary.new.out.items _ c.loop-row.before c.in_ok-before.before c.len.result (length c.push_series.new.index.items)
-          (c.in_ok-before.ensures s (sym c.as_str.ensures)) (after ∙ ap (λ n. n + length (index_entry 1 0 s)) (sym place)) (rw place c.loop-row.invariant.summaries);
+          (c.in_ok-before.ensures s (sym c.as_str.ensures)) (after ∙ ap (λ n. n + length (index_entry 1 0 s)) (sym offset)) (rw offset c.loop-row.invariant.summaries);
       points = count_more rows i s left c.loop-row.points c.len-in-loop-row.result c.len-in-loop-row.ensures c.loop-row.invariant.points;
     }

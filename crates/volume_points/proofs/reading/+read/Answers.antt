@@ -46,7 +46,7 @@ returns-in-empty-clause-answer g t c = λ tells known a.
 
 pub returns-in-len1-clause-answer : goal.returns-in-len1-clause-answer
 returns-in-len1-clause-answer g t c = λ tells.
-    answer_first (g.D.Disk.state c.args.disk.now).files c.args.pick.now c.args.from c.args.to c.args.volumes.now _ c.read_one.result c.in-len1.len_at_least c.in-len1.len_below (c.read_one.ensures.answer tells)
+    answer_first (g.D.Disk.state c.args.disk.now).files c.args.pick.now c.args.from c.args.to c.args.volumes.now _ c.read_volume.result c.in-len1.len_at_least c.in-len1.len_below (c.read_volume.ensures.answer tells)
 
 pub returns-in_ok-late-in_default-clause-leaves : goal.returns-in_ok-late-in_default-clause-leaves
 returns-in_ok-late-in_default-clause-leaves g t c =

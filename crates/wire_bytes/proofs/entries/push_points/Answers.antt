@@ -7,7 +7,7 @@ use Rattle.wire_bytes.specs.Entries.{IsBounded, AllBounded, bytes_of_point, poin
 use Rattle.wire_bytes.proofs.EntryLemmas.{bounded_at, points_more}
 use Rattle.wire_bytes.proofs.entries.push_points.Goals as goal
 
--- the item at the loop's place is within its bounds
+-- the item at the loop's offset is within its bounds
 item_bounded : (xs : List (Bor Point)) (i : ℕ) (x : Bor Point) → AllBounded (map (λ (q : Bor Point). q.now) xs) → i < length xs → x ≡ get_or xs i x → IsBounded x.now
 item_bounded xs i x all lt is =
     bounded_at (map (λ (q : Bor Point). q.now) xs) i x.now all (omega (arith, length-map xs (λ (q : Bor Point). q.now)))

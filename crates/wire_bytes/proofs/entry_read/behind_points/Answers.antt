@@ -15,24 +15,24 @@ loop-i-init c =
       points = ([], refl, stands_none c.args.bytes.now c.args.from c.requires);
     }
 
-pub returns-in_err-place-clause-err : goal.returns-in_err-place-clause-err
-returns-in_err-place-clause-err c =
+pub returns-in_err-offset-clause-err : goal.returns-in_err-offset-clause-err
+returns-in_err-offset-clause-err c =
     let left : suc (c.args.count - c.loop-i._i - 1) ≡ c.args.count - c.loop-i._i = omega arith in
-    exit_err c.from_residual.result c.in_err-place.field-0.0 (IsFault (SomePoints c.args.count) c.args.bytes.now c.args.from) c.from_residual.ensures.1
-    (c.loop-i.invariant.faults c.in_err-place.field-0.0 (subst (λ (n : ℕ). IsFault (SomePoints n) c.args.bytes.now c.loop-i.place c.in_err-place.field-0.0) left
-    (first_point_fault (c.args.count - c.loop-i._i - 1) c.args.bytes.now c.loop-i.place c.in_err-place.field-0.0 c.in_err-place.ensures.err)))
+    exit_err c.from_residual.result c.in_err-offset.field-0.0 (IsFault (SomePoints c.args.count) c.args.bytes.now c.args.from) c.from_residual.ensures.1
+    (c.loop-i.invariant.faults c.in_err-offset.field-0.0 (subst (λ (n : ℕ). IsFault (SomePoints n) c.args.bytes.now c.loop-i.offset c.in_err-offset.field-0.0) left
+    (first_point_fault (c.args.count - c.loop-i._i - 1) c.args.bytes.now c.loop-i.offset c.in_err-offset.field-0.0 c.in_err-offset.ensures.err)))
 
 pub loop-i-preserved : goal.loop-i-preserved
 loop-i-preserved c =
     let left : suc (c.args.count - (c.loop-i._i + 1)) ≡ c.args.count - c.loop-i._i = omega arith in
-    let p = c.in_ok-place.field-0 in
-    let st = c.in_ok-place.ensures.ok in
+    let p = c.in_ok-offset.field-0 in
+    let st = c.in_ok-offset.ensures.ok in
     let r = c.loop-i.invariant.points in
     let q : Point = record { ns = p.ns; id = st.id; t = p.t; v = p.v } in
     record {
-      faults = λ e a. c.loop-i.invariant.faults e (subst (λ (n : ℕ). IsFault (SomePoints n) c.args.bytes.now c.loop-i.place e) left
-          (later_point_fault (c.args.count - (c.loop-i._i + 1)) c.args.bytes.now c.loop-i.place p e st a));
-      points = (r.0 ++ q ∷ [], length_push r.0 q ∙ (let e : _ = r.1 in omega (arith, e)), stands_more r.0 c.args.bytes.now c.args.from c.loop-i.place p r.2 st);
+      faults = λ e a. c.loop-i.invariant.faults e (subst (λ (n : ℕ). IsFault (SomePoints n) c.args.bytes.now c.loop-i.offset e) left
+          (later_point_fault (c.args.count - (c.loop-i._i + 1)) c.args.bytes.now c.loop-i.offset p e st a));
+      points = (r.0 ++ q ∷ [], length_push r.0 q ∙ (let e : _ = r.1 in omega (arith, e)), stands_more r.0 c.args.bytes.now c.args.from c.loop-i.offset p r.2 st);
     }
 
 pub returns-clause-ok : goal.returns-clause-ok

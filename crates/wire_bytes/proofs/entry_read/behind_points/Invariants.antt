@@ -8,6 +8,6 @@ use Rattle.wire_bytes.proofs.entry_read.behind_points.Given as goal
 
 abbrev pub invariant-loop-i : goal.invariant-loop-i
 invariant-loop-i l = record {
-  faults : (e : WireErr) → IsFault (SomePoints (l.count - l._i)) l.bytes l.place e → IsFault (SomePoints l.count) l.bytes l.from e;
-  points : (ps : List Point) × (length ps ≡ l._i) × PointsStand ps l.bytes l.from l.place;
+  faults : (e : WireErr) → IsFault (SomePoints (l.count - l._i)) l.bytes l.offset e → IsFault (SomePoints l.count) l.bytes l.from e;
+  points : (ps : List Point) × (length ps ≡ l._i) × PointsStand ps l.bytes l.from l.offset;
 }

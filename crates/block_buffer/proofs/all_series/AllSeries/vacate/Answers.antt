@@ -1,7 +1,7 @@
 use Rattle.std.proofs.Common.{◌≡◌, true, false, ap, sym, ◌∙◌}
 use Rattle.series_slots.specs.SeriesKeys.{key_at}
 use Rattle.series_slots.specs.Points.{slot_at}
-use Rattle.series_slots.specs.Places.{slots_of}
+use Rattle.series_slots.specs.SeriesEntries.{slots_of}
 use Rattle.block_buffer.specs.AllSeries.{is_bare}
 use Rattle.block_buffer.proofs.ContentLemmas.{value_vacated, bare_before, bare_other}
 use Rattle.block_buffer.proofs.all_series.AllSeries.vacate.Goals as goal

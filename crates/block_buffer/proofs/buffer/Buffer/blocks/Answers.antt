@@ -1,5 +1,5 @@
 use Rattle.std.proofs.Common.{sym, ◌∙◌, subst}
-use Rattle.block_buffer.specs.Held.{Held}
+use Rattle.block_buffer.specs.Held.{InMemory}
 use Rattle.block_buffer.specs.Blocks.{IsBlocksOf}
 use Rattle.block_buffer.proofs.BlockLemmas.{blocks_of}
 use Rattle.block_buffer.proofs.buffer.Buffer.blocks.Goals as goal
@@ -7,5 +7,5 @@ use Rattle.block_buffer.proofs.buffer.Buffer.blocks.Goals as goal
 pub returns : goal.returns
 returns c =
     subst (IsBlocksOf c.args.rules.now c.args.self.now.points) (sym (c.from_vec.ensures ∙ c.in_ok-blocks.ensures.same))
-    (subst (λ (h : Held). IsBlocksOf c.args.rules.now h.points c.in_ok-starts.starts.keys) c.self.view_is
+    (subst (λ (h : InMemory). IsBlocksOf c.args.rules.now h.points c.in_ok-starts.starts.keys) c.self.view_is
     (blocks_of c.args.rules.now c.self.inside.all c.in_ok-starts.starts.keys c.in_ok-blocks.ensures.ordered c.in_ok-starts.ensures.held c.in_ok-starts.ensures.whole))

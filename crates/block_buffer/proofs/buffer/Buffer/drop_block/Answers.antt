@@ -1,6 +1,6 @@
 use Rattle.std.proofs.Common.{◌≡◌, ◌+◌, ◌-◌, ◌<◌, ap, subst, ◌∙◌, true, arith}
 use Rattle.m3_model.specs.Contents.{Contents}
-use Rattle.block_buffer.specs.Held.{Held, is_in_block}
+use Rattle.block_buffer.specs.Held.{InMemory, is_in_block}
 use Rattle.block_buffer.specs.Spots.{IsKeyWithin}
 use Rattle.block_buffer.proofs.ContentLemmas.{without_none}
 use Rattle.block_buffer.proofs.TakenLemmas.{held_of, weaken_taken, kept_taken, none_kept, fewer_points, block_of_range, range_of_block, none_in_block}
@@ -8,7 +8,7 @@ use Rattle.block_buffer.proofs.buffer.Buffer.drop_block.Goals as goal
 
 pub returns-then-size-eq0 : goal.returns-then-size-eq0
 returns-then-size-eq0 c =
-    c.release.ensures ∙ ap (λ (m : Contents). let held : Held = record { points = m; room = _ } in held)
+    c.release.ensures ∙ ap (λ (m : Contents). let held : InMemory = record { points = m; room = _ } in held)
     (without_none c.args.self.now.points (is_in_block c.args.ns c.args.start c.args.size) (λ k v e p. none_in_block c.args.ns c.args.start k (subst (λ n. is_in_block c.args.ns c.args.start n k ≡ true) c.if-size-eq0.true p)))
 
 pub loop-taken-smaller : goal.loop-taken-smaller

@@ -2,14 +2,14 @@ use Rattle.std.proofs.Common.{ℕ, ◌<◌, ℤ, pos, List, length, get_or, None
 use Rattle.std.specs.Prelude.{FitsSigned}
 use Rattle.std.proofs.lemmas.Int.{to_z-of_z}
 use Rattle.m3_model.specs.Contents.{Contents, raised, raised_at}
-use Rattle.block_buffer.specs.Held.{Held}
+use Rattle.block_buffer.specs.Held.{InMemory}
 use Rattle.block_buffer.specs.Joins.{joined}
 use Rattle.series_slots.specs.SeriesKeys.{key_at}
 use Rattle.series_slots.proofs.PointLemmas.{always_err}
 use Rattle.block_buffer.proofs.JoinLemmas.{timed_point, joined_more, first_points}
 use Rattle.block_buffer.proofs.buffer.Buffer.join.Goals as goal
 
-abbrev no_room : Contents → Held
+abbrev no_room : Contents → InMemory
 no_room points = record { points = points; room = None }
 
 pub returns-in_err-add-clause-err : goal.returns-in_err-add-clause-err
@@ -29,6 +29,6 @@ loop-t-preserved c =
     let before : Contents = joined c.args.self.now.points (map (timed_point c.args.ns id) (take c.loop-t.t-index c.args.series.now.points)) in
     c.in_ok-add.ensures.ok ∙ ap no_room
     (ap₂ (λ (i : List ℕ) (z : ℤ). raised_at c.loop-t.self.points (key_at (record { ns = c.args.ns; id = i }) x.0) z) c.in_ok-copy.ensures (to_z-of_z w64 x.1 fits)
-    ∙ ap (λ (h : Held). raised h.points (timed_point c.args.ns id x)) c.loop-t.invariant
+    ∙ ap (λ (h : InMemory). raised h.points (timed_point c.args.ns id x)) c.loop-t.invariant
     ∙ ap (λ (ps : List (ℕ × ℤ)). raised before (timed_point c.args.ns id (get_or ps c.loop-t.t-index (0, pos 0)))) c.as_slice-t-items.ensures
     ∙ sym (joined_more c.args.self.now.points c.args.ns id c.args.series.now.points c.loop-t.t-index (0, pos 0) low))

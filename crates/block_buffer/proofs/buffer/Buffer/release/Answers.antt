@@ -4,11 +4,11 @@ use Rattle.m3_model.specs.declared.point.Key.{Key}
 use Rattle.m3_model.specs.Contents.{Contents}
 use Rattle.block_buffer.specs.declared.room.Room.{Room}
 use Rattle.block_buffer.specs.Room.{RoomStands, room_key}
-use Rattle.block_buffer.specs.Held.{Held}
+use Rattle.block_buffer.specs.Held.{InMemory}
 use Rattle.series_slots.proofs.PointLemmas.{same_points}
 use Rattle.block_buffer.proofs.buffer.Buffer.release.Goals as goal
 
-abbrev held : Contents → Option Key → Held
+abbrev held : Contents → Option Key → InMemory
 held points room = record { points = points; room = room }
 
 pub vacate-requires : goal.vacate-requires

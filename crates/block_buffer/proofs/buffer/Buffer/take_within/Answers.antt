@@ -3,8 +3,8 @@ use Rattle.m3_model.specs.declared.point.Key.{Key}
 use Rattle.m3_model.specs.Contents.{Contents}
 use Rattle.series_slots.specs.SeriesKeys.{key_at}
 use Rattle.series_slots.specs.Points.{points_of}
-use Rattle.series_slots.specs.Places.{slots_of}
-use Rattle.block_buffer.specs.Held.{Held}
+use Rattle.series_slots.specs.SeriesEntries.{slots_of}
+use Rattle.block_buffer.specs.Held.{InMemory}
 use Rattle.block_buffer.specs.Room.{room_key}
 use Rattle.block_buffer.specs.Spots.{IsKeyWithin}
 use Rattle.block_buffer.specs.Taken.{HasNone}
@@ -18,7 +18,7 @@ take_spot-requires c = let spot = c.in_ok-spot.ensures.some in (spot.series, spo
 
 pub invariant_of-self : goal.invariant_of-self
 invariant_of-self c =
-    let none : room_key c.self.inside.sought c.self.inside.room ≡ None = ap (λ (h : Held). h.room) (c.self.view_is ∙ c.release.ensures) in
+    let none : room_key c.self.inside.sought c.self.inside.room ≡ None = ap (λ (h : InMemory). h.room) (c.self.view_is ∙ c.release.ensures) in
     let only = only_of c.self.inside.sought c.self.inside.room c.self.inside.all none c.self.invariant.1 in
     let spot = c.in_ok-spot.ensures.some in
     let taken = c.take_spot.ensures spot.series spot.stands in (
@@ -29,18 +29,18 @@ invariant_of-self c =
 
 pub returns-in_err-spot-clause-none : goal.returns-in_err-spot-clause-none
 returns-in_err-spot-clause-none c e =
-    let was : points_of (slots_of c.self.inside.all) ≡ c.args.self.now.points = ap (λ (h : Held). h.points) (c.self.view_is ∙ c.release.ensures) in
+    let was : points_of (slots_of c.self.inside.all) ≡ c.args.self.now.points = ap (λ (h : InMemory). h.points) (c.self.view_is ∙ c.release.ensures) in
     let leaves : Key → Type 0 = IsKeyWithin c.args.ns c.args.low c.args.high in
     subst (λ (m : Contents). HasNone m leaves) was (none_stands_of c.self.inside.all leaves (c.in_err-spot.ensures.none refl))
 
 pub returns-clause-taken : goal.returns-clause-taken
 returns-clause-taken c =
-    let was : points_of (slots_of c.self.inside.all) ≡ c.args.self.now.points = ap (λ (h : Held). h.points) (c.self.view_is ∙ c.release.ensures) in
-    let none : room_key c.self.inside.sought c.self.inside.room ≡ None = ap (λ (h : Held). h.room) (c.self.view_is ∙ c.release.ensures) in
+    let was : points_of (slots_of c.self.inside.all) ≡ c.args.self.now.points = ap (λ (h : InMemory). h.points) (c.self.view_is ∙ c.release.ensures) in
+    let none : room_key c.self.inside.sought c.self.inside.room ≡ None = ap (λ (h : InMemory). h.room) (c.self.view_is ∙ c.release.ensures) in
     let only = only_of c.self.inside.sought c.self.inside.room c.self.inside.all none c.self.invariant.1 in
     let leaves : Key → Type 0 = IsKeyWithin c.args.ns c.args.low c.args.high in
     let spot = c.in_ok-spot.ensures.some in
     let taken = c.take_spot.ensures spot.series spot.stands in
     taken_from (points_of (slots_of c.self.inside.all)) c.args.self.now.points (points_of (slots_of c.take_spot.new.self)) leaves _ was
-    (taken_at c.self.inside.all c.take_spot.new.self leaves c.in_ok-spot.spot.place c.in_ok-spot.spot.t spot.series _ spot.holds
+    (taken_at c.self.inside.all c.take_spot.new.self leaves c.in_ok-spot.spot.position c.in_ok-spot.spot.t spot.series _ spot.holds
     (only_taken c.self.inside.all c.take_spot.new.self (key_at spot.series c.in_ok-spot.spot.t) only taken.set) taken)

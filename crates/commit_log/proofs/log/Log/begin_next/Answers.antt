@@ -1,5 +1,5 @@
 use Rattle.std.proofs.Common.{◌≡◌, ◌+◌, inl, sym, ap, subst, arith}
-use Rattle.commit_log.specs.LogEnd.{LogEnd, Stands}
+use Rattle.commit_log.specs.LogEnd.{LogEnd, LogEndStands}
 use Rattle.m3_outside.proofs.Moments.{same_becomes}
 use Rattle.commit_log.proofs.Begin.{begun_stands, failed_above, none_from_next, elapses_none}
 use Rattle.commit_log.proofs.log.Log.begin_next.Goals as goal
@@ -14,7 +14,7 @@ pub returns-in-Err-Failed-clause-stands : goal.returns-in-Err-Failed-clause-stan
 returns-in-Err-Failed-clause-stands g c =
     let number = c.self.inside.number + 1 in
     let next : number ≡ c.args.self.now.number + 1 = ap (λ (v : LogEnd). v.number + 1) c.self.view_is in
-    subst (λ (l : LogEnd). Stands l (g.D.Disk.state c.create.new.self)) (sym c.move_to-in-Err-Failed.ensures)
+    subst (λ (l : LogEnd). LogEndStands l (g.D.Disk.state c.create.new.self)) (sym c.move_to-in-Err-Failed.ensures)
     (record {
       kept = λ clean. absurd (cc);
       above = failed_above number c.segment_name.result c.segment_name.ensures (g.D.Disk.state c.args.disk.now) (g.D.Disk.state c.create.new.self) c.in-Err-Failed.field-0 c.in-Err-Failed.ensures
@@ -26,6 +26,6 @@ pub returns-in-Ok-clause-stands : goal.returns-in-Ok-clause-stands
 returns-in-Ok-clause-stands g c =
     let number = c.self.inside.number + 1 in
     let next : number ≡ c.args.self.now.number + 1 = ap (λ (v : LogEnd). v.number + 1) c.self.view_is in
-    subst (λ (l : LogEnd). Stands l (g.D.Disk.state c.create.new.self)) (sym c.move_to.ensures)
+    subst (λ (l : LogEnd). LogEndStands l (g.D.Disk.state c.create.new.self)) (sym c.move_to.ensures)
     (begun_stands number c.segment_name.result c.segment_name.ensures (g.D.Disk.state c.args.disk.now) (g.D.Disk.state c.create.new.self) c.in-Ok.field-0 c.in-Ok.ensures
     (λ t. none_from_next c.args.self.now.number number (g.D.Disk.state c.args.disk.now).files next (c.requires.above t)))

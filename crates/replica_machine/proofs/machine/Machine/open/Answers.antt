@@ -15,7 +15,7 @@ use Rattle.replica_machine.proofs.PartLemmas.{store_closed, store_shut, closed_m
 use Rattle.replica_machine.proofs.machine.Machine.open.Given.{Over}
 use Rattle.replica_machine.proofs.machine.Machine.open.Goals as goal
 
-failed : (g : Over) (c : goal.After-drop-loaded-in-Err g) → BeginLeft g.D.Disk.state c.args.self.now c.args.tenure c.refused.result c.refused.new.self
+failed : (g : Over) (c : goal.After-drop-loaded-in-Err-6 g) → BeginLeft g.D.Disk.state c.args.self.now c.args.tenure c.refused.result c.refused.new.self
 failed g c =
     let inside = c.self.inside in
     let is_boot = ap (λ m. m.standing) c.self.view_is ∙ c.requires.boot in

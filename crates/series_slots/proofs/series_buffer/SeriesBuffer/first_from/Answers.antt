@@ -14,10 +14,10 @@ use Rattle.series_slots.proofs.series_buffer.SeriesBuffer.first_from.Goals as go
 pub loop-t-init : goal.loop-t-init
 loop-t-init c =
     let slots : SlotList = c.self.inside.slots.items in
-    let place = c.place_from-place.result in
-    let rest : deque_iter_rest c.into_iter-t-iterator.result ≡ slice_range slots place (length slots) = ap deque_iter_rest c.into_iter-t-iterator.ensures.into_iter_gives ∙ c.range-t-items.ensures.rest ∙ ap (slice_range slots place) c.self.inside.slots.ok.0 in
+    let position = c.place_from-position.result in
+    let rest : deque_iter_rest c.into_iter-t-iterator.result ≡ slice_range slots position (length slots) = ap deque_iter_rest c.into_iter-t-iterator.ensures.into_iter_gives ∙ c.range-t-items.ensures.rest ∙ ap (slice_range slots position) c.self.inside.slots.ok.0 in
     subst (λ (s : Slots). IsLeft c.args.low s (deque_iter_rest c.into_iter-t-iterator.result)) c.self.view_is
-    (subst (IsLeft c.args.low (from_sorted {R = nat_cmp} slots)) (sym rest) (left_at_first c.args.low slots place c.self.invariant c.place_from-place.ensures))
+    (subst (IsLeft c.args.low (from_sorted {R = nat_cmp} slots)) (sym rest) (left_at_first c.args.low slots position c.self.invariant c.place_from-position.ensures))
 
 pub returns-in-Some-slot-clause-some : goal.returns-in-Some-slot-clause-some
 returns-in-Some-slot-clause-some c =

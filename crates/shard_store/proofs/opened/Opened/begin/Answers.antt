@@ -3,7 +3,7 @@ use Rattle.wire_bytes.specs.Entries.{tenure_entry}
 use Rattle.m3_outside.specs.declared.disk_err.DiskErr.TheVariants.{Memory, Failed as DiskFailed}
 use Rattle.shard_files.specs.Gains.{a_tenure}
 use Rattle.shard_files.specs.declared.entries.LogEntry.TheVariants as entry
-use Rattle.shard_store.specs.Listed.{known_in}
+use Rattle.listed_volumes.specs.Listed.{known_in}
 use Rattle.shard_store.proofs.CountedLemmas.{counted_on}
 use Rattle.shard_store.proofs.LogStepLemmas.{err_is, memory_else, brings_none, brings_there, brings_as, kept_for, err_to}
 use Rattle.shard_store.proofs.opened.Opened.begin.Goals as goal

@@ -2,12 +2,12 @@ use Rattle.std.proofs.Common.{List, ap, sym, subst}
 use Rattle.std.specs.Prelude.{IsErrOf}
 use Rattle.m3_outside.specs.DiskState.{EachImage}
 use Rattle.m3_outside.specs.declared.disk_err.DiskErr.TheVariants.{Failed as DiskFailed}
-use Rattle.block_buffer.specs.Held.{Held as InMemory, has_expired, without}
+use Rattle.block_buffer.specs.Held.{InMemory, has_expired, without}
 use Rattle.fileset_read.specs.declared.file_err.FileErr.TheVariants as unread
 use Rattle.shard_files.specs.Parts.{KnownVolume}
 use Rattle.shard_open.proofs.Counts.{counts_for}
 use Rattle.volume_steps.specs.Known.{HoldsKnown}
-use Rattle.shard_store.specs.Listed.{known_in}
+use Rattle.listed_volumes.specs.Listed.{known_in}
 use Rattle.shard_store.specs.StoreParts.{content_of_opened}
 use Rattle.shard_store.proofs.CountedLemmas.{counted_removed}
 use Rattle.shard_store.proofs.LossLemmas.{live_known, live_left, live_there, only_fault}

@@ -7,9 +7,9 @@ use Rattle.block_buffer.specs.Blocks.{IsBlocksOf}
 use Rattle.commit_log.proofs.Leaves.{leaves_none}
 use Rattle.commit_log.proofs.ReadLemmas.{passed_err}
 use Rattle.fileset_read.specs.declared.file_err.FileErr.TheVariants as failures
-use Rattle.volume_points.proofs.ReadLemmas.{not_fault}
+use Rattle.listed_volumes.proofs.ReadLemmas.{not_fault}
 use Rattle.shard_store.specs.Flushes.{is_in_one}
-use Rattle.shard_store.specs.Listed.{known_in}
+use Rattle.listed_volumes.specs.Listed.{known_in}
 use Rattle.shard_store.specs.StoreParts.{content_of_opened}
 use Rattle.shard_store.proofs.FlushLoop.{flushed_all, flushed_few, flushed_of, flushing_ended, flushing_none, flushing_still, next_fresh}
 use Rattle.shard_store.proofs.FlushedLemmas.{blocks_aligned, not_ended}

@@ -7,12 +7,12 @@ use Rattle.commit_log.proofs.ReadLemmas.{passed_err}
 use Rattle.fileset_read.specs.declared.file_err.FileErr.TheVariants as failures
 use Rattle.volume_bytes.specs.Heads.{head_of}
 use Rattle.shard_files.specs.Steps.{next_volume}
-use Rattle.volume_points.specs.Known.{is_head_of}
-use Rattle.volume_points.proofs.ReadLemmas.{not_fault}
+use Rattle.listed_volumes.specs.Known.{is_head_of}
+use Rattle.listed_volumes.proofs.ReadLemmas.{not_fault}
 use Rattle.shard_store.specs.Blocks.{IsOneVolume}
-use Rattle.shard_store.specs.Listed.{known_in}
+use Rattle.listed_volumes.specs.Listed.{known_in}
 use Rattle.shard_store.specs.StoreParts.{content_of_opened}
-use Rattle.shard_store.specs.declared.volumes.ListedVolume.{ListedVolume}
+use Rattle.listed_volumes.specs.declared.volume.ListedVolume.{ListedVolume}
 use Rattle.shard_store.proofs.CountedLemmas.{counted_left}
 use Rattle.shard_store.proofs.RearrangeLemmas.{rearranges_left, rearranges_then, rearranges_for}
 use Rattle.shard_store.proofs.StillLemmas.{fault_said, memory_said, opened_left, undamaged_said}

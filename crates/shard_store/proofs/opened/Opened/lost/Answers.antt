@@ -6,7 +6,7 @@ use Rattle.commit_log.proofs.Leaves.{leaves_as, leaves_then}
 use Rattle.commit_log.proofs.ReadLemmas.{passed_err}
 use Rattle.fileset_read.specs.declared.file_err.FileErr.TheVariants as unread
 use Rattle.shard_files.specs.FilesHold.{volume_points}
-use Rattle.shard_store.specs.Listed.{known_in}
+use Rattle.listed_volumes.specs.Listed.{known_in}
 use Rattle.shard_store.specs.StoreParts.{content_of_opened}
 use Rattle.shard_store.specs.Ticks.{keys_in, live_volumes}
 use Rattle.shard_store.proofs.KnownReads.{known_counted}

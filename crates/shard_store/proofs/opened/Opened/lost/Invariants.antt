@@ -1,4 +1,4 @@
-use Rattle.shard_store.specs.Listed.{known_in}
+use Rattle.listed_volumes.specs.Listed.{known_in}
 use Rattle.shard_store.proofs.LossLemmas.{Losing}
 use Rattle.shard_store.proofs.opened.Opened.lost.Given as goal
 

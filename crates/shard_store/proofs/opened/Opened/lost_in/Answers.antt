@@ -9,9 +9,9 @@ use Rattle.commit_log.proofs.ReadLemmas.{passed_err}
 use Rattle.fileset_read.specs.declared.file_err.FileErr.TheVariants as unread
 use Rattle.wire_bytes.specs.Volumes.{count_of}
 use Rattle.shard_files.specs.FilesHold.{volume_points}
-use Rattle.volume_points.specs.Known.{AreOf, AreThere}
-use Rattle.volume_points.proofs.ReadLemmas.{not_fault}
-use Rattle.shard_store.specs.Listed.{known_in}
+use Rattle.listed_volumes.specs.Known.{AreOf, AreThere}
+use Rattle.listed_volumes.proofs.ReadLemmas.{not_fault}
+use Rattle.listed_volumes.specs.Listed.{known_in}
 use Rattle.shard_store.specs.Ticks.{has_outlived, keys_in, live_volumes}
 use Rattle.shard_store.specs.StoreParts.{content_of_opened}
 use Rattle.shard_store.proofs.KnownReads.{of_chosen, there_chosen}

@@ -5,13 +5,13 @@ use Rattle.m3_model.specs.Contents.{key_of, raised}
 use Rattle.std.specs.Prelude.{Some}
 use Rattle.m3_outside.specs.Causes.{CountsFaults}
 use Rattle.m3_outside.specs.declared.disk_err.DiskErr.TheVariants.{Memory, Failed as DiskFailed}
-use Rattle.block_buffer.specs.Held.{Held as InMemory}
+use Rattle.block_buffer.specs.Held.{InMemory}
 use Rattle.shard_files.specs.Gains.{a_point}
 use Rattle.shard_files.specs.declared.entries.LogEntry.TheVariants as entry
 use Rattle.shard_store.specs.Stores.{IsKeptOn, joined_with}
 use Rattle.shard_files.specs.FilesHold.{volume_points}
 use Rattle.shard_store.proofs.PointLemmas.{joined_raised}
-use Rattle.shard_store.specs.Listed.{known_in}
+use Rattle.listed_volumes.specs.Listed.{known_in}
 use Rattle.shard_store.proofs.CountedLemmas.{counted_on}
 use Rattle.shard_store.proofs.LogStepLemmas.{one_bounded, err_is, brings_none, brings_nothing, brings_fault, brings_all, after_nothing, steps_after_nothing, kept_for, memory_put}
 use Rattle.shard_open.proofs.Counts.{counts_both, counts_for}

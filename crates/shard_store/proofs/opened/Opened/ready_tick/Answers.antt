@@ -4,10 +4,10 @@ use Rattle.commit_log.proofs.Leaves.{leaves_none, leaves_as, leaves_then}
 use Rattle.commit_log.proofs.ReadLemmas.{passed_err}
 use Rattle.fileset_read.specs.declared.file_err.FileErr.TheVariants as unread
 use Rattle.volume_bytes.specs.Heads.{head_of}
-use Rattle.volume_points.proofs.ReadLemmas.{not_fault}
-use Rattle.shard_store.specs.Listed.{known_in}
+use Rattle.listed_volumes.proofs.ReadLemmas.{not_fault}
+use Rattle.listed_volumes.specs.Listed.{known_in}
 use Rattle.shard_store.specs.Ticks.{has_outlived, live_volumes}
-use Rattle.shard_store.specs.declared.volumes.ListedVolume.{ListedVolume}
+use Rattle.listed_volumes.specs.declared.volume.ListedVolume.{ListedVolume}
 use Rattle.shard_store.proofs.StillLemmas.{fault_said}
 use Rattle.shard_store.proofs.opened.Opened.ready_tick.Goals as goal
 

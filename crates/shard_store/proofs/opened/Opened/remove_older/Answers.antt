@@ -6,7 +6,7 @@ use Rattle.commit_log.proofs.ReadLemmas.{passed_err}
 use Rattle.shard_files.specs.Parts.{KnownVolume}
 use Rattle.shard_open.proofs.Counts.{counts_for}
 use Rattle.volume_steps.specs.Known.{HoldsKnown}
-use Rattle.shard_store.specs.Listed.{known_in}
+use Rattle.listed_volumes.specs.Listed.{known_in}
 use Rattle.shard_store.specs.StoreParts.{content_of_opened}
 use Rattle.shard_store.proofs.CountedLemmas.{counted_removed}
 use Rattle.shard_store.proofs.LogStepLemmas.{err_is, memory_else}

@@ -2,9 +2,9 @@ use Rattle.std.proofs.Common.{ap, sym, subst, ◌∙◌}
 use Rattle.std.specs.Prelude.{IsErrOf}
 use Rattle.m3_model.specs.Answers.{HasPoint}
 use Rattle.m3_outside.specs.declared.disk_err.DiskErr.TheVariants.{Failed as DiskFailed}
-use Rattle.block_buffer.specs.Held.{Held as InMemory, is_in_block}
+use Rattle.block_buffer.specs.Held.{InMemory, is_in_block}
 use Rattle.commit_log.proofs.ReadLemmas.{passed_err}
-use Rattle.shard_store.specs.Listed.{known_in}
+use Rattle.listed_volumes.specs.Listed.{known_in}
 use Rattle.shard_store.specs.StoreParts.{content_of_opened}
 use Rattle.shard_store.proofs.KnownReads.{known_counted}
 use Rattle.shard_store.proofs.LogStepLemmas.{err_is, err_to}

@@ -5,10 +5,10 @@ use Rattle.commit_log.proofs.Leaves.{leaves_none}
 use Rattle.commit_log.proofs.ReadLemmas.{passed_err}
 use Rattle.shard_files.specs.FilesHold.{volume_points}
 use Rattle.fileset_read.specs.declared.file_err.FileErr.TheVariants as failures
-use Rattle.volume_points.specs.Known.{is_of}
-use Rattle.volume_points.proofs.AnswerLemmas.{block_is_range}
-use Rattle.volume_points.proofs.ReadLemmas.{not_fault}
-use Rattle.shard_store.specs.Listed.{known_in}
+use Rattle.listed_volumes.specs.Known.{is_of}
+use Rattle.listed_volumes.proofs.AnswerLemmas.{block_is_range}
+use Rattle.listed_volumes.proofs.ReadLemmas.{not_fault}
+use Rattle.listed_volumes.specs.Listed.{known_in}
 use Rattle.shard_store.proofs.KnownReads.{of_heads, there_heads, bounded_of}
 use Rattle.shard_store.proofs.VolumeLists.{known_by_heads}
 use Rattle.shard_store.proofs.opened.Opened.rows_of.Goals as goal

@@ -3,7 +3,7 @@ use Rattle.commit_log.proofs.Leaves.{leaves_none}
 use Rattle.commit_log.specs.Contents.{next_after, numbers}
 use Rattle.shard_files.specs.Parts.{KnownVolume, VolumesAre}
 use Rattle.volume_steps.proofs.LawLemmas.{join_is_there}
-use Rattle.shard_store.specs.Listed.{known_in}
+use Rattle.listed_volumes.specs.Listed.{known_in}
 use Rattle.shard_store.specs.StoreParts.{content_of_opened}
 use Rattle.shard_store.proofs.KnownReads.{known_counted, counted_is}
 use Rattle.shard_store.proofs.RearrangeLemmas.{rearranges_left}

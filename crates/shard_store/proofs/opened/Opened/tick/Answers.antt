@@ -7,7 +7,7 @@ use Rattle.commit_log.proofs.Leaves.{leaves_as}
 use Rattle.commit_log.proofs.ReadLemmas.{passed_err}
 use Rattle.fileset_read.specs.declared.file_err.FileErr.TheVariants as unread
 use Rattle.volume_bytes.specs.Heads.{head_of}
-use Rattle.shard_store.specs.Listed.{known_in}
+use Rattle.listed_volumes.specs.Listed.{known_in}
 use Rattle.shard_store.specs.Stores.{joined_with}
 use Rattle.shard_store.specs.StoreParts.{content_of_opened}
 use Rattle.shard_store.proofs.CountedLemmas.{counted_left}

@@ -3,7 +3,7 @@ use Rattle.std.specs.Prelude.{⊤, IsErrOf, Result}
 use Rattle.m3_outside.specs.DiskState.{EachImage}
 use Rattle.m3_outside.specs.declared.disk_err.DiskErr.{DiskErr}
 use Rattle.m3_outside.specs.declared.disk_err.DiskErr.TheVariants.{Memory, Failed as DiskFailed}
-use Rattle.block_buffer.specs.Held.{Held as InMemory, is_in_block, without}
+use Rattle.block_buffer.specs.Held.{InMemory, is_in_block, without}
 use Rattle.commit_log.proofs.Leaves.{leaves_none}
 use Rattle.shard_files.specs.Parts.{KnownVolume}
 use Rattle.volume_steps.specs.Known.{HoldsKnown}
@@ -14,11 +14,13 @@ use Rattle.shard_store.proofs.PointLemmas.{has_fewer}
 use Rattle.commit_log.proofs.ReadLemmas.{passed_err}
 use Rattle.shard_open.proofs.Counts.{counts_for}
 use Rattle.volume_steps.proofs.LawLemmas.{join_is_there}
-use Rattle.shard_store.specs.Listed.{known_in}
+use Rattle.listed_volumes.specs.declared.volume.ListedVolume.{ListedVolume}
+use Rattle.listed_volumes.specs.Listed.{known_as, known_in}
 use Rattle.shard_store.specs.StoreParts.{content_of_opened}
 use Rattle.shard_store.specs.Stores.{joined_with}
 use Rattle.shard_store.proofs.BlockLemmas.{content_written, have_rows, other_numbers}
-use Rattle.shard_store.proofs.LogStepLemmas.{err_is, not_failed}
+use Rattle.shard_store.proofs.VolumeLists.{numbered}
+use Rattle.shard_store.proofs.LogStepLemmas.{err_is, not_failed, want_else}
 use Rattle.shard_store.proofs.RearrangeLemmas.{rearranges_left}
 use Rattle.shard_store.proofs.opened.Opened.write_block.Goals as goal
 
@@ -27,6 +29,24 @@ returns-in_err-reserve-clause-disk g c =
     let s = c.args.self.now in
     rearranges_left s.held.points (known_in s.volumes.items) s.tenure s.fence _ (g.D.Disk.state c.args.disk.now) (g.D.Disk.state c.args.disk.now) c.requires.kept.exact
     (leaves_none _ (g.D.Disk.state c.args.disk.now) (λ h. not_failed (subst (λ (q : Result ⊤ DiskErr). IsErrOf q DiskFailed) (err_is c.from_residual.result Memory c.from_residual.ensures) h)))
+
+pub returns-in_err-volume-clause-disk : goal.returns-in_err-volume-clause-disk
+returns-in_err-volume-clause-disk g c =
+    let s = c.args.self.now in
+    rearranges_left s.held.points (known_in s.volumes.items) s.tenure s.fence _ (g.D.Disk.state c.args.disk.now) (g.D.Disk.state c.args.disk.now) c.requires.kept.exact
+    (leaves_none _ (g.D.Disk.state c.args.disk.now) (λ h. not_failed (subst (λ (q : Result ⊤ DiskErr). IsErrOf q DiskFailed) (err_is c.from_residual-in_err-volume.result Memory c.from_residual-in_err-volume.ensures) h)))
+
+pub returns-in_err-number-clause-kept : goal.returns-in_err-number-clause-kept
+returns-in_err-number-clause-kept g c = λ fine.
+    let s = c.args.self.now in
+    let wanted = want_else c.from_residual-in_err-number.result c.write_volume.result c.in_err-number.field-0.0 c.in_err-number.was (err_is c.from_residual-in_err-number.result c.in_err-number.field-0.0 c.from_residual-in_err-number.ensures) fine in
+    record {
+      stands = c.write_volume.ensures.log_stands s.log c.requires.kept.stands;
+      exact = subst (λ (vs : List ListedVolume). EachImage (g.D.Disk.state c.write_volume.new.disk) (HoldsKnown s.held.points (known_in vs) s.tenure s.fence)) (sym c.reserve.ensures.items)
+          (c.write_volume.ensures.memory s.held.points (known_in s.volumes.items) s.tenure s.fence c.requires.kept.exact wanted);
+      at_rest = c.requires.kept.at_rest;
+      order = c.requires.kept.order;
+    }
 
 pub returns-in_err-number-clause-others : goal.returns-in_err-number-clause-others
 returns-in_err-number-clause-others g c = λ tells. other_numbers c.args.head.now.ns c.args.head.now.start (g.D.Disk.state c.args.disk.now).files (g.D.Disk.state c.write_volume.new.disk).files (c.write_volume.ensures.others tells)
@@ -51,7 +71,7 @@ returns-clause-kept g c = λ fine.
     let ks = known_in s.volumes.items in
     let k = volume_of h.ns h.start h.size c.in_ok-number.number c.args.rows.now in
     let listed : known_in c.add.new.listed.items ≡ with_volume k ks =
-    c.add.ensures ∙ (λ i. with_volume (record { head = record { format = 1; ns = h.ns; start = h.start; size = h.size; number = c.in_ok-number.number }; rows = c.of-rows.ensures i }) (known_in (c.reserve.ensures.items i))) in
+    c.add.ensures ∙ (λ i. with_volume (numbered (known_as c.in_ok-volume.volume) h.ns h.start h.size h.number c.in_ok-number.number c.args.rows.now c.in_ok-volume.ensures.known i) (known_in (c.reserve.ensures.items i))) in
     let base : EachImage (g.D.Disk.state c.write_volume.new.disk) (HoldsKnown left (with_volume k ks) s.tenure s.fence) =
     λ tells x image. hold_with_fewer m left (with_volume k ks) s.tenure s.fence x (c.in_ok-number.ensures.known m ks s.tenure s.fence c.requires.kept.exact tells x image) (λ p here. has_fewer m (is_in_block h.ns h.start h.size) p here) in
     record {
@@ -84,11 +104,14 @@ returns-clause-content g c = λ tells.
     let ks = known_in s.volumes.items in
     let k = volume_of h.ns h.start h.size c.in_ok-number.number c.args.rows.now in
     let listed : known_in c.add.new.listed.items ≡ with_volume k ks =
-    c.add.ensures ∙ (λ i. with_volume (record { head = record { format = 1; ns = h.ns; start = h.start; size = h.size; number = c.in_ok-number.number }; rows = c.of-rows.ensures i }) (known_in (c.reserve.ensures.items i))) in
+    c.add.ensures ∙ (λ i. with_volume (numbered (known_as c.in_ok-volume.volume) h.ns h.start h.size h.number c.in_ok-number.number c.args.rows.now c.in_ok-volume.ensures.known i) (known_in (c.reserve.ensures.items i))) in
     (λ i. joined_with (c.drop_block.ensures i).points (listed i)) ∙ content_written m ks h.ns h.start h.size c.args.rows.now c.requires.ordered (c.requires.join tells) c.in_ok-number.number
 
 pub returns-in_err-reserve-clause-counted : goal.returns-in_err-reserve-clause-counted
 returns-in_err-reserve-clause-counted g c = λ has. has
+
+pub returns-in_err-volume-clause-counted : goal.returns-in_err-volume-clause-counted
+returns-in_err-volume-clause-counted g c = λ has. has
 
 pub returns-in_err-number-clause-counted : goal.returns-in_err-number-clause-counted
 returns-in_err-number-clause-counted g c =

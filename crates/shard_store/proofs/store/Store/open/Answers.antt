@@ -11,12 +11,12 @@ use Rattle.shard_files.specs.Parts.{IsNewestNumber, KnownVolume}
 use Rattle.shard_files.specs.FilesHold.{volume_points}
 use Rattle.shard_open.specs.Loads.{known_of}
 use Rattle.volume_steps.specs.Known.{HoldsKnown}
-use Rattle.shard_store.specs.Listed.{known_in}
+use Rattle.listed_volumes.specs.Listed.{known_in}
 use Rattle.shard_store.specs.StoreParts.{IsKept, content_in}
 use Rattle.shard_store.specs.Stores.{joined_with}
 use Rattle.snapshot_steps.proofs.LogCounts.{few_segments}
 use Rattle.shard_store.proofs.PointLemmas.{settled_joins}
-use Rattle.block_buffer.specs.Held.{Held as InMemory}
+use Rattle.block_buffer.specs.Held.{InMemory}
 use Rattle.shard_store.proofs.LogStepLemmas.{err_is, brings_none, brings_nothing, brings_nothing_more, only_held, volumes_among, err_to}
 use Rattle.shard_open.proofs.Counts.{counts_for}
 use Rattle.shard_store.proofs.store.Store.open.Goals as goal

@@ -31,9 +31,9 @@ returns-in-Some-clause-exact c =
 pub returns-in-Some-clause-removed : goal.returns-in-Some-clause-removed
 returns-in-Some-clause-removed c o at =
     let same : ◌≡◌ {A = Option ℕ} (Some c.in-Some.ordinal) (Some o) = sym (sym c.swap_remove.ensures.value ∙ c.in-Some.is) ∙ at_number _ c.self.inside.slots _ c.args.self.now c.self.view_is c.self.invariant c.args.id.now o at in
-    let place : c.in-Some.ordinal ≡ o = cc in
+    let position : c.in-Some.ordinal ≡ o = cc in
     listed-remove c.self.inside.slots c.remove-entry.new.self c.in-Some.ordinal c.remove-entry.ensures.updates
-    ∙ ap (λ m. finite.remove m c.in-Some.ordinal) c.self.view_is ∙ ap (finite.remove c.args.self.now) place
+    ∙ ap (λ m. finite.remove m c.in-Some.ordinal) c.self.view_is ∙ ap (finite.remove c.args.self.now) position
 
 pub returns-in-None-clause-exact : goal.returns-in-None-clause-exact
 returns-in-None-clause-exact c =

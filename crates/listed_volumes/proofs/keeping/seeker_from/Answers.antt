@@ -1,0 +1,6 @@
+use Rattle.volume_bytes.specs.Heads.{head_of}
+use Rattle.fileset_check.proofs.BodyLemmas.{all_fit}
+use Rattle.listed_volumes.proofs.keeping.seeker_from.Goals as goal
+
+pub tables_of-requires-clause-fits : goal.tables_of-requires-clause-fits
+tables_of-requires-clause-fits c = all_fit (head_of c.args.head.now) c.args.rows.now c.requires

@@ -1,0 +1,102 @@
+ghost use Rattle.std.specs.Prelude.{◌≡◌, true, IfOk, IfErr, IsErrOf};
+ghost use Rattle.m3_model.specs.Answers.{IsAnswer};
+ghost use Rattle.m3_model.specs.Contents.{content_of};
+ghost use Rattle.m3_model.specs.Reads.{IsOrdered};
+ghost use Rattle.m3_outside.specs.Causes.{CountsFaults};
+ghost use Rattle.m3_outside.specs.DiskState.{DiskState, Told};
+ghost use Rattle.m3_outside.specs.DiskCalls.{LeavesFiles};
+ghost use Rattle.wire_bytes.specs.Volumes.{points_of_rows};
+ghost use Rattle.shard_files.specs.Parts.{VolumeHolds};
+ghost use Rattle.shard_files.specs.FilesHold.{volume_points};
+ghost use Rattle.volume_bytes.specs.Heads.{head_of};
+ghost use Rattle.fileset_read.specs.Volumes.{IsUndamaged};
+ghost use Rattle.fileset_read.specs.declared.file_err.FileErr.TheVariants as failures;
+ghost use Rattle.series_merge.specs.Merges.{IsMergeOf};
+ghost use Rattle.listed_volumes.specs.Listed.{AreHeld, known_in};
+
+use crate::volume::ListedVolume;
+use fileset_read::FileErr;
+use m3_model::{Pick, Seq, Series};
+use m3_outside::Disk;
+use series_merge::merge;
+use std::alloc::Global;
+use volume_points::read_volume;
+
+// What one volume has of the points that a read asks for.
+fn fetch_one<D: Disk>(
+    alloc: Global,
+    disk: &mut D,
+    volume: &ListedVolume,
+    pick: &Pick,
+    from: u64,
+    to: u64,
+) -> Result<Seq<Series>, FileErr>
+    requires there { Told (D.state disk.old) (VolumeHolds (head_of volume.now.head) volume.now.rows.value) }
+    ensures leaves { LeavesFiles (IsErrOf result failures.Disk) (D.state disk.old) (D.state disk.new) }
+    ensures ordered { IfOk result IsOrdered }
+    ensures answer { (D.state disk.old).tells ≡ true → IfOk result (IsAnswer (content_of (points_of_rows volume.now.head.ns volume.now.rows.value)) pick.now from to) }
+    ensures sound { (D.state disk.old).tells ≡ true → IfErr result IsUndamaged }
+{
+    read_volume(
+        alloc,
+        disk,
+        &volume.head,
+        volume.seeker.as_ref(),
+        pick,
+        from,
+        to,
+    )
+}
+
+// Both answers in one.
+fn both(alloc: Global, one: Seq<Series>, other: Seq<Series>) -> Result<Seq<Series>, FileErr>
+    requires one { IsOrdered one }
+    requires other { IsOrdered other }
+    ensures ok { IfOk result (IsMergeOf one other) }
+    ensures err { IfErr result (λ e. e ≡ failures.Memory) }
+{
+    match merge(alloc, one, other) {
+        Ok(series) => Ok(series),
+        Err(_) => Err(FileErr::Memory),
+    }
+}
+
+/// The points with `from <= t < to` that these volumes have, each of them there whole, of the series that the pick asks for: of the
+/// one identifier, or of each identifier of the namespace for which every matcher holds; and of several at one time the highest.
+/// Identifiers ascend strictly by bytes, times ascend strictly, and no series is empty.
+///
+/// Nothing is read of a volume of another namespace, or whose block has no time in the range. Of one identifier each other volume's
+/// record of it is read, if there is one, and before it a piece of its index of 16 entries at most, unless bloom filter and summaries
+/// exclude it; these two are at hand for each volume that is ready, and read first for another. For matchers each such volume's
+/// data is read in one piece. Beside that it costs in proportion to the series that are found times the logarithm of the number of volumes.
+///
+/// # Errors
+///
+/// A fault, by which the disk's count rose in this call. Want of memory. Damage only where the disk doesn't tell what it holds.
+/// In any case the files, and what a stop leaves of them, are as they were.
+pub fn fetch<D: Disk>(
+    alloc: Global,
+    disk: &mut D,
+    volumes: &[ListedVolume],
+    pick: &Pick,
+    from: u64,
+    to: u64,
+) -> Result<Seq<Series>, FileErr>
+    requires { Told (D.state disk.old) (AreHeld (known_in volumes.now)) }
+    ensures leaves { LeavesFiles (IsErrOf result failures.Disk) (D.state disk.old) (D.state disk.new) }
+    ensures ordered { IfOk result IsOrdered }
+    ensures answer { (D.state disk.old).tells ≡ true → IfOk result (IsAnswer (content_of (volume_points (known_in volumes.now))) pick.now from to) }
+    ensures sound { (D.state disk.old).tells ≡ true → IfErr result IsUndamaged }
+    ensures faults { CountsFaults (IsErrOf result failures.Disk) (D.state disk.old).faults (D.state disk.new).faults }
+{
+    match volumes {
+        [] => Ok(Seq::new(alloc)),
+        [volume] => fetch_one(alloc, disk, volume, pick, from, to),
+        _ => {
+            let (one, other) = volumes.split_at(volumes.len() / 2);
+            let early = fetch(alloc, disk, one, pick, from, to)?;
+            let late = fetch(alloc, disk, other, pick, from, to)?;
+            both(alloc, early, late)
+        }
+    }
+}

@@ -1,0 +1,12 @@
+//! The volumes that count, as a store lists them: each by its head, with what a look-up in it begins with; and what a read asks for,
+//! found in all of them.
+#![tactic(auto)]
+
+mod fetching;
+mod keeping;
+mod volume;
+
+pub use fetching::fetch;
+pub use keeping::list_volume;
+pub use volume::ListedVolume;
+pub use volume_points::{BlockErr, block_rows, join, read};

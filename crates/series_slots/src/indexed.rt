@@ -1,0 +1,259 @@
+ghost use Rattle.std.specs.Prelude.{◌≡◌, ◌↔◌, List, [], Some, None, length, slice_get, IsTrue, IfOk, IfSome, OnOk, OnErr, ◌++◌, IsPermutation, IsSortedByKey};
+ghost use Rattle.std.specs.List.{flat_map, filter_map, IsDistinct};
+ghost use Rattle.std.specs.Map.{keys_of};
+ghost use Rattle.std.specs.Cmp.Lexicographic.{slice_cmp};
+ghost use Rattle.std.specs.Ordering.{nat_cmp};
+ghost use Rattle.std.specs.FinMap as finite;
+ghost use Rattle.m3_model.specs.declared.point.Matcher.{Matcher};
+ghost use Rattle.m3_model.specs.declared.point.Pick.TheVariants as pick;
+ghost use Rattle.m3_model.specs.Contents.{higher, is_higher};
+ghost use Rattle.series_slots.specs.declared.series_key.SeriesKey.{SeriesKey};
+ghost use Rattle.series_slots.specs.SeriesKeys.{series_eq};
+ghost use Rattle.series_slots.specs.Slots.{Slots, value_at, valued_in};
+ghost use Rattle.series_slots.specs.Points.{points_of};
+ghost use Rattle.series_slots.specs.SeriesEntries.{IsAt, StandsAt, slots_of};
+ghost use Rattle.series_slots.specs.Firsts.{IsFirstAt, HasNoneLater};
+ghost use Rattle.series_slots.specs.Written.{IsWritten, IsAdded, IsRemoved};
+ghost use Rattle.series_slots.specs.Ranges.{IsRangeOf, some_series, series_in};
+
+use crate::series_buffer::SeriesBuffer;
+use crate::series_key::SeriesKey;
+use indexmap::IndexMap;
+use m3_model::{Duplicate, Memory, Seq, Series, Text};
+use std::alloc::Global;
+use std::marker::Model;
+
+/// Series with their slots. Contracts see them by their positions, which count from 0. A position is that of its series until a
+/// series leaves.
+///
+/// The slots of a series are a list by time: one that comes after all others is appended, and one that comes or goes within
+/// them moves those on its shorter side by a position. Late points are rare, and a series has at most the points of its open blocks.
+#[derive(Drop)]
+pub struct IndexedSeries {
+    map: IndexMap<SeriesKey, SeriesBuffer>,
+}
+
+impl Model for IndexedSeries {
+    ghost use Rattle.std.specs.List.{IsDistinct};
+    ghost use Rattle.std.specs.Map.{keys_of};
+    ghost use Rattle.series_slots.specs.SeriesKeys.{series_eq};
+    ghost use Rattle.series_slots.specs.SeriesEntries.{SeriesEntries, series_entries_code};
+
+    ghost Value = { SeriesEntries };
+
+    ghost coded = { series_entries_code };
+
+    ghost view = { λ a. a.map.entries };
+
+    ghost invariant = { λ a. IsDistinct series_eq (keys_of a.map.entries) };
+}
+
+impl IndexedSeries {
+    /// No series. Takes no memory.
+    pub fn new(alloc: Global) -> IndexedSeries
+        ensures { result ≡ [] }
+    {
+        IndexedSeries {
+            map: IndexMap::new(alloc),
+        }
+    }
+
+    /// The position of the series, if it is there, in constant expected time.
+    pub fn position_of(&self, series: &SeriesKey) -> Option<usize>
+        ensures there { IfSome result (λ position. IsAt self.now position series.now) }
+        ensures absent { result ≡ None → finite.get (slots_of self.now) series.now ≡ None }
+    {
+        let (position, _, _) = self.map.get_full(series)?;
+        Some(position)
+    }
+
+    /// How many positions there are.
+    pub fn len(&self) -> usize
+        ensures { result ≡ length self.now }
+    {
+        self.map.len()
+    }
+
+    /// The namespace of the series at this position, in constant time.
+    pub fn space_at(&self, position: usize) -> u8
+        requires { (s : SeriesKey) × IsAt self.now position s }
+        ensures { (s : SeriesKey) → IsAt self.now position s → result ≡ s.ns }
+    {
+        match self.map.get_index(position) {
+            Some((series, _)) => series.ns,
+            None => 0,
+        }
+    }
+
+    /// The slot of the series at this position and time, if there is one, in the logarithm of the series' slots.
+    pub fn slot_at(&self, position: usize, t: u64) -> Option<Option<i64>>
+        requires { (s : SeriesKey) × IsAt self.now position s }
+        ensures slot { (s : SeriesKey) (slots : Slots) → slice_get self.now position ≡ Some (s, slots) → result ≡ finite.get slots t }
+        ensures found { (s : SeriesKey) (slots : Slots) → slice_get self.now position ≡ Some (s, slots) → finite.get (slots_of self.now) s ≡ Some slots }
+    {
+        self.map[position].get(t)
+    }
+
+    /// The time and the value of the first slot of the series at this position from `low` on that has one. Costs the logarithm of the
+    /// series' slots, beside those without a value that come before.
+    pub fn first_from(&self, position: usize, low: u64) -> Option<(u64, i64)>
+        requires { (s : SeriesKey) × IsAt self.now position s }
+        ensures none { result ≡ None → (s : SeriesKey) → IsAt self.now position s → HasNoneLater self.now s low }
+        ensures some { IfSome result (λ x. (s : SeriesKey) → IsAt self.now position s → IsFirstAt self.now position s low x.0 x.1) }
+    {
+        self.map[position].first_from(low)
+    }
+
+    /// Whether the series at this position has no slot, in constant time.
+    pub fn is_vacant(&self, position: usize) -> bool
+        requires { (s : SeriesKey) × IsAt self.now position s }
+        ensures vacant { (s : SeriesKey) (slots : Slots) → slice_get self.now position ≡ Some (s, slots) → IsTrue result ↔ (length (finite.entries slots) ≡ 0) }
+        ensures found { (s : SeriesKey) (slots : Slots) → slice_get self.now position ≡ Some (s, slots) → finite.get (slots_of self.now) s ≡ Some slots }
+    {
+        self.map[position].is_empty()
+    }
+
+    /// Adds the series without slots, at the last position, in constant expected time.
+    ///
+    /// # Errors
+    ///
+    /// Want of memory changes nothing.
+    pub fn add(&mut self, alloc: Global, series: SeriesKey) -> Result<usize, Memory>
+        requires { finite.get (slots_of self.old) series ≡ None }
+        ensures ok { IfOk result (IsAdded self.old self.new series) }
+        ensures err { OnErr result (self.new ≡ self.old) }
+    {
+        let position = self.map.len();
+        self.map.insert(series, SeriesBuffer::new(alloc))?;
+        Ok(position)
+    }
+
+    /// Makes the slot of the series at this position and time one without a value. A new slot after all others costs constant time
+    /// beside the room for it; any other costs the logarithm of the series' slots, and a new one moves those on its shorter side.
+    ///
+    /// # Errors
+    ///
+    /// Want of memory changes nothing.
+    pub fn hold(&mut self, position: usize, t: u64) -> Result<(), Memory>
+        requires { (s : SeriesKey) × IsAt self.old position s }
+        ensures ok { (s : SeriesKey) (slots : Slots) → slice_get self.old position ≡ Some (s, slots) → OnOk result (IsWritten self.old self.new position s slots (finite.insert slots t None)) }
+        ensures err { OnErr result (self.new ≡ self.old) }
+    {
+        self.map[position].hold(t)
+    }
+
+    /// Puts the value into the slot of the series at this position and time, unless one at least as high stands there. Says
+    /// whether it was put. Takes no memory, and the logarithm of the series' slots.
+    pub fn raise(&mut self, position: usize, t: u64, v: i64) -> bool
+        requires { (s : SeriesKey) × StandsAt self.old position t s }
+        ensures raised { (s : SeriesKey) (slots : Slots) → slice_get self.old position ≡ Some (s, slots) → IsWritten self.old self.new position s slots (finite.insert slots t (Some (higher (value_at slots t) v))) }
+        ensures changed { (s : SeriesKey) (slots : Slots) → slice_get self.old position ≡ Some (s, slots) → result ≡ is_higher (value_at slots t) v }
+    {
+        self.map[position].raise(t, v)
+    }
+
+    /// Takes the slot of the series at this position and time out. Takes no memory, and the logarithm of the series' slots; moves
+    /// those on its shorter side, of which the first and the last have none.
+    pub fn take(&mut self, position: usize, t: u64)
+        requires { (s : SeriesKey) × IsAt self.old position s }
+        ensures { (s : SeriesKey) (slots : Slots) → slice_get self.old position ≡ Some (s, slots) → IsWritten self.old self.new position s slots (finite.remove slots t) }
+    {
+        self.map[position].take(t);
+    }
+
+    /// Takes the series at this position out, with its slots; the last series takes its place. Takes no memory, and constant
+    /// expected time beside its slots.
+    pub fn remove(&mut self, position: usize) -> Option<SeriesKey>
+        requires { (s : SeriesKey) × IsAt self.old position s }
+        ensures key { (s : SeriesKey) (slots : Slots) → slice_get self.old position ≡ Some (s, slots) → result ≡ Some s }
+        ensures removed { (s : SeriesKey) (slots : Slots) → slice_get self.old position ≡ Some (s, slots) → IsRemoved self.old self.new position s slots }
+    {
+        let (series, buffer) = self.map.swap_remove_index(position)?;
+        drop(buffer);
+        Some(series)
+    }
+
+    /// The points of a series with `from <= t < to`. The series is found in constant expected time, the points in logarithmic
+    /// time and in proportion to the answer.
+    pub fn range_of(
+        &self,
+        alloc: Global,
+        ns: u8,
+        id: &Text,
+        from: u64,
+        to: u64,
+    ) -> Result<Seq<Series>, Memory>
+        ensures { IfOk result (IsRangeOf (points_of (slots_of self.now)) (pick.One ns id.now) from to) }
+    {
+        let mut found = Vec::new(alloc);
+        let key = SeriesKey {
+            ns,
+            id: id.copy(alloc)?,
+        };
+        match self.map.get(&key) {
+            Some(buffer) => {
+                push_range(alloc, &mut found, id, buffer, from, to)?;
+                Ok(Seq::from_vec(found))
+            }
+            None => Ok(Seq::new(alloc)),
+        }
+    }
+
+    /// The points of a namespace with `from <= t < to`, in proportion to all series, to the answer and to its order.
+    pub fn range_of_space(
+        &self,
+        alloc: Global,
+        ns: u8,
+        from: u64,
+        to: u64,
+    ) -> Result<Seq<Series>, Memory>
+        ensures { IfOk result (λ found. (wanted : List Matcher) → IsRangeOf (points_of (slots_of self.now)) (pick.Match ns wanted) from to found) }
+    {
+        let found = self.series_of(alloc, ns, from, to)?;
+        Ok(Seq::from_vec(by_id(found)))
+    }
+
+    // The same, by the positions of the series.
+    fn series_of(&self, alloc: Global, ns: u8, from: u64, to: u64) -> Result<Vec<Series>, Memory>
+        ensures answer { IfOk result (λ found. found.items ≡ flat_map (series_in ns from to) self.now) }
+        ensures distinct { IsDistinct series_eq (keys_of self.now) }
+    {
+        let mut found = Vec::new(alloc);
+        for (series, buffer) in &self.map {
+            if series.ns == ns {
+                push_range(alloc, &mut found, &series.id, buffer, from, to)?;
+            }
+        }
+        Ok(found)
+    }
+}
+
+// The series in the order of their identifiers.
+fn by_id(mut found: Vec<Series>) -> Vec<Series>
+    ensures same { IsPermutation found.items result.items }
+    ensures order { IsSortedByKey (λ s. s.id) (slice_cmp nat_cmp) result.items }
+{
+    found.sort_unstable_by(|a, b| a.id.cmp(&b.id));
+    found
+}
+
+// Pushes the series with its pairs in the range, if there are any.
+fn push_range(
+    alloc: Global,
+    found: &mut Vec<Series>,
+    id: &Text,
+    buffer: &SeriesBuffer,
+    from: u64,
+    to: u64,
+) -> Result<(), Memory>
+    ensures { OnOk result (found.new.items ≡ found.old.items ++ some_series id.now (filter_map (valued_in from to) (finite.entries buffer.now))) }
+{
+    let pairs = buffer.pairs(alloc, from, to)?;
+    if pairs.is_empty() {
+        return Ok(());
+    }
+    let id = id.copy(alloc)?;
+    let points = Seq::from_vec(pairs);
+    found.push(Series { id, points })?;
+    Ok(())
+}
